@@ -1,0 +1,7 @@
+pub mod Story
+pub mod Image
+pub mod Moment
+pub mod Lawful
+pub mod Chart
+pub mod Told
+pub mod Laws

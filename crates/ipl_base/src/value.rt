@@ -1,0 +1,74 @@
+//! The bytes of one record.
+ghost use Rattle.std.specs.Prelude.{◌≡◌, ◌≤◌, ◌<◌, ℕ, List, [], length, IfSome, IfNone};
+
+use arrayvec::ArrayVec;
+use std::alloc::AllocError;
+use std::marker::Model;
+
+/// The bytes of a record, at most 108. A contract sees them as a list.
+#[derive(PartialEq, Eq, Debug, Drop)]
+pub struct Value {
+    bytes: ArrayVec<u8, 108>,
+}
+
+impl Model for Value {
+    ghost Value = { List ℕ };
+
+    ghost view = { λ v. v.bytes.items };
+
+    ghost invariant = { λ v. length v.bytes.items ≤ 108 };
+
+    ghost inverse = { λ xs. record { bytes = record { items = xs } } };
+}
+
+impl Value {
+    /// The most bytes that a record has.
+    pub const MAX_LEN: usize = 108;
+
+    /// The value of no bytes.
+    pub fn empty() -> Value
+        ensures { result ≡ [] }
+    {
+        Value {
+            bytes: ArrayVec::new(),
+        }
+    }
+
+    /// `None` exactly where there are more than 108 bytes.
+    pub fn of(bytes: &[u8]) -> Option<Value>
+        ensures some { IfSome result (λ v. (v ≡ bytes.now) × (length bytes.now ≤ 108)) }
+        ensures none { IfNone result (108 < length bytes.now) }
+    {
+        let mut items = ArrayVec::new();
+        match items.try_extend_from_slice(bytes) {
+            Ok(()) => Some(Value { bytes: items }),
+            Err(_) => None,
+        }
+    }
+
+    pub fn bytes(&self) -> &[u8]
+        ensures value { result.now ≡ self.now }
+        ensures fits { length result.now ≤ 108 }
+    {
+        self.bytes.as_slice()
+    }
+
+    /// The same bytes again; it takes no memory.
+    pub fn copy(&self) -> Value
+        ensures { result ≡ self.now }
+    {
+        let mut items = ArrayVec::new();
+        let _ = items.try_extend_from_slice(self.bytes());
+        Value { bytes: items }
+    }
+}
+
+impl Clone for Value {
+    ghost is_clone = { λ v w. w ≡ v };
+
+    ghost is_infallible = { λ _. Unit {0} };
+
+    fn clone(&self) -> Result<Value, AllocError> {
+        Ok(self.copy())
+    }
+}

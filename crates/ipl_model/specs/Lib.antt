@@ -1,0 +1,5 @@
+pub mod Step
+pub mod Text
+pub mod Grammar
+pub mod Run
+pub mod Laws

@@ -1,0 +1,14 @@
+use Rattle.std.proofs.Common.{ap, refl, Option, List, ℕ}
+use Rattle.std.specs.Option.{option_map_or}
+use Rattle.std.specs.FinMap.{get}
+use Rattle.ipl_rules.proofs.SeenLemmas.{get-with_writes}
+use Rattle.ipl_rules.proofs.laws.Goals as goal
+
+pub returns-clause-refusals : goal.returns-clause-refusals
+returns-clause-refusals c = λ limits state m s n bytes. record { begins = refl; gets = refl; shares = refl; puts = refl; dels = refl; ends = refl }
+
+pub returns-clause-sees : goal.returns-clause-sees
+returns-clause-sees c = λ state s n change is. ap (λ (o : Option (Option (List ℕ))). option_map_or (λ c. c) o (get state.map n)) is
+
+pub returns-clause-commits : goal.returns-clause-commits
+returns-clause-commits c = get-with_writes

@@ -1,0 +1,4 @@
+pub mod State
+pub mod Refusals
+pub mod Operations
+pub mod Laws

@@ -1,0 +1,87 @@
+-- When an operation is refused: the first test of a list that holds gives the refusal.
+use Rattle.std.specs.Prelude.{ℕ, ◌==◌, ◌/◌, nat_le, nat_lt, Bool, not, ◌&&◌, ◌||◌, List, [], ◌∷◌, length, Option, Some, None, is_some, unwrap_or, if◌then◌else◌}
+use Rattle.ipl_base.specs.declared.fault.Refusal.{Refusal}
+use Rattle.ipl_base.specs.declared.fault.Refusal.TheVariants.{BadSession, BadName, TooLong, AlreadyOpen, NotOpen, Conflict, WritesFull, SharesFull, PendingFull, BadUnit}
+use Rattle.std.specs.List.{list_any}
+use Rattle.ipl_rules.specs.State.{State, Limits, is_open, writes_of, shared_of, last_write, written_names, holder_for_share, holder_for_write, pending}
+
+-- a test, and the refusal that it gives
+abbrev pub Test : Type 0
+Test = Bool × Refusal
+
+-- the refusal of the first test that holds
+abbrev pub first_of : List Test → Option Refusal
+first_of [] = None
+first_of (t ∷ tests) = if t.0 then Some t.1 else first_of tests
+
+-- ---- the tests
+
+abbrev pub bad_session : Limits → ℕ → Test
+bad_session limits s = (nat_le limits.sessions s, BadSession)
+
+abbrev pub bad_name : Limits → ℕ → Test
+bad_name limits n = (nat_le limits.names n, BadName)
+
+-- more than 108 bytes
+abbrev pub too_long : List ℕ → Test
+too_long bytes = (nat_lt 108 (length bytes), TooLong)
+
+abbrev pub already_open : State → ℕ → Test
+already_open state s = (is_open state s, AlreadyOpen)
+
+abbrev pub not_open : State → ℕ → Test
+not_open state s = (not (is_open state s), NotOpen)
+
+-- another session holds the name; the least such session is named
+abbrev pub conflict : Option ℕ → Test
+conflict holder = (is_some holder, Conflict (unwrap_or holder 0))
+
+-- the name isn't among those that the session wrote
+abbrev pub is_new_write : State → ℕ → ℕ → Bool
+is_new_write state s n = not (is_some (last_write (writes_of state s) n))
+
+-- the name is new, and the session wrote 256
+abbrev pub writes_full : State → ℕ → ℕ → Test
+writes_full state s n = (is_new_write state s n && nat_le 256 (length (written_names (writes_of state s))), WritesFull)
+
+-- the name is neither among those that the session wrote nor among those that it shares
+abbrev pub is_new_share : State → ℕ → ℕ → Bool
+is_new_share state s n = is_new_write state s n && not (list_any (λ k. k == n) (shared_of state s))
+
+-- the name is new, and the session shares 256
+abbrev pub shares_full : State → ℕ → ℕ → Test
+shares_full state s n = (is_new_share state s n && nat_le 256 (length (shared_of state s)), SharesFull)
+
+-- the name is new, and 48 names of its unit are pending
+abbrev pub pending_full : State → ℕ → ℕ → Test
+pending_full state s n = (is_new_write state s n && nat_le 48 (pending state (n / 960)), PendingFull (n / 960))
+
+-- ---- the operations, each with its tests in order
+
+abbrev pub refuses_begin : Limits → State → ℕ → Option Refusal
+refuses_begin limits state s = first_of (bad_session limits s ∷ already_open state s ∷ [])
+
+abbrev pub refuses_get : Limits → State → ℕ → ℕ → Option Refusal
+refuses_get limits state s n = first_of (bad_session limits s ∷ bad_name limits n ∷ not_open state s ∷ [])
+
+abbrev pub refuses_share : Limits → State → ℕ → ℕ → Option Refusal
+refuses_share limits state s n = first_of (bad_session limits s ∷ bad_name limits n ∷ not_open state s
+    ∷ conflict (holder_for_share state s n) ∷ shares_full state s n ∷ [])
+
+abbrev pub refuses_put : Limits → State → ℕ → ℕ → List ℕ → Option Refusal
+refuses_put limits state s n bytes = first_of (bad_session limits s ∷ bad_name limits n ∷ too_long bytes ∷ not_open state s
+    ∷ conflict (holder_for_write state s n) ∷ writes_full state s n ∷ pending_full state s n ∷ [])
+
+abbrev pub refuses_del : Limits → State → ℕ → ℕ → Option Refusal
+refuses_del limits state s n = first_of (bad_session limits s ∷ bad_name limits n ∷ not_open state s
+    ∷ conflict (holder_for_write state s n) ∷ writes_full state s n ∷ pending_full state s n ∷ [])
+
+-- of a commit and of an abort
+abbrev pub refuses_end : Limits → State → ℕ → Option Refusal
+refuses_end limits state s = first_of (bad_session limits s ∷ not_open state s ∷ [])
+
+abbrev pub refuses_list : Limits → ℕ → ℕ → Option Refusal
+refuses_list limits a b = first_of ((nat_le limits.names a || nat_le limits.names b, BadName) ∷ [])
+
+abbrev pub refuses_merge : Limits → ℕ → Option Refusal
+refuses_merge limits u = first_of ((nat_le limits.units u, BadUnit) ∷ [])

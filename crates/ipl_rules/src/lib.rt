@@ -1,0 +1,12 @@
+//! The rules of the store by operation: the state that it stands for, when each operation is refused, and what it does. No
+//! page, place, log sector, merge or status occurs in them. Definitions and laws alone.
+#![tactic(auto)]
+
+ghost use Rattle.ipl_rules.specs.Laws.{RefusalsLookAtSessions, SeesItsOwnWrites, OneMapForAll};
+
+/// Refusals don't depend on the map, and what a session sees is its own last write, or else the map.
+pub fn laws()
+    ensures refusals { RefusalsLookAtSessions }
+    ensures sees { SeesItsOwnWrites }
+    ensures commits { OneMapForAll }
+{}
