@@ -1,0 +1,5 @@
+mod SectorLemmas
+mod StoryLemmas
+mod NewLemmas
+mod PickLemmas
+mod ChanceLemmas

@@ -1,0 +1,7 @@
+use Rattle.std.proofs.Common.{◌≡◌, take, reverse}
+use Rattle.chip_trait.specs.Story.{held}
+use Rattle.chip_mem.specs.Sectors.{contents_of}
+use Rattle.chip_mem.proofs.replay.replay.Given as goal
+
+abbrev pub invariant-loop-event : goal.invariant-loop-event
+invariant-loop-event l = contents_of l.sectors ≡ held (contents_of l.fn.sectors) (reverse (take l.event-index l.events))

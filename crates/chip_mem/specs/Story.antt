@@ -1,0 +1,18 @@
+-- The events that a chip in memory keeps, the oldest first.
+use Rattle.std.specs.Prelude.{◌≡◌, ℕ, Bool, true, List, reverse, nat_lt, ◌&&◌}
+use Rattle.chip_trait.specs.declared.event.Event.{Event}
+use Rattle.chip_trait.specs.declared.event.Event.TheVariants.{Read, Program, Erase, Barrier, Said}
+use Rattle.chip_trait.specs.Story.{held}
+use Rattle.chip_mem.specs.Sectors.{contents_of}
+
+-- what the event writes is a sector or a place of a chip of so many places
+abbrev pub is_inside : ℕ → Event → Bool
+is_inside places (Read q t) = true
+is_inside places (Program q t bytes) = nat_lt q places && nat_lt t 256
+is_inside places (Erase q) = nat_lt q places
+is_inside places Barrier = true
+is_inside places (Said piece) = true
+
+-- the sectors are what the events make of those at the start
+abbrev pub IsReplayed : List (List ℕ) → List Event → List (List ℕ) → Type 0
+IsReplayed start events sectors = (p s : ℕ) → contents_of sectors p s ≡ held (contents_of start) (reverse events) p s

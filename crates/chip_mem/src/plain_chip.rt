@@ -1,0 +1,93 @@
+//! A chip in memory that keeps no story.
+ghost use Rattle.std.specs.Prelude.{◌≡◌, ◌*◌, length, IfOk};
+
+use crate::sectors::{SECTORS, erase_place, erased_sectors, program_sector, read_sector};
+use chip_trait::{Chip, Failed};
+use ipl_base::OutOfMemory;
+use std::alloc::Global;
+
+/// A chip in memory that never fails. It tells what it holds, and no story.
+#[derive(Drop)]
+pub struct PlainChip {
+    units: u32,
+    sectors: Vec<[u8; 512]>,
+    ghost sized: { length sectors.items ≡ units * 256 },
+}
+
+impl PlainChip {
+    ghost use Rattle.chip_mem.specs.Sectors.{erased};
+    ghost use Rattle.chip_mem.specs.Tells.{telling_contents};
+    ghost use Rattle.chip_mem.specs.Views.{plain_told_of};
+
+    /// An erased chip of so many places.
+    pub fn new(alloc: Global, units: u32) -> Result<PlainChip, OutOfMemory>
+        ensures { IfOk result (λ chip. plain_told_of chip ≡ telling_contents units erased) }
+    {
+        Ok(PlainChip {
+            units,
+            sectors: erased_sectors(alloc, units as usize * SECTORS)?,
+        })
+    }
+}
+
+impl Chip for PlainChip {
+    ghost use Rattle.std.specs.Prelude.{◌<◌, OnOk, IsOk, IfSome};
+    ghost use Rattle.chip_trait.specs.declared.event.Event.TheVariants.{Read, Program, Erase, Barrier};
+    ghost use Rattle.chip_trait.specs.Told.{Appends, Counts};
+    ghost use Rattle.chip_mem.specs.Tells.{appended, contents_consistently};
+    ghost use Rattle.chip_mem.specs.Sectors.{contents_of};
+    ghost use Rattle.chip_mem.specs.Views.{plain_told_of};
+
+    ghost told = { plain_told_of };
+
+    ghost consistent = { λ chip. contents_consistently chip.units (contents_of chip.sectors.items) };
+
+    fn units(&self) -> u32 {
+        self.units
+    }
+
+    /// It never fails.
+    fn read(&mut self, p: u32, s: u32, into: &mut [u8; 512]) -> Result<(), Failed>
+        requires place { p < (plain_told_of self.old).places }
+        requires sector { s < 256 }
+        ensures ok { OnOk result (Appends (Read p s) (plain_told_of self.old) (plain_told_of self.new)) }
+        ensures bytes { OnOk result (IfSome (plain_told_of self.old).contents (λ x. into.new ≡ x p s)) }
+        ensures counts { Counts (plain_told_of self.old) (plain_told_of self.new) }
+        ensures never { IsOk result }
+    {
+        read_sector(&self.sectors, p as usize, s as usize, into);
+        Ok(())
+    }
+
+    /// It never fails.
+    fn program(&mut self, p: u32, s: u32, from: &[u8; 512]) -> Result<(), Failed>
+        requires place { p < (plain_told_of self.old).places }
+        requires sector { s < 256 }
+        ensures ok { OnOk result (Appends (Program p s from.now) (plain_told_of self.old) (plain_told_of self.new)) }
+        ensures counts { Counts (plain_told_of self.old) (plain_told_of self.new) }
+        ensures never { IsOk result }
+    {
+        program_sector(&mut self.sectors, p as usize, s as usize, from);
+        Ok(())
+    }
+
+    /// It never fails.
+    fn erase(&mut self, p: u32) -> Result<(), Failed>
+        requires { p < (plain_told_of self.old).places }
+        ensures ok { OnOk result (Appends (Erase p) (plain_told_of self.old) (plain_told_of self.new)) }
+        ensures counts { Counts (plain_told_of self.old) (plain_told_of self.new) }
+        ensures never { IsOk result }
+    {
+        erase_place(&mut self.sectors, p as usize);
+        Ok(())
+    }
+
+    /// It never fails.
+    fn barrier(&mut self) -> Result<(), Failed>
+        ensures ok { OnOk result (Appends Barrier (plain_told_of self.old) (plain_told_of self.new)) }
+        ensures counts { Counts (plain_told_of self.old) (plain_told_of self.new) }
+        ensures never { IsOk result }
+    {
+        Ok(())
+    }
+}

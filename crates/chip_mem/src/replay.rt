@@ -1,0 +1,92 @@
+//! What kept events make of the sectors of a chip.
+ghost use Rattle.std.specs.Prelude.{◌≡◌, ◌<◌, ◌≤◌, ◌+◌, ◌*◌, ◌/◌, ◌∷◌, true, length, reverse};
+ghost use Rattle.std.specs.List.{AllPass};
+ghost use Rattle.chip_trait.specs.Story.{Story, Contents, after, held};
+ghost use Rattle.chip_trait.specs.Image.{is_open};
+ghost use Rattle.chip_mem.specs.Sectors.{contents_of};
+ghost use Rattle.chip_mem.specs.Story.{is_inside};
+ghost use Rattle.chip_mem.specs.Picked.{settled_count};
+
+use crate::sectors::{BLANK, SECTORS, erase_place, program_sector};
+use chip_trait::Event;
+
+/// Does the events, the first one first.
+pub fn replay(sectors: &mut [[u8; 512]], events: &[Event])
+    requires { AllPass (is_inside (length sectors.old / 256)) events.now }
+    ensures { contents_of sectors.new ≡ held (contents_of sectors.old) (reverse events.now) }
+{
+    for event in events {
+        put_event(sectors, event);
+    }
+}
+
+fn put_event(sectors: &mut [[u8; 512]], event: &Event)
+    requires { is_inside (length sectors.old / 256) event.now ≡ true }
+    ensures { contents_of sectors.new ≡ after event.now (contents_of sectors.old) }
+{
+    match event {
+        Event::Program(p, s, bytes) => program_sector(sectors, *p as usize, *s as usize, bytes),
+        Event::Erase(p) => erase_place(sectors, *p as usize),
+        Event::Read(_, _) | Event::Barrier | Event::Said(_) => {}
+    }
+}
+
+/// What a sector holds after the events.
+pub fn held_at(start: &[[u8; 512]], events: &[Event], p: u32, s: u32) -> [u8; 512]
+    requires place { p * 256 + 256 ≤ length start.now }
+    requires sector { s < 256 }
+    ensures { result ≡ held (contents_of start.now) (reverse events.now) p s }
+{
+    let mut bytes = start[p as usize * SECTORS + s as usize];
+    for event in events {
+        put_bytes(event, p, s, &mut bytes);
+    }
+    bytes
+}
+
+// Makes of the bytes that a sector held before an event those that it holds after it.
+fn put_bytes(event: &Event, p: u32, s: u32, bytes: &mut [u8; 512])
+    ensures { (x : Contents) → x p s ≡ bytes.old → bytes.new ≡ after event.now x p s }
+{
+    match event {
+        Event::Program(q, t, programmed) if *q == p && *t == s => *bytes = *programmed,
+        Event::Erase(q) if *q == p => *bytes = BLANK,
+        _ => {}
+    }
+}
+
+/// Whether a sector was programmed or erased since the last barrier.
+pub fn is_open(events: &[Event], p: u32, s: u32) -> bool
+    ensures { result ≡ is_open (reverse events.now) p s }
+{
+    let mut so_far = false;
+    for event in events {
+        so_far = is_open_after(event, p, s, so_far);
+    }
+    so_far
+}
+
+fn is_open_after(event: &Event, p: u32, s: u32, before: bool) -> bool
+    ensures { (story : Story) → is_open story p s ≡ before → result ≡ is_open (event.now ∷ story) p s }
+{
+    match event {
+        Event::Program(q, t, _) => (*q == p && *t == s) || before,
+        Event::Erase(q) => *q == p || before,
+        Event::Barrier => false,
+        Event::Read(_, _) | Event::Said(_) => before,
+    }
+}
+
+/// How many events there are up to the last barrier, with it.
+pub fn settled_count(events: &[Event]) -> usize
+    ensures value { result ≡ settled_count (reverse events.now) }
+    ensures within { result ≤ length events.now }
+{
+    let mut count = 0;
+    for (i, event) in events.iter().enumerate() {
+        if let Event::Barrier = event {
+            count = i + 1;
+        }
+    }
+    count
+}

@@ -1,0 +1,62 @@
+//! Which calls of a chip fail, by their numbers.
+ghost use Rattle.std.specs.Prelude.{◌≡◌, ◌==◌, []};
+ghost use Rattle.std.specs.List.{list_any};
+ghost use Rattle.chip_mem.specs.Plan.{counted, is_past};
+
+use std::alloc::Global;
+
+/// How many calls and writes were asked for, the calls that fail, and the number of writes after which each one fails.
+#[derive(Drop)]
+pub struct Schedule {
+    pub calls: u64,
+    pub writes: u64,
+    pub failing: Vec<u64>,
+    pub stop: Option<u64>,
+}
+
+impl Schedule {
+    /// Nothing was asked for, and nothing is to fail.
+    pub fn none(alloc: Global) -> Schedule
+        ensures calls { result.calls ≡ 0 }
+        ensures writes { result.writes ≡ 0 }
+        ensures failing { result.failing.items ≡ [] }
+        ensures stop { result.stop ≡ None }
+    {
+        Schedule {
+            calls: 0,
+            writes: 0,
+            failing: Vec::new(alloc),
+            stop: None,
+        }
+    }
+
+    /// The next call is one of those that fail.
+    pub fn lists_call(&self) -> bool
+        ensures { result ≡ list_any (λ n. n == self.now.calls) self.now.failing.items }
+    {
+        self.failing.contains(&self.calls)
+    }
+
+    /// All writes that may succeed were asked for.
+    pub fn is_past_stop(&self) -> bool
+        ensures { result ≡ is_past self.now.stop self.now.writes }
+    {
+        match self.stop {
+            Some(limit) => limit <= self.writes,
+            None => false,
+        }
+    }
+
+    pub fn count_read(&mut self)
+        ensures { self.new ≡ record self.old { calls = counted self.old.calls } }
+    {
+        self.calls = self.calls.saturating_add(1);
+    }
+
+    pub fn count_write(&mut self)
+        ensures { self.new ≡ record self.old { calls = counted self.old.calls; writes = counted self.old.writes } }
+    {
+        self.calls = self.calls.saturating_add(1);
+        self.writes = self.writes.saturating_add(1);
+    }
+}

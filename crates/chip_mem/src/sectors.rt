@@ -1,0 +1,57 @@
+//! The sectors of a chip, one after another.
+ghost use Rattle.std.specs.Prelude.{◌≡◌, ◌<◌, ◌≤◌, ◌+◌, ◌*◌, length, replicate, IfOk};
+ghost use Rattle.chip_trait.specs.declared.event.Event.TheVariants.{Program, Erase};
+ghost use Rattle.chip_trait.specs.Story.{after, blank};
+ghost use Rattle.chip_mem.specs.Sectors.{HasWholeSectors, contents_of};
+
+use ipl_base::OutOfMemory;
+use std::alloc::Global;
+
+/// The sectors of a place.
+pub const SECTORS: usize = 256;
+
+/// An erased sector.
+pub const BLANK: [u8; 512] = [255; 512];
+
+pub fn erased_sectors(alloc: Global, count: usize) -> Result<Vec<[u8; 512]>, OutOfMemory>
+    ensures { IfOk result (λ v. v.items ≡ replicate count BLANK) }
+{
+    let mut sectors = Vec::with_capacity(alloc, count)?;
+    for i in 0..count {
+        sectors.push_reserved(BLANK);
+    }
+    Ok(sectors)
+}
+
+/// A copy of the sectors, each of which has 512 bytes.
+pub fn copy_sectors(alloc: Global, sectors: &[[u8; 512]]) -> Result<Vec<[u8; 512]>, OutOfMemory>
+    ensures items { IfOk result (λ v. v.items ≡ sectors.now) }
+    ensures fits { HasWholeSectors (contents_of sectors.now) }
+{
+    Ok(Vec::from_slice(alloc, sectors)?)
+}
+
+pub fn erase_place(sectors: &mut [[u8; 512]], place: usize)
+    requires { place * 256 + 256 ≤ length sectors.old }
+    ensures { contents_of sectors.new ≡ after (Erase place) (contents_of sectors.old) }
+{
+    for s in 0..SECTORS {
+        sectors[place * SECTORS + s] = BLANK;
+    }
+}
+
+pub fn program_sector(sectors: &mut [[u8; 512]], place: usize, sector: usize, bytes: &[u8; 512])
+    requires place { place * 256 + 256 ≤ length sectors.old }
+    requires sector { sector < 256 }
+    ensures { contents_of sectors.new ≡ after (Program place sector bytes.now) (contents_of sectors.old) }
+{
+    sectors[place * SECTORS + sector] = *bytes;
+}
+
+pub fn read_sector(sectors: &[[u8; 512]], place: usize, sector: usize, into: &mut [u8; 512])
+    requires place { place * 256 + 256 ≤ length sectors.now }
+    requires sector { sector < 256 }
+    ensures { into.new ≡ contents_of sectors.now place sector }
+{
+    *into = sectors[place * SECTORS + sector];
+}
