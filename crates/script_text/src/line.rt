@@ -1,0 +1,82 @@
+//! What a line of a script says.
+ghost use Rattle.std.specs.Prelude.{◌≡◌, ◌≤◌, length, IfSome};
+ghost use Rattle.std.specs.Option.{option_copied};
+ghost use Rattle.std.specs.List.{slice_split};
+ghost use Rattle.ipl_model.specs.Grammar.{is_space, words_behind, one_number, two_numbers, numbers_and_value, command_of, line_of};
+
+use crate::word::{first_word, number, value};
+use ipl_model::{Command, Line, PutBytes};
+
+/// The number that the words behind a verb are.
+#[tactic(auto, using(crate::proofs::Words::one_too_many))]
+fn one_number(words: Option<&[u8]>) -> Option<u32>
+    ensures { result ≡ one_number (words_behind (option_copied words.entry)) }
+{
+    match first_word(words?) {
+        (word, None) => number(word),
+        (_, Some(_)) => None,
+    }
+}
+
+/// The two numbers that the words behind a verb are.
+#[tactic(auto, using(crate::proofs::Words::two_too_many))]
+fn two_numbers(words: Option<&[u8]>) -> Option<(u32, u32)>
+    ensures { result ≡ two_numbers (words_behind (option_copied words.entry)) }
+{
+    let (session, words) = first_word(words?);
+    match first_word(words?) {
+        (name, None) => Some((number(session)?, number(name)?)),
+        (_, Some(_)) => None,
+    }
+}
+
+/// The two numbers and the bytes that the words behind a verb are.
+#[tactic(auto, using(crate::proofs::Words::three_too_many))]
+fn numbers_and_value(words: Option<&[u8]>) -> Option<(u32, u32, PutBytes)>
+    requires { IfSome words (λ words. length words.now ≤ 1024) }
+    ensures { result ≡ numbers_and_value (words_behind (option_copied words.entry)) }
+{
+    let (session, words) = first_word(words?);
+    let (name, words) = first_word(words?);
+    match first_word(words?) {
+        (bytes, None) => Some((number(session)?, number(name)?, value(bytes)?)),
+        (_, Some(_)) => None,
+    }
+}
+
+/// The command that a line is.
+fn command(line: &[u8]) -> Command
+    requires { length line.now ≤ 1024 }
+    ensures { result ≡ command_of (slice_split is_space line.now) }
+{
+    let (verb, words) = first_word(line);
+    if verb == b"begin".as_slice() {
+        one_number(words).map_or(Command::Syntax, |s| Command::Begin(s))
+    } else if verb == b"get".as_slice() {
+        two_numbers(words).map_or(Command::Syntax, |a| Command::Get(a.0, a.1))
+    } else if verb == b"put".as_slice() {
+        match numbers_and_value(words) {
+            Some((session, name, bytes)) => Command::Put(session, name, bytes),
+            None => Command::Syntax,
+        }
+    } else if verb == b"commit".as_slice() {
+        one_number(words).map_or(Command::Syntax, |s| Command::Commit(s))
+    } else if verb == b"abort".as_slice() {
+        one_number(words).map_or(Command::Syntax, |s| Command::Abort(s))
+    } else {
+        Command::Syntax
+    }
+}
+
+/// What a line of a script says. A line feed is not among its bytes.
+pub fn parse(line: &[u8]) -> Line
+    ensures { result ≡ line_of line.now }
+{
+    if line.is_empty() || line[0] == b'#' {
+        return Line::Skip;
+    }
+    if line.len() > 1024 {
+        return Line::Do(Command::Syntax);
+    }
+    Line::Do(command(line))
+}

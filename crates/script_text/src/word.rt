@@ -1,0 +1,61 @@
+//! The words of a line: its first word, and what a word spells.
+ghost use Rattle.std.specs.Prelude.{◌≡◌, ◌≤◌, length, IfSome};
+ghost use Rattle.std.specs.Option.{option_copied};
+ghost use Rattle.std.specs.List.{slice_split};
+ghost use Rattle.ipl_model.specs.Grammar.{number_of, value_of, is_space, words_with};
+
+use ipl_model::PutBytes;
+
+/// The number that a word is: decimal digits with no leading zero, below 2^32.
+pub fn number(word: &[u8]) -> Option<u32>
+    ensures { result ≡ number_of word.now }
+{
+    if word.is_empty() || (word[0] == b'0' && word.len() > 1) {
+        return None;
+    }
+    let mut value: u32 = 0;
+    for byte in word {
+        if *byte < b'0' || *byte > b'9' {
+            return None;
+        }
+        let next = u64::from(value) * 10 + u64::from(*byte - b'0');
+        if next > 0xffff_ffff {
+            return None;
+        }
+        value = next as u32;
+    }
+    Some(value)
+}
+
+/// The bytes that a word spells: `-` for none, or pairs of hex digits.
+pub fn value(word: &[u8]) -> Option<PutBytes>
+    requires { length word.now ≤ 1024 }
+    ensures { result ≡ value_of word.now }
+{
+    if word == b"-".as_slice() {
+        return Some(PutBytes::of(&[]));
+    }
+    if word.is_empty() {
+        return None;
+    }
+    let mut bytes = [0u8; 512];
+    let half = word.len() / 2;
+    let room = &mut bytes[..half];
+    if hex::decode_to_slice(word, room).is_err() {
+        return None;
+    }
+    Some(PutBytes::of(&bytes[..half]))
+}
+
+/// The first word of a line, and what stands behind the space after it, if there is one.
+pub fn first_word(line: &[u8]) -> (&[u8], Option<&[u8]>)
+    ensures words { slice_split is_space line.now
+        ≡ words_with result.0.now (option_copied result.1) }
+    ensures first_fits { length result.0.now ≤ length line.now }
+    ensures rest_fits { IfSome result.1 (λ rest. length rest.now ≤ length line.now) }
+{
+    match line.iter().position(|b| *b == b' ') {
+        Some(at) => (&line[..at], Some(&line[at + 1..])),
+        None => (line, None),
+    }
+}
