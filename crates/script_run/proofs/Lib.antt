@@ -1,0 +1,6 @@
+mod OnwardLemmas
+mod LineLemmas
+mod RunLemmas
+mod AnswerLemmas
+mod GoesLemmas
+mod CauseLemmas

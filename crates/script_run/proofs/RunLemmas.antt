@@ -1,0 +1,313 @@
+-- What a run leaves, in one part after another.
+use Rattle.std.proofs.Common.{◌≡◌, ◌⊎◌, inl, inr, ⊎_elim, ℕ, Bool, true, false, List, [], ◌∷◌, ◌++◌, Some, refl, sym, ◌∙◌, ap, subst, append_assoc}
+use Rattle.std.specs.Option.{option_map}
+use Rattle.std.proofs.lemmas.List.{append-nil}
+use Rattle.ipl_rules.specs.State.{Map, State, Limits}
+use Rattle.ipl_model.specs.declared.command.Command.{Command}
+use Rattle.ipl_model.specs.Step.{step}
+use Rattle.ipl_model.specs.Run.{reply_lines, lines, text, after_all, IsNear}
+use Rattle.ipl_model.proofs.RunLemmas.{found_after, found_longer, found_said, found_silent, lines-append}
+use Rattle.chip_trait.specs.declared.event.Event.{Event}
+use Rattle.chip_trait.specs.declared.event.Event.TheVariants.{Read, Program, Erase, Barrier, Said}
+use Rattle.chip_trait.specs.Story.{Story, Contents, pieces, joined, said}
+use Rattle.chip_trait.specs.Image.{IsNoChanceImage}
+use Rattle.chip_trait.specs.Moment.{Leaves}
+use Rattle.chip_trait.specs.Told.{History, Told, IsPrefix, Appends, FailsToSay, adds, adds_all}
+use Rattle.chip_trait.proofs.LawfulLemmas.{lawful_none, clean_none, lawful_then, clean_then}
+use Rattle.chip_trait.proofs.MomentLemmas.{at_start, at_next, at_both}
+use Rattle.chip_trait.proofs.SaidLemmas.{joined-append, pieces-append, said-append, silent-part}
+use Rattle.script_run.specs.Keeping.{Keeping, AllOf, WorkLeaves}
+use Rattle.script_run.specs.Run.{IsCut, SaysLines, IsSaidOr, IsFound, RunLeaves, SayingLeaves}
+
+-- ---- lines
+
+pub says_none : (all : List (List ℕ)) → SaysLines all []
+says_none all = record { whole = []; rest = all; cut = []; lines_are = refl; said_is = refl; is_cut = tt }
+
+pub says_all : (all : List (List ℕ)) → SaysLines all all
+says_all all = record { whole = all; rest = []; cut = []; lines_are = sym (append-nil all); said_is = sym (append-nil all); is_cut = tt }
+
+-- a line cut short
+pub says_cut : (line : List ℕ) (more : List (List ℕ)) (cut : List (List ℕ)) → IsCut cut (line ∷ more) → SaysLines (line ∷ more) cut
+says_cut line more cut is = record { whole = []; rest = line ∷ more; cut = cut; lines_are = refl; said_is = refl; is_cut = is }
+
+cut_longer : (cut rest more : List (List ℕ)) → IsCut cut rest → IsCut cut (rest ++ more)
+cut_longer [] rest more is = tt
+cut_longer (piece ∷ []) [] more is = absurd is
+cut_longer (piece ∷ []) (line ∷ rest) more is = is
+cut_longer (piece ∷ next ∷ cut) rest more is = is
+
+-- more lines to come
+pub says_longer : (all more said : List (List ℕ)) → SaysLines all said → SaysLines (all ++ more) said
+says_longer all more said s = record {
+  whole = s.whole;
+  rest = s.rest ++ more;
+  cut = s.cut;
+  lines_are = ap (λ (l : List (List ℕ)). l ++ more) s.lines_are ∙ append_assoc s.whole s.rest more;
+  said_is = s.said_is;
+  is_cut = cut_longer s.cut s.rest more s.is_cut;
+}
+
+-- behind whole lines
+pub says_behind : (front all said : List (List ℕ)) → SaysLines all said → SaysLines (front ++ all) (front ++ said)
+says_behind front all said s = record {
+  whole = front ++ s.whole;
+  rest = s.rest;
+  cut = s.cut;
+  lines_are = ap (λ (l : List (List ℕ)). front ++ l) s.lines_are ∙ sym (append_assoc front s.whole s.rest);
+  said_is = ap (λ (l : List (List ℕ)). front ++ l) s.said_is ∙ sym (append_assoc front s.whole s.cut);
+  is_cut = s.is_cut;
+}
+
+cut_prefix : (cut rest : List (List ℕ)) → IsCut cut rest → IsPrefix (joined cut) (joined rest)
+cut_prefix [] rest is = (joined rest, refl)
+cut_prefix (piece ∷ []) [] is = absurd is
+cut_prefix (piece ∷ []) (line ∷ rest) is =
+    (is.0 ++ joined rest, ap (λ (l : List ℕ). l ++ (is.0 ++ joined rest)) (append-nil piece) ∙ sym (append_assoc piece is.0 (joined rest)) ∙ ap (λ (l : List ℕ). l ++ joined rest) is.1)
+cut_prefix (piece ∷ next ∷ cut) rest is = absurd is
+
+-- so what was said is a beginning of the lines, joined
+pub says_prefix : (all said : List (List ℕ)) → SaysLines all said → IsPrefix (joined said) (joined all)
+says_prefix all said s =
+    let part = cut_prefix s.cut s.rest s.is_cut in (
+      part.0,
+      ap (λ (l : List (List ℕ)). joined l ++ part.0) s.said_is ∙ ap (λ (l : List ℕ). l ++ part.0) (joined-append s.whole s.cut) ∙ append_assoc (joined s.whole) (joined s.cut) part.0
+          ∙ ap (λ (l : List ℕ). joined s.whole ++ l) part.1 ∙ sym (joined-append s.whole s.rest) ∙ ap joined (sym s.lines_are),
+    )
+
+prefix_of_said : (later e : Story) (t : List ℕ) → IsPrefix (said (later ++ e)) t → IsPrefix (said e) t
+prefix_of_said later e t part =
+    (said later ++ part.0, sym (append_assoc (said e) (said later) part.0) ∙ ap (λ (l : List ℕ). l ++ part.0) (sym (said-append later e)) ∙ part.1)
+
+-- ---- events
+
+pub all_both : (P : Event → Type 0) (later earlier : Story) → AllOf P later → AllOf P earlier → AllOf P (later ++ earlier)
+all_both P [] earlier l e = e
+all_both P (f ∷ later) earlier l e = (l.0, all_both P later earlier l.1 e)
+
+pub or_said : (P : Event → Type 0) (e : Event) → P e → IsSaidOr P e
+or_said P (Read p s) is = is
+or_said P (Program p s bytes) is = is
+or_said P (Erase p) is = is
+or_said P Barrier is = is
+or_said P (Said piece) is = tt
+
+pub all_or_said : (P : Event → Type 0) (story : Story) → AllOf P story → AllOf (IsSaidOr P) story
+all_or_said P [] all = tt
+all_or_said P (e ∷ story) all = (or_said P e all.0, all_or_said P story all.1)
+
+twice_added : (later earlier : Story) (h : History) → adds_all later (adds_all earlier h) ≡ adds_all (later ++ earlier) h
+twice_added later earlier h = ap (λ (story : Story). record { start = h.start; story = story }) (sym (append_assoc later earlier h.story))
+
+-- what is said changes no image
+said_image : (checks : List ℕ → Bool) (start : Contents) (piece : List ℕ) (story : Story) (x : Contents) → IsNoChanceImage checks start (Said piece ∷ story) x → IsNoChanceImage checks start story x
+said_image checks start piece story x is = record { image = is.image; chance = is.chance }
+
+-- an image of more events, as one of the story behind them
+regrouped : (checks : List ℕ → Bool) (h : History) (later earlier : Story) (x : Contents) → IsNoChanceImage checks h.start ((later ++ earlier) ++ h.story) x → IsNoChanceImage checks h.start (later ++ (earlier ++ h.story)) x
+regrouped checks h later earlier x is = subst (λ (story : Story). IsNoChanceImage checks h.start story x) (append_assoc later earlier h.story) is
+
+-- ---- over stores of one kind
+
+module _ {S : Type 0} (k : Keeping S) where
+  -- ---- what is said while the store keeps its state
+
+  pub saying_none : (limits : Limits) (state : State) (store : S) (h : History) (t : Told) (done : Bool) → k.holds limits store t state → t.history ≡ Some h → SayingLeaves k state.map [] store h store t done
+  saying_none limits state store h t done holds told = record {
+    added = [];
+    history = told;
+    each_moment = at_start (Leaves k.checks (λ x. k.stands x state.map) h) (k.each limits store t state h holds told);
+    says = refl;
+    only = tt;
+    lawful = lawful_none (k.clean store);
+    clean = λ e. clean_none (k.clean store);
+  }
+
+  -- work that says nothing
+  abbrev pub saying_work : (m : Map) (before then : S) (h : History) (new : Told) (done : Bool) → WorkLeaves k (λ x. k.stands x m) before h then new done → SayingLeaves k m [] before h then new done
+  saying_work m before then h new done did = record {
+    added = did.added;
+    history = did.history;
+    each_moment = did.each_moment;
+    says = did.silent;
+    only = all_or_said k.does did.added did.only;
+    lawful = did.lawful;
+    clean = did.clean;
+  }
+
+  -- one piece
+  one_piece : (limits : Limits) (state : State) (store : S) (h : History) (mid new : Told) (piece : List ℕ) (done : Bool) → k.holds limits store mid state → mid.history ≡ Some h → new.history ≡ option_map (adds (Said piece)) mid.history
+      → SayingLeaves k state.map (piece ∷ []) store h store new done
+  one_piece limits state store h mid new piece done holds told grown =
+      let P = λ (x : Contents). k.stands x state.map in
+      let here = k.each limits store mid state h holds told in record {
+        added = Said piece ∷ [];
+        history = grown ∙ ap (option_map (adds (Said piece))) told;
+        each_moment = at_next (Leaves k.checks P h) (Said piece) [] (at_start (Leaves k.checks P h) here) (λ x is. here x (said_image k.checks h.start piece h.story x is));
+        says = refl;
+        only = (tt, tt);
+        lawful = record { lawful = λ base lawful clean. lawful };
+        clean = λ e. record { clean = λ base lawful clean. clean };
+      }
+
+  pub saying_said : (limits : Limits) (state : State) (store : S) (h : History) (mid new : Told) (piece : List ℕ) → k.holds limits store mid state → mid.history ≡ Some h → Appends (Said piece) mid new
+      → SayingLeaves k state.map (piece ∷ []) store h store new true
+  saying_said limits state store h mid new piece holds told did = one_piece limits state store h mid new piece true holds told did.history
+
+  -- a piece cut short
+  pub saying_cut : (limits : Limits) (state : State) (store : S) (h : History) (mid new : Told) (piece : List ℕ) (more : List (List ℕ)) → k.holds limits store mid state → mid.history ≡ Some h → FailsToSay piece mid new
+      → (cut : List (List ℕ)) × IsCut cut (piece ∷ more) × SayingLeaves k state.map cut store h store new false
+  unfolding saying_none
+  saying_cut limits state store h mid new piece more holds told did = elim did.history [
+    | inl some ↦ (some.0 ∷ [], some.1, one_piece limits state store h mid new some.0 false holds told some.2)
+    | inr none ↦
+        let here = saying_none limits state store h mid false holds told in
+        ([], tt, record { added = []; history = none ∙ told; each_moment = here.each_moment; says = refl; only = tt; lawful = here.lawful; clean = here.clean })
+  ]
+
+  -- one after another
+  pub saying_then : (m : Map) (a b : List (List ℕ)) (before mid then : S) (h : History) (between new : Told) (done : Bool) → (first : SayingLeaves k m a before h mid between true)
+      → SayingLeaves k m b mid (adds_all first.added h) then new done → SayingLeaves k m (a ++ b) before h then new done
+  saying_then m a b before mid then h between new done first two = record {
+    added = two.added ++ first.added;
+    history = two.history ∙ ap Some (twice_added two.added first.added h);
+    each_moment = at_both (Leaves k.checks (λ x. k.stands x m) h) two.added first.added first.each_moment
+        (λ later f split x is. two.each_moment later f split x (regrouped k.checks h f first.added x is));
+    says = pieces-append two.added first.added ∙ ap (λ (l : List (List ℕ)). l ++ pieces two.added) first.says ∙ ap (λ (l : List (List ℕ)). a ++ l) two.says;
+    only = all_both (IsSaidOr k.does) two.added first.added two.only first.only;
+    lawful = lawful_then (k.clean before) (k.clean mid) two.added first.added first.lawful (first.clean refl) two.lawful;
+    clean = λ e. clean_then (k.clean before) (k.clean mid) (k.clean then) two.added first.added first.lawful (first.clean refl) (two.clean e);
+  }
+
+  -- ---- commands
+
+  abbrev Moment : Limits → State → List Command → History → Story → Type 0
+  Moment limits state cs h e = Leaves k.checks (IsFound k limits state cs (said e)) h e
+
+  -- before any command
+  pub run_none : (limits : Limits) (state : State) (store : S) (h : History) (R : State → Type 0) (t : Told) (done : Bool) → k.holds limits store t state → t.history ≡ Some h → R state → RunLeaves k limits state [] store h R store t done
+  run_none limits state store h R t done holds told r = record {
+    added = [];
+    history = told;
+    each_moment = at_start (Moment limits state [] h) (λ x is. inl (k.each limits store t state h holds told x is));
+    replies = says_none [];
+    all = λ e. refl;
+    only = tt;
+    lawful = lawful_none (k.clean store);
+    clean = λ e. clean_none (k.clean store);
+    rests = inl r;
+  }
+
+  -- the work of one command, and what is said after it
+  pub run_command : (limits : Limits) (state : State) (c : Command) (before mid then : S) (h : History) (R : State → Type 0) (between new : Told) (part : List (List ℕ)) (done : Bool)
+      → (did : WorkLeaves k (λ x. k.stands x state.map ⊎ k.stands x (step limits state c).0.map) before h mid between true)
+      → SayingLeaves k (step limits state c).0.map part mid (adds_all did.added h) then new done
+      → SaysLines (reply_lines limits state c) part → (done ≡ true → part ≡ reply_lines limits state c) → R (step limits state c).0 → RunLeaves k limits state (c ∷ []) before h R then new done
+  run_command limits state c before mid then h R between new part done did more front all r = record {
+    added = more.added ++ did.added;
+    history = more.history ∙ ap Some (twice_added more.added did.added h);
+    each_moment = at_both (Moment limits state (c ∷ []) h) more.added did.added
+        (λ later e split x is. found_silent limits state c (said e) (λ s. k.stands x s.map) (ap joined (silent-part later e (ap pieces split ∙ did.silent))) (did.each_moment later e split x is))
+        (λ later f split x is. found_said limits state c (said (f ++ did.added)) (λ s. k.stands x s.map) (more.each_moment later f split x (regrouped k.checks h f did.added x is)));
+    replies = subst (SaysLines (reply_lines limits state c ++ [])) (sym all_said) (says_longer (reply_lines limits state c) [] part front);
+    all = λ e. all_said ∙ all e ∙ sym (append-nil (reply_lines limits state c));
+    only = all_both (IsSaidOr k.does) more.added did.added more.only (all_or_said k.does did.added did.only);
+    lawful = lawful_then (k.clean before) (k.clean mid) more.added did.added did.lawful (did.clean refl) more.lawful;
+    clean = λ e. clean_then (k.clean before) (k.clean mid) (k.clean then) more.added did.added did.lawful (did.clean refl) (more.clean e);
+    rests = found_said limits state c (said (more.added ++ did.added)) R r;
+  }
+    where
+      all_said : pieces (more.added ++ did.added) ≡ part
+      all_said = pieces-append more.added did.added ∙ ap (λ (l : List (List ℕ)). l ++ pieces more.added) did.silent ∙ more.says
+
+  -- the work failed, and nothing was said
+  pub run_failed : (limits : Limits) (state : State) (c : Command) (before then : S) (h : History) (R : State → Type 0) (new : Told)
+      → WorkLeaves k (λ x. k.stands x state.map ⊎ k.stands x (step limits state c).0.map) before h then new false → R state → RunLeaves k limits state (c ∷ []) before h R then new false
+  run_failed limits state c before then h R new did r = record {
+    added = did.added;
+    history = did.history;
+    each_moment = λ later e split x is. found_silent limits state c (said e) (λ s. k.stands x s.map) (ap joined (silent-part later e (ap pieces split ∙ did.silent))) (did.each_moment later e split x is);
+    replies = subst (SaysLines (lines limits state (c ∷ []))) (sym did.silent) (says_none (lines limits state (c ∷ [])));
+    all = λ e. cc;
+    only = all_or_said k.does did.added did.only;
+    lawful = did.lawful;
+    clean = λ e. cc;
+    rests = found_silent limits state c (said did.added) R (ap joined did.silent) (inl r);
+  }
+
+  -- what was said of the commands by an earlier moment
+  said_so_far : (limits : Limits) (state : State) (cs : List Command) (before then : S) (h : History) (R : State → Type 0) (new : Told) (done : Bool) (r : RunLeaves k limits state cs before h R then new done)
+      (later e : Story) → later ++ e ≡ r.added → IsPrefix (said e) (text limits state cs)
+  said_so_far limits state cs before then h R new done r later e split =
+      prefix_of_said later e (text limits state cs) (subst (λ (l : Story). IsPrefix (said l) (text limits state cs)) (sym split) (says_prefix (lines limits state cs) (pieces r.added) r.replies))
+
+  -- then more commands
+  pub run_more : (limits : Limits) (state : State) (cs ds : List Command) (before mid then : S) (h : History) (Q R : State → Type 0) (between new : Told) (done : Bool)
+      → (first : RunLeaves k limits state cs before h Q mid between true) → RunLeaves k limits (after_all limits state cs) ds mid (adds_all first.added h) R then new done
+      → RunLeaves k limits state (cs ++ ds) before h R then new done
+  run_more limits state cs ds before mid then h Q R between new done first two = record {
+    added = two.added ++ first.added;
+    history = two.history ∙ ap Some (twice_added two.added first.added h);
+    each_moment = at_both (Moment limits state (cs ++ ds) h) two.added first.added
+        (λ later e split x is. found_longer limits state cs ds (said e) (λ s. k.stands x s.map) (said_so_far limits state cs before mid h Q between true first later e split) (first.each_moment later e split x is))
+        (λ later f split x is. subst (λ (bytes : List ℕ). IsFound k limits state (cs ++ ds) bytes x) (sym (both_said f))
+        (found_after limits state cs ds (said f) (λ s. k.stands x s.map) (two.each_moment later f split x (regrouped k.checks h f first.added x is))));
+    replies = subst (λ (l : List (List ℕ)). SaysLines l (pieces (two.added ++ first.added))) (sym (lines-append limits state cs ds))
+        (subst (SaysLines (lines limits state cs ++ lines limits (after_all limits state cs) ds)) (sym both_pieces) (says_behind (lines limits state cs) (lines limits (after_all limits state cs) ds) (pieces two.added) two.replies));
+    all = λ e. both_pieces ∙ ap (λ (l : List (List ℕ)). lines limits state cs ++ l) (two.all e) ∙ sym (lines-append limits state cs ds);
+    only = all_both (IsSaidOr k.does) two.added first.added two.only first.only;
+    lawful = lawful_then (k.clean before) (k.clean mid) two.added first.added first.lawful (first.clean refl) two.lawful;
+    clean = λ e. clean_then (k.clean before) (k.clean mid) (k.clean then) two.added first.added first.lawful (first.clean refl) (two.clean e);
+    rests = subst (λ (bytes : List ℕ). IsNear R limits state (cs ++ ds) bytes) (sym (both_said two.added)) (found_after limits state cs ds (said two.added) R two.rests);
+  }
+    where
+      both_pieces : pieces (two.added ++ first.added) ≡ lines limits state cs ++ pieces two.added
+      both_pieces = pieces-append two.added first.added ∙ ap (λ (l : List (List ℕ)). l ++ pieces two.added) (first.all refl)
+
+      both_said : (f : Story) → said (f ++ first.added) ≡ text limits state cs ++ said f
+      both_said f = said-append f first.added ∙ ap (λ (l : List (List ℕ)). joined l ++ said f) (first.all refl)
+
+  -- and where the run ends, the commands that were not begun
+  pub run_longer : (limits : Limits) (state : State) (cs ds : List Command) (before then : S) (h : History) (R : State → Type 0) (new : Told)
+      → RunLeaves k limits state cs before h R then new false → RunLeaves k limits state (cs ++ ds) before h R then new false
+  run_longer limits state cs ds before then h R new first = record {
+    added = first.added;
+    history = first.history;
+    each_moment = λ later e split x is. found_longer limits state cs ds (said e) (λ s. k.stands x s.map) (said_so_far limits state cs before then h R new false first later e split) (first.each_moment later e split x is);
+    replies = subst (λ (l : List (List ℕ)). SaysLines l (pieces first.added)) (sym (lines-append limits state cs ds)) (says_longer (lines limits state cs) (lines limits (after_all limits state cs) ds) (pieces first.added) first.replies);
+    all = λ e. cc;
+    only = first.only;
+    lawful = first.lawful;
+    clean = λ e. cc;
+    rests = found_longer limits state cs ds (said first.added) R (says_prefix (lines limits state cs) (pieces first.added) first.replies) first.rests;
+  }
+
+  -- less said of how the state is kept at the end
+  pub run_weaker : (limits : Limits) (state : State) (cs : List Command) (before then : S) (h : History) (Q R : State → Type 0) (new : Told) (done : Bool) → ((s : State) → Q s → R s)
+      → RunLeaves k limits state cs before h Q then new done → RunLeaves k limits state cs before h R then new done
+  run_weaker limits state cs before then h Q R new done f r = record {
+    added = r.added;
+    history = r.history;
+    each_moment = r.each_moment;
+    replies = r.replies;
+    all = r.all;
+    only = r.only;
+    lawful = r.lawful;
+    clean = r.clean;
+    rests = ⊎_elim (λ q. inl (f _ q)) (λ q. inr (f _ q)) r.rests;
+  }
+
+  -- what is done may be said less of
+  pub run_less : (limits : Limits) (state : State) (cs : List Command) (before then : S) (h : History) (R : State → Type 0) (new : Told)
+      → RunLeaves k limits state cs before h R then new true → RunLeaves k limits state cs before h R then new false
+  run_less limits state cs before then h R new r = record {
+    added = r.added;
+    history = r.history;
+    each_moment = r.each_moment;
+    replies = r.replies;
+    all = λ e. cc;
+    only = r.only;
+    lawful = r.lawful;
+    clean = λ e. cc;
+    rests = r.rests;
+  }

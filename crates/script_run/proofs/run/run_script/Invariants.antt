@@ -1,0 +1,24 @@
+use Rattle.std.proofs.Common.{◌≡◌, ◌≤◌, ◌-◌, List, ℕ, Some}
+use Rattle.ipl_rules.specs.State.{State, Limits}
+use Rattle.chip_trait.specs.Told.{History, Grew}
+use Rattle.script_run.specs.Onward.{Further}
+use Rattle.script_run.specs.Goes.{HasRead}
+use Rattle.script_run.proofs.GoesLemmas.{Running}
+use Rattle.script_run.proofs.run.run_script.Given as goal
+
+abbrev pub invariant-loop-total : goal.invariant-loop-total
+invariant-loop-total g l =
+    let told = g.D.Chip.told in
+    let k = g.S.Store.keeping in
+    record {
+      running : (limits : Limits) (state : State) (h : History) → k.holds limits l.fn.store (told l.fn.desk) state → (told l.fn.desk).history ≡ Some h → (source : List ℕ) → (told l.fn.desk).beside.left ≡ Some source
+          → Running k limits state source l.fn.store h l.store l.line (told l.desk);
+      suited : (places : ℕ) → k.suits l.fn.store places → k.suits l.store places;
+      further : Further (told l.fn.desk) (told l.desk);
+      bytes : Grew (told l.fn.desk).beside.script_bytes l.total (told l.desk).beside.script_bytes;
+      read : HasRead l.total (told l.fn.desk) (told l.desk);
+      few : l.total ≤ 4294967295;
+    }
+
+abbrev pub decreases-loop-total : goal.decreases-loop-total
+decreases-loop-total g l = 4294967295 - l.total

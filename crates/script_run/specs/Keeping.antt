@@ -1,0 +1,97 @@
+-- How a store keeps a state on a chip, and what one command's work leaves.
+use Rattle.std.specs.Prelude.{◌≡◌, ◌⊎◌, ◌<◌, ℕ, Bool, true, List, [], ◌∷◌, Option, Some, Result, MatchResult, is_ok}
+use Rattle.std.specs.FinMap.{get}
+use Rattle.ipl_rules.specs.State.{Map, State, Limits}
+use Rattle.ipl_model.specs.declared.command.Command.{Command}
+use Rattle.ipl_model.specs.declared.command.Command.TheVariants as command
+use Rattle.ipl_model.specs.declared.reply.Reply.{Reply}
+use Rattle.ipl_model.specs.Step.{step}
+use Rattle.chip_trait.specs.declared.event.Event.{Event}
+use Rattle.chip_trait.specs.Story.{Story, Contents, pieces}
+use Rattle.chip_trait.specs.Moment.{AtEachMoment, Leaves}
+use Rattle.chip_trait.specs.Lawful.{IsLawfulAfter, LeavesClean}
+use Rattle.chip_trait.specs.Told.{History, Told, adds_all}
+use Rattle.script_run.specs.declared.fault.Fault.{Fault}
+use Rattle.script_run.specs.Onward.{Further, Still, Unrisen}
+
+-- each of these events is so
+abbrev pub AllOf : (Event → Type 0) → Story → Type 0
+AllOf P [] = Unit {0}
+AllOf P (e ∷ story) = P e × AllOf P story
+
+-- What is to be known of stores of one kind.
+pub record Keeping (S : Type 0) : Type 1 where
+  -- the bytes of a sector check, so that a power cut leaves them only where they were written
+  pub checks : List ℕ → Bool
+  -- the contents of a chip stand for these records
+  pub stands : Contents → Map → Type 0
+  -- under these limits the store, over a chip that tells this, keeps the state
+  pub holds : Limits → S → Told → State → Type 0
+  -- the store is made for a chip of so many places
+  pub suits : S → ℕ → Type 0
+  -- the store counts this sector of this place as clean
+  pub clean : S → ℕ → ℕ → Type 0
+  -- the store's work may add such an event
+  pub does : Event → Type 0
+  -- a fault comes only where this was so of what was told before it and after it
+  pub cause : Fault → Told → Told → Type 0
+  -- whatever a power cut leaves of a chip whose history is told stands for the records
+  pub each : (limits : Limits) (store : S) (t : Told) (state : State) (h : History) → holds limits store t state → t.history ≡ Some h → Leaves checks (λ x. stands x state.map) h []
+  -- what is said and what is read of a script changes nothing
+  pub still : (limits : Limits) (store : S) (old new : Told) (state : State) → Still old new → holds limits store old state → holds limits store new state
+  -- a cause is one for a longer time too
+  pub caused : (fault : Fault) (first old new last : Told) → Further first old → cause fault old new → Further new last → cause fault first last
+
+-- every command but a list has one line as its reply
+abbrev pub IsSingle : Command → Type 0
+IsSingle (command.Begin s) = Unit {0}
+IsSingle (command.Get s n) = Unit {0}
+IsSingle (command.Share s n) = Unit {0}
+IsSingle (command.Put s n bytes) = Unit {0}
+IsSingle (command.Del s n) = Unit {0}
+IsSingle (command.Commit s) = Unit {0}
+IsSingle (command.Abort s) = Unit {0}
+IsSingle (command.List a b) = ⊥
+IsSingle (command.Merge u) = Unit {0}
+IsSingle command.Restart = Unit {0}
+IsSingle command.Syntax = Unit {0}
+
+-- over stores of one kind
+module _ {S : Type 0} (k : Keeping S) where
+  -- What work leaves that says nothing. At each moment of it a power cut leaves contents with P; it is lawful, after any
+  -- lawful events that leave the sectors clean which the store counts so; and done, it leaves those clean that the store
+  -- counts so then.
+  pub record WorkLeaves (P : Contents → Type 0) (before : S) (h : History) (then : S) (new : Told) (done : Bool) : Type 0 where
+    pub added : Story
+    pub history : new.history ≡ Some (adds_all added h)
+    pub each_moment : AtEachMoment (Leaves k.checks P h) added
+    pub silent : pieces added ≡ []
+    pub only : AllOf k.does added
+    pub lawful : IsLawfulAfter (k.clean before) added
+    pub clean : done ≡ true → LeavesClean (k.clean before) (k.clean then) added
+
+  -- the store still keeps the state, unless a write failed
+  abbrev pub Stays : Limits → S → Told → Told → State → Type 0
+  Stays limits store old new state = Unrisen old new → k.holds limits store new state
+
+  -- The work for one command: wherever the power is cut, the chip stands for the records before the command or after it.
+  -- Done, the store keeps the model's next state, and the reply is the model's. After a fault it keeps the state, unless a
+  -- write failed.
+  pub record WorksFor (limits : Limits) (state : State) (c : Command) (before : S) (h : History) (result : Result Reply Fault) (then : S) (old new : Told) : Type 0 where
+    pub leaves : WorkLeaves (λ x. k.stands x state.map ⊎ k.stands x (step limits state c).0.map) before h then new (is_ok result)
+    pub ends : MatchResult result
+        (λ reply. k.holds limits then new (step limits state c).0 × ((step limits state c).1 ≡ reply ∷ []))
+        (λ fault. Stays limits then old new state)
+
+  abbrev pub Works : Command → S → Told → Result Reply Fault → S → Told → Type 0
+  Works c before old result then new = (limits : Limits) (state : State) (h : History) → k.holds limits before old state → old.history ≡ Some h
+      → WorksFor limits state c before h result then old new
+
+  -- Looking a record up: wherever the power is cut, the chip stands for the same records.
+  pub record LooksUpFor (limits : Limits) (state : State) (n : ℕ) (before : S) (h : History) (result : Result (Option (List ℕ)) Fault) (then : S) (old new : Told) : Type 0 where
+    pub leaves : WorkLeaves (λ x. k.stands x state.map) before h then new (is_ok result)
+    pub ends : MatchResult result (λ found. k.holds limits then new state × (found ≡ get state.map n)) (λ fault. Stays limits then old new state)
+
+  abbrev pub LooksUp : ℕ → S → Told → Result (Option (List ℕ)) Fault → S → Told → Type 0
+  LooksUp n before old result then new = (limits : Limits) (state : State) (h : History) → k.holds limits before old state → old.history ≡ Some h
+      → n < limits.names → LooksUpFor limits state n before h result then old new

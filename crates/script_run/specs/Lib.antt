@@ -1,0 +1,5 @@
+pub mod Onward
+pub mod Keeping
+pub mod Run
+pub mod Lines
+pub mod Goes

@@ -1,0 +1,13 @@
+//! A script run over a store and a desk: its bytes are read in pieces, and each command is answered before the next is begun.
+//! One theorem says of every moment of the run what was said and what a power cut leaves.
+#![tactic(auto)]
+
+mod answer;
+mod buffer;
+mod fault;
+mod run;
+mod store;
+
+pub use fault::{Fault, Stop};
+pub use run::run_script;
+pub use store::Store;

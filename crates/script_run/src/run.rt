@@ -1,0 +1,112 @@
+//! A script to its end, in whatever pieces its bytes come.
+ghost use Rattle.std.specs.Prelude.{◌≡◌, ◌≤◌, ◌+◌, ◌-◌, ◌^◌, ◌∷◌, ◌<◌, [], ℕ, List, length, IfOk, IfErr, IsErrOf};
+ghost use Rattle.chip_trait.specs.Told.{Told, Grew};
+ghost use Rattle.script_run.specs.Onward.{Onward, Further};
+ghost use Rattle.script_run.specs.Goes.{HasRead, StopCause, TakesBytes, TakesNext, RunsScript};
+
+use crate::Stop;
+use crate::answer::answer_line;
+use crate::buffer::LineBuffer;
+use crate::store::Store;
+use chip_trait::Desk;
+
+/// The most bytes that are read at once.
+const PIECE: usize = 4096;
+
+/// A script of this many bytes is too long.
+const TOO_MANY: u64 = 4_294_967_295;
+
+/// Takes a byte of the script: answers the line that it ends, or keeps it.
+fn take_byte<S: Store, D: Desk>(
+    store: &mut S,
+    desk: &mut D,
+    line: &mut LineBuffer,
+    byte: u8,
+) -> Result<(), Stop>
+    requires { S.keeping.suits store.old (D.told desk.old).places }
+    ensures takes { TakesBytes S.keeping (byte ∷ []) store.old line.old (D.told desk.old) result store.new line.new (D.told desk.new) }
+    ensures suited { (places : ℕ) → S.keeping.suits store.old places → S.keeping.suits store.new places }
+    ensures onward { Onward (D.told desk.old) (D.told desk.new) }
+    ensures cause { IfErr result (λ stop. StopCause S.keeping (D.told desk.old) (D.told desk.new) stop) }
+    ensures never { IsErrOf result Stop.TooLong → ⊥ }
+{
+    if byte == b'\n' {
+        let answered = answer_line(store, desk, line.bytes());
+        line.clear();
+        return answered;
+    }
+    line.push(byte);
+    Ok(())
+}
+
+/// Takes a piece of the script: answers each line that ends in it, and keeps the rest.
+fn take_piece<S: Store, D: Desk>(
+    store: &mut S,
+    desk: &mut D,
+    line: &mut LineBuffer,
+    piece: &[u8],
+) -> Result<(), Stop>
+    requires { S.keeping.suits store.old (D.told desk.old).places }
+    ensures takes { TakesBytes S.keeping piece.now store.old line.old (D.told desk.old) result store.new line.new (D.told desk.new) }
+    ensures suited { (places : ℕ) → S.keeping.suits store.old places → S.keeping.suits store.new places }
+    ensures onward { Onward (D.told desk.old) (D.told desk.new) }
+    ensures cause { IfErr result (λ stop. StopCause S.keeping (D.told desk.old) (D.told desk.new) stop) }
+    ensures never { IsErrOf result Stop.TooLong → ⊥ }
+{
+    for byte in piece {
+        take_byte(store, desk, line, *byte)?;
+    }
+    Ok(())
+}
+
+/// Reads a piece of the script into `piece`, and takes it. Answers how many bytes it had, 0 at the end.
+fn take_next<S: Store, D: Desk>(
+    store: &mut S,
+    desk: &mut D,
+    line: &mut LineBuffer,
+    piece: &mut [u8],
+) -> Result<usize, Stop>
+    requires some { 0 < length piece.old }
+    requires suits { S.keeping.suits store.old (D.told desk.old).places }
+    ensures takes { TakesNext S.keeping store.old line.old (D.told desk.old) result store.new line.new (D.told desk.new) }
+    ensures suited { (places : ℕ) → S.keeping.suits store.old places → S.keeping.suits store.new places }
+    ensures further { Further (D.told desk.old) (D.told desk.new) }
+    ensures bytes { IfOk result (λ n. Grew (D.told desk.old).beside.script_bytes n (D.told desk.new).beside.script_bytes) }
+    ensures read { IfOk result (λ n. HasRead n (D.told desk.old) (D.told desk.new)) }
+    ensures few { IfOk result (λ n. n ≤ length piece.old) }
+    ensures cause { IfErr result (λ stop. StopCause S.keeping (D.told desk.old) (D.told desk.new) stop) }
+    ensures never { IsErrOf result Stop.TooLong → ⊥ }
+{
+    match desk.read_script(piece) {
+        Ok(count) => {
+            take_piece(store, desk, line, &piece[..count])?;
+            Ok(count)
+        }
+        Err(_) => Err(Stop::Script),
+    }
+}
+
+/// Runs the rest of a script: to its end, where the last line may lack its line feed, or to the first fault. Whatever
+/// moment the power is cut at, the chip stands for the records after the commands whose replies were said, or after one more.
+pub fn run_script<S: Store, D: Desk>(store: &mut S, desk: &mut D) -> Result<(), Stop>
+    requires { S.keeping.suits store.old (D.told desk.old).places }
+    ensures run { RunsScript S.keeping store.old (D.told desk.old) result store.new (D.told desk.new) }
+    ensures further { Further (D.told desk.old) (D.told desk.new) }
+    ensures cause { IfErr result (λ stop. StopCause S.keeping (D.told desk.old) (D.told desk.new) stop) }
+    ensures exact { IsErrOf result Stop.TooLong → Grew (D.told desk.old).beside.script_bytes 4294967295 (D.told desk.new).beside.script_bytes }
+    ensures long { IsErrOf result Stop.TooLong → HasRead 4294967295 (D.told desk.old) (D.told desk.new) }
+{
+    let mut line = LineBuffer::new();
+    let mut piece = [0u8; PIECE];
+    let mut total: u64 = 0;
+    while total < TOO_MANY {
+        // The last piece is cut so that the limit is met exactly.
+        let most = (TOO_MANY - total).min(PIECE as u64) as usize;
+        let count = take_next(store, desk, &mut line, &mut piece[..most])?;
+        if count == 0 {
+            return answer_line(store, desk, line.bytes());
+        }
+        total += count as u64;
+    }
+    Err(Stop::TooLong)
+}

@@ -1,0 +1,40 @@
+//! What keeps records on a chip and does the work of commands.
+ghost use Rattle.std.specs.Prelude.{◌≡◌, ◌<◌, ℕ, IfErr};
+ghost use Rattle.chip_trait.specs.Told.{Told, Counts};
+
+use crate::Fault;
+use chip_trait::Chip;
+use ipl_base::Value;
+use ipl_model::{Command, Reply};
+
+/// A store of records over a chip. It says nothing; a run says its replies.
+pub trait Store {
+    ghost use Rattle.ipl_rules.specs.State.{State, Limits};
+    ghost use Rattle.script_run.specs.Keeping.{Keeping, IsSingle, Works, LooksUp};
+
+    /// How it keeps a state on a chip.
+    ghost keeping: { Keeping Self };
+
+    /// Names are numbers below this.
+    fn names(&self) -> u32
+        ensures { (limits : Limits) (t : Told) (state : State) → keeping.holds limits self.now t state → result ≡ limits.names };
+
+    /// Does the work of a command that has one line as its reply, and answers that line.
+    fn work<C: Chip>(&mut self, chip: &mut C, command: &Command) -> Result<Reply, Fault>
+        requires single { IsSingle command.now }
+        requires suits { keeping.suits self.old (C.told chip.old).places }
+        ensures works { Works keeping command.now self.old (C.told chip.old) result self.new (C.told chip.new) }
+        ensures suited { (places : ℕ) → keeping.suits self.old places → keeping.suits self.new places }
+        ensures places { (C.told chip.new).places ≡ (C.told chip.old).places }
+        ensures counts { Counts (C.told chip.old) (C.told chip.new) }
+        ensures cause { IfErr result (λ fault. keeping.cause fault (C.told chip.old) (C.told chip.new)) };
+
+    /// The committed record of a name, where there is one.
+    fn look_up<C: Chip>(&mut self, chip: &mut C, n: u32) -> Result<Option<Value>, Fault>
+        requires { keeping.suits self.old (C.told chip.old).places }
+        ensures looks_up { LooksUp keeping n self.old (C.told chip.old) result self.new (C.told chip.new) }
+        ensures suited { (places : ℕ) → keeping.suits self.old places → keeping.suits self.new places }
+        ensures places { (C.told chip.new).places ≡ (C.told chip.old).places }
+        ensures counts { Counts (C.told chip.old) (C.told chip.new) }
+        ensures cause { IfErr result (λ fault. keeping.cause fault (C.told chip.old) (C.told chip.new)) };
+}
