@@ -1,0 +1,13 @@
+//! Why the program ends before its script does.
+
+/// The words aren't valid, the chip has other than 5 places, memory is wanting, the script couldn't be read, a reply couldn't
+/// be said, or the script is too long.
+#[derive(Clone, Copy, Debug, PartialEq, Eq)]
+pub enum End {
+    Words,
+    Geometry,
+    OutOfMemory,
+    Script,
+    Output,
+    TooLong,
+}

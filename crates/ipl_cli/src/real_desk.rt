@@ -1,0 +1,89 @@
+//! A desk over the real streams of the process.
+ghost use Rattle.ipl_cli.specs.RealDesk.{real_told, real_consistently};
+
+use chip_trait::{Chip, Desk, Failed};
+use std::io::{Read, Write};
+use std::rt::{Stderr, Stdin, Stdout};
+
+/// A chip with the streams of the process. Of what they hold it tells nothing.
+#[derive(Drop)]
+pub struct RealDesk<C: Chip + Drop> {
+    chip: C,
+    input: Stdin,
+    output: Stdout,
+    error: Stderr,
+    script_bytes: u64,
+    script_faults: u64,
+    say_faults: u64,
+}
+
+impl<C: Chip + Drop> RealDesk<C> {
+    /// A desk that has counted nothing yet.
+    pub fn new(chip: C, input: Stdin, output: Stdout, error: Stderr) -> RealDesk<C> {
+        RealDesk {
+            chip,
+            input,
+            output,
+            error,
+            script_bytes: 0,
+            script_faults: 0,
+            say_faults: 0,
+        }
+    }
+}
+
+impl<C: Chip + Drop> Chip for RealDesk<C> {
+    ghost told = { λ d. real_told (C.told d.chip) d.script_bytes d.script_faults d.say_faults };
+
+    ghost consistent = { λ d. real_consistently (C.told d.chip) d.script_bytes d.script_faults d.say_faults };
+
+    fn units(&self) -> u32 {
+        self.chip.units()
+    }
+
+    fn read(&mut self, p: u32, s: u32, into: &mut [u8; 512]) -> Result<(), Failed> {
+        self.chip.read(p, s, into)
+    }
+
+    fn program(&mut self, p: u32, s: u32, from: &[u8; 512]) -> Result<(), Failed> {
+        self.chip.program(p, s, from)
+    }
+
+    fn erase(&mut self, p: u32) -> Result<(), Failed> {
+        self.chip.erase(p)
+    }
+
+    fn barrier(&mut self) -> Result<(), Failed> {
+        self.chip.barrier()
+    }
+}
+
+impl<C: Chip + Drop> Desk for RealDesk<C> {
+    fn read_script(&mut self, buf: &mut [u8]) -> Result<usize, Failed> {
+        match self.input.read(buf) {
+            Ok(count) => {
+                self.script_bytes = self.script_bytes.saturating_add(count as u64);
+                Ok(count)
+            }
+            Err(_) => {
+                self.script_faults = self.script_faults.saturating_add(1);
+                Err(Failed)
+            }
+        }
+    }
+
+    fn say(&mut self, piece: &[u8]) -> Result<(), Failed> {
+        match self.output.write_all(piece) {
+            Ok(()) => Ok(()),
+            Err(_) => {
+                self.say_faults = self.say_faults.saturating_add(1);
+                Err(Failed)
+            }
+        }
+    }
+
+    fn note(&mut self, piece: &[u8]) {
+        // There is nobody left to tell that it failed.
+        let _ = self.error.write_all(piece);
+    }
+}

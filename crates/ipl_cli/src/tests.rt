@@ -1,0 +1,182 @@
+//! The program over desks in memory. Of each case it is known what is said, what is noted and how it ends.
+use crate::failing::FailingSay;
+use crate::mem_desk::MemDesk;
+use crate::top::top;
+use crate::words::{Choice, chip_choice};
+use chip_mem::MemChip;
+use chip_trait::Event;
+use std::alloc::Global;
+use std::test::Fail;
+
+/// One session: a put that is seen, committed and seen again, and a name that has no record.
+const ONE_SESSION: &[u8] =
+    b"begin 0\nput 0 5 6869\nget 0 5\ncommit 0\nbegin 0\nget 0 5\nget 0 6\nabort 0";
+
+/// Its replies.
+const ITS_REPLIES: &[u8] = b"ok\nok\nvalue 6869\nok\nok\nvalue 6869\nnone\nok\n";
+
+fn words_of(alloc: Global, texts: &[&str]) -> Result<Vec<String>, Fail> {
+    let mut words = Vec::new(alloc);
+    for text in texts {
+        words.push(String::from_str(alloc, text)?)?;
+    }
+    Ok(words)
+}
+
+/// A desk of five places whose chip has room for so many events.
+fn desk_with(alloc: Global, script: &[u8], cuts: &[u32], room: u64) -> Result<MemDesk, Fail> {
+    Ok(MemDesk::new(
+        alloc,
+        MemChip::new(alloc, 5, room)?,
+        script,
+        cuts,
+    )?)
+}
+
+/// The status that valid words end with.
+fn run(alloc: Global, desk: &mut MemDesk) -> Result<u8, Fail> {
+    let words = words_of(alloc, &["run", "ram:5", "--format"])?;
+    Ok(top(alloc, &words, desk))
+}
+
+/// All that was said, joined.
+fn said(alloc: Global, desk: &MemDesk) -> Result<Vec<u8>, Fail> {
+    let mut out = Vec::new(alloc);
+    for event in desk.chip().events() {
+        if let Event::Said(piece) = event {
+            out.extend_from_slice(piece.bytes())?;
+        }
+    }
+    Ok(out)
+}
+
+/// A put into a session that isn't open, with so many digits.
+fn long_put(alloc: Global, digits: u32) -> Result<Vec<u8>, Fail> {
+    let mut script = Vec::from_slice(alloc, b"put 0 5 ")?;
+    for _ in 0..digits {
+        script.push(b'6')?;
+    }
+    Ok(script)
+}
+
+#[test]
+fn a_script_of_one_session(rt: HostRuntime) -> Result<(), Fail> {
+    let alloc = rt.alloc();
+    for cuts in [&[][..], &[1; 80], &[1, 2, 3, 5, 1, 7, 30]] {
+        let mut desk = desk_with(alloc, ONE_SESSION, cuts, 20)?;
+        assert_eq!(rt; run(alloc, &mut desk)?, 0);
+        assert_eq!(rt; said(alloc, &desk)?.as_slice(), ITS_REPLIES);
+        assert_eq!(rt; desk.noted().len(), 0);
+    }
+    Ok(())
+}
+
+#[test]
+fn lines_of_every_kind(rt: HostRuntime) -> Result<(), Fail> {
+    let alloc = rt.alloc();
+    let cases: [(&[u8], &[u8]); 9] = [
+        (b"", b""),
+        (b"\n\n# a comment\n", b""),
+        (b"begin 0\nbegin 0\n", b"ok\nerr 5 alreadyopen\n"),
+        (b"begin 1\nbegin 32\n", b"err 2 badsession\nerr 2 badsession\n"),
+        (b"get 0 960\nget 0 959\n", b"err 3 badname\nerr 6 notopen\n"),
+        (
+            b"begin 0\nput 0 5 -\nget 0 5\nput 0 5 abc\n",
+            b"ok\nok\nvalue -\nerr 1 syntax\n",
+        ),
+        (
+            b"walk\nbegin  0\n begin 0\nbegin 00\n",
+            b"err 1 syntax\nerr 1 syntax\nerr 1 syntax\nerr 1 syntax\n",
+        ),
+        (
+            b"begin 0\nput 0 5 61\nabort 0\nbegin 0\nget 0 5\ncommit 0\ncommit 0",
+            b"ok\nok\nok\nok\nnone\nok\nerr 6 notopen\n",
+        ),
+        (
+            b"begin 0\nput 0 5 61\ncommit 0\nbegin 0\nput 0 5 62\nabort 0\nbegin 0\nget 0 5",
+            b"ok\nok\nok\nok\nok\nok\nok\nvalue 61\n",
+        ),
+    ];
+    for (script, replies) in cases {
+        let mut desk = desk_with(alloc, script, &[], 20)?;
+        assert_eq!(rt; run(alloc, &mut desk)?, 0);
+        assert_eq!(rt; said(alloc, &desk)?.as_slice(), replies);
+    }
+    Ok(())
+}
+
+#[test]
+fn long_lines(rt: HostRuntime) -> Result<(), Fail> {
+    let alloc = rt.alloc();
+    for (digits, reply) in [
+        (1016, b"err 4 toolong\n".as_slice()),
+        (1018, b"err 1 syntax\n"),
+    ] {
+        let mut desk = desk_with(alloc, &long_put(alloc, digits)?, &[], 2)?;
+        assert_eq!(rt; run(alloc, &mut desk)?, 0);
+        assert_eq!(rt; said(alloc, &desk)?.as_slice(), reply);
+    }
+    Ok(())
+}
+
+#[test]
+fn a_long_comment(rt: HostRuntime) -> Result<(), Fail> {
+    let alloc = rt.alloc();
+    let mut script = Vec::from_slice(alloc, b"#")?;
+    for _ in 0..4999 {
+        script.push(b'x')?;
+    }
+    script.extend_from_slice(b"\nbegin 0\n")?;
+    let mut desk = desk_with(alloc, &script, &[], 2)?;
+    assert_eq!(rt; run(alloc, &mut desk)?, 0);
+    assert_eq!(rt; said(alloc, &desk)?.as_slice(), b"ok\n".as_slice());
+    Ok(())
+}
+
+#[test]
+fn the_second_read_fails(rt: HostRuntime) -> Result<(), Fail> {
+    let alloc = rt.alloc();
+    let mut desk = desk_with(alloc, ONE_SESSION, &[30], 20)?;
+    desk.fail_reads(Vec::from_slice(alloc, &[1])?);
+    assert_eq!(rt; run(alloc, &mut desk)?, 6);
+    assert_eq!(rt; desk.noted(), b"ipl: script failed\n".as_slice());
+    assert_eq!(rt; said(alloc, &desk)?.as_slice(), b"ok\nok\nvalue 6869\n".as_slice());
+    Ok(())
+}
+
+#[test]
+fn a_saying_fails_after_one_byte(rt: HostRuntime) -> Result<(), Fail> {
+    let alloc = rt.alloc();
+    let mut desk = desk_with(alloc, ONE_SESSION, &[], 20)?;
+    let mut says = Vec::new(alloc);
+    says.push(FailingSay { number: 2, kept: 1 })?;
+    desk.fail_says(says);
+    assert_eq!(rt; run(alloc, &mut desk)?, 7);
+    assert_eq!(rt; desk.noted(), b"ipl: output failed\n".as_slice());
+    assert_eq!(rt; said(alloc, &desk)?.as_slice(), b"ok\nok\nv".as_slice());
+    Ok(())
+}
+
+#[test]
+fn the_room_is_spent(rt: HostRuntime) -> Result<(), Fail> {
+    let alloc = rt.alloc();
+    let mut desk = desk_with(alloc, ONE_SESSION, &[], 2)?;
+    assert_eq!(rt; run(alloc, &mut desk)?, 7);
+    assert_eq!(rt; said(alloc, &desk)?.as_slice(), b"ok\nok\n".as_slice());
+    Ok(())
+}
+
+#[test]
+fn other_places_and_other_words(rt: HostRuntime) -> Result<(), Fail> {
+    let alloc = rt.alloc();
+    let mut desk = MemDesk::new(alloc, MemChip::new(alloc, 6, 1)?, b"begin 0\n", &[])?;
+    assert_eq!(rt; run(alloc, &mut desk)?, 4);
+    let words = words_of(alloc, &["walk"])?;
+    assert_eq!(rt; top(alloc, &words, &mut desk), 2);
+    assert_eq!(rt; desk.noted(), b"ipl: geometry\nipl: bad command line\n".as_slice());
+    assert_eq!(rt; desk.chip().events().len(), 0);
+    assert_eq!(rt; chip_choice(alloc, &words)?, Choice::Nothing);
+    let words = words_of(alloc, &["run", "ram:5", "--format"])?;
+    assert_eq!(rt; chip_choice(alloc, &words)?, Choice::Ram(5));
+    Ok(())
+}
