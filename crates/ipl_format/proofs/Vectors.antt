@@ -1,0 +1,58 @@
+-- Bytes of the formats, computed from the definitions.
+use Rattle.std.proofs.Common.{◌≡◌, ◌≢◌, ℕ, List, [], ◌∷◌, ◌++◌, Some, None, refl, arith, length, replicate}
+use Rattle.crc_sum.specs.Crc.{shifted, shifted_8, with_byte, crc}
+use Rattle.ipl_format.specs.Numbers.{half, word, long, half_at, word_at, long_at}
+use Rattle.ipl_format.specs.Sector.{front, is_formed, said_in, sector_in}
+use Rattle.ipl_format.specs.Record.{record_bytes}
+use Rattle.ipl_format.specs.Commit.{SpellsCommit}
+use Rattle.ipl_format.specs.Header.{SpellsDataHeader, data_header_bytes}
+use Rattle.ipl_format.specs.Page.{page_text, text_from}
+use Rattle.ipl_format.proofs.PayloadLemmas.{commits_have_sizes, data_headers_have_sizes}
+
+-- the head of unit 0's data header after a format of five places, without its sum
+first_head : front (record { kind = 1; version = 1; unit = 0; generation = 1; serial = 1; payload = 0 ∷ 0 ∷ 0 ∷ 1 ∷ replicate 16 0 })
+    ≡ 73 ∷ 80 ∷ 76 ∷ 49 ∷ 1 ∷ 1 ∷ 0 ∷ 20 ∷ 0 ∷ 0 ∷ 0 ∷ 0 ∷ 0 ∷ 0 ∷ 0 ∷ 0 ∷ 0 ∷ 0 ∷ 0 ∷ 1 ∷ 0 ∷ 0 ∷ 0 ∷ 0 ∷ 0 ∷ 0 ∷ 0 ∷ 1 ∷ []
+unfolding front half word long
+first_head = refl
+
+-- its payload: one unit, no base sectors, nothing carried
+first_payload : data_header_bytes 1 (replicate 15 0) 0 ≡ 0 ∷ 0 ∷ 0 ∷ 1 ∷ replicate 16 0
+unfolding data_header_bytes word
+first_payload = refl
+
+-- the whole sector, with its sum, says that header
+first_sector : sector_in ((73 ∷ 80 ∷ 76 ∷ 49 ∷ 1 ∷ 1 ∷ 0 ∷ 20 ∷ 0 ∷ 0 ∷ 0 ∷ 0 ∷ 0 ∷ 0 ∷ 0 ∷ 0 ∷ 0 ∷ 0 ∷ 0 ∷ 1 ∷ 0 ∷ 0 ∷ 0 ∷ 0 ∷ 0 ∷ 0 ∷ 0 ∷ 1 ∷ 6 ∷ 228 ∷ 178 ∷ 88 ∷ 0 ∷ 0 ∷ 0 ∷ 1 ∷ []) ++ replicate 476 0)
+    ≡ Some (record { kind = 1; version = 1; unit = 0; generation = 1; serial = 1; payload = 0 ∷ 0 ∷ 0 ∷ 1 ∷ replicate 16 0 })
+unfolding sector_in is_formed said_in half_at word_at long_at crc with_byte shifted_8 shifted
+first_sector = refl
+
+-- a put of `hi` at page 0, slot 5 by transaction 7
+a_put : record_bytes (record { page = 0; slot = 5; tid = 7; change = Some (104 ∷ 105 ∷ []) }) ≡ 0 ∷ 1 ∷ 5 ∷ 2 ∷ 0 ∷ 0 ∷ 0 ∷ 0 ∷ 0 ∷ 0 ∷ 0 ∷ 7 ∷ 104 ∷ 105 ∷ []
+unfolding record_bytes long
+a_put = refl
+
+-- a delete of page 14, slot 63 by transaction 4
+a_delete : record_bytes (record { page = 14; slot = 63; tid = 4; change = None }) ≡ 14 ∷ 2 ∷ 63 ∷ 0 ∷ 0 ∷ 0 ∷ 0 ∷ 0 ∷ 0 ∷ 0 ∷ 0 ∷ 4 ∷ []
+unfolding record_bytes long
+a_delete = refl
+
+-- the commit payload of transaction 4
+a_commit : long 4 ≡ 0 ∷ 0 ∷ 0 ∷ 0 ∷ 0 ∷ 0 ∷ 0 ∷ 4 ∷ []
+unfolding long
+a_commit = refl
+
+-- slot 0 `hi`, slot 3 empty
+two_slots : page_text (Some (104 ∷ 105 ∷ []) ∷ None ∷ None ∷ Some [] ∷ replicate 60 None) ≡ 0 ∷ 2 ∷ 104 ∷ 105 ∷ 3 ∷ 0 ∷ []
+unfolding text_from
+two_slots = refl
+
+-- no commit payload has no bytes, and none has twelve
+no_bytes : (numbers : List ℕ) → SpellsCommit [] numbers → ⊥
+no_bytes numbers spelled = let size = commits_have_sizes [] numbers spelled in let some = spelled.some in omega (arith, size, some)
+
+twelve_bytes : (payload numbers : List ℕ) → length payload ≡ 12 → SpellsCommit payload numbers → ⊥
+twelve_bytes payload numbers twelve spelled = let size = commits_have_sizes payload numbers spelled in omega (arith, size, twelve)
+
+-- no data header has another length than 20, as 19 or 21
+other_length : (payload : List ℕ) (units : ℕ) (pieces : List ℕ) → length payload ≢ 20 → SpellsDataHeader units pieces payload → ⊥
+other_length payload units pieces other spelled = other (data_headers_have_sizes payload units pieces spelled)
