@@ -1,0 +1,5 @@
+use Rattle.unit_layout.proofs.HeaderLemmas.{headers_read_back, pieces_stand_apart}
+use Rattle.unit_layout.proofs.laws.layout_laws.Goals as goal
+
+pub returns : goal.returns
+returns c = record { headers = headers_read_back; pieces = pieces_stand_apart }

@@ -1,0 +1,8 @@
+-- A data header of the program, and its payload.
+use Rattle.std.specs.Prelude.{◌≡◌, List, ℕ}
+use Rattle.ipl_format.specs.Header.{SpellsDataHeader}
+use Rattle.unit_layout.specs.declared.header.DataHeader.{DataHeader}
+
+-- the payload says what the header says
+abbrev pub SpellsHeader : DataHeader → List ℕ → Type 0
+SpellsHeader h payload = (spelled : SpellsDataHeader h.units h.pieces payload) × (spelled.carried ≡ h.carried)

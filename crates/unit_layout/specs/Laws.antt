@@ -1,0 +1,14 @@
+-- Laws of the layout.
+use Rattle.std.specs.Prelude.{◌≡◌, ◌<◌, List, ℕ}
+use Rattle.ipl_format.specs.Place.{base_sector_of}
+use Rattle.unit_layout.specs.declared.header.DataHeader.{DataHeader}
+use Rattle.unit_layout.specs.Header.{SpellsHeader}
+
+-- a payload says one header: what is read is what was written
+abbrev pub HeadersReadBack : Type 0
+HeadersReadBack = (h k : DataHeader) (payload : List ℕ) → SpellsHeader h payload → SpellsHeader k payload → h ≡ k
+
+-- no two pieces stand in one sector
+abbrev pub PiecesStandApart : Type 0
+PiecesStandApart = (page piece other last : ℕ) → piece < 16 → last < 16 → base_sector_of page piece ≡ base_sector_of other last
+    → (page ≡ other) × (piece ≡ last)

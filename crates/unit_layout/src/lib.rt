@@ -1,0 +1,17 @@
+//! Where sectors stand in the place of a unit, and the payloads of the three kinds of header.
+#![tactic(auto)]
+
+mod header;
+mod laws;
+mod place;
+mod units;
+
+pub use header::{DataHeader, read_data_header, write_data_header};
+pub use laws::layout_laws;
+pub use place::{base_sector, log_sector};
+pub use units::{
+    read_overflow_header, read_status_header, write_overflow_header, write_status_header,
+};
+
+#[cfg(test)]
+mod tests;

@@ -1,0 +1,62 @@
+//! The payloads of status and overflow headers: the number of units.
+ghost use Rattle.std.specs.Prelude.{◌≡◌, ◌≤◌, ℕ, IfSome, IfNone, length};
+ghost use Rattle.ipl_format.specs.Header.{SpellsUnits};
+ghost use Rattle.ipl_format.specs.Numbers.{word_at};
+
+// The four bytes of a number.
+#[tactic(auto, unfolding(ipl_format::specs::Numbers::word))]
+fn write_units(units: u32, out: &mut [u8; 4])
+    ensures { SpellsUnits units out.new }
+{
+    out.copy_from_slice(&units.to_be_bytes());
+}
+
+// The number in the first four bytes.
+#[tactic(auto, unfolding(ipl_format::specs::Numbers::word_at))]
+pub(crate) fn first_number(bytes: &[u8]) -> u32
+    requires { 4 ≤ length bytes.now }
+    ensures { result ≡ word_at 0 bytes.now }
+{
+    u32::from_be_bytes([bytes[0], bytes[1], bytes[2], bytes[3]])
+}
+
+// The number in four bytes; `None` exactly where there are more or fewer.
+fn read_units(payload: &[u8]) -> Option<u32>
+    ensures some { IfSome result (λ units. SpellsUnits units payload.now) }
+    ensures none { IfNone result ((units : ℕ) → SpellsUnits units payload.now → ⊥) }
+{
+    if payload.len() != 4 {
+        return None;
+    }
+    Some(first_number(payload))
+}
+
+/// Writes the payload of a status header. The table is in docs/FORMAT.md, "Header payloads".
+pub fn write_status_header(units: u32, out: &mut [u8; 4])
+    ensures { SpellsUnits units out.new }
+{
+    write_units(units, out);
+}
+
+/// Writes the payload of an overflow header, which is like that of a status header.
+pub fn write_overflow_header(units: u32, out: &mut [u8; 4])
+    ensures { SpellsUnits units out.new }
+{
+    write_units(units, out);
+}
+
+/// The number of units that a status header says; `None` exactly where the payload isn't four bytes.
+pub fn read_status_header(payload: &[u8]) -> Option<u32>
+    ensures some { IfSome result (λ units. SpellsUnits units payload.now) }
+    ensures none { IfNone result ((units : ℕ) → SpellsUnits units payload.now → ⊥) }
+{
+    read_units(payload)
+}
+
+/// The number of units that an overflow header says; `None` exactly where the payload isn't four bytes.
+pub fn read_overflow_header(payload: &[u8]) -> Option<u32>
+    ensures some { IfSome result (λ units. SpellsUnits units payload.now) }
+    ensures none { IfNone result ((units : ℕ) → SpellsUnits units payload.now → ⊥) }
+{
+    read_units(payload)
+}
