@@ -1,14 +1,14 @@
 -- How the program ends.
-use Rattle.std.proofs.Common.{◌≡◌, ◌⊎◌, ℕ, Bool, true, false, List, [], ◌∷◌, ◌++◌, Some, Result, Ok, Err, refl, sym, ◌∙◌, ap, append_assoc}
+use Rattle.std.proofs.Common.{◌≡◌, ℕ, Bool, true, false, List, [], ◌∷◌, ◌++◌, refl, sym, ◌∙◌, ap, append_assoc}
 use Rattle.std.specs.FinMap.{empty}
 use Rattle.std.proofs.lemmas.List.{append-nil}
 use Rattle.chip_trait.specs.Story.{pieces}
 use Rattle.chip_trait.proofs.SaidLemmas.{joined-append}
-use Rattle.chip_trait.specs.Told.{History, Told, Beside, IsPrefix, Notes}
+use Rattle.chip_trait.specs.Told.{History, Told, IsPrefix, Notes}
 use Rattle.ipl_rules.specs.State.{State, at_rest}
 use Rattle.ipl_model.specs.Grammar.{commands_of}
 use Rattle.ipl_model.specs.Run.{joined}
-use Rattle.script_run.specs.Run.{RunLeaves, SaysLines, IsCut}
+use Rattle.script_run.specs.Run.{SaysLines, IsCut}
 use Rattle.script_run.specs.Goes.{Ended, Stopped}
 use Rattle.memory_store.specs.declared.store.MemoryStore.{MemoryStore}
 use Rattle.memory_store.specs.Fits.{memory_keeping, unit_limits}

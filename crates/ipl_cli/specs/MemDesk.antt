@@ -1,12 +1,12 @@
 -- What a desk in memory tells, and which of its calls fail.
-use Rattle.std.specs.Prelude.{ℕ, ◌==◌, min, nat_lt, Bool, ◌&&◌, List, [], ◌∷◌, ◌++◌, take, drop, length, get_or, Option, Some, None, if◌then◌else◌}
+use Rattle.std.specs.Prelude.{ℕ, ◌==◌, min, nat_lt, Bool, not, ◌&&◌, List, [], take, drop, get_or, Some, None, if◌then◌else◌}
 use Rattle.std.specs.List.{list_any}
+use Rattle.chip_trait.specs.declared.event.Event.TheVariants.{Said}
 use Rattle.chip_trait.specs.Told.{Told, Beside, IsConsistent}
-use Rattle.chip_mem.specs.declared.mem_chip.MemChip.{MemChip}
 use Rattle.chip_mem.specs.Views.{history_of, told_of}
 use Rattle.chip_mem.specs.Sectors.{contents_of}
-use Rattle.chip_mem.specs.Tells.{all_consistently}
-use Rattle.chip_mem.specs.Plan.{counted}
+use Rattle.chip_mem.specs.Tells.{all_consistently, appended}
+use Rattle.chip_mem.specs.Plan.{Plan, is_full}
 use Rattle.ipl_cli.specs.declared.mem_desk.MemDesk.{MemDesk}
 use Rattle.ipl_cli.specs.declared.failing.FailingSay.{FailingSay}
 
@@ -58,3 +58,8 @@ abbrev pub read_count : DeskPlan → ℕ → ℕ → ℕ
 read_count plan room left =
     let cut = get_or plan.cuts plan.reads 0 in
     min (if nat_lt 0 cut then cut else room) (min room left)
+
+-- what the chip tells after a saying that keeps so many bytes of its piece: they are said, unless there are none or there is
+-- no room
+abbrev pub told_in_part : ℕ → List ℕ → Plan → Told → Told
+told_in_part kept piece plan t = if nat_lt 0 kept && not (is_full plan) then appended (Said (take kept piece)) t else t

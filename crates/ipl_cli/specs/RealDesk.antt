@@ -1,6 +1,6 @@
 -- What the real streams of a process tell.
-use Rattle.std.specs.Prelude.{◌≡◌, ℕ, Option, Some, None}
-use Rattle.chip_trait.specs.Told.{Told, Beside, IsConsistent}
+use Rattle.std.specs.Prelude.{ℕ, None}
+use Rattle.chip_trait.specs.Told.{Told, IsConsistent}
 
 -- The counts of the chip and of the streams; of what is held, asked, read and said it tells nothing.
 abbrev pub real_told : Told → ℕ → ℕ → ℕ → Told

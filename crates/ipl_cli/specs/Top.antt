@@ -1,7 +1,6 @@
 -- The program as a whole: its ends, and what it says.
-use Rattle.std.specs.Prelude.{◌≡◌, ◌≢◌, ◌⊎◌, ℕ, ◌+◌, ◌-◌, ◌^◌, ◌≤◌, ◌==◌, min, Bool, true, false, List, [], ◌∷◌, ◌++◌, codes, Option, Some, Result, Ok, Err, length, if◌then◌else◌}
+use Rattle.std.specs.Prelude.{◌≡◌, ◌≢◌, ◌⊎◌, ℕ, ◌≤◌, ◌==◌, Bool, true, false, List, [], ◌++◌, codes, Some, Result, Ok, Err, length, if◌then◌else◌}
 use Rattle.std.specs.FinMap.{empty}
-use Rattle.chip_trait.specs.declared.event.Event.{Event}
 use Rattle.chip_trait.specs.Story.{Story, pieces, said}
 use Rattle.chip_trait.specs.Told.{History, Told, Grew, IsPrefix, Rose, adds_all}
 use Rattle.ipl_rules.specs.State.{at_rest}

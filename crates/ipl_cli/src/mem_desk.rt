@@ -106,8 +106,8 @@ impl MemDesk {
     ghost use Rattle.chip_trait.specs.declared.event.Event.TheVariants.{Said};
     ghost use Rattle.chip_trait.specs.Told.{Appends, FailsToSay, SayCounts, Rose};
     ghost use Rattle.chip_mem.specs.Plan.{is_full};
-    ghost use Rattle.chip_mem.specs.Views.{plan_of};
-    ghost use Rattle.ipl_cli.specs.MemDesk.{desk_told, desk_plan};
+    ghost use Rattle.chip_mem.specs.Views.{plan_of, told_of};
+    ghost use Rattle.ipl_cli.specs.MemDesk.{desk_told, desk_plan, told_in_part};
 
     /// Says a piece that isn't to fail. It fails exactly where the chip has no room for it, and then nothing of it is said.
     fn say_whole(&mut self, piece: &[u8]) -> Result<(), Failed>
@@ -135,6 +135,7 @@ impl MemDesk {
         ensures counts { SayCounts (desk_told self.old) (desk_told self.new) }
         ensures cause { Rose (desk_told self.old).beside.say_faults (desk_told self.new).beside.say_faults }
         ensures fails { IsErr result }
+        ensures part { told_of self.new.chip ≡ told_in_part kept piece.now (plan_of self.old.chip) (told_of self.old.chip) }
         ensures plan { desk_plan self.new ≡ desk_plan self.old }
     {
         let count = piece.len().min(kept as usize);
@@ -176,13 +177,13 @@ impl Chip for MemDesk {
 }
 
 impl Desk for MemDesk {
-    ghost use Rattle.std.specs.Prelude.{◌||◌, length, OnOk, OnErr, is_err, is_some};
+    ghost use Rattle.std.specs.Prelude.{◌||◌, length, OnOk, OnErr, IfSome, is_err, is_some};
     ghost use Rattle.chip_trait.specs.declared.event.Event.TheVariants.{Said};
     ghost use Rattle.chip_trait.specs.Told.{Appends, FailsToSay, SayCounts, IsBeside, Takes, Rose};
     ghost use Rattle.chip_mem.specs.Plan.{counted, is_full};
-    ghost use Rattle.chip_mem.specs.Views.{plan_of};
+    ghost use Rattle.chip_mem.specs.Views.{plan_of, told_of};
     ghost use Rattle.ipl_cli.specs.Failing.{kept_at};
-    ghost use Rattle.ipl_cli.specs.MemDesk.{desk_told, desk_plan, read_fails, read_count};
+    ghost use Rattle.ipl_cli.specs.MemDesk.{desk_told, desk_plan, read_fails, read_count, told_in_part};
 
     /// It fails exactly where it is told to.
     fn read_script(&mut self, buf: &mut [u8]) -> Result<usize, Failed>
@@ -221,6 +222,8 @@ impl Desk for MemDesk {
 
         // exactly
         ensures fails { is_err result ≡ (is_some (kept_at (desk_plan self.old).failing_says (desk_plan self.old).says) || is_full (plan_of self.old.chip)) }
+        ensures part { IfSome (kept_at (desk_plan self.old).failing_says (desk_plan self.old).says)
+            (λ kept. told_of self.new.chip ≡ told_in_part kept piece.now (plan_of self.old.chip) (told_of self.old.chip)) }
         ensures plan { desk_plan self.new ≡ record (desk_plan self.old) { says = counted (desk_plan self.old).says } }
     {
         let kept = kept_of(&self.failing_says, self.says);

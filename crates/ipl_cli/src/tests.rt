@@ -25,12 +25,7 @@ fn words_of(alloc: Global, texts: &[&str]) -> Result<Vec<String>, Fail> {
 
 /// A desk of five places whose chip has room for so many events.
 fn desk_with(alloc: Global, script: &[u8], cuts: &[u32], room: u64) -> Result<MemDesk, Fail> {
-    Ok(MemDesk::new(
-        alloc,
-        MemChip::new(alloc, 5, room)?,
-        script,
-        cuts,
-    )?)
+    Ok(MemDesk::new(alloc, MemChip::new(alloc, 5, room)?, script, cuts)?)
 }
 
 /// The status that valid words end with.
@@ -78,7 +73,10 @@ fn lines_of_every_kind(rt: HostRuntime) -> Result<(), Fail> {
         (b"", b""),
         (b"\n\n# a comment\n", b""),
         (b"begin 0\nbegin 0\n", b"ok\nerr 5 alreadyopen\n"),
-        (b"begin 1\nbegin 32\n", b"err 2 badsession\nerr 2 badsession\n"),
+        (
+            b"begin 1\nbegin 32\n",
+            b"err 2 badsession\nerr 2 badsession\n",
+        ),
         (b"get 0 960\nget 0 959\n", b"err 3 badname\nerr 6 notopen\n"),
         (
             b"begin 0\nput 0 5 -\nget 0 5\nput 0 5 abc\n",
@@ -140,7 +138,10 @@ fn the_second_read_fails(rt: HostRuntime) -> Result<(), Fail> {
     desk.fail_reads(Vec::from_slice(alloc, &[1])?);
     assert_eq!(rt; run(alloc, &mut desk)?, 6);
     assert_eq!(rt; desk.noted(), b"ipl: script failed\n".as_slice());
-    assert_eq!(rt; said(alloc, &desk)?.as_slice(), b"ok\nok\nvalue 6869\n".as_slice());
+    assert_eq!(rt;
+        said(alloc, &desk)?.as_slice(),
+        b"ok\nok\nvalue 6869\n".as_slice()
+    );
     Ok(())
 }
 
@@ -173,7 +174,10 @@ fn other_places_and_other_words(rt: HostRuntime) -> Result<(), Fail> {
     assert_eq!(rt; run(alloc, &mut desk)?, 4);
     let words = words_of(alloc, &["walk"])?;
     assert_eq!(rt; top(alloc, &words, &mut desk), 2);
-    assert_eq!(rt; desk.noted(), b"ipl: geometry\nipl: bad command line\n".as_slice());
+    assert_eq!(rt;
+        desk.noted(),
+        b"ipl: geometry\nipl: bad command line\n".as_slice()
+    );
     assert_eq!(rt; desk.chip().events().len(), 0);
     assert_eq!(rt; chip_choice(alloc, &words)?, Choice::Nothing);
     let words = words_of(alloc, &["run", "ram:5", "--format"])?;

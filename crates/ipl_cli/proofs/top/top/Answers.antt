@@ -1,4 +1,4 @@
-use Rattle.std.proofs.Common.{◌≡◌, ◌∙◌, sym}
+use Rattle.std.proofs.Common.{◌∙◌, sym}
 use Rattle.ipl_cli.proofs.EndLemmas.{undone, noted_besides, never_zero}
 use Rattle.ipl_cli.proofs.top.top.Goals as goal
 
