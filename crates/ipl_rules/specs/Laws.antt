@@ -21,5 +21,5 @@ abbrev pub SeesItsOwnWrites : Type 0
 SeesItsOwnWrites = (state : State) (s n : ℕ) (change : Option (List ℕ)) → last_write (writes_of state s) n ≡ Some change → see state s n ≡ change
 
 -- what a session sees is what all would see if it committed
-abbrev pub OneMapForAll : Type 0
-OneMapForAll = (writes : List Write) (m : Map) (n : ℕ) → get (with_writes writes m) n ≡ seen_through writes m n
+abbrev pub CommitsWhatIsSeen : Type 0
+CommitsWhatIsSeen = (writes : List Write) (m : Map) (n : ℕ) → get (with_writes writes m) n ≡ seen_through writes m n

@@ -1,4 +1,5 @@
 pub mod State
+pub mod Slots
 pub mod Refusals
 pub mod Operations
 pub mod Laws

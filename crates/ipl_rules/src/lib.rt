@@ -2,11 +2,11 @@
 //! page, place, log sector, merge or status occurs in them. Definitions and laws alone.
 #![tactic(auto)]
 
-ghost use Rattle.ipl_rules.specs.Laws.{RefusalsLookAtSessions, SeesItsOwnWrites, OneMapForAll};
+ghost use Rattle.ipl_rules.specs.Laws.{RefusalsLookAtSessions, SeesItsOwnWrites, CommitsWhatIsSeen};
 
 /// Refusals don't depend on the map, and what a session sees is its own last write, or else the map.
 pub fn laws()
     ensures refusals { RefusalsLookAtSessions }
     ensures sees { SeesItsOwnWrites }
-    ensures commits { OneMapForAll }
+    ensures commits { CommitsWhatIsSeen }
 {}
