@@ -1,2 +1,5 @@
 pub mod RunLemmas
 mod GreatestLemmas
+mod SlotLemmas
+mod LogLemmas
+mod ChangeLemmas

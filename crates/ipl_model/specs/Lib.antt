@@ -3,3 +3,5 @@ pub mod Text
 pub mod Grammar
 pub mod Run
 pub mod Laws
+pub mod Plain
+pub mod SessionLaws

@@ -1,0 +1,83 @@
+-- What the plain model stands for.
+use Rattle.std.specs.Prelude.{◌≡◌, ℕ, ◌*◌, ◌==◌, Bool, not, ◌&&◌, ◌||◌, List, [], ◌∷◌, map, reverse, find, Option, Result, Ok, Err, Vec}
+use Rattle.std.specs.List.{flat_map}
+use Rattle.std.specs.Option.{option_map, option_map_or}
+use Rattle.std.specs.FinMap.{empty, get, insert}
+use Rattle.std.specs.declared.alloc.Global.{Global}
+use Rattle.std.specs.declared.alloc.AllocError.{AllocError}
+use Rattle.ipl_base.specs.declared.fault.Refusal.{Refusal}
+use Rattle.ipl_rules.specs.State as rules
+use Rattle.ipl_rules.specs.Slots.{open_from, opened}
+use Rattle.ipl_rules.specs.Refusals.{first_of, not_open, conflict, writes_full, pending_full}
+use Rattle.ipl_model.specs.declared.plain_model.PlainModel.{PlainModel}
+use Rattle.ipl_model.specs.declared.plain_model.log.Write.{Write}
+use Rattle.ipl_model.specs.declared.plain_model.log.Session.{Session}
+use Rattle.ipl_model.specs.declared.plain_model.locks.Lock.{Lock}
+use Rattle.ipl_model.specs.declared.plain_model.locks.Lock.TheVariants as lock
+use Rattle.ipl_model.specs.declared.command.Command.{Command}
+use Rattle.ipl_model.specs.declared.reply.Reply.{Reply}
+use Rattle.ipl_model.specs.Step.{step, Stepped}
+
+-- a write, as the rules have it
+abbrev pub write_of : Write → rules.Write
+write_of w = (w.name, w.value)
+
+-- the writes of a log, the newest first
+abbrev pub newest_first : List Write → List rules.Write
+newest_first log = reverse (map write_of log)
+
+-- a session, as the rules have it
+abbrev pub session_of : Session → rules.Session
+session_of s = record { writes = newest_first s.writes.items; shared = reverse s.shared.items }
+
+-- a session or none, as the rules have it
+abbrev pub slot_of : Option Session → Option rules.Session
+slot_of slot = option_map session_of slot
+
+-- the records of the committed writes, and the open sessions
+unfoldable pub state_of : PlainModel → rules.State
+state_of m = record { map = rules.with_writes (newest_first m.committed.items) empty; sessions = opened (map slot_of m.sessions) }
+
+-- 32 sessions, and 960 names in each unit
+abbrev pub limits_for : ℕ → rules.Limits
+limits_for units = record { sessions = 32; names = 960 * units; units = units }
+
+-- the limits of the model
+abbrev pub limits_of : PlainModel → rules.Limits
+limits_of m = limits_for m.units
+
+-- the writes of the session in a slot, none where there is none
+abbrev pub writes_in : Option rules.Session → List rules.Write
+writes_in slot = option_map_or (λ session. session.writes) slot []
+
+-- all writes of open sessions
+abbrev pub all_writes : List (Option rules.Session) → List rules.Write
+all_writes slots = flat_map (λ e. e.1.writes) (open_from 0 slots)
+
+-- the state with a name more among those that a session shares
+abbrev pub with_share : rules.State → ℕ → ℕ → rules.State
+with_share state s n = option_map_or (λ session. record state { sessions = insert state.sessions s (record session { shared = n ∷ session.shared }) }) (get state.sessions s) state
+
+-- a session keeps others from sharing a name, or from writing it
+abbrev pub keeps_from : Lock → ℕ → rules.Session → Bool
+keeps_from lock.Share n session = rules.has_written session n
+keeps_from lock.Write n session = rules.has_written session n || rules.has_shared session n
+
+-- the least open session other than s that keeps it from a name
+abbrev pub least_holder : List (Option rules.Session) → ℕ → Lock → ℕ → Option ℕ
+least_holder slots s lock n = option_map (λ e. e.0) (find (λ e. not (e.0 == s) && keeps_from lock n e.1) (open_from 0 slots))
+
+-- why a session's write of a name is refused, where the session, the name and the value are in range
+abbrev pub refuses_write : rules.State → ℕ → ℕ → Option Refusal
+refuses_write state s n = first_of (not_open state s ∷ conflict (rules.holder_for_write state s n)
+    ∷ writes_full state s n ∷ pending_full state s n ∷ [])
+
+-- a step of the model, or nothing where memory is wanting
+abbrev pub Answers : rules.State → Stepped → rules.State → Result (Vec Reply Global) AllocError → Type 0
+Answers old stepped new (Ok replies) = stepped ≡ (new, replies.items)
+Answers old stepped new (Err e) = new ≡ old
+
+-- the model's step
+pub record IsStep (old : PlainModel) (command : Command) (new : PlainModel) (result : Result (Vec Reply Global) AllocError) : Type 0 where
+  pub answers : Answers (state_of old) (step (limits_of old) (state_of old) command) (state_of new) result
+  pub limits : limits_of new ≡ limits_of old

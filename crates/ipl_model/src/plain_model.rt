@@ -1,0 +1,75 @@
+//! The model as a program: the definitions, run on logs of writes. It is slow and plain.
+ghost use Rattle.std.specs.Prelude.{◌≡◌, ◌∷◌, ◌-◌, [], map, length, IfOk, OnErr};
+ghost use Rattle.std.specs.FinMap.{empty};
+ghost use Rattle.std.specs.Option.{option_copied};
+ghost use Rattle.std.specs.FinMap.{get};
+ghost use Rattle.ipl_rules.specs.State.{at_rest};
+ghost use Rattle.ipl_model.specs.Step.{step};
+ghost use Rattle.ipl_rules.specs.Slots.{opened};
+ghost use Rattle.ipl_model.specs.Plain.{state_of, limits_of, limits_for, slot_of};
+
+mod changes;
+mod locks;
+mod log;
+mod refusals;
+mod scan;
+mod steps;
+
+use crate::{Command, Reply};
+use ipl_base::{Geometry, OutOfMemory};
+use log::{Session, Write};
+use std::alloc::{AllocError, Global};
+use std::array;
+
+/// The model, run on logs of writes: all that were committed, and those of each open session, the
+/// oldest first.
+#[derive(Drop)]
+pub struct PlainModel {
+    alloc: Global,
+    units: u32,
+    committed: Vec<Write>,
+    sessions: [Option<Session>; 32],
+}
+
+/// Sessions of which none is open.
+fn closed() -> [Option<Session>; 32]
+    ensures none { opened (map slot_of result) ≡ empty }
+    ensures len { length result ≡ 32 }
+{
+    array::from_fn(|_| None)
+}
+
+impl PlainModel {
+    /// A model with no record, over such a chip.
+    pub fn new(alloc: Global, geometry: Geometry) -> Result<PlainModel, OutOfMemory>
+        ensures state { IfOk result (λ m. state_of m ≡ at_rest empty) }
+        ensures limits { IfOk result (λ m. limits_of m ≡ limits_for (geometry - 4)) }
+    {
+        Ok(PlainModel {
+            alloc,
+            units: geometry.units(),
+            committed: Vec::new(alloc),
+            sessions: closed(),
+        })
+    }
+
+    /// One step. Want of memory leaves the model as it was.
+    pub fn step(&mut self, command: &Command) -> Result<Vec<Reply>, OutOfMemory>
+        ensures ok { IfOk result (λ replies.
+            step (limits_of self.old) (state_of self.old) command.now ≡ (state_of self.new, replies.items)) }
+        ensures err { OnErr result (state_of self.new ≡ state_of self.old) }
+        ensures limits { limits_of self.new ≡ limits_of self.old }
+    {
+        Ok(self.answer(command)?)
+    }
+
+    /// An open session.
+    fn session(&self, s: u32) -> Option<&Session>
+        ensures { slot_of (option_copied result) ≡ get (state_of self.now).sessions s }
+    {
+        match self.sessions.get(s as usize) {
+            Some(slot) => slot.as_ref(),
+            None => None,
+        }
+    }
+}
