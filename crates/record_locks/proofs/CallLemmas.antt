@@ -1,0 +1,119 @@
+-- What a call that is not refused may do, and that it keeps all sound.
+use Rattle.std.proofs.Common.{◌≡◌, ◌<◌, ℕ, ◌/◌, ◌==◌, nat_le, Bool, true, false, not, ◌&&◌, cond, List, [], ◌∷◌, ◌++◌, map, length, set, get_or, Option, Some, None, is_some, refl, sym, ◌∙◌, ap, arith}
+use Rattle.std.specs.Prelude.{find, IfSome}
+use Rattle.std.specs.List.{count_by}
+use Rattle.std.specs.Option.{option_map, option_map_or}
+use Rattle.std.proofs.lemmas.Bool.Decides.{nat_tests}
+use Rattle.std.proofs.lemmas.List.{get_or_read}
+use Rattle.ipl_rules.specs.State as rules
+use Rattle.ipl_rules.specs.Refusals as tests
+use Rattle.record_locks.specs.Held.{Held, Slots, held_at, written_of, is_among, with_written, with_shared}
+use Rattle.ipl_rules.specs.Slots.{open_from}
+use Rattle.record_locks.specs.Standing.{state_of, slot_of, keeps_from}
+use Rattle.record_locks.specs.Locks.{IsSound, total, written_in, refuses_share, refuses_write, holder_of}
+use Rattle.ipl_rules.proofs.SlotLemmas.{entries-opened}
+use Rattle.record_locks.proofs.StandingLemmas.{new_write_at, new_share_at, shares_counted}
+use Rattle.record_locks.proofs.TotalLemmas.{sound_less, sound_more, names_counted, nobody_wrote, pending_at}
+
+pub holder_at : (slots : Slots) (s n : ℕ) (for_write : Bool)
+    → option_map (λ e. e.0) (find (λ e. not (e.0 == s) && keeps_from for_write n e.1) (open_from 0 (map slot_of slots))) ≡ holder_of slots s n for_write
+unfolding state_of
+holder_at slots s n true = ap (λ (es : List (ℕ × rules.Session)). option_map (λ e. e.0) (find (λ e. not (e.0 == s) && keeps_from true n e.1) es)) (sym (entries-opened (map slot_of slots)))
+holder_at slots s n false = ap (λ (es : List (ℕ × rules.Session)). option_map (λ e. e.0) (find (λ e. not (e.0 == s) && keeps_from false n e.1) es)) (sym (entries-opened (map slot_of slots)))
+
+-- where no test of a list holds, the first doesn't, and none of the others does
+passed : (t : tests.Test) (rest : List tests.Test) → tests.first_of (t ∷ rest) ≡ None → (t.0 ≡ false) × (tests.first_of rest ≡ None)
+passed t rest none = by_test t.0 none
+  where
+    by_test : (b : Bool) → cond b (Some t.1) (tests.first_of rest) ≡ None → (b ≡ false) × (tests.first_of rest ≡ None)
+    by_test true is = absurd (cc is)
+    by_test false is = (refl, is)
+
+no_holder : (o : Option ℕ) → is_some o ≡ false → o ≡ None
+no_holder None is = refl
+no_holder (Some k) is = absurd (cc is)
+
+-- a new name, and a test of room that failed
+has_room : (new full : Bool) → (new && full) ≡ false → new ≡ true → full ≡ false
+has_room true full is new_is = is
+has_room false full is new_is = absurd (cc new_is)
+
+pub share_room : (slots : Slots) (s n : ℕ) (h : Held) → refuses_share slots s n ≡ None → held_at slots s ≡ Some h
+    → is_among n h.written ≡ false → is_among n h.shared ≡ false → length h.shared < 256
+share_room slots s n h none is new_write new_share =
+    let state = state_of slots in
+    let conflict = tests.conflict (rules.holder_for_share state s n) in
+    let full = tests.shares_full state s n in
+    let open_is = passed (tests.not_open state s) (conflict ∷ full ∷ []) none in
+    let held_is = passed conflict (full ∷ []) open_is.1 in
+    let full_is = passed full [] held_is.1 in
+    let new : tests.is_new_share (state_of slots) s n ≡ true =
+    new_share_at slots s n ∙ ap (λ (o : Option Held). not (is_among n (option_map_or (λ x. x.written) o [])) && not (is_among n (option_map_or (λ x. x.shared) o []))) is
+    ∙ (λ i. not (new_write i) && not (new_share i)) in
+    let room : nat_le 256 (length (rules.shared_of (state_of slots) s)) ≡ false = has_room (tests.is_new_share state s n) (nat_le 256 (length (rules.shared_of state s))) full_is.0 new in
+    let counted : length (rules.shared_of (state_of slots) s) ≡ length h.shared = shares_counted slots s ∙ ap (λ (o : Option Held). length (option_map_or (λ x. x.shared) o [])) is in
+    grind (arith, nat_tests)
+
+-- what a share needs of the slot
+pub share_may : (slots : Slots) (s n : ℕ) (o : Option Held) → refuses_share slots s n ≡ None → held_at slots s ≡ o
+    → IfSome o (λ h. is_among n h.written ≡ false → is_among n h.shared ≡ false → length h.shared < 256)
+share_may slots s n None none is = tt
+share_may slots s n (Some h) none is = share_room slots s n h none is
+
+-- a new name is nobody's, and there is room for it
+pub record MayWrite (slots : Slots) (s n : ℕ) (h : Held) : Type 0 where
+  pub few : length h.written < 256
+  pub new : total (λ k. k == n) slots ≡ 0
+  pub room : total (λ k. k / 960 == n / 960) slots < 48
+
+pub write_room : (slots : Slots) (s n : ℕ) (h : Held) → IsSound slots → refuses_write slots s n ≡ None → held_at slots s ≡ Some h → is_among n h.written ≡ false → MayWrite slots s n h
+write_room slots s n h sound none is new_write =
+    let state = state_of slots in
+    let conflict = tests.conflict (rules.holder_for_write state s n) in
+    let writes_full = tests.writes_full state s n in
+    let pending_full = tests.pending_full state s n in
+    let open_is = passed (tests.not_open state s) (conflict ∷ writes_full ∷ pending_full ∷ []) none in
+    let held_is = passed conflict (writes_full ∷ pending_full ∷ []) open_is.1 in
+    let full_is = passed writes_full (pending_full ∷ []) held_is.1 in
+    let unit_is = passed pending_full [] full_is.1 in
+    let not_written : is_among n (written_of slots s) ≡ false = ap (λ (o : Option Held). is_among n (option_map_or (λ x. x.written) o [])) is ∙ new_write in
+    let new : tests.is_new_write (state_of slots) s n ≡ true = new_write_at slots s n ∙ ap not not_written in
+    let writes : nat_le 256 (length (rules.written_names (rules.writes_of (state_of slots) s))) ≡ false = has_room (tests.is_new_write state s n) (nat_le 256 (length (rules.written_names (rules.writes_of state s)))) full_is.0 new in
+    let counted : length (rules.written_names (rules.writes_of (state_of slots) s)) ≡ length h.written =
+    names_counted slots s sound ∙ ap (λ (o : Option Held). length (option_map_or (λ x. x.written) o [])) is in
+    let pending : nat_le 48 (rules.pending (state_of slots) (n / 960)) ≡ false = has_room (tests.is_new_write state s n) (nat_le 48 (rules.pending state (n / 960))) unit_is.0 new in
+    let pending_is : rules.pending (state_of slots) (n / 960) ≡ total (λ k. k / 960 == n / 960) slots = pending_at slots (n / 960) sound in
+    record {
+      few = grind (arith, nat_tests);
+      new = nobody_wrote slots s n (no_holder (rules.holder_for_write state s n) held_is.0) not_written;
+      room = grind (arith, nat_tests);
+    }
+
+-- what a write needs of the slot
+pub write_may : (slots : Slots) (s n : ℕ) (o : Option Held) → IsSound slots → refuses_write slots s n ≡ None → held_at slots s ≡ o
+    → IfSome o (λ h. is_among n h.written ≡ false → length h.written < 256)
+write_may slots s n None sound none is = tt
+write_may slots s n (Some h) sound none is = λ new. (write_room slots s n h sound none is new).few
+
+pub sound_written : (slots : Slots) (s n : ℕ) (o : Option Held) → IsSound slots → s < length slots → refuses_write slots s n ≡ None → get_or slots s None ≡ o → IsSound (set slots s (option_map (with_written n) o))
+sound_written slots s n None sound within none is = sound_less slots s None sound within (λ p. omega arith)
+sound_written slots s n (Some h) sound within none is = by_test (is_among n h.written) refl
+  where
+    by_test : (b : Bool) → is_among n h.written ≡ b → IsSound (set slots s (Some (cond b h (record h { written = h.written ++ n ∷ [] }))))
+    by_test true among = sound_less slots s (Some h) sound within (λ p. omega (arith, ap (written_in p) is))
+    by_test false new =
+        let may = write_room slots s n h sound none is new in
+        sound_more slots s n h sound within is may.new may.room
+
+pub sound_shared : (slots : Slots) (s n : ℕ) (o : Option Held) → IsSound slots → s < length slots → get_or slots s None ≡ o → IsSound (set slots s (option_map (with_shared n) o))
+sound_shared slots s n None sound within is = sound_less slots s None sound within (λ p. omega arith)
+sound_shared slots s n (Some h) sound within is = sound_less slots s (Some (with_shared n h)) sound within (λ p. omega (arith, ap (written_in p) is, same p (is_among n h.written) (is_among n h.shared)))
+  where
+    same : (p : ℕ → Bool) (a b : Bool) → written_in p (Some (cond a h (cond b h (record h { shared = h.shared ++ n ∷ [] })))) ≡ count_by p h.written
+    same p true b = refl
+    same p false true = refl
+    same p false false = refl
+
+-- what is read of a slot is what it holds
+pub slot_held : (slots : Slots) (s : ℕ) (o : Option Held) → s < length slots → o ≡ get_or slots s o → held_at slots s ≡ o
+slot_held slots s o within is = sym (get_or_read slots s o within is None)

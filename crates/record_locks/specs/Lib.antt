@@ -1,0 +1,4 @@
+pub mod Held
+pub mod Standing
+pub mod Locks
+pub mod Names

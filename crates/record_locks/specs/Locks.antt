@@ -1,0 +1,55 @@
+-- When the calls are refused, by the tests of the rules in their order; and what holds of all sessions together.
+use Rattle.std.specs.Prelude.{◌≡◌, ℕ, ◌≤◌, ◌==◌, ◌/◌, Bool, true, [], ◌∷◌, length, Option, if◌then◌else◌}
+use Rattle.std.specs.List.{sum_by, count_by}
+use Rattle.std.specs.Option.{option_map_or}
+use Rattle.ipl_base.specs.declared.fault.Refusal.{Refusal}
+use Rattle.ipl_rules.specs.State.{holder_for_share, holder_for_write, pending}
+use Rattle.ipl_rules.specs.Refusals.{first_of, already_open, not_open, conflict, writes_full, shares_full, pending_full}
+use Rattle.record_locks.specs.Held.{Held, Slots, written_of, is_among}
+use Rattle.record_locks.specs.Standing.{state_of}
+
+-- why a begin is refused, if it is
+abbrev pub refuses_begin : Slots → ℕ → Option Refusal
+refuses_begin slots s = first_of (already_open (state_of slots) s ∷ [])
+
+-- why a share of a name is refused, if it is
+abbrev pub refuses_share : Slots → ℕ → ℕ → Option Refusal
+refuses_share slots s n = first_of (not_open (state_of slots) s ∷ conflict (holder_for_share (state_of slots) s n)
+    ∷ shares_full (state_of slots) s n ∷ [])
+
+-- why a write of a name is refused, if it is
+abbrev pub refuses_write : Slots → ℕ → ℕ → Option Refusal
+refuses_write slots s n = first_of (not_open (state_of slots) s ∷ conflict (holder_for_write (state_of slots) s n)
+    ∷ writes_full (state_of slots) s n ∷ pending_full (state_of slots) s n ∷ [])
+
+-- why an end is refused, if it is
+abbrev pub refuses_end : Slots → ℕ → Option Refusal
+refuses_end slots s = first_of (not_open (state_of slots) s ∷ [])
+
+-- the least other session that keeps this one from writing a name, or from sharing it
+abbrev pub holder_of : Slots → ℕ → ℕ → Bool → Option ℕ
+holder_of slots s n for_write = if for_write then holder_for_write (state_of slots) s n else holder_for_share (state_of slots) s n
+
+-- ---- what holds of all sessions
+
+-- no name is written by two sessions
+abbrev pub OneWriter : Slots → Type 0
+OneWriter slots = (s t n : ℕ) → is_among n (written_of slots s) ≡ true → is_among n (written_of slots t) ≡ true → s ≡ t
+
+-- at most 48 names of each unit are pending
+abbrev pub FewPending : Slots → Type 0
+FewPending slots = (unit : ℕ) → pending (state_of slots) unit ≤ 48
+
+-- how many of the names that the session in a slot wrote pass the test
+abbrev pub written_in : (ℕ → Bool) → Option Held → ℕ
+written_in test slot = count_by test (option_map_or (λ h. h.written) slot [])
+
+-- how many of the names that sessions wrote pass the test
+abbrev pub total : (ℕ → Bool) → Slots → ℕ
+total test slots = sum_by (written_in test) slots
+
+-- there are 32 slots, no name is written twice, and at most 48 names of each unit are written
+pub record IsSound (slots : Slots) : Type 0 where
+  pub all : length slots ≡ 32
+  pub once : (n : ℕ) → total (λ k. k == n) slots ≤ 1
+  pub few : (unit : ℕ) → total (λ k. k / 960 == unit) slots ≤ 48

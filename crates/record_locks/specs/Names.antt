@@ -1,0 +1,57 @@
+-- What a lock depends on: the names that sessions wrote and share, and not what was put.
+use Rattle.std.specs.Prelude.{◌≡◌, ℕ, ◌<◌, length, List, [], ◌∷◌, None, Option, replicate}
+use Rattle.std.specs.Option.{option_map}
+use Rattle.std.specs.FinMap.{get}
+use Rattle.ipl_rules.specs.State.{Session, State, is_open, written_names, holder_for_share, holder_for_write, pending}
+use Rattle.ipl_rules.specs.Refusals.{first_of, already_open, not_open, conflict, writes_full, shares_full, pending_full}
+use Rattle.ipl_rules.specs.Operations as rules
+use Rattle.record_locks.specs.Held.{Slots, after_begin, after_share, after_write, after_end}
+use Rattle.record_locks.specs.Standing.{state_of}
+use Rattle.record_locks.specs.Locks.{refuses_begin, refuses_share, refuses_write, refuses_end}
+
+-- the names that a session wrote, each once, and those that it shares
+abbrev pub names_of : Session → List ℕ × List ℕ
+names_of session = (written_names session.writes, session.shared)
+
+-- the same sessions are open, with the same names
+abbrev pub SameNames : State → State → Type 0
+SameNames a b = (s : ℕ) → option_map names_of (get a.sessions s) ≡ option_map names_of (get b.sessions s)
+
+-- the tests of locks answer alike
+pub record TestsAlike (a b : State) (s n : ℕ) : Type 0 where
+  pub opens : is_open a s ≡ is_open b s
+  pub shares : holder_for_share a s n ≡ holder_for_share b s n
+  pub writes : holder_for_write a s n ≡ holder_for_write b s n
+  pub full_writes : writes_full a s n ≡ writes_full b s n
+  pub full_shares : shares_full a s n ≡ shares_full b s n
+  pub pends : pending a n ≡ pending b n
+  pub full_unit : pending_full a s n ≡ pending_full b s n
+
+-- the tests look at names alone
+abbrev pub LocksLookAtNames : Type 0
+LocksLookAtNames = (a b : State) → SameNames a b → (s n : ℕ) → TestsAlike a b s n
+
+-- the calls on sessions are refused as the operations on the state are
+pub record RefusesAs (slots : Slots) (state : State) (s n : ℕ) : Type 0 where
+  pub begins : refuses_begin slots s ≡ first_of (already_open state s ∷ [])
+  pub shares : refuses_share slots s n ≡ first_of (not_open state s ∷ conflict (holder_for_share state s n) ∷ shares_full state s n ∷ [])
+  pub writes : refuses_write slots s n ≡ first_of (not_open state s ∷ conflict (holder_for_write state s n)
+      ∷ writes_full state s n ∷ pending_full state s n ∷ [])
+  pub ends : refuses_end slots s ≡ first_of (not_open state s ∷ [])
+
+-- sessions that have the names of a state refuse as that state does
+abbrev pub SessionsRefuseAsStates : Type 0
+SessionsRefuseAsStates = (slots : Slots) (state : State) → SameNames (state_of slots) state → (s n : ℕ) → RefusesAs slots state s n
+
+-- where sessions have the names of a state, they have them after each call and its operation, whatever is put
+pub record KeepsNames (slots : Slots) (state : State) (s : ℕ) : Type 0 where
+  pub begins : (number : ℕ) → SameNames (state_of (after_begin slots s number)) (rules.after_begin state s)
+  pub shares : (n : ℕ) → SameNames (state_of (after_share slots s n)) (rules.after_share state s n)
+  pub writes : (n : ℕ) (change : Option (List ℕ)) → SameNames (state_of (after_write slots s n)) (rules.after_write state s (n, change))
+  pub commits : SameNames (state_of (after_end slots s)) (rules.after_commit state s)
+  pub aborts : SameNames (state_of (after_end slots s)) (rules.after_abort state s)
+  pub restarts : SameNames (state_of (replicate 32 None)) (rules.after_restart state)
+
+-- the change of a call and that of its operation keep the names the same
+abbrev pub CallsKeepNames : Type 0
+CallsKeepNames = (slots : Slots) (state : State) (s : ℕ) → s < length slots → SameNames (state_of slots) state → KeepsNames slots state s

@@ -1,0 +1,170 @@
+//! The open sessions of a store.
+ghost use Rattle.std.specs.Prelude.{◌≡◌, ◌≤◌, ◌<◌, ℕ, ◌==◌, ◌/◌, None, map, length, IfOk, OnOk, OnErr, replicate};
+ghost use Rattle.std.specs.Result.{result_err};
+ghost use Rattle.ipl_rules.specs.State.{pending};
+ghost use Rattle.record_locks.specs.Held.{number_of, written_of, shared_of, after_begin, after_share, after_write, after_end};
+ghost use Rattle.record_locks.specs.Standing.{state_of};
+ghost use Rattle.record_locks.specs.Locks.{refuses_begin, refuses_share, refuses_write, refuses_end, holder_of, OneWriter, FewPending};
+
+mod refusals;
+
+use crate::scan::{count_pending, fill, find_holder};
+use crate::session::{Session, share_in, write_in};
+use ipl_base::{Name, OutOfMemory, Refusal};
+use std::alloc::Global;
+use std::marker::Model;
+
+/// The open sessions, each with its transaction number and the names that it wrote and shares. Memory
+/// is taken by `new` alone. No name is written by two sessions, and at most 48 names of each unit are
+/// pending.
+#[derive(Drop)]
+pub struct Sessions {
+    slots: Vec<Option<Session>>,
+}
+
+impl Model for Sessions {
+    ghost use Rattle.std.specs.Prelude.{List, Option};
+    ghost use Rattle.record_locks.specs.Held.{Held};
+    ghost use Rattle.record_locks.specs.Locks.{IsSound};
+
+    ghost Value = { List (Option Held) };
+
+    ghost view = { λ s. s.slots.items };
+
+    ghost invariant = { λ s. IsSound s.slots.items };
+}
+
+impl Sessions {
+    /// No session is open.
+    pub fn new(alloc: Global) -> Result<Sessions, OutOfMemory>
+        ensures { IfOk result (λ sessions. sessions ≡ replicate 32 None) }
+    {
+        let mut slots = Vec::with_capacity(alloc, 32)?;
+        fill(&mut slots);
+        Ok(Sessions { slots })
+    }
+
+    /// Opens a session.
+    pub fn begin(&mut self, s: u32, number: u64) -> Result<(), Refusal>
+        requires { s < 32 }
+        ensures refusal { result_err result ≡ refuses_begin self.old s }
+        ensures ok { OnOk result (self.new ≡ after_begin self.old s number) }
+        ensures err { OnErr result (self.new ≡ self.old) }
+    {
+        if self.is_open(s) {
+            return Err(Refusal::AlreadyOpen);
+        }
+        self.slots[s as usize] = Some(Session::new(number));
+        Ok(())
+    }
+
+    /// Adds a name to those that a session shares, unless it wrote or shares the name.
+    pub fn share(&mut self, s: u32, name: Name) -> Result<(), Refusal>
+        requires { s < 32 }
+        ensures refusal { result_err result ≡ refuses_share self.old s name.0 }
+        ensures ok { OnOk result (self.new ≡ after_share self.old s name.0) }
+        ensures err { OnErr result (self.new ≡ self.old) }
+    {
+        if let Some(refusal) = self.refuses_share(s, name) {
+            return Err(refusal);
+        }
+        share_in(&mut self.slots[s as usize], name);
+        Ok(())
+    }
+
+    /// Adds a name to those that a session wrote, unless it is among them.
+    pub fn write(&mut self, s: u32, name: Name) -> Result<(), Refusal>
+        requires { s < 32 }
+        ensures refusal { result_err result ≡ refuses_write self.old s name.0 }
+        ensures ok { OnOk result (self.new ≡ after_write self.old s name.0) }
+        ensures err { OnErr result (self.new ≡ self.old) }
+    {
+        if let Some(refusal) = self.refuses_write(s, name) {
+            return Err(refusal);
+        }
+        write_in(&mut self.slots[s as usize], name);
+        Ok(())
+    }
+
+    /// Closes a session, for a commit or an abort.
+    pub fn end(&mut self, s: u32) -> Result<(), Refusal>
+        requires { s < 32 }
+        ensures refusal { result_err result ≡ refuses_end self.old s }
+        ensures ok { OnOk result (self.new ≡ after_end self.old s) }
+        ensures err { OnErr result (self.new ≡ self.old) }
+    {
+        if !self.is_open(s) {
+            return Err(Refusal::NotOpen);
+        }
+        self.slots[s as usize] = None;
+        Ok(())
+    }
+
+    /// Closes all sessions. It takes no memory.
+    pub fn reset(&mut self)
+        ensures { self.new ≡ replicate 32 None }
+    {
+        self.slots.clear();
+        fill(&mut self.slots);
+    }
+
+    /// The least other session that keeps session `s` from writing a name, or from sharing it.
+    pub fn holder(&self, s: u32, name: Name, for_write: bool) -> Option<u32>
+        ensures { result ≡ holder_of self.now s name.0 for_write }
+    {
+        find_holder(&self.slots, s, name, for_write)
+    }
+
+    /// How many names of a unit open sessions wrote.
+    pub fn pending(&self, unit: u32) -> u32
+        ensures count { result ≡ pending (state_of self.now) unit }
+        ensures few { result ≤ 48 }
+    {
+        count_pending(&self.slots, unit)
+    }
+
+    /// What always holds: there are 32 slots, no name is written by two sessions, and at most 48
+    /// names of each unit are pending.
+    pub fn facts(&self)
+        ensures all { length self.now ≡ 32 }
+        ensures one_writer { OneWriter self.now }
+        ensures few { FewPending self.now }
+    {
+        let _ = &self.slots;
+    }
+
+    /// The transaction number of a session, where it is open.
+    pub fn number(&self, s: u32) -> Option<u64>
+        requires { s < 32 }
+        ensures { result ≡ number_of self.now s }
+    {
+        match &self.slots[s as usize] {
+            Some(session) => Some(session.number()),
+            None => None,
+        }
+    }
+
+    /// The names that a session wrote, the oldest first; none where it isn't open.
+    pub fn written(&self, s: u32) -> &[Name]
+        requires { s < 32 }
+        ensures names { map (λ n. n.0) result.now ≡ written_of self.now s }
+        ensures fits { length result.now ≤ 256 }
+    {
+        match &self.slots[s as usize] {
+            Some(session) => session.written(),
+            None => &[],
+        }
+    }
+
+    /// The names that a session shares, the oldest first; none where it isn't open.
+    pub fn shared(&self, s: u32) -> &[Name]
+        requires { s < 32 }
+        ensures names { map (λ n. n.0) result.now ≡ shared_of self.now s }
+        ensures fits { length result.now ≤ 256 }
+    {
+        match &self.slots[s as usize] {
+            Some(session) => session.shared(),
+            None => &[],
+        }
+    }
+}

@@ -1,0 +1,98 @@
+//! When the calls on sessions are refused.
+ghost use Rattle.std.specs.Prelude.{◌≡◌, ◌<◌, length, nat_le};
+ghost use Rattle.ipl_rules.specs.State.{is_open, writes_of, shared_of, written_names};
+ghost use Rattle.ipl_rules.specs.Refusals.{is_new_write, is_new_share};
+ghost use Rattle.record_locks.specs.Standing.{state_of};
+ghost use Rattle.record_locks.specs.Locks.{refuses_share, refuses_write};
+
+use super::Sessions;
+use crate::session::is_listed;
+use ipl_base::{Name, Refusal};
+
+impl Sessions {
+    /// Whether a session is open.
+    #[tactic(auto, using(crate::proofs::StandingLemmas::open_at))]
+    pub fn is_open(&self, s: u32) -> bool
+        requires { s < 32 }
+        ensures { result ≡ is_open (state_of self.now) s }
+    {
+        self.slots[s as usize].is_some()
+    }
+
+    /// Whether a session did not write a name.
+    #[tactic(auto, using(crate::proofs::StandingLemmas::new_write_at))]
+    fn is_new_write(&self, s: u32, name: Name) -> bool
+        requires { s < 32 }
+        ensures { result ≡ is_new_write (state_of self.now) s name.0 }
+    {
+        !is_listed(self.written(s), name)
+    }
+
+    /// Whether a session neither wrote nor shares a name.
+    #[tactic(auto, using(crate::proofs::StandingLemmas::new_share_at))]
+    fn is_new_share(&self, s: u32, name: Name) -> bool
+        requires { s < 32 }
+        ensures { result ≡ is_new_share (state_of self.now) s name.0 }
+    {
+        !is_listed(self.written(s), name) && !is_listed(self.shared(s), name)
+    }
+
+    /// Whether a session wrote 256 names.
+    #[tactic(auto, using(crate::proofs::TotalLemmas::names_counted))]
+    fn has_full_writes(&self, s: u32) -> bool
+        requires { s < 32 }
+        ensures { result ≡ nat_le 256 (length (written_names (writes_of (state_of self.now) s))) }
+    {
+        let _ = &self.slots;
+        self.written(s).len() >= 256
+    }
+
+    /// Whether a session shares 256 names.
+    #[tactic(auto, using(crate::proofs::StandingLemmas::shares_counted))]
+    fn has_full_shares(&self, s: u32) -> bool
+        requires { s < 32 }
+        ensures { result ≡ nat_le 256 (length (shared_of (state_of self.now) s)) }
+    {
+        self.shared(s).len() >= 256
+    }
+
+    /// Why a share is refused, if it is.
+    pub fn refuses_share(&self, s: u32, name: Name) -> Option<Refusal>
+        requires { s < 32 }
+        ensures { result ≡ refuses_share self.now s name.0 }
+    {
+        if !self.is_open(s) {
+            return Some(Refusal::NotOpen);
+        }
+        if let Some(holder) = self.holder(s, name, false) {
+            return Some(Refusal::Conflict(holder));
+        }
+        if self.is_new_share(s, name) && self.has_full_shares(s) {
+            return Some(Refusal::SharesFull);
+        }
+        None
+    }
+
+    /// Why a write is refused, if it is.
+    pub fn refuses_write(&self, s: u32, name: Name) -> Option<Refusal>
+        requires { s < 32 }
+        ensures { result ≡ refuses_write self.now s name.0 }
+    {
+        if !self.is_open(s) {
+            return Some(Refusal::NotOpen);
+        }
+        if let Some(holder) = self.holder(s, name, true) {
+            return Some(Refusal::Conflict(holder));
+        }
+        if !self.is_new_write(s, name) {
+            return None;
+        }
+        if self.has_full_writes(s) {
+            return Some(Refusal::WritesFull);
+        }
+        if self.pending(name.0 / 960) >= 48 {
+            return Some(Refusal::PendingFull(name.0 / 960));
+        }
+        None
+    }
+}
