@@ -47,12 +47,14 @@ impl Schedule {
         }
     }
 
+    /// Counts a read.
     pub fn count_read(&mut self)
         ensures { self.new ≡ record self.old { calls = counted self.old.calls } }
     {
         self.calls = self.calls.saturating_add(1);
     }
 
+    /// Counts a program, an erase or a barrier.
     pub fn count_write(&mut self)
         ensures { self.new ≡ record self.old { calls = counted self.old.calls; writes = counted self.old.writes } }
     {

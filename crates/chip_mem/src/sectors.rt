@@ -13,6 +13,7 @@ pub const SECTORS: usize = 256;
 /// An erased sector.
 pub const BLANK: [u8; 512] = [255; 512];
 
+/// So many erased sectors.
 pub fn erased_sectors(alloc: Global, count: usize) -> Result<Vec<[u8; 512]>, OutOfMemory>
     ensures { IfOk result (λ v. v.items ≡ replicate count BLANK) }
 {
@@ -31,6 +32,7 @@ pub fn copy_sectors(alloc: Global, sectors: &[[u8; 512]]) -> Result<Vec<[u8; 512
     Ok(Vec::from_slice(alloc, sectors)?)
 }
 
+/// Erases a place.
 pub fn erase_place(sectors: &mut [[u8; 512]], place: usize)
     requires { place * 256 + 256 ≤ length sectors.old }
     ensures { contents_of sectors.new ≡ after (Erase place) (contents_of sectors.old) }
@@ -40,6 +42,7 @@ pub fn erase_place(sectors: &mut [[u8; 512]], place: usize)
     }
 }
 
+/// Programs a sector, 0 to 255, of a place.
 pub fn program_sector(sectors: &mut [[u8; 512]], place: usize, sector: usize, bytes: &[u8; 512])
     requires place { place * 256 + 256 ≤ length sectors.old }
     requires sector { sector < 256 }
@@ -48,6 +51,7 @@ pub fn program_sector(sectors: &mut [[u8; 512]], place: usize, sector: usize, by
     sectors[place * SECTORS + sector] = *bytes;
 }
 
+/// Reads a sector, 0 to 255, of a place.
 pub fn read_sector(sectors: &[[u8; 512]], place: usize, sector: usize, into: &mut [u8; 512])
     requires place { place * 256 + 256 ≤ length sectors.now }
     requires sector { sector < 256 }

@@ -21,6 +21,7 @@ impl Model for Piece {
 }
 
 impl Piece {
+    /// The piece of these bytes, at most 1,024.
     pub fn of(bytes: &[u8]) -> Piece
         requires { length bytes.now ≤ 1024 }
         ensures { result ≡ bytes.now }
@@ -30,6 +31,7 @@ impl Piece {
         Piece { bytes: items }
     }
 
+    /// Its bytes.
     pub fn bytes(&self) -> &[u8]
         ensures value { result.now ≡ self.now }
         ensures fits { length result.now ≤ 1024 }

@@ -46,6 +46,7 @@ impl Value {
         }
     }
 
+    /// Its bytes, at most 108.
     pub fn bytes(&self) -> &[u8]
         ensures value { result.now ≡ self.now }
         ensures fits { length result.now ≤ 108 }

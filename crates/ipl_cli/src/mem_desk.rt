@@ -60,6 +60,7 @@ impl MemDesk {
         })
     }
 
+    /// Its chip, in whose story is what was said.
     pub fn chip(&self) -> &MemChip
         ensures { result.now ≡ self.now.chip }
     {

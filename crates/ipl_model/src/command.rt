@@ -21,6 +21,7 @@ impl Model for PutBytes {
 }
 
 impl PutBytes {
+    /// The put of these bytes, at most 512.
     pub fn of(bytes: &[u8]) -> PutBytes
         requires { length bytes.now ≤ 512 }
         ensures { result ≡ bytes.now }
@@ -30,6 +31,7 @@ impl PutBytes {
         PutBytes { bytes: items }
     }
 
+    /// Its bytes, at most 512.
     pub fn bytes(&self) -> &[u8]
         ensures value { result.now ≡ self.now }
         ensures fits { length result.now ≤ 512 }

@@ -84,6 +84,7 @@ impl MemoryStore {
     ghost use Rattle.memory_store.specs.Kept.{is_among, kept_change, seen};
     ghost use Rattle.ipl_model.specs.declared.command.Command.TheVariants as command;
 
+    /// Opens a session; it must be 0.
     pub fn begin(&mut self, session: u32) -> Reply
         ensures { Follows self.old self.new (command.Begin session) result }
     {
@@ -108,6 +109,7 @@ impl MemoryStore {
         }
     }
 
+    /// What a session sees of a name below 960.
     pub fn get(&self, session: u32, name: u32) -> Reply
         ensures { Follows self.now self.now (command.Get session name) result }
     {
@@ -130,6 +132,7 @@ impl MemoryStore {
         find(&self.kept, name).is_some() || is_one(&self.shares, name)
     }
 
+    /// Shares a name, so that no other session writes it, and tells what the session sees of it. At most 256 names are shared.
     pub fn share(&mut self, session: u32, name: u32) -> Reply
         ensures { Follows self.old self.new (command.Share session name) result }
     {
@@ -171,6 +174,7 @@ impl MemoryStore {
         Reply::Ok
     }
 
+    /// Writes at most 108 bytes to a name below 960.
     pub fn put(&mut self, session: u32, name: u32, bytes: &[u8]) -> Reply
         ensures { Follows self.old self.new (command.Put session name bytes.now) result }
     {
@@ -186,6 +190,7 @@ impl MemoryStore {
         }
     }
 
+    /// Deletes the record of a name below 960.
     pub fn del(&mut self, session: u32, name: u32) -> Reply
         ensures { Follows self.old self.new (command.Del session name) result }
     {
@@ -210,6 +215,7 @@ impl MemoryStore {
         self.is_open = false;
     }
 
+    /// Makes records of what a session wrote, and closes it.
     pub fn commit(&mut self, session: u32) -> Reply
         ensures { Follows self.old self.new (command.Commit session) result }
     {
@@ -224,6 +230,7 @@ impl MemoryStore {
         Reply::Ok
     }
 
+    /// Drops what a session wrote, and closes it.
     pub fn abort(&mut self, session: u32) -> Reply
         ensures { Follows self.old self.new (command.Abort session) result }
     {
@@ -237,6 +244,7 @@ impl MemoryStore {
         Reply::Ok
     }
 
+    /// Closes the session; the records stay.
     pub fn restart(&mut self) -> Reply
         ensures { Follows self.old self.new command.Restart result }
     {
@@ -244,6 +252,7 @@ impl MemoryStore {
         Reply::Ok
     }
 
+    /// A merge of a unit changes no record; the unit must be 0.
     pub fn merge(&self, unit: u32) -> Reply
         ensures { Follows self.now self.now (command.Merge unit) result }
     {

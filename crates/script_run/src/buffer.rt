@@ -20,6 +20,7 @@ impl Model for LineBuffer {
 }
 
 impl LineBuffer {
+    /// No bytes.
     pub fn new() -> LineBuffer
         ensures { result ≡ [] }
     {
@@ -28,12 +29,14 @@ impl LineBuffer {
         }
     }
 
+    /// The bytes that are kept, at most 1,025.
     pub fn bytes(&self) -> &[u8]
         ensures { result.now ≡ self.now }
     {
         self.bytes.as_slice()
     }
 
+    /// Drops them.
     pub fn clear(&mut self)
         ensures { self.new ≡ [] }
     {
