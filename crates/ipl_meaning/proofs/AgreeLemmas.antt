@@ -1,0 +1,77 @@
+-- What agreement gives, and what keeps it.
+use Rattle.std.proofs.Common.{◌≡◌, ℕ, eqb, ◌&&◌, None, inl, inr, refl, sym, arith}
+use Rattle.std.proofs.lemmas.Bool.{cases_Bool, and_parts, eqb-true, eq-eqb, ne_eqb}
+use Rattle.chip_trait.specs.Lawful.{Clean, age}
+use Rattle.chip_trait.proofs.AgeLemmas.{clean_blank, clean_closed}
+use Rattle.chip_trait.specs.declared.event.Event.TheVariants.{Erase}
+use Rattle.chip_trait.specs.Told.{History, adds}
+use Rattle.chip_trait.proofs.ClosedLemmas.{held_program}
+use Rattle.ipl_format.specs.Sector.{sector_in}
+use Rattle.ipl_format.proofs.SectorLemmas.{blank_says_nothing}
+use Rattle.ipl_meaning.specs.Rests.{now}
+use Rattle.ipl_meaning.specs.Steps.{SameBut}
+use Rattle.ipl_meaning.specs.Tables.{IsSpare}
+use Rattle.ipl_meaning.specs.AgreeingLaws.{SparesAreUntouched, SparesMayBeProgrammed, TidyAfterPrograms, TidyAfterMoves, TidyAfterBarriers, TidyAfterErases, ProgramsAgree, BarriersAgree, ReadsAgree, SaysAgree, ErasesAgree}
+use Rattle.ipl_meaning.proofs.IdleFollowLemmas.{spare_apart, tables_follow_idle_places}
+
+pub spares_are_untouched : SparesAreUntouched
+spares_are_untouched h t p s tidy spare = (clean_blank h.start h.story p s (tidy p s spare), clean_closed h.story p s (tidy p s spare))
+
+pub spares_may_be_programmed : SparesMayBeProgrammed
+spares_may_be_programmed story t p s bytes tidy spare lawful = (tidy p s spare, lawful)
+
+pub tidy_after_programs : TidyAfterPrograms
+tidy_after_programs story t after p s bytes tidy shrink q n spare =
+    let (was, apart) = shrink q n spare in
+    elim (cases_Bool (eqb p q && eqb s n)) [
+      | inl here ↦ let both = and_parts _ _ here in absurd (apart (sym (eqb-true _ _ both.0)) (sym (eqb-true _ _ both.1)))
+      | inr elsewhere ↦ rw elsewhere (tidy q n was)
+    ]
+
+pub tidy_after_moves : TidyAfterMoves
+tidy_after_moves story t after p s from bytes tidy moves clean q n spare =
+    let (was, apart) = moves q n spare in
+    let fresh : age story q n ≡ Clean = elim was [ inl before ↦ tidy q n before | inr (at, above, small) ↦ rw at (clean n above small) ] in
+    elim (cases_Bool (eqb p q && eqb s n)) [
+      | inl here ↦ let both = and_parts _ _ here in absurd (apart (sym (eqb-true _ _ both.0)) (sym (eqb-true _ _ both.1)))
+      | inr elsewhere ↦ rw elsewhere fresh
+    ]
+
+pub tidy_after_barriers : TidyAfterBarriers
+tidy_after_barriers story t tidy q n spare = rw (tidy q n spare) refl
+
+pub tidy_after_erases : TidyAfterErases
+tidy_after_erases story t p tidy none q n spare = elim (cases_Bool (eqb p q)) [
+  | inl here ↦ let same : p ≡ q = eqb-true _ _ here in absurd (none n (rw (← same) at spare))
+  | inr elsewhere ↦ rw elsewhere (tidy q n spare)
+]
+
+pub programs_agree : ProgramsAgree
+programs_agree places h new after p s bytes sector spelled mirrors tidy = record {
+  mirrors = rw (held_program sector_in h.start h.story p s bytes sector spelled) mirrors;
+  tidy = tidy;
+}
+
+pub barriers_agree : BarriersAgree
+barriers_agree places h it t agrees = record { mirrors = agrees.mirrors; tidy = tidy_after_barriers h.story t agrees.tidy }
+
+pub reads_agree : ReadsAgree
+reads_agree places h it t p s agrees = record { mirrors = agrees.mirrors; tidy = agrees.tidy }
+
+pub says_agree : SaysAgree
+says_agree places h it t piece agrees = record { mirrors = agrees.mirrors; tidy = agrees.tidy }
+
+-- what is held after an erase is held elsewhere as before
+erased_elsewhere : (h : History) (p : ℕ) → SameBut p (now h) (now (adds (Erase p) h))
+erased_elsewhere h p q s apart = rw (ne_eqb p q (λ is. apart (sym is))) refl
+
+erased_there : (h : History) (p : ℕ) → now (adds (Erase p) h) p 0 ≡ None
+erased_there h p = rw (eq-eqb p p refl) blank_says_nothing
+
+pub erases_agree : ErasesAgree
+erases_agree places h it t p agrees idle not_shelf =
+    let none : (s : ℕ) → ¬ IsSpare t p s = λ s spare. spare_apart places (now h) it t p agrees.mirrors idle not_shelf p s spare refl in
+    record {
+      mirrors = tables_follow_idle_places places (now h) it t p (now (adds (Erase p) h)) t.next agrees.mirrors idle not_shelf (erased_elsewhere h p) (erased_there h p) (omega arith);
+      tidy = tidy_after_erases h.story t p agrees.tidy none;
+    }

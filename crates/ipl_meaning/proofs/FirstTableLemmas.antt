@@ -1,0 +1,98 @@
+-- The tables of a formatted chip.
+use Rattle.std.proofs.Common.{◌≡◌, ◌⊎◌, ℕ, ◌<◌, ◌≤◌, ◌+◌, ◌-◌, [], ◌++◌, replicate, get_or, Some, inl, inr, refl, ◌∙◌, arith, true, false, length-append}
+use Rattle.std.specs.List.{Contains}
+use Rattle.std.proofs.lemmas.Bool.{cases_lt}
+use Rattle.std.proofs.lemmas.List.{get_or-replicate, get_or_append_left, length-replicate}
+use Rattle.std.proofs.lemmas.List.FromFn.{length-range_with_len, get_or-range_with_len}
+use Rattle.ipl_format.specs.Sector.{Sector}
+use Rattle.ipl_meaning.specs.Chart.{Chart}
+use Rattle.ipl_meaning.specs.Found.{IsRead, Mentions}
+use Rattle.ipl_meaning.specs.Tables.{IsFree, Tables, spots_of, IsSpare}
+use Rattle.ipl_meaning.specs.Mirrors.{Mirrors}
+use Rattle.ipl_meaning.specs.Formatted.{first_head, first_status, formatted}
+use Rattle.ipl_meaning.specs.FirstTables.{first_layout, first_tables}
+use Rattle.ipl_meaning.specs.TableLaws.{FirstTablesMirror}
+use Rattle.ipl_meaning.proofs.FormattedLemmas.{header_is, no_sector, laid, never_live}
+
+module _ (places : ℕ) (least : 5 ≤ places) (most : places ≤ 1028) where
+  abbrev c : Chart
+  c = formatted places
+
+  abbrev t : Tables
+  t = first_tables places
+
+  -- a free place comes after the status place
+  free_after : (q : ℕ) → IsFree t.places q → places - 4 < q
+  free_after q free = elim (cases_lt q (places - 4 + 1)) [
+    | inl low ↦ absurd (
+        let taken : get_or (replicate (places - 4 + 1) true ++ replicate 3 false) q true ≡ true =
+        get_or_append_left (replicate (places - 4 + 1) true) (replicate 3 false) true q (omega (arith, low, length-replicate (places - 4 + 1) true)) ∙ get_or-replicate (places - 4 + 1) q true true low in
+        cc (taken, free))
+    | inr high ↦ omega (arith, high)
+  ]
+
+  no_spots : (u : ℕ) → u < places - 4 → spots_of t u ≡ []
+  no_spots u low = get_or-replicate (places - 4) u [] [] low
+
+  none_listed : {X : Type 0} (x : X) → ¬ Contains [] x
+  none_listed x (k, within, is) = omega (arith, within)
+
+  no_spare : (p s : ℕ) → ¬ IsSpare t p s
+  no_spare p s (small, inl (u, less, is, first)) = omega (arith, small, first, get_or-replicate {A = ℕ} (places - 4) u 15 0 (omega (arith, less, length-range_with_len 0 (places - 4))))
+  no_spare p s (small, inr (inl (first, is, above))) = none_listed (p, first) is
+  no_spare p s (small, inr (inr (is, above))) = omega (arith, small, above)
+
+  -- what a header mentions
+  own_only : (x : Sector) (n : ℕ) → x.kind ≤ 2 → Mentions x n → (n ≡ x.generation) ⊎ (n ≡ x.serial)
+  own_only x n kind (inl own) = inl own
+  own_only x n kind (inr (inl own)) = inr own
+  own_only x n kind (inr (inr (inl six))) = absurd (omega (arith, kind, six.0))
+  own_only x n kind (inr (inr (inr five))) = absurd (omega (arith, kind, five.0))
+
+  header_below : (p : ℕ) (x : Sector) (n : ℕ) → c p 0 ≡ Some x → Mentions x n → n < places - 4 + 2
+  header_below p x n there mentions = elim (header_is places least most p x there) [
+    | inl (low, is) ↦ elim (own_only (first_head places p) n (omega arith) (rw (← is) at mentions)) [ inl own ↦ omega (arith, own, low) | inr own ↦ omega (arith, own, low) ]
+    | inr (at, is) ↦ elim (own_only (first_status places) n (omega arith) (rw (← is) at mentions)) [ inl own ↦ omega (arith, own) | inr own ↦ omega (arith, own) ]
+  ]
+
+  read_below : (p s : ℕ) (x : Sector) (n : ℕ) → IsRead places c (first_layout places) p s x → Mentions x n → n < places - 4 + 2
+  read_below p s x n (inl (header, low, there, fits)) mentions = header_below p x n there mentions
+  read_below p s x n (inr (inl (at, w))) mentions = absurd (no_sector places least most _ s x (λ none. omega (arith, w.where_it_is.0, none)) w.here)
+  read_below p s x n (inr (inr (low, small, there, kind, inl (u, less, at, region)))) mentions = absurd (no_sector places least most p s x (λ none. omega (arith, region, none)) there)
+  read_below p s x n (inr (inr (low, small, there, kind, inr (over, number)))) mentions = absurd (no_sector places least most p s x (λ none. omega (arith, number, none)) there)
+
+  mirror : Mirrors places c (first_layout places) t
+  mirror = record {
+    laid = laid places least most;
+    directory = record {
+      units = length-range_with_len 0 (places - 4);
+      logs = length-replicate (places - 4) 15;
+      all = omega (arith, length-append (replicate (places - 4 + 1) true) (replicate 3 false), length-replicate (places - 4 + 1) true, length-replicate 3 false, least);
+      current = λ u low. get_or-range_with_len 0 (places - 4) u 0 low ∙ (let e : 0 + u ≡ u = omega arith in e);
+      not_home = λ q free u low is. omega (arith, free_after q free, low, is);
+      not_status = λ q free is. omega (arith, free_after q free, is);
+      not_shelf = λ q free is. none_listed q is;
+    };
+    shelf = record {
+      units = length-replicate (places - 4) [];
+      listed = λ u p s x low live. absurd (never_live places least most u u (u + 1) p s x live);
+      only = λ u p s low is. absurd (none_listed (p, s) (rw (no_spots u low) at is));
+      once = λ u low. rw (no_spots u low) (λ i j d before within. absurd (omega (arith, within)));
+      few = λ u low. rw (no_spots u low) (omega arith);
+      shelved = λ u p s low is. absurd (none_listed (p, s) (rw (no_spots u low) at is));
+      overflow = λ p is. absurd (none_listed p is);
+      two = omega arith;
+      apart = λ i j d before within. absurd (omega (arith, within));
+    };
+    status = record { place = refl; generation = refl; numbers = λ tid. (λ is_so. absurd (cc is_so), λ is. absurd (none_listed tid is)) };
+    numbers = record {
+      above = λ n (p, s, x, read, mentions). read_below p s x n read mentions;
+      below = λ k none within. absurd (omega (arith, within));
+      once = λ i j d before within. absurd (omega (arith, within));
+      waits = λ k none within. absurd (omega (arith, within));
+    };
+    spare = λ p s is. absurd (no_spare p s is);
+  }
+
+pub first_tables_mirror : FirstTablesMirror
+first_tables_mirror places least most = mirror places least most

@@ -1,0 +1,134 @@
+-- A formatted chip stands for the empty map.
+use Rattle.std.proofs.Common.{◌≡◌, ◌≢◌, ◌⊎◌, ℕ, ◌<◌, ◌≤◌, ◌+◌, ◌-◌, ◌*◌, [], slice_index, Some, None, inl, inr, refl, sym, ◌∙◌, ap, arith, false}
+use Rattle.std.proofs.lemmas.Bool.{cases_eq, cases_lt, eq-eqb, ne_eqb, lt-ltb, le-ltb}
+use Rattle.std.proofs.lemmas.List.{get_or-replicate, get_or_past}
+use Rattle.std.proofs.lemmas.List.Elements.{All-replicate}
+use Rattle.ipl_format.specs.Sector.{Sector}
+use Rattle.std.specs.Ordering.{nat_cmp}
+use Rattle.std.specs.FinMap.{empty, get-empty}
+use Rattle.ipl_format.specs.Header.{IsCount}
+use Rattle.ipl_format.specs.Page.{empty_page, page_text, value_in}
+use Rattle.ipl_format.proofs.PageLemmas.{empty_pages_spell_nothing}
+use Rattle.ipl_meaning.specs.Chart.{Chart, IsLive}
+use Rattle.ipl_meaning.specs.Layout.{Shape, IsUnit, Layout, Laid}
+use Rattle.ipl_meaning.specs.Stands.{Shows, page_in}
+use Rattle.ipl_meaning.specs.Formatted.{no_pieces, first_head, first_status, formatted}
+use Rattle.ipl_meaning.specs.Laws.{FormattedChipsAreEmpty}
+
+module _ (places : ℕ) (least : 5 ≤ places) (most : places ≤ 1028) where
+  abbrev c : Chart
+  c = formatted places
+
+  unit_here : (p : ℕ) → p < places - 4 → c p 0 ≡ Some (first_head places p)
+  unit_here p low = rw (lt-ltb p (places - 4) low) refl
+
+  status_here : c (places - 4) 0 ≡ Some (first_status places)
+  status_here = rw (le-ltb (places - 4) (places - 4) (omega arith), eq-eqb (places - 4) (places - 4) refl) refl
+
+  pub header_is : (p : ℕ) (x : Sector) → c p 0 ≡ Some x → ((p < places - 4) × (first_head places p ≡ x)) ⊎ ((p ≡ places - 4) × (first_status places ≡ x))
+  header_is p x there = elim (cases_lt p (places - 4)) [
+    | inl low ↦ inl (low, let same : Some (first_head places p) ≡ Some x = rw (lt-ltb p (places - 4) low) at there in cc same)
+    | inr high ↦ elim (cases_eq p (places - 4)) [
+      | inl at ↦ inr (at, let same : Some (first_status places) ≡ Some x = rw (le-ltb p (places - 4) high, eq-eqb p (places - 4) at) at there in cc same)
+      | inr apart ↦ absurd (let none : None ≡ Some x = rw (le-ltb p (places - 4) high, ne_eqb p (places - 4) apart) at there in cc none)
+    ]
+  ]
+
+  pub no_sector : (p s : ℕ) (x : Sector) → s ≢ 0 → c p s ≢ Some x
+  no_sector p s x other there = let none : None ≡ Some x = rw (ne_eqb s 0 other) at there in cc none
+
+  pub never_live : (u home generation p s : ℕ) (x : Sector) → ¬ IsLive c places u home generation p s x
+  never_live u home generation p s x live = no_sector p s x (λ none. elim live.counts [ inl at_home ↦ omega (arith, at_home.1, none) | inr over ↦ omega (arith, over.1, none) ]) live.here
+
+  abbrev shape : ℕ → Shape
+  shape u = record { home = u; head = first_head places u; pieces = no_pieces; log = [] }
+
+  abbrev it : Layout
+  it = record { status = places - 4; head = first_status places; committed = λ tid. false; units = shape }
+
+  unit : (u : ℕ) → u < places - 4 → IsUnit c places u (shape u)
+  unit u low = record {
+    chosen = record {
+      within = omega (arith, low);
+      here = unit_here u low;
+      fits = (refl, refl);
+      best = λ q other less there fits. elim (header_is q other there) [
+        | inl first ↦
+            let same : q ≡ u = ap (λ (z : Sector). z.unit) first.1 ∙ fits.1 in
+            inr (ap (λ (z : Sector). z.serial) (sym first.1) ∙ ap (λ (n : ℕ). n + 1) same, omega (arith, same))
+        | inr status ↦ absurd (omega (arith, fits.0, ap (λ (z : Sector). z.kind) status.1))
+      ];
+    };
+    counts = record { carried = 0; bytes = refl; fits = omega (arith, most); fifteen = refl; each = All-replicate IsCount 15 0 (omega arith); few = omega arith };
+    log = record {
+      each = λ k none within. absurd (omega (arith, within));
+      all = λ p s x live. absurd (never_live u u (u + 1) p s x live);
+      rising = λ i j none before within. absurd (omega (arith, within));
+      spots = [];
+      few = omega arith;
+      listed = λ k none within. absurd (omega (arith, within));
+    };
+  }
+
+  pub laid : Laid places c it
+  laid = record {
+    least = least;
+    most = most;
+    chosen = record {
+      within = omega (arith, least);
+      here = status_here;
+      fits = refl;
+      best = λ q other less there fits. elim (header_is q other there) [
+        | inl first ↦ absurd (omega (arith, fits, ap (λ (z : Sector). z.kind) first.1))
+        | inr status ↦ inr (ap (λ (z : Sector). z.serial) (sym status.1), omega (arith, status.0))
+      ];
+    };
+    counts = record { bytes = refl; fits = omega (arith, most) };
+    commits = record {
+      spelled = λ s x w. absurd (no_sector _ s x (λ none. omega (arith, w.where_it_is.0, none)) w.here);
+      told = λ tid is_so. absurd (cc is_so);
+      all_told = λ tid w. absurd (no_sector _ w.number w.sector (λ none. omega (arith, w.is.where_it_is.0, none)) w.is.here);
+    };
+    each = unit;
+    shelves = [];
+    two = omega arith;
+    shelved = λ u low k none within. absurd (omega (arith, within));
+  }
+
+  no_count : (page : ℕ) → slice_index no_pieces page ≡ 0
+  no_count page = elim (cases_lt page 15) [
+    | inl low ↦ get_or-replicate 15 page 0 0 low
+    | inr high ↦ get_or_past no_pieces page 0 high
+  ]
+
+  no_text : page_text empty_page ≡ []
+  no_text = sym empty_pages_spell_nothing.text
+
+  -- an empty page shows nothing
+  no_value : (slot : ℕ) → slot < 64 → value_in empty_page slot ≡ None
+  unfolding empty_page
+  no_value slot low = get_or-replicate 64 slot None None low
+
+  shows : (u page : ℕ) → Shows c (λ tid. false) u (shape u) page (page_in empty u page)
+  shows u page = record {
+    base = empty_page;
+    reads = record {
+      fits = empty_pages_spell_nothing.slots;
+      cut = record {
+        enough = rw no_text (omega arith);
+        needed = rw (no_text, no_count page) (omega arith);
+      };
+      here = λ i within. absurd (omega (arith, within, no_count page));
+    };
+    says = λ slot low. get-empty nat_cmp (960 * u + 64 * page + slot) ∙ sym (no_value slot low);
+  }
+
+pub formatted_chips_are_empty : FormattedChipsAreEmpty
+formatted_chips_are_empty places least most = record {
+  layout = it places least most;
+  laid = laid places least most;
+  says = record {
+    pages = λ u page low few. shows places least most u page;
+    nowhere_else = λ n high. get-empty nat_cmp n;
+  };
+}

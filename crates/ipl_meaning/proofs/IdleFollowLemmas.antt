@@ -1,0 +1,119 @@
+-- How the tables follow places that change, and places that are taken.
+use Rattle.std.proofs.Common.{◌≡◌, ◌≢◌, ℕ, ◌<◌, ◌≤◌, ◌-◌, get_or, set, None, inl, inr, sym, ◌∙◌, arith, true}
+use Rattle.std.specs.List.{Contains}
+use Rattle.std.proofs.lemmas.Bool.{cases_eq}
+use Rattle.std.proofs.lemmas.List.{length-set, get_or-set_same, get_or-set_other}
+use Rattle.ipl_format.specs.Sector.{Sector}
+use Rattle.ipl_meaning.specs.Chart.{Chart}
+use Rattle.ipl_meaning.specs.Layout.{Layout, IsLiveIn}
+use Rattle.ipl_meaning.specs.Steps.{SameBut, IsIdle, ComesToNothing}
+use Rattle.ipl_meaning.specs.Tables.{IsFree, Tables, shelf_places, IsSpare}
+use Rattle.ipl_meaning.specs.Mirrors.{Mirrors}
+use Rattle.ipl_meaning.specs.TableSteps.{with_next, taken}
+use Rattle.ipl_meaning.specs.MovingLaws.{TablesFollowIdlePlaces, PlacesMayBeTaken}
+use Rattle.ipl_meaning.proofs.IdleLemmas.{idle_places_do_not_count}
+use Rattle.ipl_meaning.proofs.CounterLemmas.{bare_places_keep_the_counter}
+use Rattle.ipl_meaning.proofs.MirrorLemmas.{map_contains}
+
+-- none of its sectors is counted as clean
+pub spare_apart : (places : ℕ) (c : Chart) (it : Layout) (t : Tables) (p : ℕ) → Mirrors places c it t → IsIdle places c it p → ¬ Contains (shelf_places t) p → (q n : ℕ) → IsSpare t q n → q ≢ p
+spare_apart places c it t p mirrors idle not_shelf q n (small, inl (v, less, is, first)) at = let low : v < places - 4 = omega (arith, less, mirrors.directory.units) in idle.not_home v low (sym (mirrors.directory.current v low) ∙ sym is ∙ at)
+spare_apart places c it t p mirrors idle not_shelf q n (small, inr (inl (first, is, above))) at = not_shelf (rw at at (map_contains t.shelf.in_use q first is))
+spare_apart places c it t p mirrors idle not_shelf q n (small, inr (inr (is, above))) at = idle.not_status (sym mirrors.status.place ∙ sym is ∙ at)
+
+module _ (places : ℕ) (c : Chart) (it : Layout) (t : Tables) (p : ℕ) (y : Chart) (next : ℕ) (mirrors : Mirrors places c it t) (idle : IsIdle places c it p) (not_shelf : ¬ Contains (shelf_places t) p)
+    (same : SameBut p c y) (bare : y p 0 ≡ None) (more : t.next ≤ next) where
+  nothing : ComesToNothing places y it p
+  nothing = record {
+    unit_header = λ u low head there. absurd (cc (there, bare));
+    status = λ head there. absurd (cc (there, bare));
+    no_live = λ u low s sector live. elim live.counts [
+      | inl at_home ↦ idle.not_home u low (sym at_home.0)
+      | inr over ↦ let there = over.0.1 in cc (there, bare)
+    ];
+  }
+
+  live_apart : (v q s : ℕ) (x : Sector) → v < places - 4 → IsLiveIn y places it v q s x → q ≢ p
+  live_apart v q s x low live at = nothing.no_live v low s x (rw at at live)
+
+  was_apart : (v q s : ℕ) (x : Sector) → v < places - 4 → IsLiveIn c places it v q s x → q ≢ p
+  was_apart v q s x low live at = idle.no_live v low s x (rw at at live)
+
+  live_then : (v q s : ℕ) (x : Sector) → q ≢ p → IsLiveIn c places it v q s x → IsLiveIn y places it v q s x
+  live_then v q s x apart live = record {
+    here = same q s apart ∙ live.here;
+    kind = live.kind;
+    of_unit = live.of_unit;
+    of_generation = live.of_generation;
+    within = live.within;
+    counts = elim live.counts [ inl at_home ↦ inl at_home | inr over ↦ inr ((over.0.0, same q 0 apart ∙ over.0.1, over.0.2), over.1) ];
+  }
+
+  live_before : (v q s : ℕ) (x : Sector) → q ≢ p → IsLiveIn y places it v q s x → IsLiveIn c places it v q s x
+  live_before v q s x apart live = record {
+    here = sym (same q s apart) ∙ live.here;
+    kind = live.kind;
+    of_unit = live.of_unit;
+    of_generation = live.of_generation;
+    within = live.within;
+    counts = elim live.counts [ inl at_home ↦ inl at_home | inr over ↦ inr ((over.0.0, sym (same q 0 apart) ∙ over.0.1, over.0.2), over.1) ];
+  }
+
+  idle_followed : Mirrors places y it (with_next t next)
+  idle_followed = record {
+    laid = (idle_places_do_not_count places c it p y mirrors.laid idle same nothing).0;
+    directory = let was = mirrors.directory in record { units = was.units; logs = was.logs; all = was.all; current = was.current; not_home = was.not_home; not_status = was.not_status; not_shelf = was.not_shelf };
+    shelf = let was = mirrors.shelf in record {
+      units = was.units;
+      listed = λ v q n x low live away. was.listed v q n x low (live_before v q n x (live_apart v q n x low live) live) away;
+      only = λ v q n low is.
+          let (away, x, live) = was.only v q n low is in
+          (away, x, live_then v q n x (was_apart v q n x low live) live);
+      once = was.once;
+      few = was.few;
+      shelved = was.shelved;
+      overflow = λ q is. let (within, over) = was.overflow q is in (within, (over.0, same q 0 (λ at. not_shelf (rw at at is)) ∙ over.1, over.2));
+      two = was.two;
+      apart = was.apart;
+    };
+    status = let was = mirrors.status in record { place = was.place; generation = was.generation; numbers = was.numbers };
+    numbers = let was = mirrors.numbers in record {
+      above = bare_places_keep_the_counter places c it p y next idle.not_status idle.not_home same bare (λ n found. let low = was.above n found in omega (arith, low, more));
+      below = λ k none within. let low = was.below k none within in omega (arith, low, more);
+      once = was.once;
+      waits = was.waits;
+    };
+    spare = λ q n is. same q n (spare_apart places c it t p mirrors idle not_shelf q n is) ∙ mirrors.spare q n is;
+  }
+
+pub tables_follow_idle_places : TablesFollowIdlePlaces
+tables_follow_idle_places places c it t p y next mirrors idle not_shelf same bare more = idle_followed places c it t p y next mirrors idle not_shelf same bare more
+
+module _ (places : ℕ) (c : Chart) (it : Layout) (t : Tables) (p : ℕ) (mirrors : Mirrors places c it t) (low : p < places) where
+  free_before : (q : ℕ) → IsFree (taken t p).places q → IsFree t.places q
+  free_before q free = elim (cases_eq q p) [
+    | inl at ↦ absurd (
+        let is : get_or (set t.places.in_use p true) q true ≡ true = rw at (get_or-set_same t.places.in_use p true true (omega (arith, low, mirrors.directory.all))) in cc (is, free))
+    | inr apart ↦ sym (get_or-set_other t.places.in_use p q true true apart) ∙ free
+  ]
+
+  place_taken : Mirrors places c it (taken t p)
+  place_taken = record {
+    laid = mirrors.laid;
+    directory = let was = mirrors.directory in record {
+      units = was.units;
+      logs = was.logs;
+      all = length-set t.places.in_use p true ∙ was.all;
+      current = was.current;
+      not_home = λ q free. was.not_home q (free_before q free);
+      not_status = λ q free. was.not_status q (free_before q free);
+      not_shelf = λ q free. was.not_shelf q (free_before q free);
+    };
+    shelf = let was = mirrors.shelf in record { units = was.units; listed = was.listed; only = was.only; once = was.once; few = was.few; shelved = was.shelved; overflow = was.overflow; two = was.two; apart = was.apart };
+    status = let was = mirrors.status in record { place = was.place; generation = was.generation; numbers = was.numbers };
+    numbers = let was = mirrors.numbers in record { above = was.above; below = was.below; once = was.once; waits = was.waits };
+    spare = mirrors.spare;
+  }
+
+pub places_may_be_taken : PlacesMayBeTaken
+places_may_be_taken places c it t p mirrors low = place_taken places c it t p mirrors low

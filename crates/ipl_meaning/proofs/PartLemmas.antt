@@ -1,0 +1,113 @@
+-- A chart that has lost some sectors, but no header, has the same units at the same places.
+use Rattle.std.proofs.Common.{◌≡◌, ℕ, ◌<◌, ◌-◌, Option, Some, None, inl, inr, refl, sym, ◌∙◌, ap, List, false}
+use Rattle.std.proofs.lemmas.Bool.{cases_Bool}
+use Rattle.ipl_format.specs.Sector.{Sector}
+use Rattle.ipl_format.specs.Record.{Record}
+use Rattle.ipl_meaning.specs.Chart.{Chart, IsChosen, IsDataHeader, IsStatusHeader}
+use Rattle.ipl_meaning.specs.Layout.{IsCommitted, Layout, Laid, IsLiveIn}
+use Rattle.ipl_meaning.specs.Steps.{IsPart, SameBut, IsIdle, ComesToNothing, MayLog}
+use Rattle.ipl_meaning.proofs.OnceLemmas.{chosen_once}
+
+module _ (places : ℕ) (c h : Chart) (part : IsPart c h) (jt it : Layout) (less : Laid places c jt) (whole : Laid places h it) where
+  chosen_there : (Fits : Sector → Type 0) (p : ℕ) (head : Sector) → IsChosen c places Fits p head → IsChosen h places Fits p head
+  chosen_there Fits p head chosen = record {
+    within = chosen.within;
+    here = part.each p 0 head chosen.here;
+    fits = chosen.fits;
+    best = λ q other low there fits. chosen.best q other low (part.headers q ∙ there) fits;
+  }
+
+  pub same_status : (jt.status ≡ it.status) × (jt.head ≡ it.head)
+  same_status = chosen_once h places IsStatusHeader _ _ _ _ (chosen_there IsStatusHeader jt.status jt.head less.chosen) whole.chosen
+
+  same_unit : (u : ℕ) → u < places - 4 → ((jt.units u).home ≡ (it.units u).home) × ((jt.units u).head ≡ (it.units u).head)
+  same_unit u low = chosen_once h places (IsDataHeader u) _ _ _ _ (chosen_there (IsDataHeader u) (jt.units u).home (jt.units u).head (less.each u low).chosen) (whole.each u low).chosen
+
+  -- what is live in the part is live in the whole
+  live_there : (u : ℕ) → u < places - 4 → (p s : ℕ) (sector : Sector) → IsLiveIn c places jt u p s sector → IsLiveIn h places it u p s sector
+  live_there u low p s sector live = let unit = same_unit u low in record {
+    here = part.each p s sector live.here;
+    kind = live.kind;
+    of_unit = live.of_unit;
+    of_generation = live.of_generation ∙ ap (λ (z : Sector). z.generation) unit.1;
+    within = live.within;
+    counts = elim live.counts [ inl at_home ↦ inl (at_home.0 ∙ unit.0, at_home.1) | inr over ↦ inr ((over.0.0, part.each p 0 _ over.0.1, over.0.2), over.1) ];
+  }
+
+  committed_there : (tid : ℕ) → it.committed tid ≡ false → jt.committed tid ≡ false
+  committed_there tid none = elim (cases_Bool (jt.committed tid)) [
+    | inl is_so ↦
+        let w = less.commits.told tid is_so in
+        let told : IsCommitted h it.status it.head.generation tid = record {
+          number = w.number;
+          sector = w.sector;
+          is = record {
+            here = ap (λ (x : ℕ). h x w.number) (sym same_status.0) ∙ part.each jt.status w.number w.sector w.is.here;
+            kind = w.is.kind;
+            of_generation = w.is.of_generation ∙ ap (λ (z : Sector). z.generation) same_status.1;
+            where_it_is = w.is.where_it_is;
+          };
+          numbers = w.numbers;
+          spelled = w.spelled;
+          has = w.has;
+        } in
+        let true_there = whole.commits.all_told tid told in absurd (cc)
+    | inr is_not ↦ is_not
+  ]
+
+  none_there : (p s : ℕ) → h p s ≡ None → c p s ≡ None
+  none_there p s nothing = from (c p s) refl
+    where
+      from : (found : Option Sector) → c p s ≡ found → c p s ≡ None
+      from None is = is
+      from (Some x) is = absurd (let there = part.each p s x is in cc (there, nothing))
+
+  -- what is idle in the whole is idle in the part
+  pub idle_there : (p : ℕ) → IsIdle places h it p → IsIdle places c jt p
+  idle_there p idle = record {
+    not_status = λ is. idle.not_status (sym same_status.0 ∙ is);
+    not_home = λ u low is. idle.not_home u low (sym (same_unit u low).0 ∙ is);
+    no_live = λ u low s sector live. idle.no_live u low s sector (live_there u low p s sector live);
+  }
+
+  -- nothing that an idle place has, or had, comes to count
+  pub nothing_comes : (p : ℕ) (y : Chart) → IsIdle places h it p → SameBut p c y → ((s : ℕ) (sector : Sector) → y p s ≡ Some sector → h p s ≡ Some sector) → p < places → ComesToNothing places y jt p
+  nothing_comes p y idle same some within = record {
+    unit_header = λ u low head there fits.
+        let beats = (whole.each u low).chosen.best p head within (some 0 head there) fits in
+        rw ((same_unit u low).0, (same_unit u low).1) beats;
+    status = λ head there fits. rw (same_status.0, same_status.1) (whole.chosen.best p head within (some 0 head there) fits);
+    no_live = λ u low s sector live.
+        let there : IsLiveIn h places it u p s sector = record {
+          here = some s sector live.here;
+          kind = live.kind;
+          of_unit = live.of_unit;
+          of_generation = live.of_generation ∙ ap (λ (z : Sector). z.generation) (same_unit u low).1;
+          within = live.within;
+          counts = elim live.counts [ inl at_home ↦ inl (at_home.0 ∙ (same_unit u low).0, at_home.1) | inr over ↦ inr ((over.0.0, some 0 _ over.0.1, over.0.2), over.1) ];
+        } in
+        idle.no_live u low s sector there;
+  }
+
+  -- a log sector that may join the whole may join the part
+  pub may_log_there : (u p s : ℕ) (sector : Sector) (records : List Record) → MayLog places h it u p s sector records → MayLog places c jt u p s sector records
+  may_log_there u p s sector records may = let unit = same_unit u may.unit in record {
+    unit = may.unit;
+    free = none_there p s may.free;
+    kind = may.kind;
+    of_unit = may.of_unit;
+    of_generation = may.of_generation ∙ ap (λ (z : Sector). z.generation) (sym unit.1);
+    within = may.within;
+    counts = elim may.counts [ inl at_home ↦ inl (at_home.0 ∙ sym unit.0, at_home.1) | inr over ↦ inr ((over.0.0, part.headers p ∙ over.0.1, over.0.2), over.1) ];
+    spelled = may.spelled;
+    waits = λ k none low. committed_there _ (may.waits k none low);
+    last = λ q t other live. may.last q t other (live_there u may.unit q t other live);
+    spots = may.spots;
+    few = may.few;
+    listed = λ q t other live away. may.listed q t other (live_there u may.unit q t other live) (λ at_home. away (at_home ∙ sym unit.0));
+    listed_here = λ away. may.listed_here (λ at_home. away (at_home ∙ sym unit.0));
+    shelves = may.shelves;
+    two = may.two;
+    shelved = λ v q t other low live away. may.shelved v q t other low (live_there v low q t other live) (λ at_home. away (at_home ∙ sym (same_unit v low).0));
+    shelved_here = λ away. may.shelved_here (λ at_home. away (at_home ∙ sym unit.0));
+  }

@@ -1,0 +1,132 @@
+-- How the tables follow a log sector in an overflow place.
+use Rattle.std.proofs.Common.{◌≡◌, ◌≢◌, ◌⊎◌, ℕ, ◌<◌, ◌≤◌, ◌-◌, List, [], ◌∷◌, ◌++◌, length, inl, inr, refl, sym, ◌∙◌, ap, arith, zero, suc}
+use Rattle.std.specs.List.{Contains}
+use Rattle.std.proofs.lemmas.Bool.{cases_eq}
+use Rattle.std.proofs.lemmas.List.{length-set, get_or-set_same, get_or-set_other, length-map, length-append, get_or_default}
+use Rattle.std.proofs.lemmas.List.Quantifiers.{all_pairs_push}
+use Rattle.std.proofs.lemmas.List.Elements.{Contains-append_left, Contains-append_right, Contains-append_cases}
+use Rattle.chip_trait.specs.Chart.{with_sector}
+use Rattle.ipl_format.specs.Sector.{Sector}
+use Rattle.ipl_format.specs.Record.{Record}
+use Rattle.ipl_meaning.specs.Chart.{Chart, IsOverflow, IsLive}
+use Rattle.ipl_meaning.specs.Layout.{Layout, IsLiveIn}
+use Rattle.ipl_meaning.specs.Steps.{with_log, MayLog, entry_at}
+use Rattle.ipl_meaning.specs.Found.{MentionsBelow}
+use Rattle.ipl_meaning.specs.Tables.{Tables, spots_of}
+use Rattle.ipl_meaning.specs.Mirrors.{AreApart, MirrorsPlaces, MirrorsShelf, Mirrors}
+use Rattle.ipl_meaning.specs.TableSteps.{IsFreshLog, after_shelf_log, with_next_spot}
+use Rattle.ipl_meaning.specs.FollowingLaws.{TablesFollowShelfLogs}
+use Rattle.ipl_meaning.proofs.PutLemmas.{here, kept}
+use Rattle.ipl_meaning.proofs.WaitLemmas.{log_sectors_wait}
+use Rattle.ipl_meaning.proofs.MirrorLemmas.{map_contains, log_sectors_may_go_elsewhere}
+use Rattle.ipl_meaning.proofs.ApartLemmas.{home_not_over, none_still}
+use Rattle.ipl_meaning.proofs.SpareLemmas.{same_places, shelf_spares}
+use Rattle.ipl_meaning.proofs.LogFollowLemmas.{live_then, new_or_live, numbers_then, over_then, same_head, same_home}
+
+module _ (places : ℕ) (c : Chart) (it : Layout) (t : Tables) (u p s next : ℕ) (sector : Sector) (records : List Record) (mirrors : Mirrors places c it t) (low : u < places - 4)
+    (spot : Contains t.shelf.in_use (p, s)) (some : 1 ≤ s) (small : s < 256) (room : length (spots_of t u) < 16) (fresh : IsFreshLog it t u sector records) (more : t.next ≤ next) (below : MentionsBelow next sector) where
+  may : MayLog places c it u p s sector records
+  may = log_sectors_may_go_elsewhere places c it t u p s sector records mirrors low spot some small room fresh
+
+  abbrev y : Chart
+  y = with_sector c p s sector
+
+  abbrev jt : Layout
+  jt = with_log it u (entry_at p s sector records)
+
+  abbrev tables : Tables
+  tables = after_shelf_log t u p s next
+
+  is_over : IsOverflow c p
+  is_over = (mirrors.shelf.overflow p (map_contains t.shelf.in_use p s spot)).1
+
+  directory : MirrorsPlaces places jt tables
+  directory = let was = mirrors.directory in record {
+    units = was.units;
+    logs = was.logs;
+    all = was.all;
+    current = λ v less. was.current v less ∙ sym (same_home places c it u p s sector records may v);
+    not_home = λ q free v less is. was.not_home q free v less (sym (same_home places c it u p s sector records may v) ∙ is);
+    not_status = was.not_status;
+    not_shelf = λ q free. rw (same_places p t.shelf.in_use) (was.not_shelf q free);
+  }
+
+  mine : spots_of tables u ≡ spots_of t u ++ (p, s) ∷ []
+  mine = get_or-set_same t.shelf.spots u (spots_of t u ++ (p, s) ∷ []) [] (omega (arith, low, mirrors.shelf.units))
+
+  spots_other : (v : ℕ) → v ≢ u → spots_of tables v ≡ spots_of t v
+  spots_other v apart = get_or-set_other t.shelf.spots u v (spots_of t u ++ (p, s) ∷ []) [] apart
+
+  -- a spot of before is one now
+  listed_then : (v q n : ℕ) → Contains (spots_of t v) (q, n) → Contains (spots_of tables v) (q, n)
+  listed_then v q n is = elim (cases_eq v u) [
+    | inl same ↦ rw (same, mine) (Contains-append_left (spots_of t u) ((p, s) ∷ []) (q, n) (rw same at is))
+    | inr apart ↦ rw (spots_other v apart) is
+  ]
+
+  new_or_listed : (v q n : ℕ) → Contains (spots_of tables v) (q, n) → ((v ≡ u) × (q ≡ p) × (n ≡ s)) ⊎ Contains (spots_of t v) (q, n)
+  new_or_listed v q n is = elim (cases_eq v u) [
+    | inl same ↦ elim (Contains-append_cases (spots_of t u) ((p, s) ∷ []) (q, n) (rw (same, mine) at is)) [
+      | inl old ↦ inr (rw same old)
+      | inr (zero, _, new) ↦ inl (same, ap (λ (z : ℕ × ℕ). z.0) (sym new), ap (λ (z : ℕ × ℕ). z.1) (sym new))
+      | inr (suc k, inside, new) ↦ absurd (omega (arith, inside))
+    ]
+    | inr apart ↦ inr (rw (spots_other v apart) at is)
+  ]
+
+  live_new : IsLiveIn y places jt u p s sector
+  live_new = rw (same_home places c it u p s sector records may u, same_head places c it u p s sector records may u) (let live : IsLive y places u (it.units u).home (it.units u).head.generation p s sector = record {
+    here = here c p s sector may.free;
+    kind = may.kind;
+    of_unit = may.of_unit;
+    of_generation = may.of_generation;
+    within = may.within;
+    counts = inr ((is_over.0, kept c p s sector may.free p 0 is_over.0 is_over.1, is_over.2), some);
+  } in live)
+
+  stands_away : (v : ℕ) → v < places - 4 → p ≢ (it.units v).home
+  stands_away v less at = home_not_over places c it mirrors.laid v less (rw at at is_over)
+
+  shelf : MirrorsShelf places y jt tables
+  shelf = let was = mirrors.shelf in record {
+    units = length-set t.shelf.spots u (spots_of t u ++ (p, s) ∷ []) ∙ was.units;
+    listed = λ v q n x less live away. elim (new_or_live places c it u p s sector records may v q n x live) [
+      | inl new ↦ rw (new.0, new.1, new.2, mine) (Contains-append_right (spots_of t u) ((p, s) ∷ []) (p, s) (0, omega arith, refl))
+      | inr old ↦ listed_then v q n (was.listed v q n x less old (λ is. away (is ∙ sym (same_home places c it u p s sector records may v))))
+    ];
+    only = λ v q n less is. elim (new_or_listed v q n is) [
+      | inl new ↦ rw (new.0, new.1, new.2) (λ at. stands_away u low (at ∙ same_home places c it u p s sector records may u), sector, live_new)
+      | inr old ↦ let (away, x, live) = was.only v q n less old in (λ same. away (same ∙ same_home places c it u p s sector records may v), x, live_then places c it u p s sector records may v q n x live)
+    ];
+    once = λ v less. elim (cases_eq v u) [
+      | inl same ↦ rw (same, mine) (all_pairs_push AreApart (spots_of t u) (p, s) (was.once u low) (λ k d within is.
+          let listed : Contains (spots_of t u) (p, s) = (k, within, get_or_default (spots_of t u) k (p, s) d within ∙ is) in
+          let there = (was.only u p s low listed).2 in
+          absurd (let nothing = may.free in let something = there.here in cc (something, nothing))))
+      | inr apart ↦ rw (spots_other v apart) (was.once v less)
+    ];
+    few = λ v less. elim (cases_eq v u) [
+      | inl same ↦ rw (same, mine) (omega (arith, room, length-append (spots_of t u) ((p, s) ∷ [])))
+      | inr apart ↦ rw (spots_other v apart) (was.few v less)
+    ];
+    shelved = λ v q n less is. rw (same_places p t.shelf.in_use) (elim (new_or_listed v q n is) [
+      | inl new ↦ rw new.1 (map_contains t.shelf.in_use p s spot)
+      | inr old ↦ was.shelved v q n less old
+    ]);
+    overflow = λ q is. let (within, over) = was.overflow q (rw (same_places p t.shelf.in_use) at is) in (within, over_then places c it u p s sector records may q over);
+    two = omega (arith, was.two, length-map t.shelf.in_use (with_next_spot p));
+    apart = rw (same_places p t.shelf.in_use) was.apart;
+  }
+
+  shelf_followed : Mirrors places y jt tables
+  shelf_followed = record {
+    laid = (log_sectors_wait places c it u p s sector records mirrors.laid may).0;
+    directory = directory;
+    shelf = shelf;
+    status = let was = mirrors.status in record { place = was.place; generation = was.generation; numbers = was.numbers };
+    numbers = numbers_then places c it u p s sector records may t tables next mirrors.numbers more below refl refl;
+    spare = λ q n is. let (before, apart) = shelf_spares places c it t mirrors u p s next spot q n is in none_still c p s sector q n (mirrors.spare q n before) apart;
+  }
+
+pub tables_follow_shelf_logs : TablesFollowShelfLogs
+tables_follow_shelf_logs places c it t u p s next sector records mirrors low spot some small room fresh more below = shelf_followed places c it t u p s next sector records mirrors low spot some small room fresh more below

@@ -1,0 +1,117 @@
+-- What is counted as clean shrinks.
+use Rattle.std.proofs.Common.{◌≡◌, ℕ, ◌<◌, ◌≤◌, ◌+◌, ◌-◌, List, [], ◌∷◌, length, map, get_or, slice_index, inl, inr, refl, sym, ◌∙◌, ap, subst, arith, true, eqb}
+use Rattle.std.specs.List.{AllPairs, Contains}
+use Rattle.std.proofs.lemmas.Bool.{cases_Bool, cases_eq, cases_lt, eq-eqb}
+use Rattle.std.proofs.lemmas.List.{get_or-set_same, get_or-set_other, length-map, get_or-map, get_or_default}
+use Rattle.std.proofs.lemmas.List.Elements.{Contains-get_or}
+use Rattle.ipl_meaning.specs.Chart.{Chart, IsOverflow}
+use Rattle.ipl_meaning.specs.Layout.{Layout}
+use Rattle.ipl_meaning.specs.Tables.{Tables, place_of, first_log}
+use Rattle.ipl_meaning.specs.Mirrors.{AreApart, Mirrors}
+use Rattle.ipl_meaning.specs.TableSteps.{after_home_log, after_shelf_log, after_commit, with_next_spot, SparesShrink}
+use Rattle.ipl_meaning.specs.FollowingLaws.{SparesFollow}
+use Rattle.ipl_meaning.proofs.PutLemmas.{here}
+use Rattle.ipl_meaning.proofs.MirrorLemmas.{map_contains}
+use Rattle.ipl_meaning.proofs.ApartLemmas.{home_not_over, home_not_status, homes_apart, status_not_over}
+
+pub same_places : (p : ℕ) (l : List (ℕ × ℕ)) → map place_of (map (with_next_spot p) l) ≡ map place_of l
+same_places p [] = refl
+same_places p (o ∷ l) = elim (cases_Bool (eqb o.0 p)) [
+  | inl here ↦ rw here (ap (λ (k : List ℕ). o.0 ∷ k) (same_places p l))
+  | inr apart ↦ rw apart (ap (λ (k : List ℕ). o.0 ∷ k) (same_places p l))
+]
+
+-- an overflow place with its next spot was one with a spot
+spot_before : (p : ℕ) (l : List (ℕ × ℕ)) (q first : ℕ) → Contains (map (with_next_spot p) l) (q, first) → (old : ℕ) × Contains l (q, old) × (old ≤ first) × (q ≡ p → first ≡ old + 1)
+spot_before p l q first (k, within, is) =
+    let o = get_or l k (q, first) in
+    let inside : k < length l = omega (arith, within, length-map l (with_next_spot p)) in
+    let same : with_next_spot p o ≡ (q, first) = sym (get_or-map (with_next_spot p) l k (q, first) (q, first) inside) ∙ is in
+    elim (cases_Bool (eqb o.0 p)) [
+      | inl here ↦
+          let both : ◌≡◌ {A = ℕ × ℕ} (o.0, o.1 + 1) (q, first) = rw here at same in
+          let place : o.0 ≡ q = ap (λ (z : ℕ × ℕ). z.0) both in
+          let number : o.1 + 1 ≡ first = ap (λ (z : ℕ × ℕ). z.1) both in
+          let listed : Contains l o = Contains-get_or l k (q, first) inside in
+          (o.1, subst (λ (z : ℕ). Contains l (z, o.1)) place listed, omega (arith, number), λ _. sym number)
+      | inr apart ↦
+          let both : o ≡ (q, first) = rw apart at same in
+          let place : o.0 ≡ q = ap (λ (z : ℕ × ℕ). z.0) both in (
+            first,
+            subst (Contains l) both (Contains-get_or l k (q, first) inside),
+            omega arith,
+            λ at. absurd (
+                let is_so : eqb o.0 p ≡ true = eq-eqb o.0 p (place ∙ at) in cc (is_so, apart)),
+          )
+    ]
+
+-- a place has one spot, where places are apart
+one_spot : (l : List (ℕ × ℕ)) (p a b : ℕ) → AllPairs AreApart (map place_of l) → Contains l (p, a) → Contains l (p, b) → a ≡ b
+one_spot l p a b apart (i, in_i, is) (j, in_j, is_too) = elim (cases_eq i j) [
+  | inl same ↦
+      let both : ◌≡◌ {A = ℕ × ℕ} (p, a) (p, b) = sym is ∙ get_or_default l i (p, a) (p, b) in_i ∙ ap (λ (k : ℕ). get_or l k (p, b)) same ∙ is_too in
+      ap (λ (z : ℕ × ℕ). z.1) both
+  | inr other ↦ absurd (elim (cases_lt i j) [
+    | inl less ↦ apart i j p less (omega (arith, in_j, length-map l place_of)) (at_p i a in_i is ∙ sym (at_p j b in_j is_too))
+    | inr more ↦ apart j i p (omega (arith, more, other)) (omega (arith, in_i, length-map l place_of)) (at_p j b in_j is_too ∙ sym (at_p i a in_i is))
+  ])
+]
+  where
+    at_p : (k n : ℕ) → k < length l → get_or l k (p, n) ≡ (p, n) → get_or (map place_of l) k p ≡ p
+    at_p k n within is = get_or-map place_of l k (p, n) p within ∙ ap place_of is
+
+module _ (places : ℕ) (c : Chart) (it : Layout) (t : Tables) (mirrors : Mirrors places c it t) where
+  shelf_over : (q first : ℕ) → Contains t.shelf.in_use (q, first) → IsOverflow c q
+  shelf_over q first is = (mirrors.shelf.overflow q (map_contains t.shelf.in_use q first is)).1
+
+  home_of : (v q : ℕ) → v < length t.places.current → q ≡ slice_index t.places.current v → (v < places - 4) × (q ≡ (it.units v).home)
+  home_of v q less is = let low : v < places - 4 = omega (arith, less, mirrors.directory.units) in (low, is ∙ mirrors.directory.current v low)
+
+  pub home_spares : (u next : ℕ) → u < places - 4 → SparesShrink t (after_home_log t u next) (slice_index t.places.current u) (first_log t u)
+  home_spares u next low q n (small, inl (v, less, is, first)) = elim (cases_eq v u) [
+    | inl same ↦
+        let mine : slice_index (after_home_log t u next).places.written u ≡ slice_index t.places.written u + 1 = get_or-set_same t.places.written u (slice_index t.places.written u + 1) 0 (omega (arith, low, mirrors.directory.logs)) in
+        let above : first_log t u + 1 ≤ n = let one = rw same at first in omega (arith, one, mine) in
+        ((small, inl (v, less, is, rw same (omega (arith, above)))), λ _ there. omega (arith, above, there))
+    | inr apart ↦
+        let above : first_log t v ≤ n = omega (arith, first, get_or-set_other t.places.written u v (slice_index t.places.written u + 1) 0 apart) in
+        let (inside, home) = home_of v q less is in
+        ((small, inl (v, less, is, above)), λ same _. apart (homes_apart places c it mirrors.laid v u inside low (sym home ∙ same ∙ mirrors.directory.current u low)))
+  ]
+  home_spares u next low q n (small, inr (inl (first, is, above))) = (
+    (small, inr (inl (first, is, above))),
+    λ same _. home_not_over places c it mirrors.laid u low (let over = shelf_over q first is in rw (same ∙ mirrors.directory.current u low) at over),
+  )
+  home_spares u next low q n (small, inr (inr (is, above))) = (
+    (small, inr (inr (is, above))),
+    λ same _. home_not_status places c it mirrors.laid u low (sym (mirrors.directory.current u low) ∙ sym same ∙ is ∙ mirrors.status.place),
+  )
+
+  pub shelf_spares : (u p s next : ℕ) → Contains t.shelf.in_use (p, s) → SparesShrink t (after_shelf_log t u p s next) p s
+  shelf_spares u p s next spot q n (small, inl (v, less, is, first)) =
+      let (inside, home) = home_of v q less is in
+      ((small, inl (v, less, is, first)), λ same _. home_not_over places c it mirrors.laid v inside (let over = shelf_over p s spot in rw (sym same ∙ home) at over))
+  shelf_spares u p s next spot q n (small, inr (inl (first, is, above))) =
+      let (old, listed, less, is_next) = spot_before p t.shelf.in_use q first is in (
+        (small, inr (inl (old, listed, omega (arith, less, above)))),
+        λ same there.
+            let one : old ≡ s = one_spot t.shelf.in_use p old s mirrors.shelf.apart (subst (λ (z : ℕ). Contains t.shelf.in_use (z, old)) same listed) spot in
+            omega (arith, one, is_next same, above, there),
+      )
+  shelf_spares u p s next spot q n (small, inr (inr (is, above))) = (
+    (small, inr (inr (is, above))),
+    λ same _. status_not_over places c it mirrors.laid (let over = shelf_over p s spot in rw (sym same ∙ is ∙ mirrors.status.place) at over),
+  )
+
+  pub commit_spares : (numbers active : List ℕ) (next : ℕ) → SparesShrink t (after_commit t numbers next active) it.status t.status.first
+  commit_spares numbers active next q n (small, inl (v, less, is, first)) =
+      let (inside, home) = home_of v q less is in
+      ((small, inl (v, less, is, first)), λ same _. home_not_status places c it mirrors.laid v inside (sym home ∙ same))
+  commit_spares numbers active next q n (small, inr (inl (first, is, above))) = (
+    (small, inr (inl (first, is, above))),
+    λ same _. status_not_over places c it mirrors.laid (let over = shelf_over q first is in rw same at over),
+  )
+  commit_spares numbers active next q n (small, inr (inr (is, above))) = ((small, inr (inr (is, omega (arith, above)))), λ _ there. omega (arith, above, there))
+
+pub spares_follow : SparesFollow
+spares_follow places c it t mirrors = (home_spares places c it t mirrors, shelf_spares places c it t mirrors, commit_spares places c it t mirrors)

@@ -1,0 +1,14 @@
+use Rattle.ipl_meaning.proofs.StoryLemmas.{barriers_keep_either, reads_keep, says_keep, erases_keep, log_sectors_keep, asides_keep, programs_lead, either_is_kept}
+use Rattle.ipl_meaning.proofs.laws.story_laws.Goals as goal
+
+pub returns : goal.returns
+returns c = record {
+  barriers = barriers_keep_either;
+  reads = reads_keep;
+  says = says_keep;
+  erases = erases_keep;
+  log_sectors = log_sectors_keep;
+  asides = asides_keep;
+  leads = programs_lead;
+  either = either_is_kept;
+}

@@ -1,0 +1,49 @@
+-- How the tables follow log sectors and commit sectors.
+use Rattle.std.specs.Prelude.{ℕ, ◌<◌, ◌≤◌, ◌-◌, Bool, List, length, slice_index, All, AllPairs, Contains}
+use Rattle.chip_trait.specs.Chart.{with_sector}
+use Rattle.ipl_format.specs.Sector.{Sector}
+use Rattle.ipl_format.specs.Record.{Record}
+use Rattle.ipl_meaning.specs.Chart.{Chart}
+use Rattle.ipl_meaning.specs.Layout.{Layout}
+use Rattle.ipl_meaning.specs.Found.{MentionsBelow}
+use Rattle.ipl_meaning.specs.Steps.{with_log, with_committed, entry_at, MayCommit}
+use Rattle.ipl_meaning.specs.Tables.{Tables, spots_of, first_log}
+use Rattle.ipl_meaning.specs.Mirrors.{AreApart, Mirrors}
+use Rattle.ipl_meaning.specs.TableSteps.{IsFreshLog, after_home_log, after_shelf_log, after_commit, SparesShrink}
+
+-- the tables mirror the chart after a log sector at home
+abbrev pub TablesFollowHomeLogs : Type 0
+TablesFollowHomeLogs =
+    (places : ℕ) (c : Chart) (it : Layout) (t : Tables) (u next : ℕ) (sector : Sector) (records : List Record)
+    → Mirrors places c it t → u < places - 4
+    → slice_index t.places.written u < 15 → IsFreshLog it t u sector records → t.next ≤ next → MentionsBelow next sector
+    → let p = slice_index t.places.current u in let s = first_log t u in
+    Mirrors places (with_sector c p s sector) (with_log it u (entry_at p s sector records)) (after_home_log t u next)
+
+-- after one in an overflow place
+abbrev pub TablesFollowShelfLogs : Type 0
+TablesFollowShelfLogs =
+    (places : ℕ) (c : Chart) (it : Layout) (t : Tables) (u p s next : ℕ) (sector : Sector) (records : List Record)
+    → Mirrors places c it t → u < places - 4
+    → Contains t.shelf.in_use (p, s) → 1 ≤ s → s < 256 → length (spots_of t u) < 16 → IsFreshLog it t u sector records
+    → t.next ≤ next → MentionsBelow next sector
+    → Mirrors places (with_sector c p s sector) (with_log it u (entry_at p s sector records))
+    (after_shelf_log t u p s next)
+
+-- after a commit sector
+abbrev pub TablesFollowCommits : Type 0
+TablesFollowCommits =
+    (places : ℕ) (c : Chart) (it : Layout) (t : Tables) (sector : Sector) (numbers : List ℕ) (committed : ℕ → Bool)
+    (next : ℕ) (active : List ℕ) → Mirrors places c it t
+    → MayCommit c it t.status.first sector numbers committed → t.next ≤ next → MentionsBelow next sector
+    → All (Contains t.active) active → AllPairs AreApart active → All (λ n. ¬ Contains numbers n) active
+    → Mirrors places (with_sector c it.status t.status.first sector) (with_committed it committed)
+    (after_commit t numbers next active)
+
+-- what is counted as clean shrinks with each of these
+abbrev pub SparesFollow : Type 0
+SparesFollow =
+    (places : ℕ) (c : Chart) (it : Layout) (t : Tables) → Mirrors places c it t
+    → ((u next : ℕ) → u < places - 4 → SparesShrink t (after_home_log t u next) (slice_index t.places.current u) (first_log t u))
+    × ((u p s next : ℕ) → Contains t.shelf.in_use (p, s) → SparesShrink t (after_shelf_log t u p s next) p s)
+    × ((numbers active : List ℕ) (next : ℕ) → SparesShrink t (after_commit t numbers next active) it.status t.status.first)

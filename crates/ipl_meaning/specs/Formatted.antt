@@ -1,0 +1,41 @@
+-- A chip that was just formatted.
+use Rattle.std.specs.Prelude.{ℕ, ◌+◌, ◌-◌, List, replicate, Option, Some, None, if◌then◌else◌, ◌==◌, nat_lt}
+use Rattle.ipl_format.specs.Numbers.{word}
+use Rattle.ipl_format.specs.Header.{data_header_bytes}
+use Rattle.ipl_format.specs.Sector.{Sector}
+use Rattle.ipl_meaning.specs.Chart.{Chart}
+
+-- no page has base sectors
+abbrev pub no_pieces : List ℕ
+no_pieces = replicate 15 0
+
+-- the header of a unit, whose generation and serial is its number and 1
+abbrev pub first_head : ℕ → ℕ → Sector
+first_head places u = record {
+  kind = 1;
+  version = 1;
+  unit = u;
+  generation = u + 1;
+  serial = u + 1;
+  payload = data_header_bytes (places - 4) no_pieces 0;
+}
+
+-- the status header, with the next number
+abbrev pub first_status : ℕ → Sector
+first_status places = record {
+  kind = 2;
+  version = 1;
+  unit = 0;
+  generation = places - 4 + 1;
+  serial = places - 4 + 1;
+  payload = word (places - 4);
+}
+
+-- each unit's header stands at the place of its number, and the status header after them
+abbrev pub header_at : ℕ → ℕ → Option Sector
+header_at places p =
+    if nat_lt p (places - 4) then Some (first_head places p) else if p == places - 4 then Some (first_status places) else None
+
+-- and nothing else stands anywhere
+abbrev pub formatted : ℕ → Chart
+formatted places p s = if s == 0 then header_at places p else None

@@ -1,0 +1,44 @@
+-- The numbers that an opening finds, and a counter above them.
+use Rattle.std.specs.Prelude.{ℕ, ◌≡◌, ◌⊎◌, ◌<◌, ◌≤◌, ◌-◌, List, Some, Contains}
+use Rattle.ipl_format.specs.Sector.{Sector}
+use Rattle.ipl_format.specs.Record.{Record, SpellsLog}
+use Rattle.ipl_format.specs.Commit.{SpellsCommit}
+use Rattle.ipl_meaning.specs.Chart.{Chart, IsHeader, IsOverflow}
+use Rattle.ipl_meaning.specs.Layout.{IsCommitSector, Layout}
+
+-- where a log sector may be read: in the log region of a unit's place, or in an overflow place
+abbrev pub IsLogSpot : ℕ → Chart → Layout → ℕ → ℕ → Type 0
+IsLogSpot places c it p s = ((u : ℕ) × (u < places - 4) × (p ≡ (it.units u).home) × (241 ≤ s)) ⊎ (IsOverflow c p × (1 ≤ s))
+
+-- an opening reads this sector's numbers: it is a header, a commit sector of the status place and its generation, or a log
+-- sector, live or not
+abbrev pub IsRead : ℕ → Chart → Layout → ℕ → ℕ → Sector → Type 0
+IsRead places c it p s sector =
+    ((s ≡ 0) × (p < places) × (c p 0 ≡ Some sector) × IsHeader sector)
+    ⊎ ((p ≡ it.status) × IsCommitSector c it.status it.head.generation s sector)
+    ⊎ ((p < places) × (s < 256) × (c p s ≡ Some sector) × (sector.kind ≡ 5) × IsLogSpot places c it p s)
+
+-- the number is the sector's own, or one of the numbers in it
+abbrev pub Mentions : Sector → ℕ → Type 0
+Mentions sector n =
+    (n ≡ sector.generation)
+    ⊎ (n ≡ sector.serial)
+    ⊎ ((sector.kind ≡ 6) × (numbers : List ℕ) × SpellsCommit sector.payload numbers × Contains numbers n)
+    ⊎ ((sector.kind ≡ 5) × (records : List Record) × SpellsLog sector.payload records × (r : Record) × Contains records r × (r.tid ≡ n))
+
+-- the numbers found
+abbrev pub IsFound : ℕ → Chart → Layout → ℕ → Type 0
+IsFound places c it n = (p s : ℕ) × (sector : Sector) × IsRead places c it p s sector × Mentions sector n
+
+-- all that the sector mentions is below this
+abbrev pub MentionsBelow : ℕ → Sector → Type 0
+MentionsBelow next sector = (n : ℕ) → Mentions sector n → n < next
+
+-- the counter is above every number found
+abbrev pub IsAbove : ℕ → Chart → Layout → ℕ → Type 0
+IsAbove places c it next = (n : ℕ) → IsFound places c it n → n < next
+
+-- the log and commit sectors of a place are below the counter
+abbrev pub IsPlaceBelow : ℕ → Chart → ℕ → Type 0
+IsPlaceBelow next c p = (s : ℕ) (sector : Sector) → c p s ≡ Some sector → (sector.kind ≡ 5) ⊎ (sector.kind ≡ 6)
+    → MentionsBelow next sector

@@ -1,0 +1,119 @@
+-- Laws of what stands.
+use Rattle.std.specs.Prelude.{ℕ, ◌≡◌, ◌<◌, ◌≤◌, ◌-◌, Some, Bool, List, Contains}
+use Rattle.std.specs.FinMap.{empty}
+use Rattle.chip_trait.specs.Chart.{with_sector}
+use Rattle.ipl_rules.specs.State.{Map}
+use Rattle.ipl_format.specs.Sector.{Sector}
+use Rattle.ipl_format.specs.Record.{Record}
+use Rattle.ipl_meaning.specs.Chart.{Chart}
+use Rattle.ipl_meaning.specs.Layout.{Entry, Shape, Layout, Laid}
+use Rattle.ipl_meaning.specs.Allowed.{IsAllowed}
+use Rattle.ipl_meaning.specs.Values.{Values}
+use Rattle.ipl_meaning.specs.Stands.{Shows, Says, Stands}
+use Rattle.ipl_meaning.specs.Formatted.{formatted}
+use Rattle.ipl_meaning.specs.Steps.{SameBut, SameWithin, KeepsPages, with_unit, with_log, with_status, with_committed, entry_at, IsIdle, ComesToNothing, MayLog, MayCommit, MaySeal, IsSameUnit, IsMerged, MaySwitch, KeepsNumbers, MayShelve}
+
+-- a chart stands for one map at most
+abbrev pub StandsOnce : Type 0
+StandsOnce = (places : ℕ) (c : Chart) (m n : Map) → Stands places c m → Stands places c n → m ≡ n
+
+-- two layouts with the same status place and committed numbers, and the same units
+pub record AreOneLayout (places : ℕ) (it other : Layout) : Type 0 where
+  pub status : it.status ≡ other.status
+  pub head : it.head ≡ other.head
+  pub committed : (tid : ℕ) → it.committed tid ≡ other.committed tid
+  pub units : (u : ℕ) → u < places - 4 → it.units u ≡ other.units u
+
+-- a chart is laid out in one way
+abbrev pub LaidOnce : Type 0
+LaidOnce = (places : ℕ) (c : Chart) (it other : Layout) → Laid places c it → Laid places c other
+    → AreOneLayout places it other
+
+-- what keeps the pages keeps the map
+abbrev pub KeptPagesKeepTheMap : Type 0
+KeptPagesKeepTheMap = (places : ℕ) (c y : Chart) (it new : Layout) (m : Map) → KeepsPages places c it y new
+    → Says places c it m → Says places y new m
+
+-- the chart has the unit's header and live sectors, and shows the page with these values
+pub record IsRebuilt (y : Chart) (it : Layout) (u page : ℕ) (now : Values) : Type 0 where
+  pub head : y (it.units u).home 0 ≡ Some (it.units u).head
+  pub shows : Shows y it.committed u (it.units u) page now
+  pub log : (e : Entry) → Contains (it.units u).log e → y e.place e.number ≡ Some e.sector
+
+-- a page is rebuilt from the allowed sectors alone: a chart that has these shows the page
+abbrev pub AllowedSectorsSuffice : Type 0
+AllowedSectorsSuffice =
+    (places : ℕ) (c y : Chart) (it : Layout) (u page : ℕ) (now : Values)
+    → Laid places c it → u < places - 4 → ((p s : ℕ) → IsAllowed c places it u page p s → y p s ≡ c p s)
+    → Shows c it.committed u (it.units u) page now → IsRebuilt y it u page now
+
+-- a place at which nothing counts may change, where nothing there comes to count
+abbrev pub IdlePlacesDoNotCount : Type 0
+IdlePlacesDoNotCount =
+    (places : ℕ) (c : Chart) (it : Layout) (p : ℕ) (y : Chart)
+    → Laid places c it → IsIdle places c it p → SameBut p c y → ComesToNothing places y it p
+    → Laid places y it × KeepsPages places c it y it
+
+-- nothing outside the chip counts
+abbrev pub OutsideDoesNotCount : Type 0
+OutsideDoesNotCount =
+    (places : ℕ) (c : Chart) (it : Layout) (y : Chart) → Laid places c it → SameWithin places c y
+    → Laid places y it × KeepsPages places c it y it
+
+-- a log sector may join its unit's, and changes no page
+abbrev pub LogSectorsWait : Type 0
+LogSectorsWait =
+    (places : ℕ) (c : Chart) (it : Layout) (u p s : ℕ) (sector : Sector) (records : List Record)
+    → Laid places c it → MayLog places c it u p s sector records
+    → let new = with_log it u (entry_at p s sector records) in
+    Laid places (with_sector c p s sector) new × KeepsPages places c it (with_sector c p s sector) new
+
+-- a commit sector adds exactly its numbers, and a page then shows what its unit says under the larger set
+abbrev pub CommitSectorsAdd : Type 0
+CommitSectorsAdd =
+    (places : ℕ) (c : Chart) (it : Layout) (s : ℕ) (sector : Sector) (numbers : List ℕ) (committed : ℕ → Bool)
+    → Laid places c it → MayCommit c it s sector numbers committed
+    → let new = with_committed it committed in
+    Laid places (with_sector c it.status s sector) new × KeepsPages places c new (with_sector c it.status s sector) new
+
+-- a data header switches the unit to its new place at once, and its pages then show what the new place has
+abbrev pub HeadersSwitch : Type 0
+HeadersSwitch =
+    (places : ℕ) (c : Chart) (it : Layout) (u p : ℕ) (fresh : Shape)
+    → Laid places c it → MaySeal places c it u p fresh
+    → let new = with_unit it u fresh in
+    Laid places (with_sector c p 0 fresh.head) new × KeepsPages places c new (with_sector c p 0 fresh.head) new
+
+-- the new place of a merged unit shows its pages as the old one does
+abbrev pub MergesKeepPages : Type 0
+MergesKeepPages = (c : Chart) (it : Layout) (u : ℕ) (fresh : Shape) → IsMerged c it u fresh → IsSameUnit c it u fresh
+
+-- so a switch to it keeps all pages
+abbrev pub SameUnitsKeepPages : Type 0
+SameUnitsKeepPages = (places : ℕ) (c : Chart) (it : Layout) (u : ℕ) (fresh : Shape) → IsSameUnit c it u fresh
+    → KeepsPages places c it c (with_unit it u fresh)
+
+-- a status header makes exactly the numbers of its place the committed ones
+abbrev pub StatusHeadersSwitch : Type 0
+StatusHeadersSwitch =
+    (places : ℕ) (c : Chart) (it : Layout) (p : ℕ) (head : Sector) (committed : ℕ → Bool)
+    → Laid places c it → MaySwitch places c p head committed
+    → let new = with_status it p head committed in
+    Laid places (with_sector c p 0 head) new × KeepsPages places c new (with_sector c p 0 head) new
+
+-- where the live sectors' committed numbers are kept, the pages are kept
+abbrev pub KeptNumbersKeepPages : Type 0
+KeptNumbersKeepPages =
+    (places : ℕ) (c : Chart) (it : Layout) (p : ℕ) (head : Sector) (committed : ℕ → Bool)
+    → KeepsNumbers places it committed → KeepsPages places c it c (with_status it p head committed)
+
+-- an overflow header changes nothing
+abbrev pub OverflowHeadersWait : Type 0
+OverflowHeadersWait =
+    (places : ℕ) (c : Chart) (it : Layout) (p : ℕ) (head : Sector)
+    → Laid places c it → MayShelve places c it p head
+    → Laid places (with_sector c p 0 head) it × KeepsPages places c it (with_sector c p 0 head) it
+
+-- a formatted chip stands for the empty map
+abbrev pub FormattedChipsAreEmpty : Type 0
+FormattedChipsAreEmpty = (places : ℕ) → 5 ≤ places → places ≤ 1028 → Stands places (formatted places) empty

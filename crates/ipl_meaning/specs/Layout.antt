@@ -1,0 +1,136 @@
+-- How the sectors of a chip are laid out: one home for each unit, and one status place.
+use Rattle.std.specs.Prelude.{ℕ, ◌≡◌, ◌≢◌, ◌<◌, ◌≤◌, ◌+◌, ◌-◌, ◌*◌, List, length, slice_index, Some, Bool, IsTrue, All, AllPairs, Contains}
+use Rattle.std.specs.List.{flat_map}
+use Rattle.ipl_format.specs.Sector.{Sector}
+use Rattle.ipl_format.specs.Record.{Record, SpellsLog}
+use Rattle.ipl_format.specs.Commit.{SpellsCommit}
+use Rattle.ipl_format.specs.Header.{SpellsDataHeader, SpellsUnits}
+use Rattle.ipl_format.specs.Page.{Slots, IsPage, IsCutInto, page_text, piece_of}
+use Rattle.ipl_format.specs.Place.{base_sector_of}
+use Rattle.ipl_meaning.specs.Chart.{Chart, IsChosen, IsDataHeader, IsStatusHeader, IsLive}
+
+-- ---- what is laid out
+
+-- a live log sector: where it stands, and its records
+pub record Entry : Type 0 where
+  pub place : ℕ
+  pub number : ℕ
+  pub sector : Sector
+  pub records : List Record
+
+-- one unit: its place and header, the number of base sectors of each page, its live log sectors
+pub record Shape : Type 0 where
+  pub home : ℕ
+  pub head : Sector
+  pub pieces : List ℕ
+  -- by rising serial
+  pub log : List Entry
+
+-- the status place and its header, the committed numbers, the units
+pub record Layout : Type 0 where
+  pub status : ℕ
+  pub head : Sector
+  pub committed : ℕ → Bool
+  pub units : ℕ → Shape
+
+-- ---- the log of a unit
+
+-- the one log sector's serial is below the other's
+abbrev pub IsBelow : Entry → Entry → Type 0
+IsBelow e f = e.sector.serial < f.sector.serial
+
+-- each entry's serial is below those of all later ones
+abbrev pub AllRise : List Entry → Type 0
+AllRise log = AllPairs IsBelow log
+
+-- the entry's sector is live for the unit, and has these records
+pub record IsEntry (c : Chart) (places u home generation : ℕ) (e : Entry) : Type 0 where
+  pub live : IsLive c places u home generation e.place e.number e.sector
+  pub records : SpellsLog e.sector.payload e.records
+
+-- the entry stands at home, or at one of these spots
+abbrev pub IsListed : List (ℕ × ℕ) → ℕ → Entry → Type 0
+IsListed spots home e = e.place ≢ home → Contains spots (e.place, e.number)
+
+-- the entry stands at home, or in one of these places
+abbrev pub IsShelved : List ℕ → ℕ → Entry → Type 0
+IsShelved shelves home e = e.place ≢ home → Contains shelves e.place
+
+-- the log has exactly the unit's live sectors
+pub record IsLog (c : Chart) (places u home generation : ℕ) (log : List Entry) : Type 0 where
+  pub each : All (IsEntry c places u home generation) log
+  pub all : (p s : ℕ) (sector : Sector) → IsLive c places u home generation p s sector
+      → (e : Entry) × Contains log e × (e.place ≡ p) × (e.number ≡ s)
+  pub rising : AllRise log
+  -- at most 16 of them stand elsewhere: these spots are all of theirs
+  pub spots : List (ℕ × ℕ)
+  pub few : length spots ≤ 16
+  pub listed : All (IsListed spots home) log
+
+-- the header of the unit that counts stands at its home, and the log is its log
+pub record IsUnit (c : Chart) (places u : ℕ) (it : Shape) : Type 0 where
+  pub chosen : IsChosen c places (IsDataHeader u) it.home it.head
+  pub counts : SpellsDataHeader (places - 4) it.pieces it.head.payload
+  pub log : IsLog c places u it.home it.head.generation it.log
+
+-- ---- committed numbers
+
+-- a commit sector of the status place, of its header's generation
+pub record IsCommitSector (c : Chart) (status generation s : ℕ) (sector : Sector) : Type 0 where
+  pub here : c status s ≡ Some sector
+  pub kind : sector.kind ≡ 6
+  pub of_generation : sector.generation ≡ generation
+  pub where_it_is : (1 ≤ s) × (s < 256)
+
+-- the number is in one of them
+pub record IsCommitted (c : Chart) (status generation tid : ℕ) : Type 0 where
+  pub number : ℕ
+  pub sector : Sector
+  pub is : IsCommitSector c status generation number sector
+  pub numbers : List ℕ
+  pub spelled : SpellsCommit sector.payload numbers
+  pub has : Contains numbers tid
+
+-- each of them spells its numbers, and the set has exactly these
+pub record IsStatus (c : Chart) (status generation : ℕ) (committed : ℕ → Bool) : Type 0 where
+  pub spelled : (s : ℕ) (sector : Sector) → IsCommitSector c status generation s sector
+      → (numbers : List ℕ) × SpellsCommit sector.payload numbers
+  pub told : (tid : ℕ) → IsTrue (committed tid) → IsCommitted c status generation tid
+  pub all_told : (tid : ℕ) → IsCommitted c status generation tid → IsTrue (committed tid)
+
+-- ---- all of it
+
+-- the chart is laid out so: all that it takes to stand for a map, but for the base pages
+pub record Laid (places : ℕ) (c : Chart) (it : Layout) : Type 0 where
+  pub least : 5 ≤ places
+  pub most : places ≤ 1028
+  pub chosen : IsChosen c places IsStatusHeader it.status it.head
+  pub counts : SpellsUnits (places - 4) it.head.payload
+  pub commits : IsStatus c it.status it.head.generation it.committed
+  pub each : (u : ℕ) → u < places - 4 → IsUnit c places u (it.units u)
+  -- at most two overflow places hold live sectors: these are all
+  pub shelves : List ℕ
+  pub two : length shelves ≤ 2
+  pub shelved : (u : ℕ) → u < places - 4 → All (IsShelved shelves (it.units u).home) (it.units u).log
+
+-- the sector is live for the unit, as it is laid out
+abbrev pub IsLiveIn : Chart → ℕ → Layout → ℕ → ℕ → ℕ → Sector → Type 0
+IsLiveIn c places it u p s sector = IsLive c places u (it.units u).home (it.units u).head.generation p s sector
+
+-- ---- base pages
+
+-- a base sector: the i-th piece of the text of a page
+abbrev pub base_sector : ℕ → ℕ → ℕ → ℕ → List ℕ → Sector
+base_sector u generation page i text =
+    record { kind = 4; version = 1; unit = u; generation = generation; serial = page * 16 + i; payload = piece_of text i }
+
+-- the page's base sectors read well: they hold the text of this page, cut into as many pieces as the header says
+pub record Reads (c : Chart) (u : ℕ) (it : Shape) (page : ℕ) (slots : Slots) : Type 0 where
+  pub fits : IsPage slots
+  pub cut : IsCutInto (page_text slots) (slice_index it.pieces page)
+  pub here : (i : ℕ) → i < slice_index it.pieces page
+      → c it.home (base_sector_of page i) ≡ Some (base_sector u it.head.generation page i (page_text slots))
+
+-- all the records of the unit's live sectors, in their order
+abbrev pub records_of : List Entry → List Record
+records_of log = flat_map (λ e. e.records) log

@@ -1,0 +1,79 @@
+-- How the tables follow places that are taken, and units that move.
+use Rattle.std.specs.Prelude.{ℕ, ◌≡◌, ◌↔◌, ◌<◌, ◌≤◌, ◌+◌, ◌-◌, Bool, false, IsTrue, length, None, All, Contains}
+use Rattle.chip_trait.specs.Chart.{with_sector}
+use Rattle.ipl_format.specs.Sector.{Sector}
+use Rattle.ipl_meaning.specs.Chart.{Chart}
+use Rattle.ipl_meaning.specs.Layout.{Shape, Layout}
+use Rattle.ipl_meaning.specs.Found.{MentionsBelow, IsPlaceBelow}
+use Rattle.ipl_meaning.specs.Steps.{SameBut, with_unit, with_status, IsIdle, MaySwitch, MayShelve}
+use Rattle.ipl_meaning.specs.Tables.{IsFree, Tables, shelf_places}
+use Rattle.ipl_meaning.specs.Mirrors.{Mirrors}
+use Rattle.ipl_meaning.specs.TableSteps.{IsReady, with_next, taken, IsMoved, IsRenewed, with_shelf, SparesMove}
+
+-- a place that is no one's may change, but for a header, and numbers may be drawn
+abbrev pub TablesFollowIdlePlaces : Type 0
+TablesFollowIdlePlaces =
+    (places : ℕ) (c : Chart) (it : Layout) (t : Tables) (p : ℕ) (y : Chart) (next : ℕ) → Mirrors places c it t
+    → IsIdle places c it p → ¬ Contains (shelf_places t) p → SameBut p c y → y p 0 ≡ None → t.next ≤ next
+    → Mirrors places y it (with_next t next)
+
+-- a place may be taken
+abbrev pub PlacesMayBeTaken : Type 0
+PlacesMayBeTaken = (places : ℕ) (c : Chart) (it : Layout) (t : Tables) (p : ℕ) → Mirrors places c it t → p < places
+    → Mirrors places c it (taken t p)
+
+-- the tables mirror the chart after the header of a unit's new place
+abbrev pub TablesFollowMerges : Type 0
+TablesFollowMerges =
+    (places : ℕ) (c : Chart) (it : Layout) (t after : Tables) (u p used : ℕ) (fresh : Shape) → Mirrors places c it t
+    → u < places - 4 → IsReady places c t u p fresh → ¬ IsFree t.places p
+    → IsMoved t after u p used → MentionsBelow after.next fresh.head → IsPlaceBelow after.next c p
+    → ((s : ℕ) → 241 + used ≤ s → s < 256 → c p s ≡ None)
+    → Mirrors places (with_sector c p 0 fresh.head) (with_unit it u fresh) after
+
+-- after the header of a new status place
+abbrev pub TablesFollowRenewals : Type 0
+TablesFollowRenewals =
+    (places : ℕ) (c : Chart) (it : Layout) (t after : Tables) (p first : ℕ) (head : Sector) (committed : ℕ → Bool)
+    → Mirrors places c it t → MaySwitch places c p head committed → ¬ IsFree t.places p
+    → IsRenewed t after p head.generation first
+    → ((tid : ℕ) → IsTrue (committed tid) ↔ Contains after.status.numbers tid) → All (λ n. committed n ≡ false) t.active
+    → MentionsBelow after.next head → IsPlaceBelow after.next c p → 1 ≤ first
+    → ((s : ℕ) → first ≤ s → s < 256 → c p s ≡ None)
+    → Mirrors places (with_sector c p 0 head) (with_status it p head committed) after
+
+-- after the header of a new overflow place
+abbrev pub TablesFollowShelves : Type 0
+TablesFollowShelves =
+    (places : ℕ) (c : Chart) (it : Layout) (t : Tables) (p next : ℕ) (head : Sector) → Mirrors places c it t
+    → MayShelve places c it p head → p < places → ¬ IsFree t.places p → length t.shelf.in_use < 2
+    → t.next ≤ next → MentionsBelow next head → ((s : ℕ) → c p s ≡ None)
+    → Mirrors places (with_sector c p 0 head) it (with_shelf t p next)
+
+-- what is counted as clean after a merge
+abbrev pub SparesFollowMerges : Type 0
+SparesFollowMerges =
+    (places : ℕ) (c : Chart) (it : Layout) (t after : Tables) (u p used : ℕ) (fresh : Shape) → Mirrors places c it t
+    → u < places - 4 → IsReady places c t u p fresh → ¬ IsFree t.places p
+    → IsMoved t after u p used → MentionsBelow after.next fresh.head → IsPlaceBelow after.next c p
+    → ((s : ℕ) → 241 + used ≤ s → s < 256 → c p s ≡ None)
+    → SparesMove t after p 0 (241 + used)
+
+-- after a renewal
+abbrev pub SparesFollowRenewals : Type 0
+SparesFollowRenewals =
+    (places : ℕ) (c : Chart) (it : Layout) (t after : Tables) (p first : ℕ) (head : Sector) (committed : ℕ → Bool)
+    → Mirrors places c it t → MaySwitch places c p head committed → ¬ IsFree t.places p
+    → IsRenewed t after p head.generation first
+    → ((tid : ℕ) → IsTrue (committed tid) ↔ Contains after.status.numbers tid) → All (λ n. committed n ≡ false) t.active
+    → MentionsBelow after.next head → IsPlaceBelow after.next c p → 1 ≤ first
+    → ((s : ℕ) → first ≤ s → s < 256 → c p s ≡ None)
+    → SparesMove t after p 0 first
+
+-- after a new overflow place
+abbrev pub SparesFollowShelves : Type 0
+SparesFollowShelves =
+    (places : ℕ) (c : Chart) (it : Layout) (t : Tables) (p next : ℕ) (head : Sector) → Mirrors places c it t
+    → MayShelve places c it p head → p < places → ¬ IsFree t.places p → length t.shelf.in_use < 2
+    → t.next ≤ next → MentionsBelow next head → ((s : ℕ) → c p s ≡ None)
+    → SparesMove t (with_shelf t p next) p 0 1

@@ -1,0 +1,50 @@
+-- Laws of lists of records.
+use Rattle.std.specs.Prelude.{ℕ, ◌≡◌, ◌≤◌, Bool, true, List, All, Contains, IsTrue, length, Option, None, if◌then◌else◌}
+use Rattle.std.specs.List.{flat_map}
+use Rattle.ipl_format.specs.Record.{Record, IsRecord}
+use Rattle.ipl_meaning.specs.Values.{counts_for, after_records}
+use Rattle.ipl_meaning.specs.Layout.{Entry, records_of}
+use Rattle.ipl_meaning.specs.Last.{last_that, size_of_all, pack, carried, name_in_unit, carried_count, applied, is_number, NoneIsBehind}
+
+-- the last record that counts gives the value, or else the base does
+abbrev pub TheLastGivesTheValue : Type 0
+TheLastGivesTheValue =
+    (committed : ℕ → Bool) (page slot : ℕ) (records : List Record) (base : Option (List ℕ))
+    → after_records committed page slot records base
+    ≡ applied (last_that (counts_for committed page slot) records None) base
+
+-- of each name, the last record of an active number is carried
+abbrev pub MergesCarryTheLast : Type 0
+MergesCarryTheLast =
+    (active : ℕ → Bool) (page slot : ℕ) (records : List Record) (before : Option Record)
+    → last_that (counts_for active page slot) (carried active records) before
+    ≡ last_that (counts_for active page slot) records before
+
+-- committing a number puts its last record on a name in place of the name's value
+abbrev pub CommitsApplyTheLast : Type 0
+CommitsApplyTheLast =
+    (committed after : ℕ → Bool) (tid : ℕ) (records : List Record)
+    → ((n : ℕ) → after n ≡ (if is_number tid n then true else committed n)) → NoneIsBehind committed tid records
+    → (page slot : ℕ) (base : Option (List ℕ))
+    → after_records after page slot records base
+    ≡ applied (last_that (counts_for (is_number tid) page slot) records None)
+    (after_records committed page slot records base)
+
+-- packed, they are the same records in the same order
+abbrev pub PacksAreTheList : Type 0
+PacksAreTheList = (records : List Record) → flat_map (λ sector. sector) (pack records) ≡ records
+
+-- the records of a sector have room there
+abbrev pub IsWithin : List Record → Type 0
+IsWithin sector = size_of_all sector ≤ 480
+
+-- each sector of a pack is within its 480 bytes
+abbrev pub PacksFit : Type 0
+PacksFit = (records : List Record) → All IsRecord records → All IsWithin (pack records)
+
+-- where at most 48 names of a unit have records of active numbers, a merge carries at most 12 sectors
+abbrev pub FewAreCarried : Type 0
+FewAreCarried =
+    (active : ℕ → Bool) (log : List Entry) (names : List ℕ) → All IsRecord (records_of log) → length names ≤ 48
+    → ((r : Record) → Contains (records_of log) r → IsTrue (active r.tid) → Contains names (name_in_unit r))
+    → carried_count active log ≤ 12

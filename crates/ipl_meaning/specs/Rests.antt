@@ -1,0 +1,35 @@
+-- When a chip rests on a map.
+use Rattle.std.specs.Prelude.{ℕ, ◌≡◌, ◌⊎◌, true, Some}
+use Rattle.chip_trait.specs.Story.{held}
+use Rattle.chip_trait.specs.Image.{IsQuiet}
+use Rattle.chip_trait.specs.Chart.{EachMeans}
+use Rattle.chip_trait.specs.Told.{History, Told}
+use Rattle.ipl_rules.specs.State.{Map}
+use Rattle.ipl_format.specs.Sector.{sector_in}
+use Rattle.ipl_meaning.specs.Chart.{Chart, chart_of}
+use Rattle.ipl_meaning.specs.Stands.{Stands}
+
+-- what a chip with this history holds
+abbrev pub now : History → Chart
+now h = chart_of (held h.start h.story)
+
+-- whatever a power cut leaves, but by chance, stands for the map
+abbrev pub EachStands : ℕ → Map → History → Type 0
+EachStands places m h = EachMeans sector_in (λ c. Stands places c m) h.start h.story
+
+-- it stands for the one map or for the other
+abbrev pub EachStandsEither : ℕ → Map → Map → History → Type 0
+EachStandsEither places m n h = EachMeans sector_in (λ c. Stands places c m ⊎ Stands places c n) h.start h.story
+
+-- the story rests on the map: whatever a power cut leaves, but by chance, stands for it, and since the last barrier only
+-- blank sectors were programmed, each once, and no header
+pub record StoryRests (places : ℕ) (m : Map) (h : History) : Type 0 where
+  pub quiet : IsQuiet h.start h.story
+  pub each : EachStands places m h
+
+-- the chip rests on the map: no write has failed, and its story rests on it
+pub record Rests (m : Map) (t : Told) : Type 0 where
+  pub settled : t.settled ≡ true
+  pub history : History
+  pub told : t.history ≡ Some history
+  pub story : StoryRests t.places m history

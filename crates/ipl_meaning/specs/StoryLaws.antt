@@ -1,0 +1,93 @@
+-- From bytes to charts: what each call makes of all that a power cut may leave.
+use Rattle.std.specs.Prelude.{ℕ, ◌≡◌, ◌≢◌, ◌<◌, List, Some, None, false}
+use Rattle.chip_trait.specs.declared.event.Event.TheVariants.{Read, Program, Erase, Barrier, Said}
+use Rattle.chip_trait.specs.Story.{Contents, blank, held}
+use Rattle.chip_trait.specs.Image.{is_open, IsNoChanceImage, IsQuiet, IsClosed}
+use Rattle.chip_trait.specs.Chart.{with_sector, says}
+use Rattle.chip_trait.specs.Told.{History, Told, adds}
+use Rattle.ipl_rules.specs.State.{Map}
+use Rattle.ipl_format.specs.Sector.{Sector, sector_in}
+use Rattle.ipl_format.specs.Record.{Record}
+use Rattle.ipl_meaning.specs.Chart.{chart_of}
+use Rattle.ipl_meaning.specs.Layout.{Layout, Laid}
+use Rattle.ipl_meaning.specs.Stands.{Stands}
+use Rattle.ipl_meaning.specs.Rests.{now, EachStands, EachStandsEither, StoryRests, Rests}
+use Rattle.ipl_meaning.specs.Steps.{IsPart, IsIdle, MayLog}
+
+-- the sector is blank, and was neither programmed nor erased since the last barrier
+abbrev pub IsUntouched : History → ℕ → ℕ → Type 0
+IsUntouched h p s = (held h.start h.story p s ≡ blank) × (is_open h.story p s ≡ false)
+
+-- in a quiet story, what a power cut leaves is a part of what is held, with the same headers
+abbrev pub QuietImagesAreParts : Type 0
+QuietImagesAreParts = (h : History) (x : Contents) → IsQuiet h.start h.story
+    → IsNoChanceImage (says sector_in) h.start h.story x → IsPart (chart_of x) (now h)
+
+-- what is held stands for what all images stand for
+abbrev pub HeldStands : Type 0
+HeldStands = (places : ℕ) (m : Map) (h : History) → EachStands places m h → Stands places (now h) m
+
+-- a story rests on one map at most
+abbrev pub RestsOnce : Type 0
+RestsOnce = (places : ℕ) (m n : Map) (h : History) → StoryRests places m h → StoryRests places n h → m ≡ n
+
+-- nor a chip
+abbrev pub ChipsRestOnce : Type 0
+ChipsRestOnce = (m n : Map) (t : Told) → Rests m t → Rests n t → m ≡ n
+
+-- where nothing is open, the story rests on what the held chart stands for
+abbrev pub ClosedRests : Type 0
+ClosedRests = (places : ℕ) (m : Map) (h : History) → IsClosed h.story → Stands places (now h) m → StoryRests places m h
+
+-- so it does after a barrier
+abbrev pub BarriersRest : Type 0
+BarriersRest = (places : ℕ) (m : Map) (h : History) → Stands places (now h) m → StoryRests places m (adds Barrier h)
+
+-- and at the moment of a barrier there is nothing new
+abbrev pub BarriersKeepEither : Type 0
+BarriersKeepEither = (places : ℕ) (m n : Map) (h : History) → EachStandsEither places m n h
+    → EachStandsEither places m n (adds Barrier h)
+
+-- a read changes nothing
+abbrev pub ReadsKeep : Type 0
+ReadsKeep = (places : ℕ) (m : Map) (h : History) (p s : ℕ) → StoryRests places m h → StoryRests places m (adds (Read p s) h)
+
+-- nor does what is said
+abbrev pub SaysKeep : Type 0
+SaysKeep = (places : ℕ) (m : Map) (h : History) (piece : List ℕ) → StoryRests places m h → StoryRests places m (adds (Said piece) h)
+
+-- an erase of an idle place changes no meaning
+abbrev pub ErasesKeep : Type 0
+ErasesKeep =
+    (places : ℕ) (m : Map) (h : History) (it : Layout) (p : ℕ) → StoryRests places m h
+    → Laid places (now h) it → p < places → IsIdle places (now h) it p
+    → EachStands places m (adds (Erase p) h)
+
+-- a program of a log sector that may join its unit's
+abbrev pub LogSectorsKeep : Type 0
+LogSectorsKeep =
+    (places : ℕ) (m : Map) (h : History) (it : Layout) (u p s : ℕ) (bytes : List ℕ) (sector : Sector)
+    (records : List Record)
+    → StoryRests places m h → IsUntouched h p s → sector_in bytes ≡ Some sector
+    → Laid places (now h) it → MayLog places (now h) it u p s sector records
+    → StoryRests places m (adds (Program p s bytes) h)
+
+-- a program of another sector than the header, in a place without one
+abbrev pub AsidesKeep : Type 0
+AsidesKeep =
+    (places : ℕ) (m : Map) (h : History) (p s : ℕ) (bytes : List ℕ) (sector : Sector)
+    → StoryRests places m h → IsUntouched h p s → sector_in bytes ≡ Some sector
+    → now h p 0 ≡ None → s ≢ 0
+    → StoryRests places m (adds (Program p s bytes) h)
+
+-- where nothing else is open, a program leaves the old meaning or the new one
+abbrev pub ProgramsLead : Type 0
+ProgramsLead =
+    (places : ℕ) (m n : Map) (h : History) (p s : ℕ) (bytes : List ℕ) (sector : Sector)
+    → StoryRests places m h → IsClosed h.story → IsUntouched h p s → sector_in bytes ≡ Some sector
+    → Stands places (with_sector (now h) p s sector) n
+    → EachStandsEither places m n (adds (Program p s bytes) h) × Stands places (now (adds (Program p s bytes) h)) n
+
+-- where both are one, it is kept
+abbrev pub EitherIsKept : Type 0
+EitherIsKept = (places : ℕ) (m : Map) (h : History) → EachStandsEither places m m h → EachStands places m h

@@ -1,0 +1,72 @@
+-- What the tables give: the conditions of each step.
+use Rattle.std.specs.Prelude.{ℕ, ◌≡◌, ◌⊎◌, ◌<◌, ◌≤◌, ◌-◌, Bool, IsTrue, List, length, slice_index, None, Contains}
+use Rattle.ipl_format.specs.Sector.{Sector}
+use Rattle.ipl_format.specs.Record.{Record}
+use Rattle.ipl_format.specs.Commit.{SpellsCommit}
+use Rattle.ipl_format.specs.Header.{SpellsUnits}
+use Rattle.ipl_meaning.specs.Chart.{Chart, IsStatusHeader, IsOverflowHeader}
+use Rattle.ipl_meaning.specs.Layout.{Shape, Layout, IsStatus}
+use Rattle.ipl_meaning.specs.Formatted.{formatted}
+use Rattle.ipl_meaning.specs.Steps.{IsIdle, MayLog, MayCommit, MaySeal, MaySwitch, MayShelve}
+use Rattle.ipl_meaning.specs.Tables.{IsFree, Tables, spots_of, first_log}
+use Rattle.ipl_meaning.specs.Mirrors.{Mirrors}
+use Rattle.ipl_meaning.specs.TableSteps.{IsFreshLog, IsReady}
+use Rattle.ipl_meaning.specs.FirstTables.{first_layout, first_tables}
+
+-- a free place is idle
+abbrev pub FreePlacesAreIdle : Type 0
+FreePlacesAreIdle = (places : ℕ) (c : Chart) (it : Layout) (t : Tables) (p : ℕ) → Mirrors places c it t
+    → IsFree t.places p → IsIdle places c it p
+
+-- a fresh log sector may go to the unit's first clean log sector
+abbrev pub LogSectorsMayGoHome : Type 0
+LogSectorsMayGoHome =
+    (places : ℕ) (c : Chart) (it : Layout) (t : Tables) (u : ℕ) (sector : Sector) (records : List Record)
+    → Mirrors places c it t → u < places - 4
+    → slice_index t.places.written u < 15 → IsFreshLog it t u sector records
+    → MayLog places c it u (slice_index t.places.current u) (first_log t u) sector records
+
+-- or to the first clean sector of an overflow place, where fewer than 16 of the unit stand elsewhere
+abbrev pub LogSectorsMayGoElsewhere : Type 0
+LogSectorsMayGoElsewhere =
+    (places : ℕ) (c : Chart) (it : Layout) (t : Tables) (u p s : ℕ) (sector : Sector) (records : List Record)
+    → Mirrors places c it t → u < places - 4
+    → Contains t.shelf.in_use (p, s) → 1 ≤ s → s < 256 → length (spots_of t u) < 16 → IsFreshLog it t u sector records
+    → MayLog places c it u p s sector records
+
+-- a commit sector may go to the first clean sector of the status place
+abbrev pub CommitSectorsMayGo : Type 0
+CommitSectorsMayGo =
+    (places : ℕ) (c : Chart) (it : Layout) (t : Tables) (sector : Sector) (numbers : List ℕ) (committed : ℕ → Bool)
+    → Mirrors places c it t
+    → 1 ≤ t.status.first → t.status.first < 256 → sector.kind ≡ 6 → sector.generation ≡ t.status.generation
+    → SpellsCommit sector.payload numbers
+    → ((tid : ℕ) → IsTrue (committed tid) → IsTrue (it.committed tid) ⊎ Contains numbers tid)
+    → ((tid : ℕ) → IsTrue (it.committed tid) ⊎ Contains numbers tid → IsTrue (committed tid))
+    → MayCommit c it t.status.first sector numbers committed
+
+-- a data header may go to a place that is ready
+abbrev pub HeadersMayGo : Type 0
+HeadersMayGo =
+    (places : ℕ) (c : Chart) (it : Layout) (t : Tables) (u p : ℕ) (fresh : Shape) → Mirrors places c it t
+    → u < places - 4 → IsReady places c t u p fresh → MaySeal places c it u p fresh
+
+-- a status header of a new serial
+abbrev pub StatusHeadersMayGo : Type 0
+StatusHeadersMayGo =
+    (places : ℕ) (c : Chart) (it : Layout) (t : Tables) (p : ℕ) (head : Sector) (committed : ℕ → Bool)
+    → Mirrors places c it t
+    → p < places → c p 0 ≡ None → IsStatusHeader head → SpellsUnits (places - 4) head.payload → t.next ≤ head.serial
+    → IsStatus c p head.generation committed
+    → MaySwitch places c p head committed
+
+-- an overflow header on a place where nothing checks
+abbrev pub OverflowHeadersMayGo : Type 0
+OverflowHeadersMayGo =
+    (places : ℕ) (c : Chart) (it : Layout) (p : ℕ) (head : Sector) → ((s : ℕ) → c p s ≡ None) → IsOverflowHeader head
+    → MayShelve places c it p head
+
+-- the first tables mirror a formatted chip
+abbrev pub FirstTablesMirror : Type 0
+FirstTablesMirror = (places : ℕ) → 5 ≤ places → places ≤ 1028
+    → Mirrors places (formatted places) (first_layout places) (first_tables places)

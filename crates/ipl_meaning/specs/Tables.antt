@@ -1,0 +1,68 @@
+-- What the tables in memory say, as lists.
+use Rattle.std.specs.Prelude.{ℕ, ◌≡◌, ◌⊎◌, ◌<◌, ◌≤◌, ◌+◌, Bool, true, false, List, [], map, length, slice_index, slice_index_or, slice_set, Contains}
+
+-- the place of each unit, whether each place is in use, and how many of the last 15 sectors of each unit's place count as
+-- written
+pub record Places : Type 0 where
+  pub current : List ℕ
+  pub in_use : List Bool
+  pub written : List ℕ
+
+-- the place is free
+abbrev pub IsFree : Places → ℕ → Type 0
+IsFree it p = slice_index_or it.in_use p true ≡ false
+
+-- the place is used as told
+abbrev pub with_use : Places → ℕ → Bool → Places
+with_use it p used = record it { in_use = slice_set it.in_use p used }
+
+-- one more log sector of the unit is written
+abbrev pub with_written : Places → ℕ → Places
+with_written it u = record it { written = slice_set it.written u (slice_index it.written u + 1) }
+
+-- the log sectors in overflow places
+pub record Shelf : Type 0 where
+  -- by unit, where its log sectors in overflow places stand
+  pub spots : List (List (ℕ × ℕ))
+  -- the overflow places in use, each with its first clean sector (256 where it has none)
+  pub in_use : List (ℕ × ℕ)
+
+-- the status place: its generation, its numbers
+pub record Status : Type 0 where
+  pub place : ℕ
+  pub generation : ℕ
+  pub numbers : List ℕ
+  -- its first clean sector (256 where it has none)
+  pub first : ℕ
+
+-- all tables, the counter, and the numbers of the open sessions
+pub record Tables : Type 0 where
+  pub places : Places
+  pub shelf : Shelf
+  pub status : Status
+  pub next : ℕ
+  pub active : List ℕ
+
+-- where the unit's log sectors in overflow places stand
+abbrev pub spots_of : Tables → ℕ → List (ℕ × ℕ)
+spots_of t u = slice_index_or t.shelf.spots u []
+
+-- the place of a spot
+abbrev pub place_of : ℕ × ℕ → ℕ
+place_of spot = spot.0
+
+-- the overflow places in use
+abbrev pub shelf_places : Tables → List ℕ
+shelf_places t = map place_of t.shelf.in_use
+
+-- the first log sector of the unit that is known clean (256 where there is none)
+abbrev pub first_log : Tables → ℕ → ℕ
+first_log t u = 241 + slice_index t.places.written u
+
+-- the tables count the sector as clean
+abbrev pub IsSpare : Tables → ℕ → ℕ → Type 0
+IsSpare t p s =
+    (s < 256)
+    × (((u : ℕ) × (u < length t.places.current) × (p ≡ slice_index t.places.current u) × (first_log t u ≤ s))
+    ⊎ ((first : ℕ) × Contains t.shelf.in_use (p, first) × (first ≤ s))
+    ⊎ ((p ≡ t.status.place) × (t.status.first ≤ s)))

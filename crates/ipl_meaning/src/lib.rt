@@ -1,0 +1,11 @@
+//! What the sectors of a chip mean, and which steps keep it: when a chart stands for a map, when a story rests on one, and
+//! the laws of both. There is no code here but the laws: bodies that do nothing, with a contract that is the law.
+#![tactic(auto)]
+
+mod laws;
+
+pub use laws::{
+    agreeing_laws, clean_laws, counter_laws, following_laws, format_laws, header_laws, idle_laws,
+    log_laws, meaning_laws, moving_laws, record_laws, resting_laws, standing_laws, story_laws,
+    table_laws,
+};
