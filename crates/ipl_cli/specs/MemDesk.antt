@@ -1,5 +1,5 @@
 -- What a desk in memory tells, and which of its calls fail.
-use Rattle.std.specs.Prelude.{ℕ, ◌==◌, min, nat_lt, Bool, not, ◌&&◌, List, [], take, drop, get_or, Some, None, if◌then◌else◌}
+use Rattle.std.specs.Prelude.{ℕ, ◌==◌, ◌+◌, min, nat_lt, nat_le, Bool, not, ◌&&◌, List, [], ◌++◌, length, take, drop, get_or, Option, Some, None, if◌then◌else◌}
 use Rattle.std.specs.List.{list_any}
 use Rattle.chip_trait.specs.declared.event.Event.TheVariants.{Said}
 use Rattle.chip_trait.specs.Told.{Told, Beside, IsConsistent}
@@ -63,3 +63,8 @@ read_count plan room left =
 -- no room
 abbrev pub told_in_part : ℕ → List ℕ → Plan → Told → Told
 told_in_part kept piece plan t = if nat_lt 0 kept && not (is_full plan) then appended (Said (take kept piece)) t else t
+
+-- the noted bytes after a piece more: they are told while they are at most 1,024
+abbrev pub noted_with : Option (List ℕ) → List ℕ → Option (List ℕ)
+noted_with None piece = None
+noted_with (Some bytes) piece = if nat_le (length bytes + length piece) 1024 then Some (bytes ++ piece) else None

@@ -180,11 +180,11 @@ impl Chip for MemDesk {
 impl Desk for MemDesk {
     ghost use Rattle.std.specs.Prelude.{◌||◌, length, OnOk, OnErr, IfSome, is_err, is_some};
     ghost use Rattle.chip_trait.specs.declared.event.Event.TheVariants.{Said};
-    ghost use Rattle.chip_trait.specs.Told.{Appends, FailsToSay, SayCounts, IsBeside, Takes, Rose};
+    ghost use Rattle.chip_trait.specs.Told.{Appends, FailsToSay, SayCounts, IsBeside, Takes, Notes, Rose};
     ghost use Rattle.chip_mem.specs.Plan.{counted, is_full};
     ghost use Rattle.chip_mem.specs.Views.{plan_of, told_of};
     ghost use Rattle.ipl_cli.specs.Failing.{kept_at};
-    ghost use Rattle.ipl_cli.specs.MemDesk.{desk_told, desk_plan, read_fails, read_count, told_in_part};
+    ghost use Rattle.ipl_cli.specs.MemDesk.{beside_of, desk_told, desk_plan, noted_with, read_fails, read_count, told_in_part};
 
     /// It fails exactly where it is told to.
     fn read_script(&mut self, buf: &mut [u8]) -> Result<usize, Failed>
@@ -235,7 +235,14 @@ impl Desk for MemDesk {
         }
     }
 
-    fn note(&mut self, piece: &[u8]) {
+    /// What is noted is told while it is at most 1,024 bytes.
+    fn note(&mut self, piece: &[u8])
+        ensures notes { Notes piece.now (desk_told self.old) (desk_told self.new) }
+
+        // exactly
+        ensures noted { (beside_of self.new).noted ≡ noted_with (beside_of self.old).noted piece.now }
+        ensures plan { desk_plan self.new ≡ desk_plan self.old }
+    {
         if self.noted.try_extend_from_slice(piece).is_err() {
             self.all_noted = false;
         }

@@ -1,4 +1,5 @@
 //! A desk over the real streams of the process.
+ghost use Rattle.std.specs.Prelude.{◌≡◌};
 ghost use Rattle.ipl_cli.specs.RealDesk.{real_told, real_consistently};
 
 use chip_trait::{Chip, Desk, Failed};
@@ -19,7 +20,9 @@ pub struct RealDesk<C: Chip + Drop> {
 
 impl<C: Chip + Drop> RealDesk<C> {
     /// A desk that has counted nothing yet.
-    pub fn new(chip: C, input: Stdin, output: Stdout, error: Stderr) -> RealDesk<C> {
+    pub fn new(chip: C, input: Stdin, output: Stdout, error: Stderr) -> RealDesk<C>
+        ensures { real_told (C.told result.chip) result.script_bytes result.script_faults result.say_faults ≡ real_told (C.told chip) 0 0 0 }
+    {
         RealDesk {
             chip,
             input,
