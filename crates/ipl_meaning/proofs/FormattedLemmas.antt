@@ -11,8 +11,9 @@ use Rattle.ipl_format.specs.Page.{empty_page, page_text, value_in}
 use Rattle.ipl_format.proofs.PageLemmas.{empty_pages_spell_nothing}
 use Rattle.ipl_meaning.specs.Chart.{Chart, IsLive}
 use Rattle.ipl_meaning.specs.Layout.{Shape, IsUnit, Layout, Laid}
-use Rattle.ipl_meaning.specs.Stands.{Shows, page_in}
+use Rattle.ipl_meaning.specs.Stands.{Shows, Says, page_in}
 use Rattle.ipl_meaning.specs.Formatted.{no_pieces, first_head, first_status, formatted}
+use Rattle.ipl_meaning.specs.FirstTables.{first_layout}
 use Rattle.ipl_meaning.specs.Laws.{FormattedChipsAreEmpty}
 
 module _ (places : ℕ) (least : 5 ≤ places) (most : places ≤ 1028) where
@@ -123,12 +124,16 @@ module _ (places : ℕ) (least : 5 ≤ places) (most : places ≤ 1028) where
     says = λ slot low. get-empty nat_cmp (960 * u + 64 * page + slot) ∙ sym (no_value slot low);
   }
 
+-- its pages show no record
+pub formatted_pages_are_empty : (places : ℕ) → 5 ≤ places → places ≤ 1028 → Says places (formatted places) (first_layout places) empty
+formatted_pages_are_empty places least most = record {
+  pages = λ u page low few. shows places least most u page;
+  nowhere_else = λ n high. get-empty nat_cmp n;
+}
+
 pub formatted_chips_are_empty : FormattedChipsAreEmpty
 formatted_chips_are_empty places least most = record {
-  layout = it places least most;
+  layout = first_layout places;
   laid = laid places least most;
-  says = record {
-    pages = λ u page low few. shows places least most u page;
-    nowhere_else = λ n high. get-empty nat_cmp n;
-  };
+  says = formatted_pages_are_empty places least most;
 }

@@ -17,7 +17,7 @@ module _ (places : ℕ) (c y : Chart) (same : SameWithin places c y) where
     best = λ q other low there fits. chosen.best q other low (sym (same q 0 low (omega arith)) ∙ there) fits;
   }
 
-  live_forth : (u home generation p s : ℕ) (x : Sector) → IsLive c places u home generation p s x → IsLive y places u home generation p s x
+  pub live_forth : (u home generation p s : ℕ) (x : Sector) → IsLive c places u home generation p s x → IsLive y places u home generation p s x
   live_forth u home generation p s x live = record {
     here = same p s live.within.0 live.within.1 ∙ live.here;
     kind = live.kind;
@@ -27,7 +27,7 @@ module _ (places : ℕ) (c y : Chart) (same : SameWithin places c y) where
     counts = elim live.counts [ inl at_home ↦ inl at_home | inr over ↦ inr ((over.0.0, same p 0 live.within.0 (omega arith) ∙ over.0.1, over.0.2), over.1) ];
   }
 
-  live_back : (u home generation p s : ℕ) (x : Sector) → IsLive y places u home generation p s x → IsLive c places u home generation p s x
+  pub live_back : (u home generation p s : ℕ) (x : Sector) → IsLive y places u home generation p s x → IsLive c places u home generation p s x
   live_back u home generation p s x live = record {
     here = sym (same p s live.within.0 live.within.1) ∙ live.here;
     kind = live.kind;
@@ -55,7 +55,7 @@ module _ (places : ℕ) (c y : Chart) (same : SameWithin places c y) where
     commit_forth : (s : ℕ) (x : Sector) → IsCommitSector c status generation s x → IsCommitSector y status generation s x
     commit_forth s x w = record { here = same status s low w.where_it_is.1 ∙ w.here; kind = w.kind; of_generation = w.of_generation; where_it_is = w.where_it_is }
 
-    commit_back : (s : ℕ) (x : Sector) → IsCommitSector y status generation s x → IsCommitSector c status generation s x
+    pub commit_back : (s : ℕ) (x : Sector) → IsCommitSector y status generation s x → IsCommitSector c status generation s x
     commit_back s x w = record { here = sym (same status s low w.where_it_is.1) ∙ w.here; kind = w.kind; of_generation = w.of_generation; where_it_is = w.where_it_is }
 
     status_same : (committed : ℕ → Bool) → IsStatus c status generation committed → IsStatus y status generation committed
