@@ -1,0 +1,11 @@
+pub mod LeadsLemmas
+pub mod SpotLemmas
+pub mod PlaceLemmas
+pub mod SectorLemmas
+pub mod SealLemmas
+pub mod PageLemmas
+pub mod FaultLemmas
+pub mod ReadsLemmas
+pub mod PiecesLemmas
+pub mod TextLemmas
+pub mod HeldLemmas

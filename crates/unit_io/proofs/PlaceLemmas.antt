@@ -1,0 +1,73 @@
+-- A place taken: from the erase to the barrier behind it.
+use Rattle.std.proofs.Common.{◌≡◌, ◌<◌, ℕ, Bool, true, false, [], ◌∷◌, ◌++◌, Result, Ok, Err, OnOk, is_ok, refl, sym, ◌∙◌, ap, subst}
+use Rattle.std.specs.Option.{option_map}
+use Rattle.std.proofs.lemmas.Bool.{eq-eqb, ne_eqb, false≢true}
+use Rattle.chip_trait.specs.declared.event.Event.TheVariants.{Erase, Barrier}
+use Rattle.chip_trait.specs.Story.{Story, Contents, after, held}
+use Rattle.chip_trait.specs.Told.{History, Told, Breaks, adds, adds_all}
+use Rattle.ipl_base.specs.declared.fault.ChipFault.{ChipFault}
+use Rattle.ipl_base.specs.declared.fault.ChipFault.TheVariants.{Stopped}
+use Rattle.ipl_rules.specs.State.{Map}
+use Rattle.ipl_format.proofs.SectorLemmas.{blank_says_nothing}
+use Rattle.ipl_meaning.specs.Chart.{chart_of}
+use Rattle.ipl_meaning.specs.Layout.{Layout, Laid}
+use Rattle.ipl_meaning.specs.Rests.{now, EachStands, StoryRests}
+use Rattle.ipl_meaning.specs.Steps.{IsIdle}
+use Rattle.ipl_meaning.proofs.StoryLemmas.{held_stands, barriers_rest, erases_keep}
+use Rattle.unit_io.specs.Leads.{IsSteady, Leads, Did, Waited}
+use Rattle.unit_io.specs.Spots.{Clears}
+use Rattle.unit_io.specs.Charts.{Charts, IsCleared}
+use Rattle.unit_io.proofs.LeadsLemmas.{leads_did, leads_waited, leads_then, leads_failed, steady_after}
+use Rattle.unit_io.proofs.SpotLemmas.{clears_none, clears_erase, clears_all}
+
+-- what an erase makes of a chart
+pub erased_chart : (p : ℕ) (x : Contents) → IsCleared p (chart_of x) (chart_of (after (Erase p) x))
+erased_chart p x = record {
+  bare = λ s. rw (eq-eqb p p refl) blank_says_nothing;
+  others = λ q s apart. rw (ne_eqb p q (λ same. apart (sym same))) refl;
+}
+
+module _ (places : ℕ) (m : Map) (it : Layout) (h : History) (p : ℕ) (rests : StoryRests places m h) (laid : Laid places (now h) it) (within : p < places) (idle : IsIdle places (now h) it p) where
+  -- the erase: what it added, where it was done
+  Erased : Bool → Story → Type 0
+  Erased done added = Clears p false added × (done ≡ true → added ≡ Erase p ∷ [])
+
+  erase_leads : (old new : Told) (result : Result (Unit {0}) ChipFault) → IsSteady h old → Did (Erase p) result old new
+      → Leads (EachStands places m) Erased (λ done then. then ≡ adds (Erase p) h) h result new
+  unfolding Erased
+  erase_leads old new result steady did =
+      leads_did (EachStands places m) Erased h old new steady (λ done then. then ≡ adds (Erase p) h) (Erase p) result did
+      rests.each (erases_keep places m h it p rests laid within idle) (λ done. (clears_erase p, λ is. refl)) (clears_none p, λ is. absurd (false≢true is)) refl
+
+  -- both
+  pub begin_leads : (old mid new : Told) (result : Result (Unit {0}) ChipFault) → IsSteady h old → Did (Erase p) (Ok tt) old mid → Waited result mid new
+      → Leads (EachStands places m) (Clears p) (λ done then. StoryRests places m then × IsCleared p (now h) (now then)) h result new
+  unfolding Erased
+  begin_leads old mid new result steady erase wait =
+      let first = erase_leads old mid (Ok tt) steady erase in
+      let after : EachStands places m (adds (Erase p) h) = erases_keep places m h it p rests laid within idle in
+      let at : adds_all first.added h ≡ adds (Erase p) h = first.ends.1 in
+      let here : IsSteady (adds (Erase p) h) mid = subst (λ (k : History). IsSteady k mid) at (steady_after (EachStands places m) Erased (λ done then. then ≡ adds (Erase p) h) h tt mid first) in
+      let second : Leads (EachStands places m) (λ done b. Clears p done (b ++ Erase p ∷ [])) (λ done then. then ≡ adds Barrier (adds (Erase p) h)) (adds (Erase p) h) result new =
+      leads_waited (EachStands places m) (λ done b. Clears p done (b ++ Erase p ∷ [])) (adds (Erase p) h) mid new here (λ done then. then ≡ adds Barrier (adds (Erase p) h)) result wait
+      after (barriers_rest places m (adds (Erase p) h) (held_stands places m (adds (Erase p) h) after)).each (clears_all p) (clears_erase p) refl in
+      leads_then (EachStands places m) Erased (λ done b. Clears p done (b ++ Erase p ∷ [])) (Clears p) (λ done then. then ≡ adds (Erase p) h)
+      (λ done then. then ≡ adds Barrier (adds (Erase p) h)) (λ done then. StoryRests places m then × IsCleared p (now h) (now then)) h tt mid new result first
+      (subst (λ (k : History). Leads (EachStands places m) (λ done b. Clears p done (b ++ Erase p ∷ [])) (λ done then. then ≡ adds Barrier (adds (Erase p) h)) k result new) (sym at) second)
+      (λ a b one two. subst (λ (l : Story). Clears p (is_ok result) (b ++ l)) (sym (one.1 refl)) two)
+      (λ w k is. subst (λ (j : History). StoryRests places m j × IsCleared p (now h) (now j)) (sym is)
+      (barriers_rest places m (adds (Erase p) h) (held_stands places m (adds (Erase p) h) after), erased_chart p (held h.start h.story)))
+
+  -- the erase failed
+  pub begin_fails : {F : Type 0} (old new : Told) (f : F) → IsSteady h old → Breaks (Erase p) old new
+      → Leads {T = Unit {0}} {E = F} (EachStands places m) (Clears p) (λ done then. StoryRests places m then × IsCleared p (now h) (now then)) h (Err f) new
+  unfolding Erased
+  begin_fails old new f steady erase =
+      leads_failed (EachStands places m) Erased (Clears p) (λ done then. then ≡ adds (Erase p) h) (λ done then. StoryRests places m then × IsCleared p (now h) (now then))
+      h Stopped f new (erase_leads old new (Err Stopped) steady erase) (λ a one. one.0)
+
+-- what is told of the contents
+pub begin_tells : (p : ℕ) (old mid new : Told) (result : Result (Unit {0}) ChipFault) → Did (Erase p) (Ok tt) old mid → Waited result mid new → OnOk result (Charts (IsCleared p) old new)
+begin_tells p old mid new (Ok v) erase wait = λ x told.
+    (after (Erase p) x, wait.contents ∙ ap (option_map (after Barrier)) (erase.contents ∙ ap (option_map (after (Erase p))) told), erased_chart p x)
+begin_tells p old mid new (Err e) erase wait = tt

@@ -1,0 +1,111 @@
+-- A header put on a place.
+use Rattle.std.proofs.Common.{◌≡◌, ℕ, List, Bool, true, false, ◌++◌, Some, Result, Ok, Err, OnOk, is_ok, inl, refl, sym, ◌∙◌, ap, subst}
+use Rattle.std.specs.Option.{option_map}
+use Rattle.chip_trait.specs.declared.event.Event.TheVariants.{Program, Barrier}
+use Rattle.chip_trait.specs.Story.{Story, after}
+use Rattle.chip_trait.specs.Image.{IsClosed}
+use Rattle.chip_trait.specs.Lawful.{Clean, age}
+use Rattle.chip_trait.specs.Chart.{with_sector}
+use Rattle.chip_trait.specs.Told.{History, Told, Breaks, Halts, adds, adds_all}
+use Rattle.chip_trait.proofs.ClosedLemmas.{held_program}
+use Rattle.ipl_base.specs.declared.fault.ChipFault.{ChipFault}
+use Rattle.ipl_base.specs.declared.fault.ChipFault.TheVariants.{Stopped}
+use Rattle.ipl_rules.specs.State.{Map}
+use Rattle.ipl_format.specs.Sector.{Sector, sector_in}
+use Rattle.ipl_meaning.specs.Stands.{Stands}
+use Rattle.ipl_meaning.specs.Rests.{now, EachStandsEither, StoryRests}
+use Rattle.ipl_meaning.proofs.StoryLemmas.{held_stands, barriers_rest, barriers_keep_either, programs_lead}
+use Rattle.unit_io.specs.Leads.{IsSteady, Leads, Did, Waited}
+use Rattle.unit_io.specs.Spots.{Programs, IsSpot}
+use Rattle.unit_io.specs.Charts.{Charts, Gains}
+use Rattle.unit_io.proofs.LeadsLemmas.{leads_did, leads_waited, leads_then, leads_failed, steady_after}
+use Rattle.unit_io.proofs.SpotLemmas.{programs_none, programs_one, programs_barrier, programs_then, programs_wider}
+use Rattle.unit_io.proofs.SectorLemmas.{untouched, programmed_chart}
+
+-- behind what was done first, programs at spots of which the first had none
+programs_after : (p : ℕ) (Spot : ℕ → Type 0) (done then : Bool) (later earlier : Story) → Programs p (λ s. ⊥) done earlier → Programs p Spot then later → Programs p Spot then (later ++ earlier)
+programs_after p Spot done then later earlier first second = programs_then p (λ s. ⊥) Spot Spot done then later earlier (λ s none is. none) (λ s none. absurd none) (λ s is. is) first second
+
+programs_before : (p : ℕ) (Spot : ℕ → Type 0) (done then : Bool) (later earlier : Story) → Programs p Spot done earlier → Programs p (λ s. ⊥) then later → Programs p Spot then (later ++ earlier)
+programs_before p Spot done then later earlier first second = programs_then p Spot (λ s. ⊥) Spot done then later earlier (λ s is none. none) (λ s is. is) (λ s none. absurd none) first second
+
+module _ (places : ℕ) (m n : Map) (h : History) (p : ℕ) (bytes : List ℕ) (head : Sector) (says : sector_in bytes ≡ Some head) (rests : StoryRests places m h)
+    (clean : age h.story p 0 ≡ Clean) (stands : Stands places (with_sector (now h) p 0 head) n) where
+  Sealed : Unit {0} → History → Type 0
+  Sealed done then = StoryRests places n then × Gains p 0 head (now h) (now then)
+
+  module _ (closed : IsClosed h.story) where
+    header_leads : (old mid : Told) (result : Result (Unit {0}) ChipFault) → IsSteady h old → Did (Program p 0 bytes) result old mid
+        → Leads (EachStandsEither places m n) (Programs p (IsSpot 0)) (λ done then. then ≡ adds (Program p 0 bytes) h) h result mid
+    header_leads old mid result steady did =
+        leads_did (EachStandsEither places m n) (Programs p (IsSpot 0)) h old mid steady (λ done then. then ≡ adds (Program p 0 bytes) h) (Program p 0 bytes) result did
+        (λ x is. inl (rests.each x is)) (programs_lead places m n h p 0 bytes head rests closed (untouched h p 0 clean) says stands).0
+        (programs_one p 0 bytes) (programs_none p (IsSpot 0) false) refl
+
+    -- the header and the barrier behind it
+    pub added_leads : (old mid new : Told) (result : Result (Unit {0}) ChipFault) → IsSteady h old → Did (Program p 0 bytes) (Ok tt) old mid → Waited result mid new
+        → Leads (EachStandsEither places m n) (Programs p (IsSpot 0)) (λ done then. StoryRests places n then × Gains p 0 head (now h) (now then)) h result new
+    added_leads old mid new result steady program wait =
+        let k : History = adds (Program p 0 bytes) h in
+        let first = header_leads old mid (Ok tt) steady program in
+        let (either, after_it) = programs_lead places m n h p 0 bytes head rests closed (untouched h p 0 clean) says stands in
+        let at : adds_all first.added h ≡ k = first.ends.1 in
+        let here : IsSteady k mid = subst (λ (j : History). IsSteady j mid) at (steady_after (EachStandsEither places m n) (Programs p (IsSpot 0)) (λ done then. then ≡ adds (Program p 0 bytes) h) h tt mid first) in
+        let second : Leads (EachStandsEither places m n) (Programs p (λ s. ⊥)) (λ done then. then ≡ adds Barrier k) k result new =
+        leads_waited (EachStandsEither places m n) (Programs p (λ s. ⊥)) k mid new here (λ done then. then ≡ adds Barrier k) result wait
+        either (barriers_keep_either places m n k either) (programs_barrier p (λ s. ⊥) true) (programs_none p (λ s. ⊥) false) refl in
+        leads_then (EachStandsEither places m n) (Programs p (IsSpot 0)) (Programs p (λ s. ⊥)) (Programs p (IsSpot 0)) (λ done then. then ≡ adds (Program p 0 bytes) h)
+        (λ done then. then ≡ adds Barrier k) (λ done then. StoryRests places n then × Gains p 0 head (now h) (now then)) h tt mid new result first
+        (subst (λ (j : History). Leads (EachStandsEither places m n) (Programs p (λ s. ⊥)) (λ done then. then ≡ adds Barrier k) j result new) (sym at) second)
+        (λ a b one two. programs_before p (IsSpot 0) true (is_ok result) b a one two)
+        (λ w j is. subst (λ (i : History). StoryRests places n i × Gains p 0 head (now h) (now i)) (sym is)
+        (barriers_rest places n k after_it, held_program sector_in h.start h.story p 0 bytes head says))
+
+    -- the header failed
+    pub added_fails : {F : Type 0} (old new : Told) (f : F) → IsSteady h old → Breaks (Program p 0 bytes) old new
+        → Leads {T = Unit {0}} {E = F} (EachStandsEither places m n) (Programs p (IsSpot 0)) (λ done then. StoryRests places n then × Gains p 0 head (now h) (now then)) h (Err f) new
+    added_fails old new f steady broke =
+        leads_failed (EachStandsEither places m n) (Programs p (IsSpot 0)) (Programs p (IsSpot 0)) (λ done then. then ≡ adds (Program p 0 bytes) h)
+        (λ done then. StoryRests places n then × Gains p 0 head (now h) (now then)) h Stopped f new (header_leads old new (Err Stopped) steady broke) (λ a one. one)
+
+-- the barrier before the header, and what is known of the story behind it
+pub settled_rests : (places : ℕ) (m : Map) (h : History) → StoryRests places m h → StoryRests places m (adds Barrier h)
+settled_rests places m h rests = barriers_rest places m h (held_stands places m h rests.each)
+
+-- and where the chip stands
+pub steady_settled : (h : History) (old mid : Told) → IsSteady h old → Waited (Ok tt) old mid → IsSteady (adds Barrier h) mid
+steady_settled h old mid steady wait = record { told = wait.history ∙ ap (option_map (adds Barrier)) steady.told; settled = wait.settled ∙ steady.settled }
+
+module _ (places : ℕ) (m n : Map) (h : History) (p : ℕ) (head : Sector) (rests : StoryRests places m h) (old mid : Told) (steady : IsSteady h old) where
+  waits : (result : Result (Unit {0}) ChipFault) → Waited result old mid → Leads (EachStandsEither places m n) (Programs p (λ s. ⊥)) (λ done then. then ≡ adds Barrier h) h result mid
+  waits result wait = leads_waited (EachStandsEither places m n) (Programs p (λ s. ⊥)) h old mid steady (λ done then. then ≡ adds Barrier h) result wait
+      (λ x is. inl (rests.each x is)) (λ x is. inl ((settled_rests places m h rests).each x is)) (programs_barrier p (λ s. ⊥) true) (programs_none p (λ s. ⊥) false) refl
+
+  pub seal_leads : (new : Told) (result : Result (Unit {0}) ChipFault) → Waited (Ok tt) old mid
+      → Leads (EachStandsEither places m n) (Programs p (IsSpot 0)) (λ done then. StoryRests places n then × Gains p 0 head (now h) (now then)) (adds Barrier h) result new
+      → Leads (EachStandsEither places m n) (Programs p (IsSpot 0)) (λ done then. StoryRests places n then × Gains p 0 head (now h) (now then)) h result new
+  seal_leads new result wait second =
+      let first = waits (Ok tt) wait in
+      leads_then (EachStandsEither places m n) (Programs p (λ s. ⊥)) (Programs p (IsSpot 0)) (Programs p (IsSpot 0)) (λ done then. then ≡ adds Barrier h)
+      (λ done then. StoryRests places n then × Gains p 0 head (now h) (now then)) (λ done then. StoryRests places n then × Gains p 0 head (now h) (now then)) h tt mid new result first
+      (subst (λ (j : History). Leads (EachStandsEither places m n) (Programs p (IsSpot 0)) (λ done then. StoryRests places n then × Gains p 0 head (now h) (now then)) j result new) (sym first.ends.1) second)
+      (λ a b one two. programs_after p (IsSpot 0) true (is_ok result) b a one two)
+      (λ w k is. is)
+
+  pub seal_fails : {F : Type 0} (f : F) → Halts old mid
+      → Leads {T = Unit {0}} {E = F} (EachStandsEither places m n) (Programs p (IsSpot 0)) (λ done then. StoryRests places n then × Gains p 0 head (now h) (now then)) h (Err f) mid
+  seal_fails f halted =
+      leads_failed (EachStandsEither places m n) (Programs p (λ s. ⊥)) (Programs p (IsSpot 0)) (λ done then. then ≡ adds Barrier h)
+      (λ done then. StoryRests places n then × Gains p 0 head (now h) (now then)) h Stopped f mid (waits (Err Stopped) halted)
+      (λ a one. programs_wider p (λ s. ⊥) (IsSpot 0) false false a (λ s none. absurd none) one)
+
+-- what is told of the contents
+pub added_tells : (p : ℕ) (bytes : List ℕ) (head : Sector) (old mid new : Told) (result : Result (Unit {0}) ChipFault) → sector_in bytes ≡ Some head
+    → Did (Program p 0 bytes) (Ok tt) old mid → Waited result mid new → OnOk result (Charts (Gains p 0 head) old new)
+added_tells p bytes head old mid new (Ok v) says program wait = λ x told.
+    (after (Program p 0 bytes) x, wait.contents ∙ ap (option_map (after Barrier)) (program.contents ∙ ap (option_map (after (Program p 0 bytes))) told), programmed_chart p 0 bytes head x says)
+added_tells p bytes head old mid new (Err e) says program wait = tt
+
+pub seal_tells : (p : ℕ) (head : Sector) (old mid new : Told) (result : Result (Unit {0}) ChipFault) → Waited (Ok tt) old mid → OnOk result (Charts (Gains p 0 head) mid new) → OnOk result (Charts (Gains p 0 head) old new)
+seal_tells p head old mid new (Ok v) wait tells = λ x told. tells x (wait.contents ∙ ap (option_map (after Barrier)) told)
+seal_tells p head old mid new (Err e) wait tells = tt

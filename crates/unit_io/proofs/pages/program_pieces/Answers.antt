@@ -1,0 +1,47 @@
+use Rattle.std.proofs.Common.{◌≡◌, ◌<◌, ℕ, Ok, Err, subst, arith, refl, ◌∙◌}
+use Rattle.std.proofs.lemmas.Result.{err_from_is_err_and}
+use Rattle.unit_io.proofs.PageLemmas.{piled_none, piled_more, piled_fails, piled_all, charts_none, charts_more, IsOpenFor, PieceSays, Piled}
+use Rattle.unit_io.proofs.pages.program_pieces.Goals as goal
+
+pub loop-piece-init : goal.loop-piece-init
+loop-piece-init g c = record {
+  keeps = λ m h steady ready. piled_none _ c.args.place c.args.head.now.unit c.args.head.now.generation c.args.page c.args.text.now m h (g.C.Chip.told c.args.chip.now) steady ready;
+  tells = charts_none c.args.place c.args.head.now.unit c.args.head.now.generation c.args.page c.args.text.now (g.C.Chip.told c.args.chip.now);
+  places = refl;
+  counts = record { reads = omega arith; writes = omega arith; beside = refl };
+}
+
+pub loop-piece-preserved : goal.loop-piece-preserved
+loop-piece-preserved g c =
+    let so_far = c.loop-piece.invariant in
+    let few : c.loop-piece.piece < 16 = omega (arith, c.piece_count-count.ensures.few) in record {
+      keeps = λ m h steady ready. piled_more _ c.args.place c.args.head.now.unit c.args.head.now.generation c.args.page c.args.text.now m h ready c.loop-piece.piece few (g.C.Chip.told c.loop-piece.chip) _
+          (so_far.keeps m h steady ready)
+          (subst (λ (q : ℕ). PieceSays q c.args.place c.args.head.now.unit c.args.head.now.generation c.args.page c.args.text.now c.loop-piece.piece (g.C.Chip.told c.loop-piece.chip) (Ok tt) (g.C.Chip.told c.program_piece.new.chip))
+          so_far.places c.in_ok-program_piece.ensures.aside);
+      tells = charts_more c.args.place c.args.head.now.unit c.args.head.now.generation c.args.page c.args.text.now c.loop-piece.piece (g.C.Chip.told c.args.chip.now) (g.C.Chip.told c.loop-piece.chip) (g.C.Chip.told c.program_piece.new.chip) so_far.tells c.in_ok-program_piece.ensures.tells;
+      places = c.in_ok-program_piece.ensures.places ∙ so_far.places;
+      counts = record {
+        reads = omega (arith, so_far.counts.reads, c.in_ok-program_piece.ensures.counts.reads);
+        writes = omega (arith, so_far.counts.writes, c.in_ok-program_piece.ensures.counts.writes);
+        beside = c.in_ok-program_piece.ensures.counts.beside ∙ so_far.counts.beside;
+      };
+    }
+
+pub returns-in_err-program_piece-clause-keeps : goal.returns-in_err-program_piece-clause-keeps
+returns-in_err-program_piece-clause-keeps g c = λ m h steady rests bare clean.
+    let so_far = c.loop-piece.invariant in
+    let few : c.loop-piece.piece < 16 = omega (arith, c.piece_count-count.ensures.few) in
+    let ready : IsOpenFor _ c.args.place c.args.page m h = record { rests = rests; bare = bare; clean = clean } in
+    let e = err_from_is_err_and c.from_residual.result c.from_residual.ensures.1 in
+    rw e.1 (piled_fails _ c.args.place c.args.head.now.unit c.args.head.now.generation c.args.page c.args.text.now m h ready c.loop-piece.piece few (g.C.Chip.told c.loop-piece.chip) _ c.in_err-program_piece.field-0.0 e.0 _
+    (so_far.keeps m h steady ready)
+    (subst (λ (q : ℕ). PieceSays q c.args.place c.args.head.now.unit c.args.head.now.generation c.args.page c.args.text.now c.loop-piece.piece (g.C.Chip.told c.loop-piece.chip) (Err c.in_err-program_piece.field-0.0) (g.C.Chip.told c.program_piece.new.chip))
+    so_far.places c.in_err-program_piece.ensures.aside))
+
+pub returns-clause-keeps : goal.returns-clause-keeps
+returns-clause-keeps g c = λ m h steady rests bare clean.
+    let done : c.loop-piece.piece ≡ c.piece_count-count.result = omega arith in
+    piled_all _ c.args.place c.args.head.now.unit c.args.head.now.generation c.args.page c.args.text.now m h c.piece_count-count.result c.piece_count-count.ensures.few (g.C.Chip.told c.loop-piece.chip)
+    (subst (λ (n : ℕ). Piled (g.C.Chip.told c.args.chip.now).places c.args.place c.args.head.now.unit c.args.head.now.generation c.args.page c.args.text.now m h n (g.C.Chip.told c.loop-piece.chip)) done
+    (c.loop-piece.invariant.keeps m h steady (record { rests = rests; bare = bare; clean = clean })))

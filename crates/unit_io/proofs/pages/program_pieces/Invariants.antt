@@ -1,0 +1,17 @@
+use Rattle.std.proofs.Common.{◌≡◌, ℕ, List}
+use Rattle.chip_trait.specs.Told.{Told, History, Counts}
+use Rattle.ipl_rules.specs.State.{Map}
+use Rattle.unit_io.specs.Leads.{IsSteady}
+use Rattle.unit_io.specs.Charts.{Charts, HasPieces}
+use Rattle.unit_io.proofs.PageLemmas.{IsOpenFor, Piled}
+use Rattle.unit_io.proofs.pages.program_pieces.Given as goal
+
+-- what is so after some pieces
+pub record IsPiled (first t : Told) (place unit generation page : ℕ) (text : List ℕ) (n : ℕ) : Type 0 where
+  pub keeps : (m : Map) (h : History) → IsSteady h first → IsOpenFor first.places place page m h → Piled first.places place unit generation page text m h n t
+  pub tells : Charts (HasPieces place unit generation page text n) first t
+  pub places : t.places ≡ first.places
+  pub counts : Counts first t
+
+abbrev pub invariant-loop-piece : goal.invariant-loop-piece
+invariant-loop-piece g l = IsPiled (g.C.Chip.told l.fn.chip) (g.C.Chip.told l.chip) l.place l.head.unit l.head.generation l.page l.text l.piece

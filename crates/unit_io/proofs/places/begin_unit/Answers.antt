@@ -1,0 +1,15 @@
+use Rattle.std.proofs.lemmas.Result.{err_from_is_err_and}
+use Rattle.unit_io.proofs.PlaceLemmas.{begin_leads, begin_fails, begin_tells}
+use Rattle.unit_io.proofs.places.begin_unit.Goals as goal
+
+pub returns-in_err-erase-clause-keeps : goal.returns-in_err-erase-clause-keeps
+returns-in_err-erase-clause-keeps g c = λ m it h steady rests laid idle.
+    let e = err_from_is_err_and c.from_residual.result c.from_residual.ensures.1 in
+    rw e.1 (begin_fails _ m it h c.args.place rests laid c.requires idle _ _ e.0 steady c.in_err-erase.ensures.did)
+
+pub returns-clause-keeps : goal.returns-clause-keeps
+returns-clause-keeps g c = λ m it h steady rests laid idle.
+    begin_leads _ m it h c.args.place rests laid c.requires idle _ _ _ _ steady c.in_ok-erase.ensures.did c.barrier.ensures.did
+
+pub returns-clause-tells : goal.returns-clause-tells
+returns-clause-tells g c = begin_tells c.args.place _ _ _ _ c.in_ok-erase.ensures.did c.barrier.ensures.did

@@ -1,0 +1,17 @@
+use Rattle.std.proofs.Common.{refl, ap}
+use Rattle.std.proofs.lemmas.Result.{err_from_is_err_and}
+use Rattle.chip_trait.specs.Lawful.{settled}
+use Rattle.unit_io.proofs.SealLemmas.{seal_leads, seal_fails, settled_rests, steady_settled}
+use Rattle.unit_io.proofs.places.seal.Goals as goal
+
+pub returns-in_err-barrier-clause-leads : goal.returns-in_err-barrier-clause-leads
+returns-in_err-barrier-clause-leads g c = λ m n h steady rests clean stands.
+    let e = err_from_is_err_and c.from_residual.result c.from_residual.ensures.1 in
+    rw e.1 (seal_fails _ m n h c.args.place _ rests _ _ steady e.0 c.in_err-barrier.ensures.did)
+
+pub returns-clause-leads : goal.returns-clause-leads
+returns-clause-leads g c = λ m n h steady rests clean stands.
+    let wait = c.in_ok-barrier.ensures.did in
+    seal_leads _ m n h c.args.place _ rests _ _ steady _ _ wait
+    (rw (wait.places) at (c.add_header.ensures.leads m n _ _ c.encode.ensures.said (steady_settled h _ _ steady wait)
+    (rw wait.places (settled_rests _ m h rests)) (λ p s. refl) (ap settled clean) (rw wait.places stands)))

@@ -1,0 +1,35 @@
+-- What a call leaves that writes to a chip.
+use Rattle.std.specs.Prelude.{◌≡◌, Bool, true, Result, MatchResult, IfOk, is_ok, Some}
+use Rattle.chip_trait.specs.declared.event.Event.{Event}
+use Rattle.chip_trait.specs.declared.event.Event.TheVariants.{Barrier}
+use Rattle.chip_trait.specs.Story.{Story}
+use Rattle.chip_trait.specs.Moment.{AtEachMoment}
+use Rattle.chip_trait.specs.Told.{History, Told, Appends, Breaks, Halts, Rose, adds_all}
+use Rattle.ipl_base.specs.declared.fault.ChipFault.{ChipFault}
+use Rattle.ipl_base.specs.declared.fault.ChipFault.TheVariants.{Stopped}
+
+-- the chip tells this history, and no write has failed
+pub record IsSteady (h : History) (t : Told) : Type 0 where
+  pub told : t.history ≡ Some h
+  pub settled : t.settled ≡ true
+
+-- What a call leaves that began at a history. At each moment of it Each holds of the history then. Does holds of the events
+-- that it added, whether it was done or not. Done, no write has failed, and Then holds of its answer and the history.
+pub record Leads {T E : Type 0} (Each : History → Type 0) (Does : Bool → Story → Type 0) (Then : T → History → Type 0) (h : History) (result : Result T E) (new : Told) : Type 0 where
+  pub added : Story
+  pub history : new.history ≡ Some (adds_all added h)
+  pub each_moment : AtEachMoment (λ e. Each (adds_all e h)) added
+  pub does : Does (is_ok result) added
+  pub ends : IfOk result (λ v. (new.settled ≡ true) × Then v (adds_all added h))
+
+-- a program or an erase was done, or it broke
+abbrev pub Did : Event → Result (Unit {0}) ChipFault → Told → Told → Type 0
+Did e result old new = MatchResult result (λ _. Appends e old new) (λ _. Breaks e old new)
+
+-- a barrier was passed, or it wasn't
+abbrev pub Waited : Result (Unit {0}) ChipFault → Told → Told → Type 0
+Waited result old new = MatchResult result (λ _. Appends Barrier old new) (λ _. Halts old new)
+
+-- a write failed, and its count rose
+abbrev pub IsStopped : ChipFault → Told → Told → Type 0
+IsStopped fault old new = (fault ≡ Stopped) × Rose old.write_faults new.write_faults

@@ -1,0 +1,27 @@
+-- Which sectors a call programs or erases, and in what order.
+use Rattle.std.specs.Prelude.{Bool, true, ℕ, ◌≡◌, ◌≢◌, ◌<◌, ◌≤◌, ◌+◌, ◌*◌, [], ◌++◌}
+use Rattle.chip_trait.specs.Story.{Story, pieces}
+use Rattle.chip_trait.specs.Lawful.{Clean, age, IsLawful}
+
+-- The events program sectors of this place that stand at these spots, each once, and say nothing. They are lawful after any
+-- lawful events that leave these spots clean; and what was clean elsewhere is so after them.
+pub record Programs (p : ℕ) (Spot : ℕ → Type 0) (done : Bool) (added : Story) : Type 0 where
+  pub silent : pieces added ≡ []
+  pub lawful : (base : Story) → IsLawful base → ((s : ℕ) → Spot s → age base p s ≡ Clean) → IsLawful (added ++ base)
+  pub others : (base : Story) (q s : ℕ) → (q ≡ p → Spot s → ⊥) → age base q s ≡ Clean → age (added ++ base) q s ≡ Clean
+
+-- The events erase this place and say nothing. They are lawful after any lawful events, and what was clean elsewhere is so
+-- after them; and where all is done, each sector of the place is clean.
+pub record Clears (p : ℕ) (done : Bool) (added : Story) : Type 0 where
+  pub silent : pieces added ≡ []
+  pub lawful : (base : Story) → IsLawful base → IsLawful (added ++ base)
+  pub others : (base : Story) (q s : ℕ) → q ≢ p → age base q s ≡ Clean → age (added ++ base) q s ≡ Clean
+  pub fresh : done ≡ true → (base : Story) (s : ℕ) → age (added ++ base) p s ≡ Clean
+
+-- the spots of the first n pieces of a page
+abbrev pub IsPieceSpot : ℕ → ℕ → ℕ → Type 0
+IsPieceSpot page n s = (1 + page * 16 ≤ s) × (s < 1 + page * 16 + n)
+
+-- one spot
+abbrev pub IsSpot : ℕ → ℕ → Type 0
+IsSpot at s = s ≡ at

@@ -1,0 +1,139 @@
+//! The base sectors of a page.
+ghost use Rattle.std.specs.Prelude.{◌≡◌, ◌<◌, ◌≤◌, ◌+◌, ◌*◌, ℕ, length, None, IfErr, IfOk, OnOk};
+ghost use Rattle.chip_trait.specs.Lawful.{Clean, age};
+ghost use Rattle.chip_trait.specs.Told.{Told, History, Counts};
+ghost use Rattle.ipl_rules.specs.State.{Map};
+ghost use Rattle.ipl_format.specs.Page.{IsCutInto, piece_of};
+ghost use Rattle.ipl_format.specs.Place.{base_sector_of};
+ghost use Rattle.ipl_meaning.specs.Layout.{base_sector};
+ghost use Rattle.ipl_meaning.specs.Rests.{now, EachStands, StoryRests};
+ghost use Rattle.unit_io.specs.Leads.{IsSteady, Leads, IsStopped};
+ghost use Rattle.unit_io.specs.Spots.{Programs, IsSpot, IsPieceSpot};
+ghost use Rattle.unit_io.specs.Charts.{Charts, Gains, HasPieces, HasPage};
+
+use crate::sectors::program_aside;
+use chip_trait::Chip;
+use ipl_base::ChipFault;
+use page_text::{PageMap, write};
+use sector_format::{Head, encode};
+use unit_layout::base_sector;
+
+/// How many bytes of a page's text one base sector holds.
+pub(crate) const PIECE: usize = 480;
+
+/// A piece (0 to 15) of a text: 480 bytes, or what is left.
+fn piece_of(text: &[u8], piece: u32) -> &[u8]
+    requires few { piece < 16 }
+    requires within { 480 * piece ≤ length text.now }
+    ensures piece { result.now ≡ piece_of text.now piece }
+    ensures fits { length result.now ≤ 480 }
+{
+    let start = piece as usize * PIECE;
+    &text[start..text.len().min(start + PIECE)]
+}
+
+/// Programs the base sector of a piece (0 to 15) of a page's text.
+fn program_piece<C: Chip>(
+    chip: &mut C,
+    place: u32,
+    head: &Head,
+    page: u32,
+    piece: u32,
+    text: &[u8],
+) -> Result<(), ChipFault>
+    requires place { place < (C.told chip.old).places }
+    requires page { page < 15 }
+    requires few { piece < 16 }
+    requires within { 480 * piece ≤ length text.now }
+    ensures aside { (m : Map) (h : History) → IsSteady h (C.told chip.old) → StoryRests (C.told chip.old).places m h
+        → now h place 0 ≡ None → age h.story place (base_sector_of page piece) ≡ Clean
+        → Leads (EachStands (C.told chip.old).places m) (Programs place (IsSpot (base_sector_of page piece)))
+        (λ done then. StoryRests (C.told chip.old).places m then
+        × Gains place (base_sector_of page piece) (base_sector head.now.unit head.now.generation page piece text.now) (now h) (now then))
+        h result (C.told chip.new) }
+    ensures tells { OnOk result (Charts (Gains place (base_sector_of page piece) (base_sector head.now.unit head.now.generation page piece text.now)) (C.told chip.old) (C.told chip.new)) }
+    ensures places { (C.told chip.new).places ≡ (C.told chip.old).places }
+    ensures counts { Counts (C.told chip.old) (C.told chip.new) }
+    ensures cause { IfErr result (λ fault. IsStopped fault (C.told chip.old) (C.told chip.new)) }
+{
+    let base = Head {
+        kind: Head::BASE,
+        unit: head.unit,
+        generation: head.generation,
+        serial: u64::from(page * 16 + piece),
+    };
+    let mut bytes = [0; 512];
+    encode(&base, piece_of(text, piece), &mut bytes);
+    program_aside(chip, place, base_sector(page, piece), &bytes)
+}
+
+/// How many pieces a text of at most 7,680 bytes is cut into.
+fn piece_count(text: &[u8]) -> u32
+    requires { length text.now ≤ 7680 }
+    ensures cut { IsCutInto text.now result }
+    ensures few { result ≤ 16 }
+{
+    text.len().div_ceil(PIECE) as u32
+}
+
+/// Programs all pieces of a page's text, and answers how many there are.
+fn program_pieces<C: Chip>(
+    chip: &mut C,
+    place: u32,
+    head: &Head,
+    page: u32,
+    text: &[u8],
+) -> Result<u32, ChipFault>
+    requires place { place < (C.told chip.old).places }
+    requires page { page < 15 }
+    requires fits { length text.now ≤ 7680 }
+    ensures keeps { (m : Map) (h : History) → IsSteady h (C.told chip.old) → StoryRests (C.told chip.old).places m h
+        → now h place 0 ≡ None → ((s : ℕ) → IsPieceSpot page 16 s → age h.story place s ≡ Clean)
+        → Leads (EachStands (C.told chip.old).places m) (Programs place (IsPieceSpot page 16))
+        (λ n then. StoryRests (C.told chip.old).places m then
+        × HasPieces place head.now.unit head.now.generation page text.now n (now h) (now then))
+        h result (C.told chip.new) }
+    ensures tells { IfOk result (λ n. Charts (HasPieces place head.now.unit head.now.generation page text.now n) (C.told chip.old) (C.told chip.new)) }
+    ensures cut { IfOk result (λ n. IsCutInto text.now n) }
+    ensures few { IfOk result (λ n. n ≤ 16) }
+    ensures places { (C.told chip.new).places ≡ (C.told chip.old).places }
+    ensures counts { Counts (C.told chip.old) (C.told chip.new) }
+    ensures cause { IfErr result (λ fault. IsStopped fault (C.told chip.old) (C.told chip.new)) }
+{
+    let count = piece_count(text);
+    for piece in 0..count {
+        program_piece(chip, place, head, page, piece, text)?;
+    }
+    Ok(count)
+}
+
+/// Programs a page (0 to 14) into its base sectors at a place, for the unit and the generation of a head, and answers how
+/// many sectors it took, 0 to 15.
+///
+/// At a place without a header, whatever a power cut leaves stands for the map on which the story rested, and done, it rests
+/// on that map. Nothing makes sure of the sectors: that is for the barrier before the header.
+pub fn program_page<C: Chip>(
+    chip: &mut C,
+    place: u32,
+    head: &Head,
+    page: u32,
+    map: &PageMap,
+) -> Result<u32, ChipFault>
+    requires place { place < (C.told chip.old).places }
+    requires page { page < 15 }
+    ensures keeps { (m : Map) (h : History) → IsSteady h (C.told chip.old) → StoryRests (C.told chip.old).places m h
+        → now h place 0 ≡ None → ((s : ℕ) → IsPieceSpot page 16 s → age h.story place s ≡ Clean)
+        → Leads (EachStands (C.told chip.old).places m) (Programs place (IsPieceSpot page 16))
+        (λ n then. StoryRests (C.told chip.old).places m then
+        × HasPage place head.now.unit head.now.generation page map.now n (now h) (now then))
+        h result (C.told chip.new) }
+    ensures tells { IfOk result (λ n. Charts (HasPage place head.now.unit head.now.generation page map.now n) (C.told chip.old) (C.told chip.new)) }
+    ensures few { IfOk result (λ n. n ≤ 16) }
+    ensures places { (C.told chip.new).places ≡ (C.told chip.old).places }
+    ensures counts { Counts (C.told chip.old) (C.told chip.new) }
+    ensures cause { IfErr result (λ fault. IsStopped fault (C.told chip.old) (C.told chip.new)) }
+{
+    let mut text = [0; 7680];
+    let length = write(map, &mut text);
+    program_pieces(chip, place, head, page, &text[..length])
+}

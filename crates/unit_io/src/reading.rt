@@ -1,0 +1,145 @@
+//! One sector read, and taken where it is of the kind wanted.
+ghost use Rattle.std.specs.Prelude.{◌≡◌, ◌<◌, ◌≤◌, ℕ, List, IfErr, IfOk, IfSome, OnOk};
+ghost use Rattle.chip_trait.specs.declared.event.Event.TheVariants.{Read};
+ghost use Rattle.chip_trait.specs.Told.{Told, Counts};
+ghost use Rattle.ipl_format.specs.Sector.{sector_in};
+ghost use Rattle.sector_format.specs.Decode.{IsDecoded, sector_read};
+ghost use Rattle.ipl_meaning.specs.Chart.{chart_of};
+ghost use Rattle.unit_io.specs.Reads.{Asked, OfContents, IsReadFault};
+ghost use Rattle.unit_io.specs.Kinds.{of_kinds, header_only, log_only, commit_only, sector_named};
+
+use crate::calls::read;
+use chip_trait::Chip;
+use ipl_base::{ChipFault, Spot};
+use sector_format::{Decoded, Head, decode};
+
+/// Reads a sector (0 to 255) of a place, and what it is.
+pub(crate) fn read_sector<C: Chip>(
+    chip: &mut C,
+    place: u32,
+    sector: u32,
+    into: &mut [u8; 512],
+) -> Result<Decoded, ChipFault>
+    requires place { place < (C.told chip.old).places }
+    requires sector { sector < 256 }
+    ensures says { IfOk result (λ answer. sector_in into.new ≡ sector_read into.new answer) }
+    ensures decoded { IfOk result (λ answer. IsDecoded into.new answer) }
+    ensures asks { Asked (Read place sector) result (C.told chip.old) (C.told chip.new) }
+    ensures bytes { OnOk result (OfContents (C.told chip.old) (λ x. into.new ≡ x place sector)) }
+    ensures places { (C.told chip.new).places ≡ (C.told chip.old).places }
+    ensures counts { Counts (C.told chip.old) (C.told chip.new) }
+    ensures cause { IfErr result (λ fault. IsReadFault fault (C.told chip.old) (C.told chip.new)) }
+{
+    read(chip, place, sector, into)?;
+    Ok(decode(into))
+}
+
+/// The head and the used length, where a sector checks and its kind is one of these.
+fn of_kinds(answer: Decoded, first: u8, last: u8) -> Option<(Head, usize)>
+    ensures exact { (bytes : List ℕ) → sector_named bytes result ≡ of_kinds first last (sector_read bytes answer) }
+    ensures kind { IfSome result (λ found. (first ≤ found.0.kind) × (found.0.kind ≤ last)) }
+    ensures fits { (bytes : List ℕ) → IsDecoded bytes answer → IfSome result (λ found. found.1 ≤ 480) }
+{
+    match answer {
+        Decoded::Sector(head, used) => {
+            if first <= head.kind && head.kind <= last {
+                Some((head, used))
+            } else {
+                None
+            }
+        }
+        _ => None,
+    }
+}
+
+/// Reads a sector (0 to 255), and answers its head and how many bytes of payload it uses, from byte 32 of the buffer on;
+/// `None` exactly where it doesn't check as one of these kinds.
+fn read_of_kinds<C: Chip>(
+    chip: &mut C,
+    spot: Spot,
+    first: u8,
+    last: u8,
+    into: &mut [u8; 512],
+) -> Result<Option<(Head, usize)>, ChipFault>
+    requires place { spot.place < (C.told chip.old).places }
+    requires sector { spot.sector < 256 }
+    ensures exact { IfOk result (λ o. OfContents (C.told chip.old) (λ x.
+        sector_named into.new o ≡ of_kinds first last (chart_of x spot.place spot.sector))) }
+    ensures kind { IfOk result (λ o. IfSome o (λ found. (first ≤ found.0.kind) × (found.0.kind ≤ last))) }
+    ensures fits { IfOk result (λ o. IfSome o (λ found. found.1 ≤ 480)) }
+    ensures asks { Asked (Read spot.place spot.sector) result (C.told chip.old) (C.told chip.new) }
+    ensures places { (C.told chip.new).places ≡ (C.told chip.old).places }
+    ensures counts { Counts (C.told chip.old) (C.told chip.new) }
+    ensures cause { IfErr result (λ fault. IsReadFault fault (C.told chip.old) (C.told chip.new)) }
+{
+    let answer = read_sector(chip, spot.place, spot.sector, into)?;
+    Ok(of_kinds(answer, first, last))
+}
+
+/// Reads the header of a place: its head and how many bytes of payload it uses, from byte 32 of the buffer on; `None`
+/// exactly where sector 0 doesn't check as a header of any kind. After a fault the buffer holds anything.
+pub fn read_head<C: Chip>(
+    chip: &mut C,
+    place: u32,
+    into: &mut [u8; 512],
+) -> Result<Option<(Head, usize)>, ChipFault>
+    requires { place < (C.told chip.old).places }
+    ensures exact { IfOk result (λ o. OfContents (C.told chip.old) (λ x.
+        sector_named into.new o ≡ header_only (chart_of x place 0))) }
+    ensures kind { IfOk result (λ o. IfSome o (λ found. (1 ≤ found.0.kind) × (found.0.kind ≤ 3))) }
+    ensures fits { IfOk result (λ o. IfSome o (λ found. found.1 ≤ 480)) }
+    ensures asks { Asked (Read place 0) result (C.told chip.old) (C.told chip.new) }
+    ensures places { (C.told chip.new).places ≡ (C.told chip.old).places }
+    ensures counts { Counts (C.told chip.old) (C.told chip.new) }
+    ensures cause { IfErr result (λ fault. IsReadFault fault (C.told chip.old) (C.told chip.new)) }
+{
+    read_of_kinds(
+        chip,
+        Spot { place, sector: 0 },
+        Head::DATA_HEADER,
+        Head::OVERFLOW_HEADER,
+        into,
+    )
+}
+
+/// Reads a log sector (0 to 255 of its place): its head and how many bytes of payload it uses, from byte 32 of the buffer
+/// on; `None` exactly where the sector doesn't check as a log sector. After a fault the buffer holds anything.
+pub fn read_log<C: Chip>(
+    chip: &mut C,
+    spot: Spot,
+    into: &mut [u8; 512],
+) -> Result<Option<(Head, usize)>, ChipFault>
+    requires place { spot.place < (C.told chip.old).places }
+    requires sector { spot.sector < 256 }
+    ensures exact { IfOk result (λ o. OfContents (C.told chip.old) (λ x.
+        sector_named into.new o ≡ log_only (chart_of x spot.place spot.sector))) }
+    ensures kind { IfOk result (λ o. IfSome o (λ found. found.0.kind ≡ 5)) }
+    ensures fits { IfOk result (λ o. IfSome o (λ found. found.1 ≤ 480)) }
+    ensures asks { Asked (Read spot.place spot.sector) result (C.told chip.old) (C.told chip.new) }
+    ensures places { (C.told chip.new).places ≡ (C.told chip.old).places }
+    ensures counts { Counts (C.told chip.old) (C.told chip.new) }
+    ensures cause { IfErr result (λ fault. IsReadFault fault (C.told chip.old) (C.told chip.new)) }
+{
+    read_of_kinds(chip, spot, Head::LOG, Head::LOG, into)
+}
+
+/// Reads a commit sector (0 to 255 of its place): its head and how many bytes of payload it uses, from byte 32 of the buffer
+/// on; `None` exactly where the sector doesn't check as a commit sector. After a fault the buffer holds anything.
+pub fn read_commit<C: Chip>(
+    chip: &mut C,
+    spot: Spot,
+    into: &mut [u8; 512],
+) -> Result<Option<(Head, usize)>, ChipFault>
+    requires place { spot.place < (C.told chip.old).places }
+    requires sector { spot.sector < 256 }
+    ensures exact { IfOk result (λ o. OfContents (C.told chip.old) (λ x.
+        sector_named into.new o ≡ commit_only (chart_of x spot.place spot.sector))) }
+    ensures kind { IfOk result (λ o. IfSome o (λ found. found.0.kind ≡ 6)) }
+    ensures fits { IfOk result (λ o. IfSome o (λ found. found.1 ≤ 480)) }
+    ensures asks { Asked (Read spot.place spot.sector) result (C.told chip.old) (C.told chip.new) }
+    ensures places { (C.told chip.new).places ≡ (C.told chip.old).places }
+    ensures counts { Counts (C.told chip.old) (C.told chip.new) }
+    ensures cause { IfErr result (λ fault. IsReadFault fault (C.told chip.old) (C.told chip.new)) }
+{
+    read_of_kinds(chip, spot, Head::COMMIT, Head::COMMIT, into)
+}
