@@ -1,0 +1,194 @@
+//! The directory of units.
+ghost use Rattle.std.specs.Prelude.{◌≡◌, ◌≢◌, ◌+◌, ◌<◌, ◌≤◌, ℕ, Some, length, slice_index, IfOk, IfSome, IfNone, true, false};
+ghost use Rattle.ipl_meaning.specs.Tables.{IsFree, with_use, with_written};
+ghost use Rattle.unit_directory.specs.Free.{first_free, free_count};
+ghost use Rattle.unit_directory.specs.Directory.{empty_places, after_adopt, after_replace, next_log, IsSound};
+
+use ipl_base::{Geometry, OutOfMemory};
+use std::alloc::Global;
+use std::marker::Model;
+
+/// The log sectors of a place, its last ones.
+const LOG_SECTORS: u32 = 15;
+
+/// The first log sector of a place.
+const FIRST_LOG: u32 = 241;
+
+/// Which place is current for each unit, which places are in use, and how many of the 15 log sectors
+/// of each unit's place, from the first on, count as written: the others are known clean. A contract
+/// sees the three as lists, by unit, by place and by unit; there are 5 to 1028 places, and four units
+/// fewer, always the same. Memory is taken by `new` alone.
+#[derive(Drop)]
+pub struct Directory {
+    current: Vec<u32>,
+    in_use: Vec<bool>,
+    written: Vec<u32>,
+}
+
+impl Model for Directory {
+    ghost use Rattle.ipl_meaning.specs.Tables.{Places};
+    ghost use Rattle.unit_directory.specs.Directory.{IsSound};
+
+    ghost Value = { Places };
+
+    ghost view = { λ d. record {
+      current = d.current.items;
+      in_use = d.in_use.items;
+      written = d.written.items;
+    } };
+
+    ghost invariant = { λ d. IsSound (record {
+      current = d.current.items;
+      in_use = d.in_use.items;
+      written = d.written.items;
+    }) };
+}
+
+impl Directory {
+    /// No place is in use. Until a unit adopts a place it has place 0, with no log sector known clean.
+    pub fn new(alloc: Global, geometry: Geometry) -> Result<Directory, OutOfMemory>
+        ensures { IfOk result (λ directory. directory ≡ empty_places geometry) }
+    {
+        let units = geometry.units() as usize;
+        let places = geometry.places() as usize;
+        let current = vec![in alloc; 0; units]?;
+        let in_use = vec![in alloc; false; places]?;
+        let written = vec![in alloc; LOG_SECTORS; units]?;
+        Ok(Directory {
+            current,
+            in_use,
+            written,
+        })
+    }
+
+    /// Makes it as `new` does. It takes no memory.
+    pub fn reset(&mut self)
+        ensures { self.new ≡ empty_places (length self.old.in_use) }
+    {
+        self.current.fill(0);
+        self.in_use.fill(false);
+        self.written.fill(LOG_SECTORS);
+    }
+
+    /// What always holds: the chip has 5 to 1028 places, all but four have a unit, each unit has a
+    /// place of the chip, and at most 15 log sectors count as written.
+    pub fn facts(&self)
+        ensures { IsSound self.now }
+    {
+        let _ = &self.current;
+    }
+
+    /// The place that is current for a unit, one of the chip's.
+    pub fn current(&self, unit: u32) -> u32
+        requires { unit < length self.now.current }
+        ensures place { result ≡ slice_index self.now.current unit }
+        ensures in_range { result < length self.now.in_use }
+    {
+        self.current[unit as usize]
+    }
+
+    /// How many places are free, of all of the chip.
+    pub fn free_count(&self) -> u32
+        ensures count { result ≡ free_count self.now.in_use }
+        ensures in_range { result ≤ length self.now.in_use }
+    {
+        self.in_use.iter().filter(|used| !**used).count() as u32
+    }
+
+    /// Takes the lowest free place, which is in use then. That one is free is a condition, which
+    /// `free_count` tests.
+    #[tactic(auto, using(crate::proofs::FreeLemmas::lowest_free))]
+    pub fn take_free(&mut self) -> u32
+        requires { 0 < free_count self.old.in_use }
+        ensures lowest { first_free self.old.in_use ≡ Some result }
+        ensures taken { self.new ≡ with_use self.old result true }
+
+        // What is known of the place then.
+        ensures free { IsFree self.old result }
+        ensures in_range { result < length self.old.in_use }
+        ensures lower { (p : ℕ) → p < result → ¬ IsFree self.old p }
+    {
+        match first_free(&self.in_use) {
+            Some(place) => {
+                self.in_use[place] = true;
+                place as u32
+            }
+            None => unreachable!("a place is free"),
+        }
+    }
+
+    /// Takes a place: it is in use, whether it was or not.
+    pub fn take(&mut self, place: u32)
+        requires { place < length self.old.in_use }
+        ensures { self.new ≡ with_use self.old place true }
+    {
+        self.in_use[place as usize] = true;
+    }
+
+    /// Gives a place back: it is free, whether it was or not.
+    pub fn give_back(&mut self, place: u32)
+        requires { place < length self.old.in_use }
+        ensures { self.new ≡ with_use self.old place false }
+    {
+        self.in_use[place as usize] = false;
+    }
+
+    /// Makes a place the unit's, as one that was found on a chip: it is in use, and none of its log
+    /// sectors is known clean. The unit's old place stays as it is.
+    pub fn adopt(&mut self, unit: u32, place: u32)
+        requires unit { unit < length self.old.current }
+        requires place { place < length self.old.in_use }
+        ensures { self.new ≡ after_adopt self.old unit place }
+    {
+        self.current[unit as usize] = place;
+        self.in_use[place as usize] = true;
+        self.written[unit as usize] = LOG_SECTORS;
+    }
+
+    /// Makes a place the unit's, as one that was taken and erased before: all its log sectors are
+    /// known clean. The unit's old place, which is another one, is free then.
+    pub fn replace(&mut self, unit: u32, place: u32)
+        requires unit { unit < length self.old.current }
+        requires place { place < length self.old.in_use }
+        requires another { place ≢ slice_index self.old.current unit }
+        ensures { self.new ≡ after_replace self.old unit place }
+    {
+        let old = self.current[unit as usize];
+        self.current[unit as usize] = place;
+        self.in_use[old as usize] = false;
+        self.written[unit as usize] = 0;
+    }
+
+    /// The first log sector of the unit's place that is known clean, 241 to 255, if there is one.
+    pub fn next_log(&self, unit: u32) -> Option<u32>
+        requires { unit < length self.now.current }
+        ensures next { result ≡ next_log self.now unit }
+
+        // What that comes to.
+        ensures some { IfSome result (λ s. s ≡ 241 + slice_index self.now.written unit) }
+        ensures in_range { IfSome result (λ s. (241 ≤ s) × (s ≤ 255)) }
+        ensures none { IfNone result (slice_index self.now.written unit ≡ 15) }
+    {
+        let written = self.written[unit as usize];
+        if written == LOG_SECTORS {
+            return None;
+        }
+        Some(FIRST_LOG + written)
+    }
+
+    /// Counts the sector that `next_log` names as written. That there is one is a condition.
+    pub fn used_log(&mut self, unit: u32)
+        requires unit { unit < length self.old.current }
+        requires left { slice_index self.old.written unit < 15 }
+        ensures { self.new ≡ with_written self.old unit }
+    {
+        self.written[unit as usize] += 1;
+    }
+}
+
+/// The lowest place that isn't in use, if there is one.
+fn first_free(in_use: &[bool]) -> Option<usize>
+    ensures { result ≡ first_free in_use.now }
+{
+    in_use.iter().position(|used| !*used)
+}
