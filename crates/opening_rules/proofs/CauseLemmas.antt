@@ -1,0 +1,214 @@
+-- Each fault comes where its cause is.
+use Rattle.std.proofs.Common.{ℕ, ◌≡◌, ◌⊎◌, inl, inr, ◌-◌, ◌/◌, ◌%◌, ◌^◌, nat_lt, nat_le, Bool, true, false, cond, ◌&&◌, Option, Some, None, refl, sym, ◌∙◌, ap, subst}
+use Rattle.std.specs.Option.{option_or}
+use Rattle.std.proofs.lemmas.Bool.{and_cases, leb-false, ltb-false}
+use Rattle.std.proofs.lemmas.Option.{same_Some}
+use Rattle.ipl_base.specs.declared.fault.ImageFault.{ImageFault}
+use Rattle.ipl_base.specs.declared.fault.ImageFault.TheVariants.{Geometry, NotFormatted, Missing, Spent, NoSpare}
+use Rattle.ipl_format.specs.Sector.{Sector}
+use Rattle.ipl_meaning.specs.Chart.{Chart, IsDataHeader, IsStatusHeader}
+use Rattle.opening_rules.specs.First.{first_below}
+use Rattle.opening_rules.specs.FirstLaws.{IsFirst}
+use Rattle.opening_rules.specs.Payloads.{is_commit_payload}
+use Rattle.opening_rules.specs.Chosen.{Head, Pick, current_at, status_at}
+use Rattle.opening_rules.specs.ChosenLaws.{IsPickOf}
+use Rattle.opening_rules.specs.Live.{sectors, commit_at}
+use Rattle.opening_rules.specs.Faults.{malformed, size_fault, not_formatted, other_geometry, missing, bad_header, header_fault, commit_test, commit_fault, first_commit_fault, first_log_fault, greatest_found, spent, spares_found, no_spare, first_fault}
+use Rattle.opening_rules.specs.FaultLaws.{IsFirstBadLog}
+use Rattle.opening_rules.specs.CauseLaws.{Counts, IsCaused, FaultsAreCaused}
+use Rattle.opening_rules.proofs.FirstLemmas.{first_is_first}
+use Rattle.opening_rules.proofs.HeaderLemmas.{currents_are_chosen, statuses_are_chosen, none_is_status}
+use Rattle.opening_rules.proofs.PartLemmas.{if_none}
+use Rattle.opening_rules.proofs.FaultLemmas.{missing_is_least, bad_logs_are_first}
+
+or_some : {A : Type 0} (a b : Option A) (x : A) → option_or a b ≡ Some x → (a ≡ Some x) ⊎ (b ≡ Some x)
+or_some None b x e = inr e
+or_some (Some y) b x e = inl e
+
+-- a test that told
+if_some : {A : Type 0} (b : Bool) (x y : A) → cond b None (Some x) ≡ Some y → (b ≡ false) × (x ≡ y)
+if_some true x y e = cc
+if_some false x y e = (refl, same_Some x y e)
+
+if_some_too : {A : Type 0} (b : Bool) (x y : A) → cond b (Some x) None ≡ Some y → (b ≡ true) × (x ≡ y)
+if_some_too true x y e = (refl, same_Some x y e)
+if_some_too false x y e = cc
+
+unformatted_some : (o : Option Pick) (fault : ImageFault) → not_formatted o ≡ Some fault → (o ≡ None) × (NotFormatted ≡ fault)
+unformatted_some None fault e = (refl, same_Some NotFormatted fault e)
+unformatted_some (Some pick) fault e = cc
+
+geometry_some : (o : Option Pick) (fault : ImageFault) → other_geometry o ≡ Some fault → (pick : Pick) × (o ≡ Some pick) × (pick.head.foreign ≡ true) × (Geometry ≡ fault)
+geometry_some None fault e = cc
+geometry_some (Some pick) fault e = let parts = if_some_too pick.head.foreign Geometry fault e in (pick, refl, parts.0, parts.1)
+
+missing_some : (u : ℕ) (o : Option Pick) (fault : ImageFault) → missing u o ≡ Some fault → Missing u ≡ fault
+missing_some u None fault e = same_Some (Missing u) fault e
+missing_some u (Some pick) fault e = cc
+
+header_some : (o : Option Pick) (fault : ImageFault) → bad_header o ≡ Some fault → (pick : Pick) × (o ≡ Some pick) × (pick.head.well ≡ false) × (malformed pick.place 0 ≡ fault)
+header_some None fault e = cc
+header_some (Some pick) fault e = let parts = if_some pick.head.well (malformed pick.place 0) fault e in (pick, refl, parts.0, parts.1)
+
+commit_some : (p s : ℕ) (o : Option Sector) (fault : ImageFault) → commit_test p s o ≡ Some fault
+    → (sector : Sector) × (o ≡ Some sector) × (is_commit_payload sector.payload ≡ false) × (malformed p s ≡ fault)
+commit_some p s None fault e = cc
+commit_some p s (Some sector) fault e =
+    let parts = if_some (is_commit_payload sector.payload) (malformed p s) fault e in (sector, refl, parts.0, parts.1)
+
+commit_well : (p s : ℕ) (o : Option Sector) (sector : Sector) → o ≡ Some sector → commit_test p s o ≡ None → is_commit_payload sector.payload ≡ true
+commit_well p s o sector is e = if_none (is_commit_payload sector.payload) (malformed p s) (ap (commit_test p s) (sym is) ∙ e)
+
+module _ (c : Chart) (places : ℕ) (fault : ImageFault) where
+  size_cause : size_fault places ≡ Some fault → IsCaused c places fault
+  size_cause e =
+      let parts = if_some (nat_le 5 places && nat_le places 1028) Geometry fault e in
+      subst (IsCaused c places) parts.1 (elim (and_cases (nat_le 5 places) (nat_le places 1028) parts.0) [
+        | inl few ↦ inl (leb-false 5 places few)
+        | inr many ↦ inr (inl (leb-false places 1028 many))
+      ])
+
+  -- ---- headers
+
+  foreign_cause : (pick : Pick) (Fits : Sector → Type 0) → ((it : IsPickOf c places Fits pick) → Counts c places pick.place it.sector)
+      → IsPickOf c places Fits pick → pick.head.foreign ≡ true → IsCaused c places Geometry
+  foreign_cause pick Fits counts it foreign = inr (inr (record {
+    place = pick.place;
+    head = it.sector;
+    counts = counts it;
+    other = ap (λ (h : Head). h.foreign) (sym it.head) ∙ foreign;
+  }))
+
+  bad_cause : (pick : Pick) (Fits : Sector → Type 0) → ((it : IsPickOf c places Fits pick) → Counts c places pick.place it.sector)
+      → IsPickOf c places Fits pick → pick.head.well ≡ false → IsCaused c places (malformed pick.place 0)
+  bad_cause pick Fits counts it bad = inl (refl, record { head = it.sector; counts = counts it; bad = ap (λ (h : Head). h.well) (sym it.head) ∙ bad })
+
+  status_geometry : other_geometry (status_at c places) ≡ Some fault → IsCaused c places fault
+  status_geometry e =
+      let (pick, is, foreign, same) = geometry_some (status_at c places) fault e in
+      subst (IsCaused c places) same (foreign_cause pick IsStatusHeader (λ x. inl x.counts) (statuses_are_chosen c places pick is) foreign)
+
+  unit_geometry : (u : ℕ) → other_geometry (current_at c places u) ≡ Some fault → IsCaused c places fault
+  unit_geometry u e =
+      let (pick, is, foreign, same) = geometry_some (current_at c places u) fault e in
+      let it = currents_are_chosen c places u pick is in
+      subst (IsCaused c places) same (foreign_cause pick (IsDataHeader u) (λ x. inr (u, it.0, x.counts)) it.1 foreign)
+
+  status_bad : bad_header (status_at c places) ≡ Some fault → IsCaused c places fault
+  status_bad e =
+      let (pick, is, bad, same) = header_some (status_at c places) fault e in
+      subst (IsCaused c places) same (bad_cause pick IsStatusHeader (λ x. inl x.counts) (statuses_are_chosen c places pick is) bad)
+
+  unit_bad : (u : ℕ) → bad_header (current_at c places u) ≡ Some fault → IsCaused c places fault
+  unit_bad u e =
+      let (pick, is, bad, same) = header_some (current_at c places u) fault e in
+      let it = currents_are_chosen c places u pick is in
+      subst (IsCaused c places) same (bad_cause pick (IsDataHeader u) (λ x. inr (u, it.0, x.counts)) it.1 bad)
+
+  unformatted : not_formatted (status_at c places) ≡ Some fault → IsCaused c places fault
+  unformatted e =
+      let (none, same) = unformatted_some (status_at c places) fault e in
+      subst (IsCaused c places) same (λ p head within here. none_is_status c places p head none within here)
+
+  abbrev geometries : ℕ → Option ImageFault
+  geometries u = other_geometry (current_at c places u)
+
+  abbrev missings : ℕ → Option ImageFault
+  missings u = missing u (current_at c places u)
+
+  abbrev headers : ℕ → Option ImageFault
+  headers u = bad_header (current_at c places u)
+
+  units_missing : first_fault c places ≡ Some fault → first_below missings (places - 4) ≡ Some fault → IsCaused c places fault
+  units_missing whole e =
+      let first : IsFirst missings (places - 4) fault = first_is_first missings (places - 4) fault e in
+      let same : Missing first.number ≡ fault = missing_some first.number (current_at c places first.number) fault first.here in
+      subst (IsCaused c places) same (missing_is_least c places first.number (whole ∙ ap Some (sym same)))
+
+  header_cause : first_fault c places ≡ Some fault → header_fault c places ≡ Some fault → IsCaused c places fault
+  header_cause whole e = elim (or_some (not_formatted (status_at c places)) (option_or (other_geometry (status_at c places)) (option_or (first_below geometries (places - 4))
+      (option_or (first_below missings (places - 4)) (option_or (first_below headers (places - 4)) (option_or (bad_header (status_at c places)) None))))) fault e) [
+        | inl here ↦ unformatted here
+        | inr rest ↦ elim (or_some (other_geometry (status_at c places)) (option_or (first_below geometries (places - 4))
+            (option_or (first_below missings (places - 4)) (option_or (first_below headers (places - 4)) (option_or (bad_header (status_at c places)) None)))) fault rest) [
+              | inl here ↦ status_geometry here
+              | inr more ↦ elim (or_some (first_below geometries (places - 4))
+                  (option_or (first_below missings (places - 4)) (option_or (first_below headers (places - 4)) (option_or (bad_header (status_at c places)) None))) fault more) [
+                    | inl here ↦ let first : IsFirst geometries (places - 4) fault = first_is_first geometries (places - 4) fault here in unit_geometry first.number first.here
+                    | inr last ↦ elim (or_some (first_below missings (places - 4)) (option_or (first_below headers (places - 4)) (option_or (bad_header (status_at c places)) None)) fault last) [
+                      | inl here ↦ units_missing whole here
+                      | inr spelled ↦ elim (or_some (first_below headers (places - 4)) (option_or (bad_header (status_at c places)) None) fault spelled) [
+                        | inl here ↦ let first : IsFirst headers (places - 4) fault = first_is_first headers (places - 4) fault here in unit_bad first.number first.here
+                        | inr status ↦ elim (or_some (bad_header (status_at c places)) None fault status) [
+                          | inl here ↦ status_bad here
+                          | inr nothing ↦ absurd (cc nothing)
+                        ]
+                      ]
+                    ]
+                  ]
+            ]
+      ]
+
+  -- ---- sectors
+
+  commit_of : (o : Option Pick) → status_at c places ≡ o → (first : IsFirst (commit_fault c o) sectors fault) → IsCaused c places fault
+  commit_of None is first = absurd (let none = first.here in cc none)
+  commit_of (Some pick) is first =
+      let (sector, here, bad, same) = commit_some pick.place first.number (commit_at c (Some pick) first.number) fault first.here in
+      subst (IsCaused c places) same (inr (inl (record {
+        status = pick;
+        here = is;
+        at = refl;
+        low = first.within;
+        sector = sector;
+        counts = here;
+        bad = bad;
+        earlier = λ t other less at. commit_well pick.place t (commit_at c (Some pick) t) other at (first.earlier t less);
+      })))
+
+  commit_cause : first_commit_fault c places ≡ Some fault → IsCaused c places fault
+  commit_cause e = commit_of (status_at c places) refl (first_is_first (commit_fault c (status_at c places)) sectors fault e)
+
+  log_cause : first_log_fault c places ≡ Some fault → IsCaused c places fault
+  log_cause e =
+      let it = bad_logs_are_first c places fault e in
+      let k : ℕ = it.0 in
+      let named : fault ≡ malformed (k / 256) (k % 256) = it.1.named in
+      subst (IsCaused c places) (sym named) (inr (inr (k, refl, refl, subst (IsFirstBadLog c places k) named it.1)))
+
+  spent_cause : spent (greatest_found c places) ≡ Some fault → IsCaused c places fault
+  spent_cause e =
+      let parts = if_some (nat_lt (greatest_found c places) (2 ^ 63)) Spent fault e in
+      subst (IsCaused c places) parts.1 (ltb-false (greatest_found c places) (2 ^ 63) parts.0)
+
+  spare_cause : no_spare (spares_found c places) ≡ Some fault → IsCaused c places fault
+  spare_cause e =
+      let parts = if_some (nat_le (spares_found c places) 2) (NoSpare (spares_found c places)) fault e in
+      subst (IsCaused c places) parts.1 (leb-false (spares_found c places) 2 parts.0, refl)
+
+  is_caused : first_fault c places ≡ Some fault → IsCaused c places fault
+  is_caused e = elim (or_some (size_fault places) (option_or (header_fault c places) (option_or (first_commit_fault c places) (option_or (first_log_fault c places)
+      (option_or (spent (greatest_found c places)) (option_or (no_spare (spares_found c places)) None))))) fault e) [
+        | inl here ↦ size_cause here
+        | inr rest ↦ elim (or_some (header_fault c places) (option_or (first_commit_fault c places) (option_or (first_log_fault c places)
+            (option_or (spent (greatest_found c places)) (option_or (no_spare (spares_found c places)) None)))) fault rest) [
+              | inl here ↦ header_cause e here
+              | inr more ↦ elim (or_some (first_commit_fault c places) (option_or (first_log_fault c places)
+                  (option_or (spent (greatest_found c places)) (option_or (no_spare (spares_found c places)) None))) fault more) [
+                    | inl here ↦ commit_cause here
+                    | inr last ↦ elim (or_some (first_log_fault c places) (option_or (spent (greatest_found c places)) (option_or (no_spare (spares_found c places)) None)) fault last) [
+                      | inl here ↦ log_cause here
+                      | inr numbers ↦ elim (or_some (spent (greatest_found c places)) (option_or (no_spare (spares_found c places)) None) fault numbers) [
+                        | inl here ↦ spent_cause here
+                        | inr spares ↦ elim (or_some (no_spare (spares_found c places)) None fault spares) [
+                          | inl here ↦ spare_cause here
+                          | inr nothing ↦ absurd (cc nothing)
+                        ]
+                      ]
+                    ]
+                  ]
+            ]
+      ]
+
+pub faults_are_caused : FaultsAreCaused
+faults_are_caused c places fault e = is_caused c places fault e

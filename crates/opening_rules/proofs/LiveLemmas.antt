@@ -1,0 +1,262 @@
+-- The sectors that count beside the headers, as they are found and as they are meant.
+use Rattle.std.proofs.Common.{ℕ, ◌≡◌, ◌≢◌, ◌⊎◌, inl, inr, ◌/◌, ◌%◌, ◌-◌, ◌<◌, ◌≤◌, Bool, true, nat_le, Option, Some, None, refl, sym, ◌∙◌, ap, arith, cond}
+use Rattle.std.proofs.lemmas.Bool.{cases_Bool, eqb-true, eq-eqb, leb-true, le-leb, and_parts, and_from, or_cases, or_left, or_right, cond-true, cond-false}
+use Rattle.std.proofs.lemmas.Option.{same_Some, cond_some}
+use Rattle.ipl_format.specs.Sector.{Sector}
+use Rattle.ipl_meaning.specs.Chart.{Chart, IsChosen, IsDataHeader, IsOverflow, IsLive}
+use Rattle.opening_rules.specs.Chosen.{Head, Pick, head_of, header_at, current_at}
+use Rattle.opening_rules.specs.Live.{live_at, sectors, kept, is_commit_of, is_at, is_generation, is_log_spot_of, is_log_spot, is_log, seen, seen_at, is_spare, is_place_of, is_live}
+use Rattle.opening_rules.specs.LiveLaws.{SectorsAre256, FoundCommitsCount, CommitsAreFound, FoundLogsAreLive, LiveLogsAreFound}
+use Rattle.opening_rules.proofs.HeaderLemmas.{header_there, header_kept, currents_are_chosen}
+
+pub sectors_are : SectorsAre256
+unfolding sectors
+sectors_are = refl
+
+-- ---- a sector that is kept
+
+pub kept_from : (test : Sector → Bool) (o : Option Sector) (sector : Sector) → kept test o ≡ Some sector → (o ≡ Some sector) × (test sector ≡ true)
+kept_from test None sector is = cc
+kept_from test (Some other) sector is =
+    let parts : (test other ≡ true) × (other ≡ sector) = cond_some (test other) other sector is in
+    (ap Some parts.1, ap test (sym parts.1) ∙ parts.0)
+
+pub kept_to : (test : Sector → Bool) (o : Option Sector) (sector : Sector) → o ≡ Some sector → test sector ≡ true → kept test o ≡ Some sector
+kept_to test o sector is passes = ap (kept test) is ∙ ap (λ (b : Bool). cond b (Some sector) None) passes
+
+-- ---- commit sectors
+
+pub commit_from : FoundCommitsCount
+commit_from c pick s sector low is = elim (cases_Bool (nat_le 1 s)) [
+  | inl some ↦
+      let parts = kept_from (is_commit_of pick.head.generation) (c pick.place s) sector (rw some at is) in
+      let of_it = and_parts _ _ parts.1 in
+      record {
+        here = parts.0;
+        kind = eqb-true sector.kind 6 of_it.0;
+        of_generation = eqb-true sector.generation pick.head.generation of_it.1;
+        where_it_is = (leb-true 1 s some, low);
+      }
+  | inr zero_ ↦ absurd (let none : None ≡ Some sector = rw zero_ at is in cc none)
+]
+
+pub commit_to : CommitsAreFound
+commit_to c pick s sector it =
+    let found : kept (is_commit_of pick.head.generation) (c pick.place s) ≡ Some sector =
+    kept_to (is_commit_of pick.head.generation) (c pick.place s) sector it.here
+    (and_from _ _ (eq-eqb sector.kind 6 it.kind) (eq-eqb sector.generation pick.head.generation it.of_generation)) in
+    rw (le-leb 1 s it.where_it_is.0) found
+
+-- ---- current headers
+
+-- the current header of a unit stands at its place
+pub record IsHome (c : Chart) (places u : ℕ) (pick : Pick) : Type 0 where
+  pub low : u < places - 4
+  pub sector : Sector
+  pub chosen : IsChosen c places (IsDataHeader u) pick.place sector
+  pub kept : pick.head ≡ head_of (places - 4) sector
+  pub head : header_at c places pick.place ≡ Some (head_of (places - 4) sector)
+
+pub home_of : (c : Chart) (places u : ℕ) (pick : Pick) → current_at c places u ≡ Some pick → IsHome c places u pick
+home_of c places u pick is =
+    let it = currents_are_chosen c places u pick is in
+    let of_it = it.1 in
+    let kind = of_it.counts.fits.0 in record {
+      low = it.0;
+      sector = of_it.sector;
+      chosen = of_it.counts;
+      kept = of_it.head;
+      head = header_kept c places pick.place of_it.sector of_it.counts.within of_it.counts.here
+          (and_from _ _ (le-leb 1 of_it.sector.kind (omega (arith, kind))) (le-leb of_it.sector.kind 3 (omega (arith, kind))));
+    }
+
+-- an overflow place is in the table
+pub spare_head : (c : Chart) (places p : ℕ) → p < places → (over : IsOverflow c p) → header_at c places p ≡ Some (head_of (places - 4) over.0)
+spare_head c places p low (head, here, kind) =
+    header_kept c places p head low here (and_from _ _ (le-leb 1 head.kind (omega (arith, kind))) (le-leb head.kind 3 (omega (arith, kind))))
+
+pub spare_to : (c : Chart) (places p : ℕ) → p < places → IsOverflow c p → is_spare (header_at c places p) ≡ true
+spare_to c places p low over = ap is_spare (spare_head c places p low over) ∙ eq-eqb over.0.kind 3 over.2
+
+spare_of : (c : Chart) (places p : ℕ) (o : Option Head) → header_at c places p ≡ o → is_spare o ≡ true → (p < places) × IsOverflow c p
+spare_of c places p None at is = absurd (cc is)
+spare_of c places p (Some head) at is =
+    let it = header_there c places p head at in
+    (it.within, (it.sector, it.here, ap (λ (h : Head). h.kind) it.kept ∙ eqb-true head.kind 3 is))
+
+pub spare_from : (c : Chart) (places p : ℕ) → is_spare (header_at c places p) ≡ true → (p < places) × IsOverflow c p
+spare_from c places p is = spare_of c places p (header_at c places p) refl is
+
+-- a home is no overflow place
+pub home_apart : (c : Chart) (places u p : ℕ) (sector : Sector) → IsChosen c places (IsDataHeader u) p sector → IsOverflow c p → ⊥
+home_apart c places u p sector it (head, here, kind) =
+    let same : head ≡ sector = same_Some head sector (sym here ∙ it.here) in
+    let data_kind = it.fits.0 in
+    omega (arith, kind, data_kind, ap (λ (s : Sector). s.kind) same)
+
+-- ---- where log sectors may stand
+
+abbrev pub MayStand : Chart → ℕ → ℕ → ℕ → Type 0
+MayStand c places p s =
+    ((u : ℕ) × (pick : Pick) × (current_at c places u ≡ Some pick) × (p ≡ pick.place) × (241 ≤ s)) ⊎ (IsOverflow c p × (1 ≤ s))
+
+at_from : (o : Option Pick) (p : ℕ) → is_at o p ≡ true → (pick : Pick) × (o ≡ Some pick) × (pick.place ≡ p)
+at_from None p is = absurd (cc is)
+at_from (Some pick) p is = (pick, refl, eqb-true pick.place p is)
+
+spot_of : (c : Chart) (places p s : ℕ) (o : Option Head) → header_at c places p ≡ o → is_log_spot_of (current_at c places) p s o ≡ true
+    → (p < places) × MayStand c places p s
+spot_of c places p s None at is = absurd (cc is)
+spot_of c places p s (Some head) at is =
+    let it = header_there c places p head at in (
+      it.within,
+      elim (or_cases _ _ is) [
+        | inl over ↦
+            let parts = and_parts _ _ over in
+            inr ((it.sector, it.here, ap (λ (h : Head). h.kind) it.kept ∙ eqb-true head.kind 3 parts.0), leb-true 1 s parts.1)
+        | inr home ↦
+            let parts = and_parts _ _ home in
+            let rest = and_parts _ _ parts.1 in
+            let there = at_from (current_at c places head.unit) p rest.1 in
+            inl (head.unit, there.0, there.1, sym there.2, leb-true 241 s rest.0)
+      ],
+    )
+
+pub spot_from : (c : Chart) (places p s : ℕ) → is_log_spot (header_at c places) (current_at c places) p s ≡ true → (p < places) × MayStand c places p s
+spot_from c places p s is = spot_of c places p s (header_at c places p) refl is
+
+home_spot : (c : Chart) (places p s u : ℕ) (pick : Pick) → current_at c places u ≡ Some pick → p ≡ pick.place → 241 ≤ s
+    → is_log_spot (header_at c places) (current_at c places) p s ≡ true
+home_spot c places p s u pick is same high =
+    let it = home_of c places u pick is in
+    let fits = it.chosen.fits in
+    let here : is_at (current_at c places it.sector.unit) p ≡ true =
+    ap (λ (v : ℕ). is_at (current_at c places v) p) fits.1 ∙ (ap (λ (o : Option Pick). is_at o p) is ∙ eq-eqb pick.place p (sym same)) in
+    ap (is_log_spot_of (current_at c places) p s) (ap (header_at c places) same ∙ it.head)
+    ∙ or_right _ _ (and_from _ _ (eq-eqb it.sector.kind 1 fits.0) (and_from _ _ (le-leb 241 s high) here))
+
+pub spot_to : (c : Chart) (places p s : ℕ) → p < places → MayStand c places p s → is_log_spot (header_at c places) (current_at c places) p s ≡ true
+spot_to c places p s low may = elim may [
+  | inl home ↦ home_spot c places p s home.0 home.1 home.2 home.3 home.4
+  | inr over ↦ ap (is_log_spot_of (current_at c places) p s) (spare_head c places p low over.0)
+      ∙ or_left _ _ (and_from _ _ (eq-eqb over.0.0.kind 3 over.0.2) (le-leb 1 s over.1))
+]
+
+-- a log sector that is seen
+pub record IsSeen (c : Chart) (places p s : ℕ) (sector : Sector) : Type 0 where
+  pub within : p < places
+  pub may : MayStand c places p s
+  pub here : c p s ≡ Some sector
+  pub kind : sector.kind ≡ 5
+
+pub seen_from : (c : Chart) (places p s : ℕ) (sector : Sector) → seen (header_at c places) (current_at c places) c p s ≡ Some sector → IsSeen c places p s sector
+seen_from c places p s sector is = elim (cases_Bool (is_log_spot (header_at c places) (current_at c places) p s)) [
+  | inl spot ↦
+      let there = spot_from c places p s spot in
+      let parts = kept_from is_log (c p s) sector (sym (cond-true (is_log_spot (header_at c places) (current_at c places) p s) (kept is_log (c p s)) None spot) ∙ is) in
+      record { within = there.0; may = there.1; here = parts.0; kind = eqb-true sector.kind 5 parts.1 }
+  | inr other ↦ absurd (let none : None ≡ Some sector = sym (cond-false (is_log_spot (header_at c places) (current_at c places) p s) (kept is_log (c p s)) None other) ∙ is in cc none)
+]
+
+pub seen_to : (c : Chart) (places p s : ℕ) (sector : Sector) → IsSeen c places p s sector → seen (header_at c places) (current_at c places) c p s ≡ Some sector
+seen_to c places p s sector it =
+    cond-true (is_log_spot (header_at c places) (current_at c places) p s) (kept is_log (c p s)) None (spot_to c places p s it.within it.may)
+    ∙ kept_to is_log (c p s) sector it.here (eq-eqb sector.kind 5 it.kind)
+
+pub seen_spot : (c : Chart) (places p s : ℕ) (sector : Sector) → IsSeen c places p s sector → is_log_spot (header_at c places) (current_at c places) p s ≡ true
+seen_spot c places p s sector it = spot_to c places p s it.within it.may
+
+-- ---- live log sectors
+
+generation_from : (o : Option Pick) (generation : ℕ) → is_generation o generation ≡ true → (pick : Pick) × (o ≡ Some pick) × (pick.head.generation ≡ generation)
+generation_from None generation is = absurd (cc is)
+generation_from (Some pick) generation is = (pick, refl, eqb-true pick.head.generation generation is)
+
+place_from : (o : Option Head) (u : ℕ) → is_place_of o u ≡ true → (head : Head) × (o ≡ Some head) × ((head.kind ≡ 3) ⊎ (head.unit ≡ u))
+place_from None u is = absurd (cc is)
+place_from (Some head) u is = (
+  head,
+  refl,
+  elim (or_cases _ _ is) [
+    | inl over ↦ inl (eqb-true head.kind 3 over)
+    | inr home ↦ inr (eqb-true head.unit u home)
+  ],
+)
+
+-- it stands at home, or in an overflow place
+live_where : (c : Chart) (places p s u : ℕ) (pick : Pick) → MayStand c places p s → is_place_of (header_at c places p) u ≡ true → current_at c places u ≡ Some pick
+    → ((p ≡ pick.place) × (241 ≤ s)) ⊎ (IsOverflow c p × (1 ≤ s))
+live_where c places p s u pick (inr over) of_unit is = inr over
+live_where c places p s u pick (inl (v, other, v_is, same, high)) of_unit is =
+    let it = home_of c places v other v_is in
+    let fits = it.chosen.fits in
+    let place = place_from (header_at c places p) u of_unit in
+    let head : head_of (places - 4) it.sector ≡ place.0 = same_Some _ _ (sym it.head ∙ (ap (header_at c places) (sym same) ∙ place.1)) in
+    elim place.2 [
+      | inl over ↦ absurd (omega (arith, over, fits.0, ap (λ (h : Head). h.kind) head))
+      | inr unit ↦
+          let u_is : v ≡ u = sym fits.1 ∙ (ap (λ (h : Head). h.unit) head ∙ unit) in
+          let one : other ≡ pick = same_Some other pick (sym v_is ∙ (ap (current_at c places) u_is ∙ is)) in
+          inl (same ∙ ap (λ (x : Pick). x.place) one, high)
+    ]
+
+pub live_from : FoundLogsAreLive
+live_from c places k sector is =
+    let parts = kept_from (is_live (header_at c places) (current_at c places) (k / 256)) (seen_at (header_at c places) (current_at c places) c k) sector is in
+    let it = seen_from c places (k / 256) (k % 256) sector parts.0 in
+    let tests = and_parts _ _ parts.1 in
+    let of_it = generation_from (current_at c places sector.unit) sector.generation tests.1 in
+    record {
+      pick = of_it.0;
+      current = of_it.1;
+      live = record {
+        here = it.here;
+        kind = it.kind;
+        of_unit = refl;
+        of_generation = sym of_it.2;
+        within = (it.within, omega arith);
+        counts = live_where c places (k / 256) (k % 256) sector.unit of_it.0 it.may tests.0 of_it.1;
+      };
+    }
+
+-- the place is one of its unit
+place_to : (c : Chart) (places p s u : ℕ) (pick : Pick) → p < places → current_at c places u ≡ Some pick
+    → ((p ≡ pick.place) × (241 ≤ s)) ⊎ (IsOverflow c p × (1 ≤ s)) → is_place_of (header_at c places p) u ≡ true
+place_to c places p s u pick low is (inl (same, high)) =
+    let it = home_of c places u pick is in
+    ap (λ (o : Option Head). is_place_of o u) (ap (header_at c places) same ∙ it.head) ∙ or_right _ _ (eq-eqb it.sector.unit u it.chosen.fits.1)
+place_to c places p s u pick low is (inr (over, some)) =
+    ap (λ (o : Option Head). is_place_of o u) (spare_head c places p low over) ∙ or_left _ _ (eq-eqb over.0.kind 3 over.2)
+
+may_to : (c : Chart) (places p s u : ℕ) (pick : Pick) → current_at c places u ≡ Some pick → ((p ≡ pick.place) × (241 ≤ s)) ⊎ (IsOverflow c p × (1 ≤ s))
+    → MayStand c places p s
+may_to c places p s u pick is (inl (same, high)) = inl (u, pick, is, same, high)
+may_to c places p s u pick is (inr over) = inr over
+
+pub live_to : LiveLogsAreFound
+live_to c places k u pick sector is it =
+    let stands : seen_at (header_at c places) (current_at c places) c k ≡ Some sector = seen_to c places (k / 256) (k % 256) sector (record {
+      within = it.within.0;
+      may = may_to c places (k / 256) (k % 256) u pick is it.counts;
+      here = it.here;
+      kind = it.kind;
+    }) in
+    let place : is_place_of (header_at c places (k / 256)) sector.unit ≡ true =
+    ap (is_place_of (header_at c places (k / 256))) it.of_unit ∙ place_to c places (k / 256) (k % 256) u pick it.within.0 is it.counts in
+    let generation : is_generation (current_at c places sector.unit) sector.generation ≡ true =
+    ap (λ (v : ℕ). is_generation (current_at c places v) sector.generation) it.of_unit
+    ∙ (ap (λ (o : Option Pick). is_generation o sector.generation) is ∙ eq-eqb pick.head.generation sector.generation (sym it.of_generation)) in
+    kept_to (is_live (header_at c places) (current_at c places) (k / 256)) (seen_at (header_at c places) (current_at c places) c k) sector stands (and_from _ _ place generation)
+
+-- a live log sector that doesn't stand at home stands in an overflow place, and only such a one
+pub away_is_spare : (c : Chart) (places u home generation p s : ℕ) (sector : Sector) → IsLive c places u home generation p s sector → p ≢ home
+    → is_spare (header_at c places p) ≡ true
+away_is_spare c places u home generation p s sector it away = elim it.counts [
+  | inl at_home ↦ absurd (away at_home.0)
+  | inr over ↦ spare_to c places p it.within.0 over.0
+]
+
+-- it stands where an opening reads
+pub live_seen : (c : Chart) (places k : ℕ) (sector : Sector) → live_at (header_at c places) (current_at c places) c k ≡ Some sector → IsSeen c places (k / 256) (k % 256) sector
+live_seen c places k sector is =
+    seen_from c places (k / 256) (k % 256) sector (kept_from (is_live (header_at c places) (current_at c places) (k / 256)) (seen_at (header_at c places) (current_at c places) c k) sector is).0

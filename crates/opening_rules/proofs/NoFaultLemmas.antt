@@ -1,0 +1,356 @@
+-- A chart without a fault is laid out.
+use Rattle.std.proofs.Common.{ℕ, zero, suc, ◌≡◌, inl, inr, ◌+◌, ◌*◌, ◌/◌, ◌%◌, ◌-◌, ◌<◌, ◌≤◌, Bool, true, false, nat_le, ◌==◌, ◌&&◌, List, [], ◌∷◌, map, Option, Some, None, refl, sym, ◌∙◌, ap, ap₂, subst, arith, cond, All}
+use Rattle.std.specs.Prelude.{IsTrue, unwrap_or, not, ◌||◌}
+use Rattle.std.specs.List.{Contains, list_any, count_by}
+use Rattle.std.specs.Option.{option_map}
+use Rattle.std.proofs.lemmas.Bool.{cases_Bool, eqb-true, eq-eqb, leb-false, and_parts, and_from, and_cases, or_parts, or_cases, or_left, or_right, not-true, cond-true, both_ways}
+use Rattle.std.proofs.lemmas.List.{length-map, get_or-map}
+use Rattle.std.proofs.lemmas.Option.{same_Some, cond_some}
+use Rattle.ipl_format.specs.Record.{SpellsLog}
+use Rattle.ipl_format.specs.Commit.{SpellsCommit}
+use Rattle.ipl_format.specs.Sector.{Sector}
+use Rattle.log_records.specs.Reading.{records_of}
+use Rattle.ipl_meaning.specs.Chart.{Chart, IsLive}
+use Rattle.ipl_meaning.specs.Last.{is_number}
+use Rattle.ipl_meaning.specs.Layout.{Entry, Shape, IsEntry, IsListed, IsShelved, IsLog, IsUnit, IsCommitSector, IsCommitted, IsStatus, Layout, Laid}
+use Rattle.opening_rules.specs.First.{passes, count_below, joined_below}
+use Rattle.opening_rules.specs.Payloads.{is_log_payload, pieces_in, numbers_in, is_data_payload, is_status_payload, is_commit_payload}
+use Rattle.opening_rules.specs.Chosen.{Head, Pick, header_at, current_at, status_at, is_head_payload}
+use Rattle.opening_rules.specs.Live.{is_at, sectors, commit_at, is_spare, live_at, Mark, mark_of, mark_at, marks}
+use Rattle.opening_rules.specs.Faults.{malformed, not_formatted, missing, bad_header, commit_test, commit_fault, clashes, shares_spares, is_full, is_log_well, log_test, is_in, holds_live}
+use Rattle.opening_rules.specs.LaidOut.{numbers_of, committed_in, entry_of, entry_at, log_in, no_sector, place_of, sector_of, shape_in, layout_in}
+use Rattle.opening_rules.specs.Laws.{IsByteChart, NoFaultIsLaid, NoFaultIsFresh}
+use Rattle.opening_rules.proofs.PayloadLemmas.{data_payloads_are_spelled, status_payloads_are_spelled, commit_payloads_are_spelled, spelled_commits_pass, log_payloads_are_spelled}
+use Rattle.opening_rules.proofs.HeaderLemmas.{statuses_are_chosen}
+use Rattle.opening_rules.proofs.BelowLemmas.{none_any, any_some, count_all, passing, passing_has, passing_count, joined_has, joined_from}
+use Rattle.opening_rules.proofs.SortLemmas.{AreApart, sorted_has, sorted_all, sorted_rises}
+use Rattle.opening_rules.proofs.LiveLemmas.{IsSeen, seen_spot, live_seen, sectors_are, commit_from, commit_to, IsHome, home_of, live_from, live_to, away_is_spare}
+use Rattle.opening_rules.proofs.LaidLemmas.{mark_to}
+use Rattle.opening_rules.proofs.NumberLemmas.{found_below}
+use Rattle.opening_rules.proofs.PartLemmas.{HasNoFault, no_fault_parts, if_none}
+
+-- ---- single tests
+
+formatted_from : (o : Option Pick) → not_formatted o ≡ None → (pick : Pick) × (o ≡ Some pick)
+formatted_from None e = cc
+formatted_from (Some pick) e = (pick, refl)
+
+there_from : (u : ℕ) (o : Option Pick) → missing u o ≡ None → (pick : Pick) × (o ≡ Some pick)
+there_from u None e = cc
+there_from u (Some pick) e = (pick, refl)
+
+header_well : (o : Option Pick) (pick : Pick) → o ≡ Some pick → bad_header o ≡ None → pick.head.well ≡ true
+header_well o pick is e = if_none pick.head.well (malformed pick.place 0) (ap bad_header (sym is) ∙ e)
+
+commit_well : (p s : ℕ) (o : Option Sector) (sector : Sector) → o ≡ Some sector → commit_test p s o ≡ None → is_commit_payload sector.payload ≡ true
+commit_well p s o sector is e = if_none (is_commit_payload sector.payload) (malformed p s) (ap (commit_test p s) (sym is) ∙ e)
+
+log_well : (heads : ℕ → Option Head) (earlier : List Mark) (k : ℕ) (o : Option Sector) (sector : Sector) → o ≡ Some sector → log_test heads earlier k o ≡ None
+    → is_log_well (mark_of heads k sector) earlier sector.payload ≡ true
+log_well heads earlier k o sector is e =
+    if_none (is_log_well (mark_of heads k sector) earlier sector.payload) (malformed (k / 256) (k % 256)) (ap (log_test heads earlier k) (sym is) ∙ e)
+
+-- ---- entries
+
+-- what an entry is of
+record IsEntryOf (u k : ℕ) (o : Option Sector) (e : Entry) : Type 0 where
+  here : o ≡ Some e.sector
+  unit : e.sector.unit ≡ u
+  place : e.place ≡ k / 256
+  number : e.number ≡ k % 256
+  records : e.records ≡ records_of e.sector.payload
+
+entry_from : (u k : ℕ) (o : Option Sector) (e : Entry) → entry_of u k o ≡ Some e → IsEntryOf u k o e
+entry_from u k None e is = cc
+entry_from u k (Some sector) e is =
+    let made : Entry = record { place = k / 256; number = k % 256; sector = sector; records = records_of sector.payload } in
+    let parts : ((sector.unit == u) ≡ true) × (made ≡ e) = cond_some (sector.unit == u) made e is in
+    subst (IsEntryOf u k (Some sector)) parts.1 (record { here = refl; unit = eqb-true sector.unit u parts.0; place = refl; number = refl; records = refl })
+
+entry_to : (u k : ℕ) (o : Option Sector) (sector : Sector) → o ≡ Some sector → sector.unit ≡ u
+    → entry_of u k o ≡ Some (record { place = k / 256; number = k % 256; sector = sector; records = records_of sector.payload })
+entry_to u k o sector is unit =
+    ap (entry_of u k) is ∙ cond-true (sector.unit == u) (Some (record { place = k / 256; number = k % 256; sector = sector; records = records_of sector.payload })) None
+    (eq-eqb sector.unit u unit)
+
+-- the spot with the number k
+abbrev spot_of : ℕ → ℕ × ℕ
+spot_of k = (k / 256, k % 256)
+
+spot_there : (ks : List ℕ) (k p s : ℕ) → Contains ks k → p ≡ k / 256 → s ≡ k % 256 → Contains (map spot_of ks) (p, s)
+spot_there ks k p s (i, low, is) place number = (
+  i,
+  omega (arith, length-map ks spot_of, low),
+  get_or-map spot_of ks i k (p, s) low ∙ (ap spot_of is ∙ ap₂ (λ (q t : ℕ). let spot : ℕ × ℕ = (q, t) in spot) (sym place) (sym number)),
+)
+
+-- ---- committed numbers
+
+number_has : (tid : ℕ) (numbers : List ℕ) → list_any (is_number tid) numbers ≡ true → Contains numbers tid
+number_has tid [] is = absurd (cc is)
+number_has tid (n ∷ numbers) is = elim (or_cases _ _ is) [
+  | inl first ↦ (0, omega arith, eqb-true n tid first)
+  | inr later ↦ let (i, low, at) = number_has tid numbers later in (suc i, omega (arith, low), at)
+]
+
+has_number : (tid : ℕ) (numbers : List ℕ) → Contains numbers tid → list_any (is_number tid) numbers ≡ true
+has_number tid [] (i, low, at) = absurd (omega (arith, low))
+has_number tid (n ∷ numbers) (zero, low, at) = or_left _ _ (eq-eqb n tid at)
+has_number tid (n ∷ numbers) (suc i, low, at) = or_right _ _ (has_number tid numbers (i, omega (arith, low), at))
+
+-- ---- a chart without a fault
+
+module _ (c : Chart) (places : ℕ) (bytes : IsByteChart places c) (fine : HasNoFault c places) where
+  abbrev heads : ℕ → Option Head
+  heads = header_at c places
+
+  abbrev current : ℕ → Option Pick
+  current = current_at c places
+
+  abbrev live : ℕ → Option Sector
+  live k = live_at heads current c k
+
+  abbrev all_marks : List Mark
+  all_marks = marks heads current c (places * 256)
+
+  -- ---- log sectors
+
+  well : (k : ℕ) (sector : Sector) → k < places * 256 → live k ≡ Some sector → is_log_well (mark_of heads k sector) (marks heads current c k) sector.payload ≡ true
+  well k sector low is = log_well heads (marks heads current c k) k (live k) sector is (fine.logs k low)
+
+  -- a live sector stands on the chip
+  low_from : (k : ℕ) (sector : Sector) → live k ≡ Some sector → k < places * 256
+  low_from k sector is = let within = (live_from c places k sector is).live.within.0 in omega (arith, within)
+
+  no_clash : (j k : ℕ) (first second : Sector) → j < k → k < places * 256 → live j ≡ Some first → live k ≡ Some second
+      → clashes (mark_of heads k second) (mark_of heads j first) ≡ false
+  no_clash j k first second before low is_first is_second =
+      let parts = and_parts _ _ (well k second low is_second) in
+      let rest = or_parts _ _ (not-true _ parts.1) in
+      none_any (mark_at heads current c) (clashes (mark_of heads k second)) k rest.0 j (mark_of heads j first) before (mark_to c places j first is_first)
+
+  entries_apart : (u : ℕ) → AreApart (entry_at c places u) (places * 256)
+  entries_apart u j k d e before low first second same =
+      let one = entry_from u j (live j) d first in
+      let two = entry_from u k (live k) e second in
+      both_ways (clashes (mark_of heads k e.sector) (mark_of heads j d.sector)) (no_clash j k d.sector e.sector before low one.here two.here)
+      (and_from _ _ (eq-eqb d.sector.unit e.sector.unit (one.unit ∙ sym two.unit)) (eq-eqb d.sector.serial e.sector.serial same))
+
+  -- ---- the log of a unit
+
+  module _ (u : ℕ) (pick : Pick) (is : current u ≡ Some pick) where
+    entry_is : (k : ℕ) (e : Entry) → k < places * 256 → entry_at c places u k ≡ Some e → IsEntry c places u pick.place pick.head.generation e
+    entry_is k e low at =
+        let of_it = entry_from u k (live k) e at in
+        let found = live_from c places k e.sector of_it.here in
+        let one : found.pick ≡ pick = same_Some found.pick pick (sym found.current ∙ (ap current of_it.unit ∙ is)) in
+        let mine : IsLive c places u pick.place pick.head.generation (k / 256) (k % 256) e.sector =
+        subst (λ (x : Pick). IsLive c places u x.place x.head.generation (k / 256) (k % 256) e.sector) one
+        (subst (λ (v : ℕ). IsLive c places v found.pick.place found.pick.head.generation (k / 256) (k % 256) e.sector) of_it.unit found.live) in
+        let here : IsLive c places u pick.place pick.head.generation e.place e.number e.sector =
+        subst (λ (s : ℕ). IsLive c places u pick.place pick.head.generation e.place s e.sector) (sym of_it.number)
+        (subst (λ (p : ℕ). IsLive c places u pick.place pick.head.generation p (k % 256) e.sector) (sym of_it.place) mine) in
+        let list = (and_parts _ _ (well k e.sector low of_it.here)).0 in
+        let stands : IsSeen c places (k / 256) (k % 256) e.sector = live_seen c places k e.sector of_it.here in
+        record {
+          live = here;
+          records = subst (SpellsLog e.sector.payload) (sym of_it.records)
+              (log_payloads_are_spelled e.sector.payload (bytes (k / 256) (k % 256) e.sector stands.within (omega arith) (inr (inr (seen_spot c places (k / 256) (k % 256) e.sector stands))) stands.here) list);
+        }
+
+    has_all : (p s : ℕ) (sector : Sector) → IsLive c places u pick.place pick.head.generation p s sector
+        → (e : Entry) × Contains (log_in c places u) e × (e.place ≡ p) × (e.number ≡ s)
+    has_all p s sector it =
+        let k : ℕ = p * 256 + s in
+        let place : k / 256 ≡ p = omega (arith, it.within) in
+        let number : k % 256 ≡ s = omega (arith, it.within) in
+        let low : k < places * 256 = omega (arith, it.within) in
+        let mine : IsLive c places u pick.place pick.head.generation (k / 256) (k % 256) sector =
+        subst (λ (t : ℕ). IsLive c places u pick.place pick.head.generation (k / 256) t sector) (sym number)
+        (subst (λ (q : ℕ). IsLive c places u pick.place pick.head.generation q s sector) (sym place) it) in
+        let here = live_to c places k u pick sector is mine in (
+          record { place = k / 256; number = k % 256; sector = sector; records = records_of sector.payload },
+          sorted_has (entry_at c places u) (places * 256) k _ low (entry_to u k (live k) sector here it.of_unit),
+          place,
+          number,
+        )
+
+    -- the unit's live sectors in overflow places
+    abbrev is_spare_of : Mark → Bool
+    is_spare_of mark = mark.spare && (mark.unit == u)
+
+    abbrev spare_at : ℕ → Bool
+    spare_at k = passes is_spare_of (mark_at heads current c k)
+
+    -- there are at most 16, however far one counts
+    few_of : (k : ℕ) (o : Option Sector) → live k ≡ o → k < places * 256 → count_below spare_at k ≤ 16
+        → count_below spare_at k + cond (passes is_spare_of (option_map (mark_of heads k) o)) 1 0 ≤ 16
+    few_of k None at low few = omega (arith, few)
+    few_of k (Some sector) at low few = elim (cases_Bool (is_spare_of (mark_of heads k sector))) [
+      | inr other ↦ rw other (omega (arith, few))
+      | inl spare ↦
+          let mark : Mark = mark_of heads k sector in
+          let earlier : List Mark = marks heads current c k in
+          let parts : (mark.spare ≡ true) × ((sector.unit == u) ≡ true) = and_parts mark.spare (sector.unit == u) spare in
+          let tests : (is_log_payload sector.payload ≡ true) × (not (list_any (clashes mark) earlier || is_full mark earlier) ≡ true) =
+          and_parts (is_log_payload sector.payload) (not (list_any (clashes mark) earlier || is_full mark earlier)) (well k sector low at) in
+          let rest : (list_any (clashes mark) earlier ≡ false) × (is_full mark earlier ≡ false) =
+          or_parts (list_any (clashes mark) earlier) (is_full mark earlier) (not-true (list_any (clashes mark) earlier || is_full mark earlier) tests.1) in
+          let unit : sector.unit ≡ u = eqb-true sector.unit u parts.1 in
+          let counted : count_by (shares_spares mark) earlier ≡ count_below spare_at k =
+          ap (λ (v : ℕ). count_by (λ (other : Mark). other.spare && (other.unit == v)) earlier) unit ∙ count_all (mark_at heads current c) is_spare_of k in
+          let not_full : nat_le 16 (count_by (shares_spares mark) earlier) ≡ false =
+          elim (and_cases mark.spare (nat_le 16 (count_by (shares_spares mark) earlier)) rest.1) [
+            | inl at_home ↦ absurd (both_ways mark.spare at_home parts.0)
+            | inr less ↦ less
+          ] in
+          let less : count_by (shares_spares mark) earlier < 16 = leb-false 16 (count_by (shares_spares mark) earlier) not_full in
+          rw spare (omega (arith, less, counted))
+    ]
+
+    few : (k : ℕ) → k ≤ places * 256 → count_below spare_at k ≤ 16
+    few zero low = omega arith
+    few (suc k) low = few_of k (live k) refl (omega arith) (few k (omega arith))
+
+    listed_at : (k : ℕ) (e : Entry) → k < places * 256 → entry_at c places u k ≡ Some e → IsListed (map spot_of (passing spare_at (places * 256))) pick.place e
+    listed_at k e low at away =
+        let of_it = entry_from u k (live k) e at in
+        let live_it = (entry_is k e low at).live in
+        let spare : is_spare (heads (k / 256)) ≡ true = ap (λ (p : ℕ). is_spare (heads p)) (sym of_it.place) ∙ away_is_spare c places u pick.place pick.head.generation e.place e.number e.sector live_it away in
+        let passes_it : spare_at k ≡ true = ap (passes is_spare_of) (mark_to c places k e.sector of_it.here) ∙ and_from _ _ spare (eq-eqb e.sector.unit u of_it.unit) in
+        spot_there (passing spare_at (places * 256)) k e.place e.number (passing_has spare_at (places * 256) k low passes_it) of_it.place of_it.number
+
+    is_log : IsLog c places u pick.place pick.head.generation (log_in c places u)
+    is_log = record {
+      each = sorted_all (entry_at c places u) (places * 256) (IsEntry c places u pick.place pick.head.generation) entry_is;
+      all = has_all;
+      rising = sorted_rises (entry_at c places u) (places * 256) (entries_apart u);
+      spots = map spot_of (passing spare_at (places * 256));
+      few = let count = few (places * 256) (omega arith) in
+          omega (arith, length-map (passing spare_at (places * 256)) spot_of, passing_count spare_at (places * 256), count);
+      listed = sorted_all (entry_at c places u) (places * 256) (IsListed (map spot_of (passing spare_at (places * 256))) pick.place) listed_at;
+    }
+
+    -- an entry that doesn't stand at home stands on a shelf
+    shelved_at : (k : ℕ) (e : Entry) → k < places * 256 → entry_at c places u k ≡ Some e → IsShelved (passing (holds_live heads all_marks) places) pick.place e
+    shelved_at k e low at away =
+        let of_it = entry_from u k (live k) e at in
+        let live_it = (entry_is k e low at).live in
+        let spare = away_is_spare c places u pick.place pick.head.generation e.place e.number e.sector live_it away in
+        let marked = any_some (mark_at heads current c) (is_in e.place) (places * 256) k (mark_of heads k e.sector) low (mark_to c places k e.sector of_it.here)
+        (eq-eqb (k / 256) e.place (sym of_it.place)) in
+        passing_has (holds_live heads all_marks) places e.place live_it.within.0 (and_from _ _ spare marked)
+
+  -- ---- one unit
+
+  -- a unit has a current header
+  record HasHome (u : ℕ) : Type 0 where
+    pick : Pick
+    is : current u ≡ Some pick
+    home : IsHome c places u pick
+
+  has_home : (u : ℕ) → u < places - 4 → HasHome u
+  has_home u low =
+      let there = there_from u (current u) (fine.there u low) in
+      record { pick = there.0; is = there.1; home = home_of c places u there.0 there.1 }
+
+  sector_is : (o : Option Pick) (pick : Pick) (sector : Sector) → o ≡ Some pick → c pick.place 0 ≡ Some sector → sector_of c o ≡ sector
+  sector_is o pick sector is here = ap (sector_of c) is ∙ ap (λ (x : Option Sector). unwrap_or x no_sector) here
+
+  unit_is : (u : ℕ) → u < places - 4 → IsUnit c places u (shape_in c places u)
+  unit_is u low =
+      let it = has_home u low in
+      let head : Sector = it.home.sector in
+      let here : c it.pick.place 0 ≡ Some head = it.home.chosen.here in
+      let generation : it.pick.head.generation ≡ head.generation = ap (λ (h : Head). h.generation) it.home.kept in
+      let well_is : is_head_payload (places - 4) head.kind head.payload ≡ true =
+      ap (λ (h : Head). h.well) (sym it.home.kept) ∙ header_well (current u) it.pick it.is (fine.headers u low) in
+      let passes_it : is_data_payload (places - 4) head.payload ≡ true =
+      ap (λ (kind : ℕ). is_head_payload (places - 4) kind head.payload) (sym it.home.chosen.fits.0) ∙ well_is in
+      let shape : Shape = record { home = it.pick.place; head = head; pieces = pieces_in head.payload; log = log_in c places u } in
+      let same : shape ≡ shape_in c places u = ap₂ (λ (p : ℕ) (s : Sector). let x : Shape = record { home = p; head = s; pieces = pieces_in s.payload; log = log_in c places u } in x)
+      (sym (ap place_of it.is)) (sym (sector_is (current u) it.pick head it.is here)) in
+      subst (IsUnit c places u) same (record {
+        chosen = it.home.chosen;
+        counts = data_payloads_are_spelled (places - 4) head.payload (bytes it.pick.place 0 head it.home.chosen.within (omega arith) (inl refl) here) passes_it;
+        log = subst (λ (g : ℕ). IsLog c places u it.pick.place g (log_in c places u)) generation (is_log u it.pick it.is);
+      })
+
+  shelved : (u : ℕ) → u < places - 4 → All (IsShelved (passing (holds_live heads all_marks) places) (shape_in c places u).home) (shape_in c places u).log
+  shelved u low =
+      let it = has_home u low in
+      subst (λ (p : ℕ). All (IsShelved (passing (holds_live heads all_marks) places) p) (log_in c places u)) (sym (ap place_of it.is))
+      (sorted_all (entry_at c places u) (places * 256) (IsShelved (passing (holds_live heads all_marks) places) it.pick.place) (shelved_at u it.pick it.is))
+
+  -- ---- the status place
+
+  module _ (pick : Pick) (is : status_at c places ≡ Some pick) where
+    at_status : is_at (status_at c places) pick.place ≡ true
+    at_status = ap (λ (o : Option Pick). is_at o pick.place) is ∙ eq-eqb pick.place pick.place refl
+
+    commit_spelled : (s : ℕ) (sector : Sector) → IsCommitSector c pick.place pick.head.generation s sector → SpellsCommit sector.payload (numbers_in sector.payload)
+    commit_spelled s sector it =
+        let passes_it = commit_well pick.place s (commit_at c (Some pick) s) sector (commit_to c pick s sector it)
+        (ap (λ (o : Option Pick). commit_fault c o s) (sym is) ∙ fine.commits s (omega (arith, it.where_it_is, sectors_are))) in
+        commit_payloads_are_spelled sector.payload (bytes pick.place s sector (statuses_are_chosen c places pick is).counts.within it.where_it_is.1 (inr (inl at_status)) it.here) passes_it
+
+    told_from : (tid s : ℕ) (o : Option Sector) → s < sectors → commit_at c (Some pick) s ≡ o → Contains (numbers_of o) tid → IsCommitted c pick.place pick.head.generation tid
+    told_from tid s None low at has = absurd (let some = has.1 in omega (arith, some))
+    told_from tid s (Some sector) low at has =
+        let of_it = commit_from c pick s sector (omega (arith, low, sectors_are)) at in
+        record { number = s; sector = sector; is = of_it; numbers = numbers_in sector.payload; spelled = commit_spelled s sector of_it; has = has }
+
+    abbrev numbers_at : ℕ → List ℕ
+    numbers_at s = numbers_of (commit_at c (Some pick) s)
+
+    told : (tid : ℕ) → IsTrue (committed_in c (Some pick) tid) → IsCommitted c pick.place pick.head.generation tid
+    told tid so =
+        let (s, low, has) = joined_from numbers_at sectors tid (number_has tid (joined_below numbers_at sectors) so) in
+        told_from tid s (commit_at c (Some pick) s) low refl has
+
+    all_told : (tid : ℕ) → IsCommitted c pick.place pick.head.generation tid → IsTrue (committed_in c (Some pick) tid)
+    all_told tid it =
+        let here = commit_to c pick it.number it.sector it.is in
+        let numbers : numbers_in it.sector.payload ≡ it.numbers = (spelled_commits_pass it.sector.payload it.numbers it.spelled).1 in
+        let has : Contains (numbers_at it.number) tid = subst (λ (xs : List ℕ). Contains xs tid) (sym (ap numbers_of here ∙ numbers)) it.has in
+        has_number tid (joined_below numbers_at sectors) (joined_has numbers_at sectors it.number tid (omega (arith, it.is.where_it_is, sectors_are)) has)
+
+    status_is : IsStatus c pick.place pick.head.generation (committed_in c (Some pick))
+    status_is = record { spelled = λ s sector it. (numbers_in sector.payload, commit_spelled s sector it); told = told; all_told = all_told }
+
+    laid_with : Laid places c (layout_in c places)
+    laid_with =
+        let it = statuses_are_chosen c places pick is in
+        let head : Sector = it.sector in
+        let here : c pick.place 0 ≡ Some head = it.counts.here in
+        let generation : pick.head.generation ≡ head.generation = ap (λ (h : Head). h.generation) it.head in
+        let well_is : is_head_payload (places - 4) head.kind head.payload ≡ true =
+        ap (λ (h : Head). h.well) (sym it.head) ∙ header_well (status_at c places) pick is fine.header in
+        let passes_it : is_status_payload (places - 4) head.payload ≡ true =
+        ap (λ (kind : ℕ). is_head_payload (places - 4) kind head.payload) (sym it.counts.fits) ∙ well_is in
+        let layout : Layout = record { status = pick.place; head = head; committed = committed_in c (Some pick); units = shape_in c places } in
+        let same : layout ≡ layout_in c places = ap₂ (λ (o : Option Pick) (s : Sector). let x : Layout = record { status = place_of o; head = s; committed = committed_in c o; units = shape_in c places } in x)
+        (sym is) (sym (sector_is (status_at c places) pick head is here)) in
+        subst (Laid places c) same (record {
+          least = fine.least;
+          most = fine.most;
+          chosen = it.counts;
+          counts = status_payloads_are_spelled (places - 4) head.payload (bytes pick.place 0 head it.counts.within (omega arith) (inl refl) here) passes_it;
+          commits = subst (λ (g : ℕ). IsStatus c pick.place g (committed_in c (Some pick))) generation status_is;
+          each = unit_is;
+          shelves = passing (holds_live heads all_marks) places;
+          two = omega (arith, passing_count (holds_live heads all_marks) places, fine.spares);
+          shelved = shelved;
+        })
+
+  pub laid_from : Laid places c (layout_in c places)
+  laid_from = let formatted = formatted_from (status_at c places) fine.formatted in laid_with formatted.0 formatted.1
+
+pub no_fault_is_laid : NoFaultIsLaid
+no_fault_is_laid c places bytes none = laid_from c places bytes (no_fault_parts c places none)
+
+pub no_fault_is_fresh : NoFaultIsFresh
+no_fault_is_fresh c places it laid none number found =
+    let below = found_below c places it laid number found in
+    let fresh = (no_fault_parts c places none).fresh in
+    omega (arith, below, fresh)

@@ -1,0 +1,98 @@
+-- No fault is no fault of each kind.
+use Rattle.std.proofs.Common.{ℕ, ◌≡◌, ◌-◌, ◌*◌, ◌^◌, ◌<◌, ◌≤◌, nat_lt, nat_le, Bool, true, false, cond, ◌&&◌, Option, Some, None, refl}
+use Rattle.std.specs.Option.{option_or}
+use Rattle.std.proofs.lemmas.Bool.{leb-true, ltb-true, le-leb, lt-ltb, and_parts, and_from, cond-true}
+use Rattle.ipl_base.specs.declared.fault.ImageFault.{ImageFault}
+use Rattle.ipl_base.specs.declared.fault.ImageFault.TheVariants.{Geometry, Spent, NoSpare}
+use Rattle.ipl_meaning.specs.Chart.{Chart}
+use Rattle.opening_rules.specs.First.{first_below}
+use Rattle.opening_rules.specs.Chosen.{header_at, current_at, status_at}
+use Rattle.opening_rules.specs.Live.{sectors}
+use Rattle.opening_rules.specs.Faults.{size_fault, not_formatted, other_geometry, missing, bad_header, header_fault, commit_fault, first_commit_fault, log_fault, first_log_fault, greatest_found, spent, spares_found, no_spare, first_fault}
+use Rattle.opening_rules.proofs.FirstLemmas.{or_none, first_none, none_before}
+
+-- ---- six that are not there
+
+pub six_parts : {A : Type 0} (a b d f g h : Option A) → option_or a (option_or b (option_or d (option_or f (option_or g (option_or h None))))) ≡ None
+    → (a ≡ None) × (b ≡ None) × (d ≡ None) × (f ≡ None) × (g ≡ None) × (h ≡ None)
+six_parts a b d f g h e =
+    let p = or_none a (option_or b (option_or d (option_or f (option_or g (option_or h None))))) e in
+    let q = or_none b (option_or d (option_or f (option_or g (option_or h None)))) p.1 in
+    let r = or_none d (option_or f (option_or g (option_or h None))) q.1 in
+    let s = or_none f (option_or g (option_or h None)) r.1 in
+    let t = or_none g (option_or h None) s.1 in
+    let u = or_none h None t.1 in
+    (p.0, q.0, r.0, s.0, t.0, u.0)
+
+six_none : {A : Type 0} (a b d f g h : Option A) → a ≡ None → b ≡ None → d ≡ None → f ≡ None → g ≡ None → h ≡ None
+    → option_or a (option_or b (option_or d (option_or f (option_or g (option_or h None))))) ≡ None
+six_none a b d f g h p q r s t u = rw (p, q, r, s, t, u) refl
+
+pub if_none : {A : Type 0} (b : Bool) (x : A) → cond b None (Some x) ≡ None → b ≡ true
+if_none true x e = refl
+if_none false x e = cc
+
+-- ---- the parts
+
+-- each test passes
+pub record HasNoFault (c : Chart) (places : ℕ) : Type 0 where
+  pub least : 5 ≤ places
+  pub most : places ≤ 1028
+  pub formatted : not_formatted (status_at c places) ≡ None
+  pub geometry : other_geometry (status_at c places) ≡ None
+  pub geometries : (u : ℕ) → u < places - 4 → other_geometry (current_at c places u) ≡ None
+  pub there : (u : ℕ) → u < places - 4 → missing u (current_at c places u) ≡ None
+  pub headers : (u : ℕ) → u < places - 4 → bad_header (current_at c places u) ≡ None
+  pub header : bad_header (status_at c places) ≡ None
+  pub commits : (s : ℕ) → s < sectors → commit_fault c (status_at c places) s ≡ None
+  pub logs : (k : ℕ) → k < places * 256 → log_fault (header_at c places) (current_at c places) c k ≡ None
+  pub fresh : greatest_found c places < 2 ^ 63
+  pub spares : spares_found c places ≤ 2
+
+module _ (c : Chart) (places : ℕ) where
+  abbrev geometries_fault : Option ImageFault
+  geometries_fault = first_below (λ u. other_geometry (current_at c places u)) (places - 4)
+
+  abbrev missing_fault : Option ImageFault
+  missing_fault = first_below (λ u. missing u (current_at c places u)) (places - 4)
+
+  abbrev headers_fault : Option ImageFault
+  headers_fault = first_below (λ u. bad_header (current_at c places u)) (places - 4)
+
+  pub no_fault_parts : first_fault c places ≡ None → HasNoFault c places
+  no_fault_parts e =
+      let all = six_parts (size_fault places) (header_fault c places) (first_commit_fault c places) (first_log_fault c places) (spent (greatest_found c places))
+      (no_spare (spares_found c places)) e in
+      let heads = six_parts (not_formatted (status_at c places)) (other_geometry (status_at c places)) geometries_fault missing_fault headers_fault
+      (bad_header (status_at c places)) all.1 in
+      let bounds = and_parts (nat_le 5 places) (nat_le places 1028) (if_none (nat_le 5 places && nat_le places 1028) Geometry all.0) in
+      record {
+        least = leb-true 5 places bounds.0;
+        most = leb-true places 1028 bounds.1;
+        formatted = heads.0;
+        geometry = heads.1;
+        geometries = none_before (λ u. other_geometry (current_at c places u)) (places - 4) heads.2;
+        there = none_before (λ u. missing u (current_at c places u)) (places - 4) heads.3;
+        headers = none_before (λ u. bad_header (current_at c places u)) (places - 4) heads.4;
+        header = heads.5;
+        commits = none_before (commit_fault c (status_at c places)) sectors all.2;
+        logs = none_before (log_fault (header_at c places) (current_at c places) c) (places * 256) all.3;
+        fresh = ltb-true (greatest_found c places) (2 ^ 63) (if_none (nat_lt (greatest_found c places) (2 ^ 63)) Spent all.4);
+        spares = leb-true (spares_found c places) 2 (if_none (nat_le (spares_found c places) 2) (NoSpare (spares_found c places)) all.5);
+      }
+
+  pub no_fault_from : HasNoFault c places → first_fault c places ≡ None
+  no_fault_from it = six_none (size_fault places) (header_fault c places) (first_commit_fault c places) (first_log_fault c places) (spent (greatest_found c places))
+      (no_spare (spares_found c places))
+      (cond-true (nat_le 5 places && nat_le places 1028) None (Some Geometry) (and_from _ _ (le-leb 5 places it.least) (le-leb places 1028 it.most)))
+      (six_none (not_formatted (status_at c places)) (other_geometry (status_at c places)) geometries_fault missing_fault headers_fault (bad_header (status_at c places))
+      it.formatted
+      it.geometry
+      (first_none (λ u. other_geometry (current_at c places u)) (places - 4) it.geometries)
+      (first_none (λ u. missing u (current_at c places u)) (places - 4) it.there)
+      (first_none (λ u. bad_header (current_at c places u)) (places - 4) it.headers)
+      it.header)
+      (first_none (commit_fault c (status_at c places)) sectors it.commits)
+      (first_none (log_fault (header_at c places) (current_at c places) c) (places * 256) it.logs)
+      (cond-true (nat_lt (greatest_found c places) (2 ^ 63)) None (Some Spent) (lt-ltb (greatest_found c places) (2 ^ 63) it.fresh))
+      (cond-true (nat_le (spares_found c places) 2) None (Some (NoSpare (spares_found c places))) (le-leb (spares_found c places) 2 it.spares))

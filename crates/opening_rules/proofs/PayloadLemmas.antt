@@ -1,0 +1,230 @@
+-- The tests of payloads are their grammars.
+use Rattle.std.proofs.Common.{◌≡◌, inl, inr, ◌≤◌, ◌<◌, ◌^◌, ℕ, zero, suc, ◌*◌, ◌/◌, ◌%◌, true, false, eqb, List, [], ◌∷◌, ◌++◌, Option, Some, None, ◌∙◌, ap, ap₂, sym, refl, subst, arith, length, take, drop, get_or, All, append_assoc, length-drop}
+use Rattle.std.specs.List.{list_all, flat_map}
+use Rattle.std.specs.Option.{option_map_or}
+use Rattle.std.proofs.lemmas.Bool.{eqb-true, leb-true, eq-eqb, le-leb, and_parts, and_from, or_cases, or_left, or_right}
+use Rattle.std.proofs.lemmas.List.{append-nil, take-append-drop, take_at, take_all, drop_at, drop-drop, length-take-le, get_or-drop, nil_from_length}
+use Rattle.std.proofs.lemmas.List.Elements.{All-nil, All-cons, All-head, All-tail}
+use Rattle.ipl_format.specs.Numbers.{IsBytes, word, long, word_at, long_at}
+use Rattle.ipl_format.specs.Record.{Record, IsRecord, SpellsLog, record_bytes, log_bytes}
+use Rattle.ipl_format.specs.Commit.{IsLong}
+use Rattle.ipl_format.specs.Header.{IsCount, data_header_bytes}
+use Rattle.ipl_format.proofs.ListLemmas.{bytes-drop}
+use Rattle.ipl_format.proofs.NumberLemmas.{length-long, word_rebuilt, long_rebuilt, word_at-lt, long_at-lt, word_again, long_again}
+use Rattle.ipl_format.proofs.PayloadLemmas.{commits_have_sizes, data_headers_have_sizes, units_have_sizes}
+use Rattle.log_records.specs.Reading.{record_at}
+use Rattle.log_records.proofs.RecordLemmas.{again, takes, shorter}
+use Rattle.log_records.proofs.RecordsLemmas.{records_list}
+use Rattle.opening_rules.specs.Payloads.{pieces_in, is_count, numbers_within, is_list_within, is_log_payload}
+use Rattle.opening_rules.specs.PayloadLaws.{DataPayloadsAreSpelled, SpelledDataPasses, StatusPayloadsAreSpelled, SpelledStatusPasses, CommitPayloadsAreSpelled, SpelledCommitsPass, LogPayloadsAreSpelled, SpelledLogsPass}
+
+-- ---- data headers
+
+counts_are : (xs : List ℕ) → list_all is_count xs ≡ true → All IsCount xs
+counts_are [] is = All-nil IsCount
+counts_are (x ∷ xs) is = let parts = and_parts _ _ is in All-cons IsCount x xs (leb-true x 16 parts.0) (counts_are xs parts.1)
+
+counts_pass : (xs : List ℕ) → All IsCount xs → list_all is_count xs ≡ true
+counts_pass [] each = refl
+counts_pass (x ∷ xs) each = and_from _ _ (le-leb x 16 (All-head IsCount x xs each)) (counts_pass xs (All-tail IsCount x xs each))
+
+one_left : (xs : List ℕ) → length xs ≡ 1 → xs ≡ get_or xs 0 0 ∷ []
+one_left [] one = absurd (omega (arith, one))
+one_left (x ∷ []) one = refl
+one_left (x ∷ y ∷ xs) one = absurd (omega (arith, one))
+
+-- twenty bytes are a number, fifteen counts and one more
+twenty : (payload : List ℕ) → length payload ≡ 20 → IsBytes payload
+    → payload ≡ data_header_bytes (word_at 0 payload) (pieces_in payload) (get_or payload 19 0)
+unfolding data_header_bytes
+twenty payload size all =
+    let number : take 4 payload ≡ word (word_at 0 payload) = word_rebuilt 0 payload (omega (arith, size)) all in
+    let tail : drop 15 (drop 4 payload) ≡ get_or payload 19 0 ∷ [] =
+    drop-drop 15 4 payload ∙ (one_left (drop 19 payload) (omega (arith, length-drop 19 payload, size))
+    ∙ ap (λ (n : ℕ). n ∷ []) (get_or-drop 19 payload 0 0)) in
+    sym (take-append-drop 4 payload) ∙ ap₂ (λ (x y : List ℕ). x ++ y) number
+    (sym (take-append-drop 15 (drop 4 payload)) ∙ ap (λ (x : List ℕ). take 15 (drop 4 payload) ++ x) tail)
+    ∙ sym (append_assoc (word (word_at 0 payload)) (take 15 (drop 4 payload)) (get_or payload 19 0 ∷ []))
+
+pub data_payloads_are_spelled : DataPayloadsAreSpelled
+data_payloads_are_spelled units payload all is =
+    let a = and_parts _ _ is in
+    let b = and_parts _ _ a.1 in
+    let d = and_parts _ _ b.1 in
+    let size : length payload ≡ 20 = eqb-true (length payload) 20 a.0 in
+    let same : word_at 0 payload ≡ units = eqb-true (word_at 0 payload) units b.0 in
+    record {
+      carried = get_or payload 19 0;
+      bytes = twenty payload size all ∙ ap (λ (n : ℕ). data_header_bytes n (pieces_in payload) (get_or payload 19 0)) same;
+      fits = let low = word_at-lt 0 payload all in omega (arith, low, same);
+      fifteen = length-take-le 15 (drop 4 payload) (omega (arith, length-drop 4 payload, size));
+      each = counts_are (pieces_in payload) d.0;
+      few = leb-true (get_or payload 19 0) 12 d.1;
+    }
+
+-- what was written is read
+parts : (units carried : ℕ) (pieces : List ℕ) → length pieces ≡ 15 → units < 2 ^ 32
+    → (word_at 0 (data_header_bytes units pieces carried) ≡ units) × (pieces_in (data_header_bytes units pieces carried) ≡ pieces)
+    × (get_or (data_header_bytes units pieces carried) 19 0 ≡ carried)
+unfolding data_header_bytes word
+parts units carried pieces fifteen low =
+    let rest : drop 4 ((word units ++ pieces) ++ carried ∷ []) ≡ pieces ++ carried ∷ [] = dropped units pieces (carried ∷ []) in (
+      ap (word_at 0) (append_assoc (word units) pieces (carried ∷ [])) ∙ word_again units (pieces ++ carried ∷ []) low,
+      ap (take 15) rest ∙ take_at pieces (carried ∷ []) 15 fifteen,
+      sym (get_or-drop 19 ((word units ++ pieces) ++ carried ∷ []) 0 0)
+          ∙ ap (λ (l : List ℕ). get_or l 0 0) (sym (drop-drop 15 4 ((word units ++ pieces) ++ carried ∷ []))
+          ∙ (ap (drop 15) rest ∙ drop_at pieces (carried ∷ []) 15 fifteen)),
+    )
+  where
+    dropped : (n : ℕ) (xs ys : List ℕ) → drop 4 ((word n ++ xs) ++ ys) ≡ xs ++ ys
+    dropped n xs ys = refl
+
+pub spelled_data_passes : SpelledDataPasses
+spelled_data_passes units pieces payload it =
+    let size = data_headers_have_sizes payload units pieces it in
+    let p = parts units it.carried pieces it.fifteen it.fits in
+    let number : word_at 0 payload ≡ units = ap (word_at 0) it.bytes ∙ p.0 in
+    let same : pieces_in payload ≡ pieces = ap pieces_in it.bytes ∙ p.1 in
+    let last : get_or payload 19 0 ≡ it.carried = ap (λ (l : List ℕ). get_or l 19 0) it.bytes ∙ p.2 in (
+      and_from _ _ (eq-eqb (length payload) 20 size) (and_from _ _ (eq-eqb (word_at 0 payload) units number)
+          (and_from _ _ (ap (list_all is_count) same ∙ counts_pass pieces it.each) (le-leb (get_or payload 19 0) 12 (let few = it.few in omega (arith, few, last))))),
+      same,
+    )
+
+-- ---- status headers
+
+pub status_payloads_are_spelled : StatusPayloadsAreSpelled
+status_payloads_are_spelled units payload all is =
+    let a = and_parts _ _ is in
+    let size : length payload ≡ 4 = eqb-true (length payload) 4 a.0 in
+    let same : word_at 0 payload ≡ units = eqb-true (word_at 0 payload) units a.1 in
+    record {
+      bytes = sym (take_all 4 payload (omega (arith, size))) ∙ (word_rebuilt 0 payload (omega (arith, size)) all ∙ ap word same);
+      fits = let low = word_at-lt 0 payload all in omega (arith, same, low);
+    }
+
+pub spelled_status_passes : SpelledStatusPasses
+spelled_status_passes units payload it =
+    and_from _ _ (eq-eqb (length payload) 4 (units_have_sizes payload units it))
+    (eq-eqb (word_at 0 payload) units (ap (word_at 0) (it.bytes ∙ sym (append-nil (word units))) ∙ word_again units [] it.fits))
+
+-- ---- commit sectors
+
+-- bytes of n numbers are the numbers' bytes
+numbers_spelled : (n : ℕ) (bytes : List ℕ) → IsBytes bytes → length bytes ≡ 8 * n → bytes ≡ flat_map long (numbers_within n bytes)
+numbers_spelled zero bytes all size = nil_from_length bytes (omega (arith, size))
+numbers_spelled (suc n) bytes all size =
+    let first : take 8 bytes ≡ long (long_at 0 bytes) = long_rebuilt 0 bytes (omega (arith, size)) all in
+    let rest : drop 8 bytes ≡ flat_map long (numbers_within n (drop 8 bytes)) =
+    numbers_spelled n (drop 8 bytes) (bytes-drop 8 bytes all) (omega (arith, length-drop 8 bytes, size)) in
+    sym (take-append-drop 8 bytes) ∙ ap₂ (λ (x y : List ℕ). x ++ y) first rest
+
+numbers_are_long : (n : ℕ) (bytes : List ℕ) → IsBytes bytes → All IsLong (numbers_within n bytes)
+numbers_are_long zero bytes all = All-nil IsLong
+numbers_are_long (suc n) bytes all =
+    All-cons IsLong (long_at 0 bytes) (numbers_within n (drop 8 bytes)) (long_at-lt 0 bytes all) (numbers_are_long n (drop 8 bytes) (bytes-drop 8 bytes all))
+
+numbers_count : (n : ℕ) (bytes : List ℕ) → length (numbers_within n bytes) ≡ n
+numbers_count zero bytes = refl
+numbers_count (suc n) bytes = let rest = numbers_count n (drop 8 bytes) in omega (arith, rest)
+
+pub commit_payloads_are_spelled : CommitPayloadsAreSpelled
+commit_payloads_are_spelled payload all is =
+    let a = and_parts _ _ is in
+    let b = and_parts _ _ a.1 in
+    let whole : length payload % 8 ≡ 0 = eqb-true (length payload % 8) 0 a.0 in
+    let some : 1 ≤ length payload / 8 = leb-true 1 (length payload / 8) b.0 in
+    let most : length payload / 8 ≤ 60 = leb-true (length payload / 8) 60 b.1 in
+    let count = numbers_count (length payload / 8) payload in
+    record {
+      bytes = numbers_spelled (length payload / 8) payload all (omega (arith, whole));
+      some = omega (arith, count, some);
+      most = omega (arith, count, most);
+      each = numbers_are_long (length payload / 8) payload all;
+    }
+
+-- numbers that were written are read
+numbers_again : (numbers : List ℕ) → All IsLong numbers → numbers_within (length numbers) (flat_map long numbers) ≡ numbers
+numbers_again [] each = refl
+numbers_again (n ∷ numbers) each =
+    ap₂ (λ (x : ℕ) (xs : List ℕ). x ∷ xs)
+    (long_again n (flat_map long numbers) (All-head IsLong n numbers each))
+    (ap (numbers_within (length numbers)) (drop_at (long n) (flat_map long numbers) 8 (length-long n)) ∙ numbers_again numbers (All-tail IsLong n numbers each))
+
+pub spelled_commits_pass : SpelledCommitsPass
+spelled_commits_pass payload numbers it =
+    let size : length payload ≡ 8 * length numbers = commits_have_sizes payload numbers it in
+    let some = it.some in
+    let most = it.most in
+    let count : length payload / 8 ≡ length numbers = omega (arith, size) in (
+      and_from _ _ (eq-eqb (length payload % 8) 0 (omega (arith, size)))
+          (and_from _ _ (le-leb 1 (length payload / 8) (omega (arith, count, some))) (le-leb (length payload / 8) 60 (omega (arith, count, most)))),
+      ap (λ (n : ℕ). numbers_within n payload) count ∙ ap (numbers_within (length numbers)) it.bytes ∙ numbers_again numbers it.each,
+    )
+
+-- ---- log sectors
+
+more_spelled : (bytes : List ℕ) (r : Record) (rest : List ℕ) (records : List Record) → bytes ≡ record_bytes r ++ rest → IsRecord r → SpellsLog rest records
+    → SpellsLog bytes (r ∷ records)
+more_spelled bytes r rest records e is it = record {
+  bytes = e ∙ ap (λ (xs : List ℕ). record_bytes r ++ xs) it.bytes;
+  valid = All-cons IsRecord r records is it.valid;
+}
+
+-- what is left of bytes are bytes
+rest_bytes : (bytes : List ℕ) (r : Record) (rest : List ℕ) → IsBytes bytes → bytes ≡ record_bytes r ++ rest → IsBytes rest
+rest_bytes bytes r rest all e =
+    let left : drop (length (record_bytes r)) bytes ≡ rest = ap (drop (length (record_bytes r))) e ∙ drop_at (record_bytes r) rest (length (record_bytes r)) refl in
+    subst IsBytes left (bytes-drop (length (record_bytes r)) bytes all)
+
+abbrev IsList : List ℕ → Type 0
+IsList bytes = (records : List Record) × SpellsLog bytes records
+
+no_record : (bytes : List ℕ) → length bytes ≡ 0 → IsList bytes
+no_record bytes none = ([], record { bytes = nil_from_length bytes none; valid = All-nil IsRecord })
+
+record_first : (n : ℕ) (bytes : List ℕ) → IsBytes bytes → ((xs : List ℕ) → IsBytes xs → is_list_within n xs ≡ true → IsList xs)
+    → (o : Option (Record × List ℕ)) → record_at bytes ≡ o → option_map_or (λ (p : Record × List ℕ). is_list_within n p.1) o false ≡ true → IsList bytes
+record_first n bytes all later None e is = cc
+record_first n bytes all later (Some p) e is =
+    let t = takes bytes p.0 p.1 all e in
+    let on = later p.1 (rest_bytes bytes p.0 p.1 all t.spelled) is in
+    (p.0 ∷ on.0, more_spelled bytes p.0 p.1 on.0 t.spelled t.entry on.1)
+
+-- bytes that pass are a list
+list_spelled : (n : ℕ) (bytes : List ℕ) → IsBytes bytes → is_list_within n bytes ≡ true → IsList bytes
+list_spelled zero bytes all is = no_record bytes (eqb-true (length bytes) 0 is)
+list_spelled (suc n) bytes all is = elim (or_cases _ _ is) [
+  | inl none ↦ no_record bytes (eqb-true (length bytes) 0 none)
+  | inr some ↦ record_first n bytes all (λ xs bytes_too passes. list_spelled n xs bytes_too passes) (record_at bytes) refl some
+]
+
+pub log_payloads_are_spelled : LogPayloadsAreSpelled
+unfolding is_log_payload
+log_payloads_are_spelled payload all is =
+    let it = list_spelled (length payload) payload all is in
+    subst (λ (records : List Record). SpellsLog payload records) (sym (records_list it.0 payload it.1)) it.1
+
+passes_with : (n : ℕ) (bytes : List ℕ) (r : Record) (rest : List ℕ) → record_at bytes ≡ Some (r, rest) → is_list_within n rest ≡ true
+    → is_list_within (suc n) bytes ≡ true
+passes_with n bytes r rest e passes =
+    or_right (eqb (length bytes) 0) _ (ap (λ (o : Option (Record × List ℕ)). option_map_or (λ (p : Record × List ℕ). is_list_within n p.1) o false) e ∙ passes)
+
+-- a list passes
+list_passes : (records : List Record) (n : ℕ) (bytes : List ℕ) → SpellsLog bytes records → length bytes ≤ n → is_list_within n bytes ≡ true
+list_passes [] zero bytes it long_enough = eq-eqb (length bytes) 0 (ap length it.bytes)
+list_passes [] (suc n) bytes it long_enough = or_left (eqb (length bytes) 0) _ (eq-eqb (length bytes) 0 (ap length it.bytes))
+list_passes (r ∷ records) n bytes it long_enough =
+    let first : record_at bytes ≡ Some (r, log_bytes records) = ap record_at it.bytes ∙ again r (log_bytes records) (All-head IsRecord r records it.valid) in
+    let less = shorter bytes r (log_bytes records) first in
+    more_passes n (log_bytes records) first less long_enough
+    (λ m short. list_passes records m (log_bytes records) (record { bytes = refl; valid = All-tail IsRecord r records it.valid }) short)
+  where
+    more_passes : (n : ℕ) (rest : List ℕ) → record_at bytes ≡ Some (r, rest) → length rest < length bytes → length bytes ≤ n
+        → ((m : ℕ) → length rest ≤ m → is_list_within m rest ≡ true) → is_list_within n bytes ≡ true
+    more_passes zero rest first less long_enough later = absurd (omega (arith, less, long_enough))
+    more_passes (suc n) rest first less long_enough later = passes_with n bytes r rest first (later n (omega (arith, less, long_enough)))
+
+pub spelled_logs_pass : SpelledLogsPass
+unfolding is_log_payload
+spelled_logs_pass payload records it = (list_passes records (length payload) payload it (omega arith), records_list records payload it)

@@ -1,0 +1,67 @@
+-- What each fault says of a chart.
+use Rattle.std.specs.Prelude.{ℕ, ◌≡◌, ◌⊎◌, ◌<◌, ◌≤◌, ◌-◌, ◌/◌, ◌%◌, ◌^◌, false, true, Some}
+use Rattle.ipl_base.specs.declared.fault.ChipFault.TheVariants.{ReadFault, Stopped, Damaged, Malformed}
+use Rattle.ipl_base.specs.declared.fault.ImageFault.{ImageFault}
+use Rattle.ipl_base.specs.declared.fault.ImageFault.TheVariants.{Geometry, NotFormatted, Missing, Chip, Spent, NoSpare}
+use Rattle.ipl_format.specs.Sector.{Sector}
+use Rattle.ipl_meaning.specs.Chart.{Chart, IsChosen, IsDataHeader, IsStatusHeader}
+use Rattle.opening_rules.specs.Payloads.{begins_with_other_units, is_commit_payload}
+use Rattle.opening_rules.specs.Chosen.{Pick, is_head_payload, status_at}
+use Rattle.opening_rules.specs.Live.{sectors, commit_at}
+use Rattle.opening_rules.specs.Faults.{malformed, greatest_found, spares_found, first_fault}
+use Rattle.opening_rules.specs.FaultLaws.{IsLeastMissing, IsFirstBadLog}
+
+-- the header counts: it is the status header, or that of a unit
+abbrev pub Counts : Chart → ℕ → ℕ → Sector → Type 0
+Counts c places p head =
+    IsChosen c places IsStatusHeader p head
+    ⊎ ((u : ℕ) × (u < places - 4) × IsChosen c places (IsDataHeader u) p head)
+
+-- a header that counts was written for another number of units
+pub record HasOtherUnits (c : Chart) (places : ℕ) : Type 0 where
+  pub place : ℕ
+  pub head : Sector
+  pub counts : Counts c places place head
+  pub other : begins_with_other_units (places - 4) head.payload ≡ true
+
+-- the header at this place counts, and its payload is not in the grammar of its kind
+pub record HasBadHeader (c : Chart) (places p : ℕ) : Type 0 where
+  pub head : Sector
+  pub counts : Counts c places p head
+  pub bad : is_head_payload (places - 4) head.kind head.payload ≡ false
+
+-- this commit sector is the first of the status place whose payload is not in its grammar
+pub record IsFirstBadCommit (c : Chart) (places p s : ℕ) : Type 0 where
+  pub status : Pick
+  pub here : status_at c places ≡ Some status
+  pub at : status.place ≡ p
+  pub low : s < sectors
+  pub sector : Sector
+  pub counts : commit_at c (Some status) s ≡ Some sector
+  pub bad : is_commit_payload sector.payload ≡ false
+  pub earlier : (t : ℕ) (other : Sector) → t < s → commit_at c (Some status) t ≡ Some other
+      → is_commit_payload other.payload ≡ true
+
+-- the sector is a header, a commit sector or a log sector at fault
+abbrev pub IsBadSector : Chart → ℕ → ℕ → ℕ → Type 0
+IsBadSector c places p s =
+    ((s ≡ 0) × HasBadHeader c places p)
+    ⊎ IsFirstBadCommit c places p s
+    ⊎ ((k : ℕ) × (p ≡ k / 256) × (s ≡ k % 256) × IsFirstBadLog c places k (malformed p s))
+
+-- the cause of each fault; those of failed calls have none here
+abbrev pub IsCaused : Chart → ℕ → ImageFault → Type 0
+IsCaused c places Geometry = (places < 5) ⊎ (1028 < places) ⊎ HasOtherUnits c places
+IsCaused c places NotFormatted = (p : ℕ) (head : Sector) → p < places → c p 0 ≡ Some head → ¬ IsStatusHeader head
+IsCaused c places (Missing u) = IsLeastMissing c places u
+IsCaused c places (Chip ReadFault) = ⊥
+IsCaused c places (Chip Stopped) = ⊥
+IsCaused c places (Chip (Damaged p s stored computed)) = ⊥
+IsCaused c places (Chip (Malformed p s)) = IsBadSector c places p s
+IsCaused c places Spent = 2 ^ 63 ≤ greatest_found c places
+IsCaused c places (NoSpare k) = (2 < k) × (k ≡ spares_found c places)
+
+-- each fault comes where its cause is
+abbrev pub FaultsAreCaused : Type 0
+FaultsAreCaused =
+    (c : Chart) (places : ℕ) (fault : ImageFault) → first_fault c places ≡ Some fault → IsCaused c places fault

@@ -1,0 +1,90 @@
+-- The headers of a chip, and which of them count.
+use Rattle.std.specs.Prelude.{ℕ, zero, suc, ◌-◌, nat_lt, nat_le, ◌==◌, ◌&&◌, Bool, true, List, Option, Some, None, if◌then◌else◌}
+use Rattle.ipl_format.specs.Sector.{Sector}
+use Rattle.ipl_meaning.specs.Chart.{Chart}
+use Rattle.opening_rules.specs.Payloads.{begins_with_other_units, is_data_payload, is_status_payload}
+
+-- what a table keeps of a header
+pub record Head : Type 0 where
+  pub kind : ℕ
+  pub unit : ℕ
+  pub generation : ℕ
+  pub serial : ℕ
+  -- it was written for another number of units
+  pub foreign : Bool
+  -- its payload is in the grammar of its kind
+  pub well : Bool
+
+-- a header, and its place
+pub record Pick : Type 0 where
+  pub place : ℕ
+  pub head : Head
+
+-- a header's payload is in the grammar of its kind; that of an overflow header isn't tested
+abbrev pub is_head_payload : ℕ → ℕ → List ℕ → Bool
+is_head_payload units kind payload =
+    if kind == 1 then is_data_payload units payload else if kind == 2 then is_status_payload units payload else true
+
+-- what is kept of this one, on a chip of so many units
+abbrev pub head_of : ℕ → Sector → Head
+head_of units sector = record {
+  kind = sector.kind;
+  unit = sector.unit;
+  generation = sector.generation;
+  serial = sector.serial;
+  foreign = begins_with_other_units units sector.payload;
+  well = is_head_payload units sector.kind sector.payload;
+}
+
+-- the sector is of one of the three kinds of header
+abbrev pub is_header : Sector → Bool
+is_header sector = nat_le 1 sector.kind && nat_le sector.kind 3
+
+-- the header in a sector 0, if it is one
+abbrev pub header_in : ℕ → Option Sector → Option Head
+header_in units None = None
+header_in units (Some sector) = if is_header sector then Some (head_of units sector) else None
+
+-- the header of each place
+abbrev pub header_at : Chart → ℕ → ℕ → Option Head
+header_at c places p = if nat_lt p places then header_in (places - 4) (c p 0) else None
+
+-- it is a data header of the unit
+abbrev pub is_data_of : ℕ → Head → Bool
+is_data_of u head = (head.kind == 1) && (head.unit == u)
+
+-- a status header
+abbrev pub is_status : Head → Bool
+is_status head = head.kind == 2
+
+-- an overflow header
+abbrev pub is_overflow : Head → Bool
+is_overflow head = head.kind == 3
+
+-- of the one before and the header of a later place, the one with the greater serial
+abbrev pub picked : (Head → Bool) → Option Pick → ℕ → Option Head → Option Pick
+picked fits before place None = before
+picked fits None place (Some head) = if fits head then Some (record { place = place; head = head }) else None
+picked fits (Some best) place (Some head) =
+    if fits head && nat_lt best.head.serial head.serial then Some (record { place = place; head = head }) else Some best
+
+-- of the headers below place n that fit, the one that counts
+abbrev pub chosen : (Head → Bool) → (ℕ → Option Head) → ℕ → Option Pick
+chosen fits heads zero = None
+chosen fits heads (suc n) = picked fits (chosen fits heads n) n (heads n)
+
+-- the current header of each unit
+abbrev pub current_in : (ℕ → Option Head) → ℕ → ℕ → Option Pick
+current_in heads places u = if nat_lt u (places - 4) then chosen (is_data_of u) heads places else None
+
+-- the status header
+abbrev pub status_in : (ℕ → Option Head) → ℕ → Option Pick
+status_in heads places = chosen is_status heads places
+
+-- the current header of each unit of a chart
+abbrev pub current_at : Chart → ℕ → ℕ → Option Pick
+current_at c places = current_in (header_at c places) places
+
+-- the status header of a chart
+abbrev pub status_at : Chart → ℕ → Option Pick
+status_at c places = status_in (header_at c places) places

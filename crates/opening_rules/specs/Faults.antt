@@ -1,0 +1,202 @@
+-- What is at fault on a chart, in the order in which it is told.
+use Rattle.std.specs.Prelude.{ℕ, ◌≡◌, ◌*◌, ◌-◌, ◌/◌, ◌%◌, ◌^◌, nat_lt, nat_le, ◌==◌, ◌&&◌, ◌||◌, not, Bool, true, false, List, [], ◌∷◌, max, Option, Some, None, if◌then◌else◌, Result, MatchResult}
+use Rattle.std.specs.List.{list_any, count_by}
+use Rattle.ipl_base.specs.declared.fault.ChipFault.TheVariants.{ReadFault, Stopped, Damaged, Malformed}
+use Rattle.ipl_base.specs.declared.fault.ImageFault.{ImageFault}
+use Rattle.ipl_base.specs.declared.fault.ImageFault.TheVariants.{Geometry, NotFormatted, Missing, Chip, Spent, NoSpare}
+use Rattle.ipl_format.specs.Sector.{Sector}
+use Rattle.ipl_meaning.specs.Chart.{Chart}
+use Rattle.opening_rules.specs.First.{first_below, first_of, greatest_below, greatest_of, count_below}
+use Rattle.opening_rules.specs.Payloads.{is_commit_payload, is_log_payload, numbers_told, tids_told}
+use Rattle.opening_rules.specs.Chosen.{Head, Pick, header_at, current_at, status_at}
+use Rattle.opening_rules.specs.Live.{sectors, commit_at, seen_at, live_at, is_spare, Mark, mark_of, marks, marks_in}
+
+-- the sector at fault
+abbrev pub malformed : ℕ → ℕ → ImageFault
+malformed p s = Chip (Malformed p s)
+
+-- ---- size
+
+-- a chip has 5 to 1028 places
+abbrev pub size_fault : ℕ → Option ImageFault
+size_fault places = if nat_le 5 places && nat_le places 1028 then None else Some Geometry
+
+-- ---- headers
+
+-- there is no status header
+abbrev pub not_formatted : Option Pick → Option ImageFault
+not_formatted None = Some NotFormatted
+not_formatted (Some pick) = None
+
+-- the header was written for another number of units
+abbrev pub other_geometry : Option Pick → Option ImageFault
+other_geometry None = None
+other_geometry (Some pick) = if pick.head.foreign then Some Geometry else None
+
+-- the unit has no current header
+abbrev pub missing : ℕ → Option Pick → Option ImageFault
+missing u None = Some (Missing u)
+missing u (Some pick) = None
+
+-- the header's payload is not in its grammar
+abbrev pub bad_header : Option Pick → Option ImageFault
+bad_header None = None
+bad_header (Some pick) = if pick.head.well then None else Some (malformed pick.place 0)
+
+-- what the headers are tested for
+abbrev pub header_tests : ℕ → Option Pick → (ℕ → Option Pick) → List (Option ImageFault)
+header_tests units status current =
+    not_formatted status
+    ∷ other_geometry status
+    ∷ first_below (λ u. other_geometry (current u)) units
+    ∷ first_below (λ u. missing u (current u)) units
+    ∷ first_below (λ u. bad_header (current u)) units
+    ∷ bad_header status
+    ∷ []
+
+-- the first fault of the headers
+abbrev pub header_fault : Chart → ℕ → Option ImageFault
+header_fault c places = first_of (header_tests (places - 4) (status_at c places) (current_at c places))
+
+-- ---- commit sectors
+
+-- a commit sector is tested for its payload
+abbrev pub commit_test : ℕ → ℕ → Option Sector → Option ImageFault
+commit_test p s None = None
+commit_test p s (Some sector) = if is_commit_payload sector.payload then None else Some (malformed p s)
+
+-- the fault of the commit sector at this number of the status place
+abbrev pub commit_fault : Chart → Option Pick → ℕ → Option ImageFault
+commit_fault c None s = None
+commit_fault c (Some pick) s = commit_test pick.place s (commit_at c (Some pick) s)
+
+-- the first commit sector at fault
+abbrev pub first_commit_fault : Chart → ℕ → Option ImageFault
+first_commit_fault c places = first_below (commit_fault c (status_at c places)) sectors
+
+-- ---- log sectors
+
+-- the other is of the same unit and has the same serial
+abbrev pub clashes : Mark → Mark → Bool
+clashes mark other = (other.unit == mark.unit) && (other.serial == mark.serial)
+
+-- the other is of the same unit and stands in an overflow place
+abbrev pub shares_spares : Mark → Mark → Bool
+shares_spares mark other = other.spare && (other.unit == mark.unit)
+
+-- it stands in an overflow place, as 16 of its unit already do
+abbrev pub is_full : Mark → List Mark → Bool
+is_full mark earlier = mark.spare && nat_le 16 (count_by (shares_spares mark) earlier)
+
+-- a live log sector is tested for its payload, and against those before it
+abbrev pub is_log_well : Mark → List Mark → List ℕ → Bool
+is_log_well mark earlier payload =
+    is_log_payload payload && not (list_any (clashes mark) earlier || is_full mark earlier)
+
+-- the fault of the one at the number k, after those with these marks
+abbrev pub log_test : (ℕ → Option Head) → List Mark → ℕ → Option Sector → Option ImageFault
+log_test heads earlier k None = None
+log_test heads earlier k (Some sector) =
+    if is_log_well (mark_of heads k sector) earlier sector.payload then None else Some (malformed (k / 256) (k % 256))
+
+-- the same, after all those before it
+abbrev pub log_fault : (ℕ → Option Head) → (ℕ → Option Pick) → Chart → ℕ → Option ImageFault
+log_fault heads current c k = log_test heads (marks heads current c k) k (live_at heads current c k)
+
+-- the first log sector at fault
+abbrev pub first_log_fault : Chart → ℕ → Option ImageFault
+first_log_fault c places = first_below (log_fault (header_at c places) (current_at c places) c) (places * 256)
+
+-- ---- numbers found
+
+-- the greater number of a header
+abbrev pub head_number : Option Head → ℕ
+head_number None = 0
+head_number (Some head) = max head.generation head.serial
+
+-- the greatest in a commit sector
+abbrev pub commit_number : Option Sector → ℕ
+commit_number None = 0
+commit_number (Some sector) = greatest_of (max sector.generation sector.serial) (numbers_told sector.payload)
+
+-- in a log sector
+abbrev pub log_number : Option Sector → ℕ
+log_number None = 0
+log_number (Some sector) = greatest_of (max sector.generation sector.serial) (tids_told sector.payload)
+
+-- in the headers
+abbrev pub greatest_of_heads : (ℕ → Option Head) → ℕ → ℕ
+greatest_of_heads heads places = greatest_below 0 (λ p. head_number (heads p)) places
+
+-- and in the commit sectors of the status place, below this number
+abbrev pub greatest_of_commits : ℕ → Chart → Option Pick → ℕ → ℕ
+greatest_of_commits least c status n = greatest_below least (λ s. commit_number (commit_at c status s)) n
+
+-- and in the log sectors below the number k
+abbrev pub greatest_of_logs : ℕ → (ℕ → Option Head) → (ℕ → Option Pick) → Chart → ℕ → ℕ
+greatest_of_logs least heads current c k = greatest_below least (λ j. log_number (seen_at heads current c j)) k
+
+-- the greatest number found on a chart
+abbrev pub greatest_found : Chart → ℕ → ℕ
+greatest_found c places =
+    let heads = header_at c places in
+    greatest_of_logs (greatest_of_commits (greatest_of_heads heads places) c (status_at c places) sectors)
+    heads (current_at c places) c (places * 256)
+
+-- numbers are used up
+abbrev pub spent : ℕ → Option ImageFault
+spent greatest = if nat_lt greatest (2 ^ 63) then None else Some Spent
+
+-- ---- overflow places
+
+-- the mark is of this place
+abbrev pub is_in : ℕ → Mark → Bool
+is_in p mark = mark.place == p
+
+-- the place is an overflow place with a live log sector
+abbrev pub holds_live : (ℕ → Option Head) → List Mark → ℕ → Bool
+holds_live heads live p = is_spare (heads p) && list_any (is_in p) live
+
+-- how many overflow places of a chart hold live log sectors
+abbrev pub spares_found : Chart → ℕ → ℕ
+spares_found c places =
+    count_below (holds_live (header_at c places) (marks_in c places (places * 256))) places
+
+-- more than two hold them
+abbrev pub no_spare : ℕ → Option ImageFault
+no_spare n = if nat_le n 2 then None else Some (NoSpare n)
+
+-- ---- all of it
+
+-- all that is tested, in order
+abbrev pub tests : Chart → ℕ → List (Option ImageFault)
+tests c places =
+    size_fault places
+    ∷ header_fault c places
+    ∷ first_commit_fault c places
+    ∷ first_log_fault c places
+    ∷ spent (greatest_found c places)
+    ∷ no_spare (spares_found c places)
+    ∷ []
+
+-- the first fault, if there is one
+abbrev pub first_fault : Chart → ℕ → Option ImageFault
+first_fault c places = first_of (tests c places)
+
+-- ---- told
+
+-- the fault is about what the chip holds, and not about a call that failed
+abbrev pub is_image : ImageFault → Bool
+is_image Geometry = true
+is_image NotFormatted = true
+is_image (Missing u) = true
+is_image (Chip ReadFault) = false
+is_image (Chip Stopped) = false
+is_image (Chip (Damaged p s stored computed)) = false
+is_image (Chip (Malformed p s)) = true
+is_image Spent = true
+is_image (NoSpare n) = true
+
+-- Ok exactly where there is no fault, and else this one, unless a call failed
+abbrev pub Tells : {T : Type 0} → Option ImageFault → Result T ImageFault → Type 0
+Tells fault result = MatchResult result (λ done. fault ≡ None) (λ e. is_image e ≡ true → fault ≡ Some e)

@@ -1,0 +1,68 @@
+-- The laws of an opening: no fault is a chart that is laid out rightly, with numbers that are not used up.
+use Rattle.std.specs.Prelude.{ℕ, ◌≡◌, ◌<◌, ◌≤◌, ◌⊎◌, ◌+◌, ◌^◌, true, List, length, Some, None}
+use Rattle.chip_trait.specs.Story.{Contents}
+use Rattle.ipl_format.specs.Numbers.{IsBytes}
+use Rattle.ipl_format.specs.Sector.{Sector}
+use Rattle.ipl_meaning.specs.Chart.{Chart, chart_of}
+use Rattle.ipl_meaning.specs.Formatted.{formatted}
+use Rattle.ipl_meaning.specs.Layout.{Layout, Laid}
+use Rattle.ipl_meaning.specs.Found.{IsFound, IsAbove}
+use Rattle.opening_rules.specs.Chosen.{header_at, current_at, status_at}
+use Rattle.opening_rules.specs.Live.{is_at, is_log_spot}
+use Rattle.opening_rules.specs.Faults.{first_fault, greatest_found}
+use Rattle.opening_rules.specs.LaidOut.{layout_in}
+
+-- an opening reads this sector: a header, one of the status place, or one where log sectors may stand
+abbrev pub MayBeRead : ℕ → Chart → ℕ → ℕ → Type 0
+MayBeRead places c p s =
+    (s ≡ 0) ⊎ (is_at (status_at c places) p ≡ true) ⊎ (is_log_spot (header_at c places) (current_at c places) p s ≡ true)
+
+-- the payloads that an opening reads are bytes
+abbrev pub IsByteChart : ℕ → Chart → Type 0
+IsByteChart places c =
+    (p s : ℕ) (sector : Sector) → p < places → s < 256 → MayBeRead places c p s → c p s ≡ Some sector
+    → IsBytes sector.payload
+
+-- a sector has 512 bytes
+pub record IsWhole (sector : List ℕ) : Type 0 where
+  pub size : length sector ≡ 512
+  pub bytes : IsBytes sector
+
+-- where the sectors that it reads are so, they are
+abbrev pub WholeSectorsMakeByteCharts : Type 0
+WholeSectorsMakeByteCharts =
+    (x : Contents) (places : ℕ)
+    → ((p s : ℕ) → p < places → s < 256 → MayBeRead places (chart_of x) p s → IsWhole (x p s))
+    → IsByteChart places (chart_of x)
+
+-- a chart without a fault is laid out
+abbrev pub NoFaultIsLaid : Type 0
+NoFaultIsLaid =
+    (c : Chart) (places : ℕ) → IsByteChart places c → first_fault c places ≡ None → Laid places c (layout_in c places)
+
+-- and its numbers are not used up
+abbrev pub NoFaultIsFresh : Type 0
+NoFaultIsFresh =
+    (c : Chart) (places : ℕ) (it : Layout) → Laid places c it → first_fault c places ≡ None
+    → IsAbove places c it (2 ^ 63)
+
+-- a chart that is laid out, with numbers that are not used up, has no fault
+abbrev pub LaidHasNoFault : Type 0
+LaidHasNoFault =
+    (c : Chart) (places : ℕ) (it : Layout) → IsByteChart places c → Laid places c it → IsAbove places c it (2 ^ 63)
+    → first_fault c places ≡ None
+
+-- a chip that was just formatted has none
+abbrev pub FormattedChipsHaveNoFault : Type 0
+FormattedChipsHaveNoFault = (places : ℕ) → 5 ≤ places → places ≤ 1028 → first_fault (formatted places) places ≡ None
+
+-- no number found is above the greatest
+abbrev pub GreatestIsAbove : Type 0
+GreatestIsAbove =
+    (c : Chart) (places : ℕ) (it : Layout) → Laid places c it → IsAbove places c it (greatest_found c places + 1)
+
+-- and the greatest is found, if it isn't 0
+abbrev pub GreatestIsFound : Type 0
+GreatestIsFound =
+    (c : Chart) (places : ℕ) (it : Layout) → IsByteChart places c → Laid places c it
+    → (greatest_found c places ≡ 0) ⊎ IsFound places c it (greatest_found c places)

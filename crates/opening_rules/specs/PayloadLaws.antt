@@ -1,0 +1,53 @@
+-- The tests of payloads are their grammars.
+use Rattle.std.specs.Prelude.{ℕ, ◌≡◌, List, true}
+use Rattle.ipl_format.specs.Numbers.{IsBytes}
+use Rattle.ipl_format.specs.Record.{Record, SpellsLog}
+use Rattle.ipl_format.specs.Commit.{SpellsCommit}
+use Rattle.ipl_format.specs.Header.{SpellsDataHeader, SpellsUnits}
+use Rattle.log_records.specs.Reading.{records_of}
+use Rattle.opening_rules.specs.Payloads.{pieces_in, is_data_payload, is_status_payload, numbers_in, is_commit_payload, is_log_payload}
+
+-- bytes that pass as a data header's payload say how many pieces each page has
+abbrev pub DataPayloadsAreSpelled : Type 0
+DataPayloadsAreSpelled =
+    (units : ℕ) (payload : List ℕ) → IsBytes payload → is_data_payload units payload ≡ true
+    → SpellsDataHeader units (pieces_in payload) payload
+
+-- a data header's payload passes, and has its pieces
+abbrev pub SpelledDataPasses : Type 0
+SpelledDataPasses =
+    (units : ℕ) (pieces payload : List ℕ) → SpellsDataHeader units pieces payload
+    → (is_data_payload units payload ≡ true) × (pieces_in payload ≡ pieces)
+
+-- bytes that pass as a status header's payload say how many units there are
+abbrev pub StatusPayloadsAreSpelled : Type 0
+StatusPayloadsAreSpelled =
+    (units : ℕ) (payload : List ℕ) → IsBytes payload → is_status_payload units payload ≡ true
+    → SpellsUnits units payload
+
+-- a status header's payload passes
+abbrev pub SpelledStatusPasses : Type 0
+SpelledStatusPasses =
+    (units : ℕ) (payload : List ℕ) → SpellsUnits units payload → is_status_payload units payload ≡ true
+
+-- bytes that pass as a commit sector's payload say its numbers
+abbrev pub CommitPayloadsAreSpelled : Type 0
+CommitPayloadsAreSpelled =
+    (payload : List ℕ) → IsBytes payload → is_commit_payload payload ≡ true → SpellsCommit payload (numbers_in payload)
+
+-- a commit sector's payload passes, and has its numbers
+abbrev pub SpelledCommitsPass : Type 0
+SpelledCommitsPass =
+    (payload numbers : List ℕ) → SpellsCommit payload numbers
+    → (is_commit_payload payload ≡ true) × (numbers_in payload ≡ numbers)
+
+-- bytes that pass as a log sector's payload say its records
+abbrev pub LogPayloadsAreSpelled : Type 0
+LogPayloadsAreSpelled =
+    (payload : List ℕ) → IsBytes payload → is_log_payload payload ≡ true → SpellsLog payload (records_of payload)
+
+-- a log sector's payload passes, and has its records
+abbrev pub SpelledLogsPass : Type 0
+SpelledLogsPass =
+    (payload : List ℕ) (records : List Record) → SpellsLog payload records
+    → (is_log_payload payload ≡ true) × (records_of payload ≡ records)

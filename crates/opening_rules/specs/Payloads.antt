@@ -1,0 +1,73 @@
+-- Tests of payloads, and what they hold, by computing.
+use Rattle.std.specs.Prelude.{ℕ, zero, suc, ◌/◌, ◌%◌, ◌==◌, ◌&&◌, ◌||◌, not, nat_le, Bool, false, if◌then◌else◌, List, [], ◌∷◌, take, drop, length, slice_index, map}
+use Rattle.std.specs.List.{list_all}
+use Rattle.std.specs.Option.{option_map_or}
+use Rattle.ipl_format.specs.Numbers.{word_at, long_at}
+use Rattle.ipl_format.specs.Record.{Record}
+use Rattle.log_records.specs.Reading.{record_at, records_of}
+
+-- ---- headers
+
+-- it has room for a number of units, and begins with another one
+abbrev pub begins_with_other_units : ℕ → List ℕ → Bool
+begins_with_other_units units payload = nat_le 4 (length payload) && not (word_at 0 payload == units)
+
+-- how many base sectors each page has
+abbrev pub pieces_in : List ℕ → List ℕ
+pieces_in payload = take 15 (drop 4 payload)
+
+-- a page has at most 16
+abbrev pub is_count : ℕ → Bool
+is_count pieces = nat_le pieces 16
+
+-- a data header's payload, on a chip of so many units: the number of units, a count for each of 15 pages, and at most
+-- 12 carried log sectors
+abbrev pub is_data_payload : ℕ → List ℕ → Bool
+is_data_payload units payload =
+    (length payload == 20) && ((word_at 0 payload == units)
+    && (list_all is_count (pieces_in payload) && nat_le (slice_index payload 19) 12))
+
+-- a status header's payload: the number of units
+abbrev pub is_status_payload : ℕ → List ℕ → Bool
+is_status_payload units payload = (length payload == 4) && (word_at 0 payload == units)
+
+-- ---- commit sectors
+
+-- the first n numbers of eight bytes
+abbrev pub numbers_within : ℕ → List ℕ → List ℕ
+numbers_within zero bytes = []
+numbers_within (suc n) bytes = long_at 0 bytes ∷ numbers_within n (drop 8 bytes)
+
+-- the numbers of a commit sector's payload
+abbrev pub numbers_in : List ℕ → List ℕ
+numbers_in payload = numbers_within (length payload / 8) payload
+
+-- a commit sector's payload: 1 to 60 numbers of eight bytes, nothing left over
+abbrev pub is_commit_payload : List ℕ → Bool
+is_commit_payload payload =
+    (length payload % 8 == 0) && (nat_le 1 (length payload / 8) && nat_le (length payload / 8) 60)
+
+-- ---- log sectors
+
+-- the bytes are a list of at most n records, nothing left over
+abbrev pub is_list_within : ℕ → List ℕ → Bool
+is_list_within zero bytes = length bytes == 0
+is_list_within (suc n) bytes = (length bytes == 0) || option_map_or (λ p. is_list_within n p.1) (record_at bytes) false
+
+-- a log sector's payload: a list of records
+unfoldable pub is_log_payload : List ℕ → Bool
+is_log_payload payload = is_list_within (length payload) payload
+
+-- ---- the numbers that they hold, where they are in their grammar
+
+-- of transactions that are committed
+abbrev pub numbers_told : List ℕ → List ℕ
+numbers_told payload = if is_commit_payload payload then numbers_in payload else []
+
+-- of a record's transaction
+abbrev pub tid_of : Record → ℕ
+tid_of r = r.tid
+
+-- of transactions that have records
+abbrev pub tids_told : List ℕ → List ℕ
+tids_told payload = if is_log_payload payload then map tid_of (records_of payload) else []

@@ -1,0 +1,70 @@
+//! The laws of openings.
+ghost use Rattle.opening_rules.specs.FirstLaws.{FirstIsFirst, FirstIsFound, NoneIsFound, NoneIsThere};
+ghost use Rattle.opening_rules.specs.PayloadLaws.{DataPayloadsAreSpelled, SpelledDataPasses, StatusPayloadsAreSpelled, SpelledStatusPasses, CommitPayloadsAreSpelled, SpelledCommitsPass, LogPayloadsAreSpelled, SpelledLogsPass};
+ghost use Rattle.opening_rules.specs.LiveLaws.{SectorsAre256, FoundCommitsCount, CommitsAreFound, FoundLogsAreLive, LiveLogsAreFound};
+ghost use Rattle.opening_rules.specs.Laws.{WholeSectorsMakeByteCharts, NoFaultIsLaid, NoFaultIsFresh, LaidHasNoFault, FormattedChipsHaveNoFault, GreatestIsAbove, GreatestIsFound};
+ghost use Rattle.opening_rules.specs.CauseLaws.{FaultsAreCaused};
+ghost use Rattle.opening_rules.specs.FaultLaws.{NotFormattedIsExact, MissingIsLeast, BadLogsAreFirst};
+ghost use Rattle.opening_rules.specs.ChosenLaws.{CurrentsAreChosen, ChosenAreCurrent, NoneIsCurrent, StatusesAreChosen, ChosenAreStatus, NoneIsStatus};
+
+/// The first fault of several is the one with the least number.
+pub fn first_laws()
+    ensures first { FirstIsFirst }
+    ensures found { FirstIsFound }
+    ensures none { NoneIsFound }
+    ensures none_there { NoneIsThere }
+{}
+
+/// The tests of payloads are their grammars.
+pub fn payload_laws()
+    ensures data_headers { DataPayloadsAreSpelled }
+    ensures data_headers_pass { SpelledDataPasses }
+    ensures status_headers { StatusPayloadsAreSpelled }
+    ensures status_headers_pass { SpelledStatusPasses }
+    ensures commits { CommitPayloadsAreSpelled }
+    ensures commits_pass { SpelledCommitsPass }
+    ensures logs { LogPayloadsAreSpelled }
+    ensures logs_pass { SpelledLogsPass }
+{}
+
+/// The headers that are chosen are those that count.
+pub fn choosing_laws()
+    ensures current { CurrentsAreChosen }
+    ensures only { ChosenAreCurrent }
+    ensures none { NoneIsCurrent }
+    ensures status { StatusesAreChosen }
+    ensures only_status { ChosenAreStatus }
+    ensures no_status { NoneIsStatus }
+{}
+
+/// The commit sectors and live log sectors that are found are those that count.
+pub fn live_laws()
+    ensures sectors { SectorsAre256 }
+    ensures commits { FoundCommitsCount }
+    ensures all_commits { CommitsAreFound }
+    ensures logs { FoundLogsAreLive }
+    ensures all_logs { LiveLogsAreFound }
+{}
+
+/// No fault is exactly: laid out rightly, with numbers that are not used up.
+pub fn opening_laws()
+    ensures contents { WholeSectorsMakeByteCharts }
+    ensures laid { NoFaultIsLaid }
+    ensures fresh { NoFaultIsFresh }
+    ensures no_fault { LaidHasNoFault }
+    ensures formatted { FormattedChipsHaveNoFault }
+{}
+
+/// The greatest number found.
+pub fn number_laws()
+    ensures above { GreatestIsAbove }
+    ensures found { GreatestIsFound }
+{}
+
+/// Each fault comes where its cause is; what is missing, and which log sector is named.
+pub fn fault_laws()
+    ensures causes { FaultsAreCaused }
+    ensures not_formatted { NotFormattedIsExact }
+    ensures missing { MissingIsLeast }
+    ensures logs { BadLogsAreFirst }
+{}
