@@ -4,3 +4,12 @@ pub mod HeldLemmas
 pub mod LawfulLemmas
 pub mod MirrorLemmas
 pub mod FreshLemmas
+pub mod LookLemmas
+pub mod KeptLemmas
+pub mod TableLemmas
+pub mod CommitLemmas
+pub mod NoteLemmas
+pub mod LogLemmas
+pub mod FillLemmas
+pub mod OpenLemmas
+pub mod OpenedLemmas

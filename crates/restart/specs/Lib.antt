@@ -1,3 +1,10 @@
 pub mod Writes
 pub mod Events
 pub mod Fresh
+pub mod Looks
+pub mod Taken
+pub mod Notes
+pub mod Scanned
+pub mod Filled
+pub mod Shown
+pub mod Opened

@@ -1,0 +1,219 @@
+-- From the tables of an opening to the chart.
+use Rattle.std.proofs.Common.{◌≡◌, ◌≢◌, ◌⊎◌, inl, inr, ◌≤◌, ◌<◌, ◌+◌, ◌-◌, ◌*◌, ℕ, zero, suc, Bool, true, false, ◌&&◌, ◌||◌, nat_lt, List, length, get_or, Option, Some, None, Result, refl, sym, ◌∙◌, ap, subst, arith}
+use Rattle.std.specs.Result.{IsErrAnd}
+use Rattle.std.specs.Option.{option_or}
+use Rattle.std.proofs.lemmas.Bool.{cases_eq, cases_Bool, eq-eqb, ne_eqb, eqb-true, le-leb}
+use Rattle.chip_trait.specs.Story.{Contents}
+use Rattle.chip_trait.specs.Told.{Told}
+use Rattle.ipl_base.specs.declared.fault.ImageFault.{ImageFault}
+use Rattle.ipl_meaning.specs.Chart.{Chart, chart_of}
+use Rattle.ipl_meaning.specs.Layout.{Laid}
+use Rattle.ipl_meaning.specs.Tables.{Places, IsFree}
+use Rattle.opening_rules.specs.First.{at, first_below, first_of, count_below}
+use Rattle.opening_rules.specs.Chosen.{Head, Pick, header_at, current_in, current_at, status_in, status_at}
+use Rattle.opening_rules.specs.Live.{sectors, is_at, is_log_spot, is_spare, Mark, marks, marks_in}
+use Rattle.opening_rules.specs.Faults.{Tells, size_fault, not_formatted, other_geometry, missing, bad_header, header_tests, header_fault, first_fault, greatest_of_heads, greatest_of_commits, greatest_of_logs, greatest_found, spent, no_spare, holds_live}
+use Rattle.opening_rules.specs.LaidOut.{place_of, layout_in}
+use Rattle.opening_rules.specs.Laws.{MayBeRead, IsWhole}
+use Rattle.opening_rules.proofs.FirstLemmas.{none_before}
+use Rattle.opening_rules.proofs.ChosenLemmas.{chosen_is_best}
+use Rattle.opening_rules.proofs.PartLemmas.{six_parts}
+use Rattle.opening_rules.proofs.ContentsLemmas.{whole_sectors_make_byte_charts}
+use Rattle.opening_rules.proofs.NoFaultLemmas.{no_fault_is_laid}
+use Rattle.opening_rules.proofs.TellsLemmas.{tells_exit}
+use Rattle.restart.specs.Looks.{IsMissed}
+use Rattle.restart.specs.Notes.{Notes, IsNoted}
+use Rattle.restart.specs.Filled.{is_home, is_used, AreUsed, AreAdopted}
+use Rattle.restart.specs.Shown.{ShowsHeaders, is_held, number_by, fault_by}
+use Rattle.restart.specs.Opened.{IsUnused, IsOpened, HasFree}
+use Rattle.restart.proofs.LookLemmas.{missed_not_image}
+
+-- a read that failed tells nothing
+pub missed_tells : {T : Type 0} {old new : Told} (r : Result T ImageFault) (fault : Option ImageFault) (e : ImageFault) → IsErrAnd r (λ y. y ≡ e) → IsMissed e old new → Tells fault r
+missed_tells r fault e exit missed = tells_exit r fault e exit (λ image. let no = sym image ∙ missed_not_image missed in cc)
+
+-- ---- headers
+
+pub shows_from : (c : Chart) (places : ℕ) (heads : List (Option Head)) (current : List (Option Pick)) (status : Option Pick) (pick : Pick)
+    → at heads ≡ header_at c places → length heads ≡ places → at current ≡ current_in (at heads) (length heads) → status ≡ status_in (at heads) (length heads) → status ≡ Some pick
+    → ShowsHeaders c places heads current pick
+shows_from c places heads current status pick shown size currents its is = record {
+  heads_are = shown;
+  current_are = currents ∙ ap (current_in (at heads)) size ∙ ap (λ (h : ℕ → Option Head). current_in h places) shown;
+  status_is = sym is ∙ its ∙ ap (status_in (at heads)) size ∙ ap (λ (h : ℕ → Option Head). status_in h places) shown;
+}
+
+pub headers_tell : {T : Type 0} (c : Chart) (places units : ℕ) (heads : List (Option Head)) (current : List (Option Pick)) (status : Option Pick) (r : Result T ImageFault)
+    → at heads ≡ header_at c places → length heads ≡ places → at current ≡ current_in (at heads) (length heads) → status ≡ status_in (at heads) (length heads) → units ≡ places - 4
+    → Tells (first_of (header_tests units status (at current))) r → Tells (header_fault c places) r
+headers_tell c places units heads current status r shown size currents its four tells =
+    let current_is : at current ≡ current_at c places = currents ∙ ap (current_in (at heads)) size ∙ ap (λ (h : ℕ → Option Head). current_in h places) shown in
+    let status_is : status ≡ status_at c places = its ∙ ap (status_in (at heads)) size ∙ ap (λ (h : ℕ → Option Head). status_in h places) shown in
+    subst (λ (n : ℕ). Tells (first_of (header_tests n (status_at c places) (current_at c places))) r) four
+    (subst (λ (cur : ℕ → Option Pick). Tells (first_of (header_tests units (status_at c places) cur)) r) current_is
+    (subst (λ (st : Option Pick). Tells (first_of (header_tests units st (at current))) r) status_is tells))
+
+pub status_low : (heads : ℕ → Option Head) (n : ℕ) (status : Option Pick) (pick : Pick) → status ≡ status_in heads n → status ≡ Some pick → pick.place < n
+status_low heads n status pick is some = (chosen_is_best _ heads n pick (sym is ∙ some)).within
+
+pub current_low : (heads : ℕ → Option Head) (n u : ℕ) (pick : Pick) → current_in heads n u ≡ Some pick → pick.place < n
+current_low heads n u pick is = elim (cases_Bool (nat_lt u (n - 4))) [
+  | inl low ↦ (chosen_is_best _ heads n pick (rw low at is)).within
+  | inr past ↦ let no = rw past at is in absurd (none_some pick no)
+] where
+  none_some : (pick : Pick) → None ≡ Some pick → ⊥
+  none_some pick e = cc
+
+pub units_there : (n : ℕ) (status : Option Pick) (current : ℕ → Option Pick) → first_of (header_tests n status current) ≡ None → (u : ℕ) → u < n → current u ≡ None → ⊥
+units_there n status current none u low missing_u =
+    let (there, own, others, units, payloads, status_payload) =
+    six_parts (not_formatted status) (other_geometry status) (first_below (λ v. other_geometry (current v)) n) (first_below (λ v. missing v (current v)) n)
+    (first_below (λ v. bad_header (current v)) n) (bad_header status) none in
+    let here = none_before (λ (v : ℕ). missing v (current v)) n units u low in
+    let also = ap (missing u) missing_u in cc
+
+-- ---- the rest
+
+count_alike : (f g : ℕ → Bool) (n : ℕ) → ((k : ℕ) → k < n → f k ≡ g k) → count_below f n ≡ count_below g n
+count_alike f g zero same = refl
+count_alike f g (suc n) same = rw (count_alike f g n (λ k low. same k (omega arith)), same n (omega arith)) refl
+
+pub held_is : (heads : List (Option Head)) (notes : Notes) (all : List Mark) → IsNoted notes all → (p : ℕ) → is_held heads notes p ≡ holds_live (at heads) all p
+held_is heads notes all it p = ap (λ (b : Bool). is_spare (at heads p) && b) (it.holds p)
+
+pub end_tells : {T : Type 0} (heads : List (Option Head)) (notes : Notes) (all : List Mark) (greatest number places : ℕ) (r : Result T ImageFault) → greatest ≡ number → length heads ≡ places → IsNoted notes all
+    → Tells (option_or (spent greatest) (option_or (no_spare (count_below (is_held heads notes) (length heads))) None)) r
+    → Tells (option_or (spent number) (option_or (no_spare (count_below (holds_live (at heads) all) places)) None)) r
+end_tells heads notes all greatest number places r is size it tells =
+    let count : count_below (is_held heads notes) (length heads) ≡ count_below (holds_live (at heads) all) places =
+    count_alike (is_held heads notes) (holds_live (at heads) all) (length heads) (λ p low. held_is heads notes all it p) ∙ ap (count_below (holds_live (at heads) all)) size in
+    subst (λ (n : ℕ). Tells (option_or (spent number) (option_or (no_spare n) None)) r) count
+    (subst (λ (n : ℕ). Tells (option_or (spent n) (option_or (no_spare (count_below (is_held heads notes) (length heads))) None)) r) is tells)
+
+pub number_is : (c : Chart) (heads : ℕ → Option Head) (current : ℕ → Option Pick) (status : Option Pick) (size places first least greatest : ℕ) → size ≡ places → first ≡ greatest_of_heads heads size
+    → least ≡ greatest_of_commits first c status sectors → greatest ≡ greatest_of_logs least heads current c (places * 256) → greatest ≡ number_by c heads current status places
+number_is c heads current status size places first least greatest same one two three =
+    three ∙ ap (λ (n : ℕ). greatest_of_logs n heads current c (places * 256))
+    (two ∙ ap (λ (n : ℕ). greatest_of_commits n c status sectors) (one ∙ ap (greatest_of_heads heads) same))
+
+-- ---- to the chart
+
+pub size_none : (places : ℕ) → 5 ≤ places → places ≤ 1028 → size_fault places ≡ None
+size_none places least most = rw (le-leb 5 places least, le-leb places 1028 most) refl
+
+or_parts : (a b : Bool) → (a || b) ≡ false → (a ≡ false) × (b ≡ false)
+or_parts true b is = cc
+or_parts false b is = (refl, is)
+
+or_both : (a b : Bool) → a ≡ false → b ≡ false → (a || b) ≡ false
+or_both a b one two = rw (one, two) refl
+
+home_from : (current : ℕ → Option Pick) (n p u : ℕ) → is_home current n p ≡ false → u < n → is_at (current u) p ≡ false
+home_from current zero p u is low = absurd (omega arith)
+home_from current (suc n) p u is low = elim (cases_eq u n) [
+  | inl same ↦ ap (λ (v : ℕ). is_at (current v) p) same ∙ (or_parts _ _ is).1
+  | inr other ↦ home_from current n p u (or_parts _ _ is).0 (omega arith)
+]
+
+home_none : (current : ℕ → Option Pick) (n p : ℕ) → ((u : ℕ) → u < n → is_at (current u) p ≡ false) → is_home current n p ≡ false
+home_none current zero p each = refl
+home_none current (suc n) p each = or_both _ _ (home_none current n p (λ u low. each u (omega arith))) (each n (omega arith))
+
+at_none : (o : Option Pick) (p : ℕ) → ((pick : Pick) → o ≡ Some pick → pick.place ≢ p) → is_at o p ≡ false
+at_none None p apart = refl
+at_none (Some pick) p apart = ne_eqb pick.place p (apart pick refl)
+
+not_at : (o : Option Pick) (pick : Pick) (p : ℕ) → is_at o p ≡ false → o ≡ Some pick → pick.place ≡ p → ⊥
+not_at o pick p none is same = let here : is_at (Some pick) p ≡ true = eq-eqb pick.place p same in let no = sym here ∙ ap (λ (q : Option Pick). is_at q p) (sym is) ∙ none in cc
+
+module _ (c : Chart) (places : ℕ) (heads : List (Option Head)) (current : List (Option Pick)) (status : Pick) (shows : ShowsHeaders c places heads current status) where
+  pub to_chart : (P : (ℕ → Option Head) → (ℕ → Option Pick) → Option Pick → Type 0) → P (at heads) (at current) (Some status) → P (header_at c places) (current_at c places) (status_at c places)
+  to_chart P it =
+      subst (λ (h : ℕ → Option Head). P h (current_at c places) (status_at c places)) shows.heads_are
+      (subst (λ (cur : ℕ → Option Pick). P (at heads) cur (status_at c places)) shows.current_are
+      (subst (λ (st : Option Pick). P (at heads) (at current) st) shows.status_is it))
+
+  pub rest_tells : {T : Type 0} (r : Result T ImageFault) → Tells (fault_by c (at heads) (at current) (Some status) places) r
+      → Tells (fault_by c (header_at c places) (current_at c places) (status_at c places) places) r
+  rest_tells r tells = to_chart (λ h cur st. Tells (fault_by c h cur st places) r) tells
+
+  pub number_found : (n : ℕ) → n ≡ number_by c (at heads) (at current) (Some status) places → n ≡ greatest_found c places
+  number_found n is = to_chart (λ h cur st. n ≡ number_by c h cur st places) is
+
+  noted_found : (notes : Notes) → IsNoted notes (marks (at heads) (at current) c (places * 256)) → IsNoted notes (marks_in c places (places * 256))
+  noted_found notes it = to_chart (λ h cur st. IsNoted notes (marks h cur c (places * 256))) it
+
+  -- a place is free exactly where it is unused
+  module _ (notes : Notes) (noted : IsNoted notes (marks (at heads) (at current) c (places * 256))) (d : Places) (units most : ℕ) (four : units + 4 ≡ places) (used : AreUsed (is_used (at current) units status.place (is_held heads notes)) places most d.in_use) (p : ℕ) (low : p < places) where
+    held_found : is_held heads notes p ≡ holds_live (header_at c places) (marks_in c places (places * 256)) p
+    held_found = held_is heads notes (marks_in c places (places * 256)) (noted_found notes noted) p
+        ∙ ap (λ (h : ℕ → Option Head). holds_live h (marks_in c places (places * 256)) p) shows.heads_are
+
+    unused_from : IsFree d p → IsUnused places c p
+    unused_from free =
+        let none : is_used (at current) units status.place (is_held heads notes) p ≡ false = sym (used.used_are p low) ∙ free in
+        let parts = or_parts _ _ none in
+        let first = or_parts _ _ parts.0 in record {
+          not_home = λ u pick small is same.
+              let within : u < units = omega (arith, small, four) in
+              not_at (at current u) pick p (home_from (at current) units p u first.0 within) (ap (λ (cur : ℕ → Option Pick). cur u) shows.current_are ∙ is) same;
+          not_status = λ pick is same. not_at (Some status) pick p first.1 (shows.status_is ∙ is) same;
+          not_held = sym held_found ∙ parts.1;
+        }
+
+    unused_to : IsUnused places c p → IsFree d p
+    unused_to it =
+        used.used_are p low ∙ or_both _ _
+        (or_both _ _
+        (home_none (at current) units p (λ u within. at_none (at current u) p (λ pick is. it.not_home u pick (omega (arith, within, four)) (ap (λ (cur : ℕ → Option Pick). cur u) (sym shows.current_are) ∙ is))))
+        (at_none (Some status) p (λ pick is. it.not_status pick (sym shows.status_is ∙ is))))
+        (held_found ∙ it.not_held)
+
+  pub opened : (notes : Notes) → IsNoted notes (marks (at heads) (at current) c (places * 256)) → (d : Places) (units most counter greatest : ℕ) → units + 4 ≡ places
+      → AreUsed (is_used (at current) units status.place (is_held heads notes)) places most d.in_use → AreAdopted (at current) units units d
+      → greatest ≡ number_by c (at heads) (at current) (Some status) places → counter ≡ greatest + 1 → IsOpened places c d counter
+  opened notes noted d units most counter greatest four used adopted number next = record {
+    units = omega (arith, adopted.units_are, four);
+    logs = omega (arith, adopted.logs_are, four);
+    all = used.all;
+    current = λ u low. adopted.current_is u (omega (arith, low, four)) ∙ ap (λ (cur : ℕ → Option Pick). place_of (cur u)) shows.current_are;
+    written = λ u low. adopted.written_is u (omega (arith, low, four));
+    free = λ p low. (unused_from notes noted d units most four used p low, unused_to notes noted d units most four used p low);
+    number = next ∙ ap (λ (n : ℕ). n + 1) (number_found greatest number);
+  }
+
+-- whether told or not, a place is free, and it is not that of the first unit
+pub has_free : (heads : List (Option Head)) (current : List (Option Pick)) (status : Pick) (notes : Notes) (d : Places) (units places count : ℕ) → units + 4 ≡ places → 1 ≤ units → count ≤ 2
+    → ((u : ℕ) (pick : Pick) → at current u ≡ Some pick → pick.place < places) → (at current 0 ≡ None → ⊥)
+    → AreUsed (is_used (at current) units status.place (is_held heads notes)) places (units + 1 + count) d.in_use → AreAdopted (at current) units units d → HasFree d
+has_free heads current status notes d units places count four some two within there used adopted = record {
+  some = omega (arith, used.most_are, four, two);
+  first = λ free. first_used (at current 0) refl free;
+} where
+  first_used : (o : Option Pick) → at current 0 ≡ o → IsFree d (get_or d.current 0 0) → ⊥
+  first_used None is free = there is
+  first_used (Some pick) is free =
+      let place : get_or d.current 0 0 ≡ pick.place = adopted.current_is 0 (omega arith) ∙ ap place_of is in
+      let low = within 0 pick is in
+      let here : IsFree d pick.place = subst (λ (p : ℕ). IsFree d p) place free in
+      let none : is_used (at current) units status.place (is_held heads notes) pick.place ≡ false = sym (used.used_are pick.place low) ∙ here in
+      not_at (at current 0) pick pick.place (home_from (at current) units pick.place 0 (or_parts _ _ (or_parts _ _ none).0).0 (omega arith)) is refl
+
+-- where there is no fault, the contents are laid out
+pub laid : (x : Contents) (places : ℕ) (heads : List (Option Head)) (current : List (Option Pick)) (status : Pick) → ShowsHeaders (chart_of x) places heads current status
+    → ((p : ℕ) → p < places → IsWhole (x p 0))
+    → ((p s : ℕ) → p < places → 1 ≤ s → s < 256 → (p ≡ status.place) ⊎ (is_log_spot (at heads) (at current) p s ≡ true) → IsWhole (x p s))
+    → first_fault (chart_of x) places ≡ None → Laid places (chart_of x) (layout_in (chart_of x) places)
+laid x places heads current status shows first rest none =
+    no_fault_is_laid (chart_of x) places (whole_sectors_make_byte_charts x places (λ p s low within may. elim (cases_eq s 0) [
+      | inl zero_s ↦ subst (λ (t : ℕ). IsWhole (x p t)) (sym zero_s) (first p low)
+      | inr some ↦ rest p s low (omega (arith, some)) within (of_tables p s some may)
+    ])) none
+  where
+    of_tables : (p s : ℕ) → s ≢ 0 → MayBeRead places (chart_of x) p s → (p ≡ status.place) ⊎ (is_log_spot (at heads) (at current) p s ≡ true)
+    of_tables p s some (inl zero_s) = absurd (some zero_s)
+    of_tables p s some (inr (inl here)) =
+        let at_status : is_at (Some status) p ≡ true = ap (λ (o : Option Pick). is_at o p) shows.status_is ∙ here in inl (sym (eqb-true status.place p at_status))
+    of_tables p s some (inr (inr spot)) =
+        inr (subst (λ (h : ℕ → Option Head). is_log_spot h (at current) p s ≡ true) (sym shows.heads_are)
+        (subst (λ (cur : ℕ → Option Pick). is_log_spot (header_at (chart_of x) places) cur p s ≡ true) (sym shows.current_are) spot))

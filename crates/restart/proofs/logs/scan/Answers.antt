@@ -1,0 +1,33 @@
+use Rattle.std.proofs.Common.{◌≡◌, ◌∙◌, ◌*◌, ℕ, Some, length, subst, arith}
+use Rattle.std.proofs.lemmas.Result.{err_from_is_err_and}
+use Rattle.ipl_meaning.specs.Chart.{chart_of}
+use Rattle.opening_rules.specs.First.{at, first_below}
+use Rattle.opening_rules.specs.Faults.{log_fault}
+use Rattle.restart.proofs.LookLemmas.{reads_then}
+use Rattle.restart.proofs.LogLemmas.{respelled}
+use Rattle.restart.proofs.logs.scan.Goals as goal
+
+pub returns-in_err-greatest-clause-reads : goal.returns-in_err-greatest-clause-reads
+returns-in_err-greatest-clause-reads g c = reads_then c.loop-place.invariant.reads c.scan_place.ensures.reads
+
+pub loop-place-preserved : goal.loop-place-preserved
+loop-place-preserved g c =
+    let same = c.loop-place.invariant.reads in record {
+      reads = reads_then same c.scan_place.ensures.reads;
+      scanned = λ x told. c.in_ok-greatest.ensures.scanned x (same.contents ∙ told) c.args.least (c.loop-place.invariant.scanned x told);
+      roomy = c.in_ok-greatest.ensures.roomy;
+      units = c.scan_place.ensures.units ∙ c.loop-place.invariant.units;
+      places = c.scan_place.ensures.places ∙ c.loop-place.invariant.places;
+    }
+
+pub returns-in_err-greatest-clause-fault : goal.returns-in_err-greatest-clause-fault
+returns-in_err-greatest-clause-fault g c =
+    let e = err_from_is_err_and c.from_residual.result c.from_residual.ensures.1 in
+    let same = c.loop-place.invariant.reads in
+    let all : length c.args.heads.now * 256 ≡ c.args.geometry * 256 = omega (arith, c.requires.heads) in
+    rw (e.1, e.2) (λ x told image.
+    subst (λ (n : ℕ). first_below (log_fault (at c.args.heads.now) (at c.args.current.now) (chart_of x)) n ≡ Some c.in_err-greatest.field-0.0) all
+    (c.in_err-greatest.ensures.fault x (same.contents ∙ told) c.args.least (c.loop-place.invariant.scanned x told) image))
+
+pub returns-clause-scanned : goal.returns-clause-scanned
+returns-clause-scanned g c = λ x told. respelled (c.loop-place.invariant.scanned x told) (omega arith)

@@ -1,0 +1,17 @@
+use Rattle.std.proofs.Common.{◌≡◌, ◌*◌}
+use Rattle.unit_io.specs.Reads.{OfContents}
+use Rattle.opening_rules.specs.First.{at}
+use Rattle.restart.specs.Looks.{OnlyReads}
+use Rattle.restart.specs.Notes.{units_of, places_of, IsRoomy}
+use Rattle.restart.specs.Scanned.{IsScanned}
+use Rattle.restart.proofs.logs.scan.Given as goal
+
+abbrev pub invariant-loop-place : goal.invariant-loop-place
+invariant-loop-place g l =
+    let told = g.C.Chip.told in record {
+      reads : OnlyReads (told l.fn.chip) (told l.chip);
+      scanned : OfContents (told l.fn.chip) (λ x. IsScanned x (at l.heads) (at l.current) l.least (l.place * 256) l.noted l.greatest);
+      roomy : IsRoomy (at l.current) (l.place * 256) l.noted;
+      units : units_of l.noted ≡ units_of l.fn.noted;
+      places : places_of l.noted ≡ places_of l.fn.noted;
+    }

@@ -1,0 +1,18 @@
+use Rattle.std.proofs.Common.{◌≡◌, ◌+◌, ◌*◌, ℕ}
+use Rattle.unit_io.specs.Reads.{OfContents}
+use Rattle.opening_rules.specs.First.{at}
+use Rattle.restart.specs.Looks.{OnlyReads}
+use Rattle.restart.specs.Notes.{units_of, places_of, IsRoomy}
+use Rattle.restart.specs.Scanned.{IsScanned}
+use Rattle.restart.proofs.logs.scan_place.Given as goal
+
+abbrev pub invariant-loop-sector : goal.invariant-loop-sector
+invariant-loop-sector g l =
+    let told = g.C.Chip.told in record {
+      reads : OnlyReads (told l.fn.chip) (told l.chip);
+      scanned : OfContents (told l.fn.chip) (λ x. (base : ℕ) → IsScanned x (at l.heads) (at l.current) base (l.place * 256) l.fn.noted l.least
+          → IsScanned x (at l.heads) (at l.current) base (l.place * 256 + l.sector) l.noted l.greatest);
+      roomy : IsRoomy (at l.current) (l.place * 256 + l.sector) l.noted;
+      units : units_of l.noted ≡ units_of l.fn.noted;
+      places : places_of l.noted ≡ places_of l.fn.noted;
+    }

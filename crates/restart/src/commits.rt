@@ -1,0 +1,118 @@
+//! The commit sectors of the status place are read.
+ghost use Rattle.std.specs.Prelude.{◌≡◌, ◌<◌, ◌≤◌, ℕ, true, max, length, Some, IfOk, IfErr, IfSome, OnOk};
+ghost use Rattle.ipl_format.specs.Numbers.{long_at};
+ghost use Rattle.sector_format.specs.Decode.{sector_of};
+ghost use Rattle.ipl_meaning.specs.Chart.{chart_of};
+ghost use Rattle.unit_io.specs.Reads.{OfContents};
+ghost use Rattle.unit_io.specs.Kinds.{sector_named};
+ghost use Rattle.opening_rules.specs.First.{first_below, greatest_of};
+ghost use Rattle.opening_rules.specs.Payloads.{is_commit_payload, numbers_in};
+ghost use Rattle.opening_rules.specs.Live.{sectors, kept, is_commit_of};
+ghost use Rattle.opening_rules.specs.Faults.{Tells, is_image, commit_test, commit_fault, commit_number, greatest_of_commits};
+ghost use Rattle.opening_rules.specs.Laws.{IsWhole};
+ghost use Rattle.restart.specs.Looks.{OnlyReads, HasCause};
+
+use crate::kept::Pick;
+use crate::looking::{look, payload_in};
+use chip_trait::Chip;
+use ipl_base::{ChipFault, ImageFault};
+use sector_format::Head;
+
+/// Whether the payload is 1 to 60 numbers of eight bytes, with nothing left over.
+fn is_commit(payload: &[u8]) -> bool
+    ensures { result ≡ is_commit_payload payload.now }
+{
+    payload.len() % 8 == 0 && 1 <= payload.len() / 8 && payload.len() / 8 <= 60
+}
+
+#[tactic(auto, unfolding(ipl_format::specs::Numbers::long_at))]
+fn first_number(bytes: &[u8]) -> u64
+    requires { 8 ≤ length bytes.now }
+    ensures { result ≡ long_at 0 bytes.now }
+{
+    u64::from_be_bytes([
+        bytes[0], bytes[1], bytes[2], bytes[3], bytes[4], bytes[5], bytes[6], bytes[7],
+    ])
+}
+
+/// The greatest of the numbers in a payload, and at least this.
+fn greatest_number(payload: &[u8], least: u64) -> u64
+    ensures { result ≡ greatest_of least (numbers_in payload.now) }
+{
+    let mut greatest = least;
+    for i in 0..payload.len() / 8 {
+        greatest = greatest.max(first_number(&payload[8 * i..]));
+    }
+    greatest
+}
+
+/// The greatest number found, after the one at this number of the status place that has this header.
+fn take_sector(
+    pick: &Pick,
+    sector: u32,
+    head: &Head,
+    payload: &[u8],
+    greatest: u64,
+) -> Result<u64, ImageFault>
+    ensures fault { Tells (commit_test pick.now.place sector
+        (kept (is_commit_of pick.now.head.generation) (Some (sector_of head.now payload.now)))) result }
+    ensures number { IfOk result (λ n. n ≡ max greatest (commit_number
+        (kept (is_commit_of pick.now.head.generation) (Some (sector_of head.now payload.now))))) }
+    ensures image { IfErr result (λ e. is_image e ≡ true) }
+{
+    if head.kind != Head::COMMIT || head.generation != pick.header().generation() {
+        return Ok(greatest);
+    }
+    if !is_commit(payload) {
+        return Err(ImageFault::Chip(ChipFault::Malformed {
+            place: pick.place(),
+            sector,
+        }));
+    }
+    Ok(greatest.max(greatest_number(payload, head.generation.max(head.serial))))
+}
+
+fn take_commit(
+    pick: &Pick,
+    sector: u32,
+    found: Option<(Head, usize)>,
+    bytes: &[u8; 512],
+    greatest: u64,
+) -> Result<u64, ImageFault>
+    requires { IfSome found (λ it. it.1 ≤ 480) }
+    ensures fault { Tells (commit_test pick.now.place sector
+        (kept (is_commit_of pick.now.head.generation) (sector_named bytes.now found))) result }
+    ensures number { IfOk result (λ n. n ≡ max greatest (commit_number
+        (kept (is_commit_of pick.now.head.generation) (sector_named bytes.now found)))) }
+    ensures image { IfErr result (λ e. is_image e ≡ true) }
+{
+    match found {
+        None => Ok(greatest),
+        Some((head, used)) => take_sector(pick, sector, &head, payload_in(bytes, used), greatest),
+    }
+}
+
+/// Reads the sectors of the status place that has this header, and answers the greatest number found, at least this.
+pub(crate) fn read_commits<C: Chip>(
+    chip: &mut C,
+    pick: &Pick,
+    least: u64,
+) -> Result<u64, ImageFault>
+    requires { pick.now.place < (C.told chip.old).places }
+    ensures number { IfOk result (λ n. OfContents (C.told chip.old) (λ x.
+        n ≡ greatest_of_commits least (chart_of x) (Some pick.now) sectors)) }
+    ensures fault { OfContents (C.told chip.old) (λ x.
+        Tells (first_below (commit_fault (chart_of x) (Some pick.now)) sectors) result) }
+    ensures whole { OnOk result (OfContents (C.told chip.old) (λ x.
+        (s : ℕ) → 1 ≤ s → s < 256 → IsWhole (x pick.now.place s))) }
+    ensures reads { OnlyReads (C.told chip.old) (C.told chip.new) }
+    ensures cause { IfErr result (λ e. HasCause e (C.told chip.old) (C.told chip.new)) }
+{
+    let mut greatest = least;
+    for sector in 1..256 {
+        let mut bytes = [0; 512];
+        let found = look(chip, pick.place(), sector, &mut bytes)?;
+        greatest = take_commit(pick, sector, found, &bytes, greatest)?;
+    }
+    Ok(greatest)
+}

@@ -1,0 +1,86 @@
+//! The directory is filled.
+ghost use Rattle.std.specs.Prelude.{◌≡◌, ◌<◌, ◌≤◌, ◌+◌, ◌-◌, ◌&&◌, ◌||◌, Bool, ℕ, length, Some};
+ghost use Rattle.opening_rules.specs.First.{at, count_below};
+ghost use Rattle.opening_rules.specs.Chosen.{Pick as Chosen};
+ghost use Rattle.opening_rules.specs.Live.{is_spare};
+ghost use Rattle.restart.specs.Notes.{places_of, holds_one};
+ghost use Rattle.restart.specs.Filled.{is_home, is_used, AreUsed, AreAdopted};
+
+use crate::kept::{Header, Pick};
+use crate::logs::is_spare;
+use crate::noted::Noted;
+use unit_directory::Directory;
+
+/// Gives each unit the place of its header, and nothing else is in use then.
+fn adopt_all(directory: &mut Directory, current: &[Option<Pick>])
+    requires units { length current.now + 4 ≡ length directory.old.in_use }
+    requires places { length directory.old.in_use ≤ 1028 }
+    requires within { (u : ℕ) (pick : Chosen) → at current.now u ≡ Some pick
+        → pick.place < length directory.old.in_use }
+    ensures adopted { AreAdopted (at current.now) (length current.now) (length current.now) directory.new }
+    ensures used { AreUsed (is_home (at current.now) (length current.now)) (length directory.old.in_use)
+        (length current.now) directory.new.in_use }
+{
+    directory.reset();
+    for unit in 0..current.len() {
+        match current[unit] {
+            Some(pick) => directory.adopt(unit as u32, pick.place()),
+            None => {}
+        }
+    }
+}
+
+/// Whether the place is an overflow place that holds live log sectors.
+pub(crate) fn is_held(heads: &[Option<Header>], noted: &Noted, place: u32) -> bool
+    requires heads { place < length heads.now }
+    requires places { place < places_of noted.now }
+    ensures { result ≡ (is_spare (at heads.now place) && holds_one noted.now place) }
+{
+    is_spare(heads, place) && noted.holds(place)
+}
+
+/// Takes the overflow places that hold live log sectors.
+fn take_spares(directory: &mut Directory, heads: &[Option<Header>], noted: &Noted)
+    requires small { length heads.now ≤ 1028 }
+    requires places { length heads.now ≡ length directory.old.in_use }
+    requires noted { places_of noted.now ≡ length directory.old.in_use }
+    ensures used { (used : ℕ → Bool) (most : ℕ) → AreUsed used (length heads.now) most directory.old.in_use
+        → AreUsed (λ p. used p || (is_spare (at heads.now p) && holds_one noted.now p)) (length heads.now)
+        (most + count_below (λ p. is_spare (at heads.now p) && holds_one noted.now p) (length heads.now)) directory.new.in_use }
+    ensures current { directory.new.current ≡ directory.old.current }
+    ensures written { directory.new.written ≡ directory.old.written }
+{
+    for place in 0..heads.len() {
+        let place = place as u32;
+        if is_held(heads, noted, place) {
+            directory.take(place);
+        }
+    }
+}
+
+/// Fills the directory: the units have the places of their headers, with no log sector known clean, and beside these the
+/// status place and the overflow places that hold live log sectors are in use.
+pub(crate) fn fill(
+    directory: &mut Directory,
+    heads: &[Option<Header>],
+    current: &[Option<Pick>],
+    status: &Pick,
+    noted: &Noted,
+)
+    requires units { length current.now + 4 ≡ length directory.old.in_use }
+    requires small { length directory.old.in_use ≤ 1028 }
+    requires places { length heads.now ≡ length directory.old.in_use }
+    requires noted { places_of noted.now ≡ length directory.old.in_use }
+    requires within { (u : ℕ) (pick : Chosen) → at current.now u ≡ Some pick
+        → pick.place < length directory.old.in_use }
+    requires status { status.now.place < length directory.old.in_use }
+    ensures adopted { AreAdopted (at current.now) (length current.now) (length current.now) directory.new }
+    ensures used { AreUsed (is_used (at current.now) (length current.now) status.now.place
+        (λ p. is_spare (at heads.now p) && holds_one noted.now p)) (length heads.now)
+        (length current.now + 1 + count_below (λ p. is_spare (at heads.now p) && holds_one noted.now p) (length heads.now))
+        directory.new.in_use }
+{
+    adopt_all(directory, current);
+    directory.take(status.place());
+    take_spares(directory, heads, noted);
+}

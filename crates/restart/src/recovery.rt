@@ -1,0 +1,216 @@
+//! The opening of a chip.
+ghost use Rattle.std.specs.Prelude.{◌≡◌, ◌≢◌, ◌⊎◌, ◌<◌, ◌≤◌, ◌+◌, ◌-◌, ◌*◌, ◌^◌, ℕ, length, true, Some, None, IfOk, IfErr, OnOk};
+ghost use Rattle.chip_trait.specs.Told.{Told};
+ghost use Rattle.ipl_meaning.specs.Chart.{chart_of};
+ghost use Rattle.ipl_meaning.specs.Layout.{Laid};
+ghost use Rattle.unit_io.specs.Reads.{OfContents};
+ghost use Rattle.opening_rules.specs.First.{at, count_below};
+ghost use Rattle.opening_rules.specs.Chosen.{Pick as Chosen};
+ghost use Rattle.opening_rules.specs.Live.{is_log_spot, marks};
+ghost use Rattle.opening_rules.specs.Faults.{Tells, header_fault, first_fault};
+ghost use Rattle.opening_rules.specs.LaidOut.{layout_in};
+ghost use Rattle.opening_rules.specs.Laws.{IsWhole};
+ghost use Rattle.restart.specs.Looks.{OnlyReads, HasCause};
+ghost use Rattle.restart.specs.Notes.{units_of, places_of, IsNoted};
+ghost use Rattle.restart.specs.Shown.{ShowsHeaders, is_held, number_by, fault_by};
+ghost use Rattle.restart.specs.Opened.{IsOpened, HasFree};
+
+use crate::choosing::choose;
+use crate::commits::read_commits;
+use crate::filling::fill;
+use crate::headers::check_headers;
+use crate::kept::{Header, Pick};
+use crate::logs::scan;
+use crate::looking::read_heads;
+use crate::noted::Noted;
+use crate::verdict::{check_found, greatest_in};
+use chip_trait::Chip;
+use ipl_base::{Counter, Geometry, ImageFault, OutOfMemory};
+use std::alloc::Global;
+use std::marker::Model;
+use unit_directory::Directory;
+
+/// Reads the headers, tests those that count, and answers the status header.
+fn read_headers<C: Chip>(
+    chip: &mut C,
+    geometry: Geometry,
+    heads: &mut [Option<Header>],
+    current: &mut [Option<Pick>],
+) -> Result<Pick, ImageFault>
+    requires size { geometry ≡ (C.told chip.old).places }
+    requires heads { length heads.old ≡ geometry }
+    requires current { length current.old + 4 ≡ geometry }
+    ensures shown { IfOk result (λ status. OfContents (C.told chip.old) (λ x.
+        ShowsHeaders (chart_of x) geometry heads.new current.new status)) }
+    ensures fault { OfContents (C.told chip.old) (λ x. Tells (header_fault (chart_of x) geometry) result) }
+    ensures whole { OnOk result (OfContents (C.told chip.old) (λ x.
+        (p : ℕ) → p < geometry → IsWhole (x p 0))) }
+    ensures status { IfOk result (λ status. status.place < geometry) }
+    ensures within { OnOk result ((u : ℕ) (pick : Chosen) → at current.new u ≡ Some pick → pick.place < geometry) }
+    ensures there { OnOk result ((u : ℕ) → u < length current.new → at current.new u ≢ None) }
+    ensures reads { OnlyReads (C.told chip.old) (C.told chip.new) }
+    ensures cause { IfErr result (λ e. HasCause e (C.told chip.old) (C.told chip.new)) }
+{
+    read_heads(chip, geometry, heads)?;
+    let status = choose(heads, current);
+    let status = check_headers(status, current)?;
+    Ok(status)
+}
+
+/// Reads all that counts beyond the headers, and answers the greatest number found.
+fn read_rest<C: Chip>(
+    chip: &mut C,
+    geometry: Geometry,
+    heads: &[Option<Header>],
+    current: &[Option<Pick>],
+    status: &Pick,
+    noted: &mut Noted,
+) -> Result<u64, ImageFault>
+    requires size { geometry ≡ (C.told chip.old).places }
+    requires heads { length heads.now ≡ geometry }
+    requires units { units_of noted.old ≡ length current.now }
+    requires places { places_of noted.old ≡ geometry }
+    requires status { status.now.place < geometry }
+    ensures fault { OfContents (C.told chip.old) (λ x.
+        Tells (fault_by (chart_of x) (at heads.now) (at current.now) (Some status.now) geometry) result) }
+    ensures number { IfOk result (λ n. OfContents (C.told chip.old) (λ x.
+        n ≡ number_by (chart_of x) (at heads.now) (at current.now) (Some status.now) geometry)) }
+    ensures noted { OnOk result (OfContents (C.told chip.old) (λ x.
+        IsNoted noted.new (marks (at heads.now) (at current.now) (chart_of x) (geometry * 256)))) }
+    ensures whole { OnOk result (OfContents (C.told chip.old) (λ x. (p s : ℕ) → p < geometry → 1 ≤ s → s < 256
+        → (p ≡ status.now.place) ⊎ (is_log_spot (at heads.now) (at current.now) p s ≡ true) → IsWhole (x p s))) }
+    ensures left { IfOk result (λ n. n < 2 ^ 63) }
+    ensures two { OnOk result (count_below (is_held heads.now noted.new) (length heads.now) ≤ 2) }
+    ensures units { units_of noted.new ≡ units_of noted.old }
+    ensures places { places_of noted.new ≡ places_of noted.old }
+    ensures reads { OnlyReads (C.told chip.old) (C.told chip.new) }
+    ensures cause { IfErr result (λ e. HasCause e (C.told chip.old) (C.told chip.new)) }
+{
+    let least = greatest_in(heads);
+    let least = read_commits(chip, status, least)?;
+    let greatest = scan(chip, geometry, heads, current, noted, least)?;
+    check_found(heads, noted, greatest)?;
+    Ok(greatest)
+}
+
+/// Opens a chip into these tables.
+fn open<C: Chip>(
+    chip: &mut C,
+    geometry: Geometry,
+    heads: &mut [Option<Header>],
+    current: &mut [Option<Pick>],
+    noted: &mut Noted,
+    directory: &mut Directory,
+    counter: &mut Counter,
+) -> Result<(), ImageFault>
+    requires size { geometry ≡ (C.told chip.old).places }
+    requires heads { length heads.old ≡ geometry }
+    requires current { length current.old + 4 ≡ geometry }
+    requires units { units_of noted.old + 4 ≡ geometry }
+    requires places { places_of noted.old ≡ geometry }
+    requires directory { length directory.old.in_use ≡ geometry }
+    ensures fault { OfContents (C.told chip.old) (λ x. Tells (first_fault (chart_of x) geometry) result) }
+    ensures opened { OnOk result (OfContents (C.told chip.old) (λ x.
+        IsOpened geometry (chart_of x) directory.new counter.new)) }
+    ensures laid { OnOk result (OfContents (C.told chip.old) (λ x.
+        Laid geometry (chart_of x) (layout_in (chart_of x) geometry))) }
+    ensures free { OnOk result (HasFree directory.new) }
+    ensures left { OnOk result (counter.new ≤ 2 ^ 63) }
+    ensures units { units_of noted.new ≡ units_of noted.old }
+    ensures places { places_of noted.new ≡ places_of noted.old }
+    ensures reads { OnlyReads (C.told chip.old) (C.told chip.new) }
+    ensures cause { IfErr result (λ e. HasCause e (C.told chip.old) (C.told chip.new)) }
+{
+    let status = read_headers(chip, geometry, heads, current)?;
+    let greatest = read_rest(chip, geometry, heads, current, &status, noted)?;
+    fill(directory, heads, current, &status, noted);
+    *counter = Counter::at(greatest + 1);
+    Ok(())
+}
+
+/// The scratch memory of an opening: what is kept of each header, the header of each unit that counts, and what is noted of
+/// live log sectors. A contract sees the number of places, 5 to 1028. Memory is taken by `new` alone.
+#[derive(Drop)]
+pub struct Scratch {
+    geometry: Geometry,
+    heads: Vec<Option<Header>>,
+    current: Vec<Option<Pick>>,
+    noted: Noted,
+}
+
+impl Model for Scratch {
+    ghost Value = { ℕ };
+
+    ghost view = { λ s. s.geometry };
+
+    ghost invariant = { λ s. (length s.heads.items ≡ s.geometry)
+        × (length s.current.items + 4 ≡ s.geometry)
+        × (units_of s.noted + 4 ≡ s.geometry)
+        × (places_of s.noted ≡ s.geometry) };
+}
+
+impl Scratch {
+    /// Scratch memory for a chip of this size.
+    pub fn new(alloc: Global, geometry: Geometry) -> Result<Scratch, OutOfMemory>
+        ensures { IfOk result (λ scratch. scratch ≡ geometry) }
+    {
+        let heads = vec![in alloc; None; geometry.places() as usize]?;
+        let current = vec![in alloc; None; geometry.units() as usize]?;
+        let noted = Noted::new(alloc, geometry)?;
+        Ok(Scratch {
+            geometry,
+            heads,
+            current,
+            noted,
+        })
+    }
+}
+
+/// Opens a chip, for whose number of places the scratch memory and the directory were made: finds what it holds, or tells
+/// the first thing that is wrong. It writes nothing and takes no memory, and each sector is read at most once.
+///
+/// Of a chip without a fault the directory then has the place of each unit, with no log sector known clean; the status
+/// place and the overflow places that hold live log sectors are in use too, and all other places are free. The counter is
+/// the number after the greatest that was found. After a fault, directory and counter hold anything.
+///
+/// Fails with the first fault of the chip, in the order that docs/RECOVERY.md tells, or with `Chip(ReadFault)` where a read
+/// of the chip failed.
+pub fn recover<C: Chip>(
+    chip: &mut C,
+    scratch: &mut Scratch,
+    directory: &mut Directory,
+    counter: &mut Counter,
+) -> Result<(), ImageFault>
+    requires scratch { scratch.old ≡ (C.told chip.old).places }
+    requires directory { length directory.old.in_use ≡ (C.told chip.old).places }
+
+    // It fails exactly with the first fault of the chip's contents, unless a read failed.
+    ensures fault { OfContents (C.told chip.old) (λ x.
+        Tells (first_fault (chart_of x) (C.told chip.old).places) result) }
+    ensures cause { IfErr result (λ e. HasCause e (C.told chip.old) (C.told chip.new)) }
+
+    // Else the contents are laid out rightly, and the tables say so.
+    ensures opened { OnOk result (OfContents (C.told chip.old) (λ x.
+        IsOpened (C.told chip.old).places (chart_of x) directory.new counter.new)) }
+    ensures laid { OnOk result (OfContents (C.told chip.old) (λ x.
+        Laid (C.told chip.old).places (chart_of x) (layout_in (chart_of x) (C.told chip.old).places))) }
+
+    // Whether the chip tells its contents or not, a place is free, and numbers are left.
+    ensures free { OnOk result (HasFree directory.new) }
+    ensures left { OnOk result (counter.new ≤ 2 ^ 63) }
+
+    // It only reads.
+    ensures reads { OnlyReads (C.told chip.old) (C.told chip.new) }
+    ensures scratch { scratch.new ≡ scratch.old }
+{
+    open(
+        chip,
+        scratch.geometry,
+        &mut scratch.heads,
+        &mut scratch.current,
+        &mut scratch.noted,
+        directory,
+        counter,
+    )?;
+    Ok(())
+}
