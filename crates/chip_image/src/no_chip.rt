@@ -1,0 +1,80 @@
+//! A chip that isn't there.
+ghost use Rattle.std.specs.Prelude.{◌≡◌};
+
+use crate::faults::Faults;
+use chip_trait::{Chip, Failed};
+
+/// A chip of which no call succeeds: each one is counted as failed.
+#[derive(Drop)]
+pub struct NoChip {
+    units: u32,
+    faults: Faults,
+}
+
+impl NoChip {
+    ghost use Rattle.chip_image.specs.Tells.{absent_told_of, telling_faults, none_yet};
+
+    /// A chip of so many places that was asked nothing yet.
+    pub fn of(units: u32) -> NoChip
+        ensures { absent_told_of result ≡ telling_faults units none_yet }
+    {
+        NoChip {
+            units,
+            faults: Faults::new(),
+        }
+    }
+}
+
+impl Chip for NoChip {
+    ghost use Rattle.std.specs.Prelude.{◌<◌, IsErr};
+    ghost use Rattle.chip_image.specs.Tells.{absent_told_of, faults_consistently, AfterRead, AfterWrite};
+
+    ghost told = { absent_told_of };
+
+    ghost consistent = { λ chip. faults_consistently chip.units chip.faults };
+
+    fn units(&self) -> u32 {
+        self.units
+    }
+
+    /// It always fails.
+    fn read(&mut self, p: u32, s: u32, _into: &mut [u8; 512]) -> Result<(), Failed>
+        requires place { p < (absent_told_of self.old).places }
+        requires sector { s < 256 }
+        ensures changes { AfterRead result (absent_told_of self.old) (absent_told_of self.new) }
+        ensures never { IsErr result }
+    {
+        self.faults.count_read();
+        Err(Failed)
+    }
+
+    /// It always fails.
+    fn program(&mut self, p: u32, s: u32, _from: &[u8; 512]) -> Result<(), Failed>
+        requires place { p < (absent_told_of self.old).places }
+        requires sector { s < 256 }
+        ensures changes { AfterWrite result (absent_told_of self.old) (absent_told_of self.new) }
+        ensures never { IsErr result }
+    {
+        self.faults.count_write();
+        Err(Failed)
+    }
+
+    /// It always fails.
+    fn erase(&mut self, p: u32) -> Result<(), Failed>
+        requires { p < (absent_told_of self.old).places }
+        ensures changes { AfterWrite result (absent_told_of self.old) (absent_told_of self.new) }
+        ensures never { IsErr result }
+    {
+        self.faults.count_write();
+        Err(Failed)
+    }
+
+    /// It always fails.
+    fn barrier(&mut self) -> Result<(), Failed>
+        ensures changes { AfterWrite result (absent_told_of self.old) (absent_told_of self.new) }
+        ensures never { IsErr result }
+    {
+        self.faults.count_write();
+        Err(Failed)
+    }
+}
