@@ -1,0 +1,55 @@
+-- What the words of the examples ask, by computing.
+use Rattle.std.proofs.Common.{◌≡◌, Option, Some, None, refl}
+use Rattle.std.specs.Option.{option_map, option_map_or}
+use Rattle.clap.proofs.OnLiterals.{clap_on_literals}
+use Rattle.command_line.specs.Ipl.{ipl_command}
+use Rattle.command_line.specs.Chip.{Chip, ram, file}
+use Rattle.command_line.specs.Asked.{Asks, asked_of}
+use Rattle.command_line.specs.Choice.{choice_of}
+use Rattle.command_line.specs.Laws.{NothingTogether, WordExamples, NoWordExamples}
+use Rattle.command_line.specs.declared.choice.Choice.TheVariants.{Nothing}
+
+pub words : WordExamples
+unfolding asked_of ipl_command clap_on_literals
+words = record {
+  formats = refl;
+  runs = refl;
+  formats_first = refl;
+  flag_before = refl;
+  chip_behind_dashes = refl;
+  memory = refl;
+  in_file = refl;
+}
+
+pub no_words : NoWordExamples
+unfolding asked_of ipl_command clap_on_literals
+no_words = record {
+  nothing = refl;
+  unknown = refl;
+  no_command = refl;
+  no_chip = refl;
+  two_chips = refl;
+  other_chip = refl;
+  format_flag = refl;
+  twice = refl;
+  valued = refl;
+  short = refl;
+  option = refl;
+  help = refl;
+  help_of = refl;
+  help_word = refl;
+  version = refl;
+}
+
+-- a chip is something
+something : (chip : Chip) → choice_of chip ≡ Nothing → ⊥
+something (ram units) e = cc
+something (file units path) e = cc
+
+either : (asks : Option Asks) → (option_map_or (λ a. choice_of a.chip) asks Nothing ≡ Nothing → option_map (λ a. a.request) asks ≡ None)
+    × (option_map (λ a. a.request) asks ≡ None → option_map_or (λ a. choice_of a.chip) asks Nothing ≡ Nothing)
+either None = ((λ e. refl), (λ e. refl))
+either (Some asks) = ((λ e. absurd (something asks.chip e)), (λ e. cc))
+
+pub together : NothingTogether
+together words = either (asked_of words)

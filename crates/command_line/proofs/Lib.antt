@@ -1,0 +1,4 @@
+pub mod AskedLemmas
+pub mod NumberLemmas
+pub mod ChipLemmas
+pub mod ExampleLemmas

@@ -1,0 +1,77 @@
+-- What the words of the command line are, by laws and by examples.
+use Rattle.std.specs.Prelude.{◌≡◌, ◌<◌, ◌^◌, ℕ, List, [], ◌∷◌, ◌++◌, length, codes, Some, None, true, false}
+use Rattle.std.specs.Fmt.{decimal}
+use Rattle.clap.specs.Words.{Text}
+use Rattle.command_line.specs.Chip.{Chip, chip_of, ram, file}
+use Rattle.command_line.specs.Choice.{chosen, requested}
+use Rattle.command_line.specs.declared.asked.Request.TheVariants.{Format, Run}
+use Rattle.command_line.specs.declared.choice.Choice.TheVariants as choice
+
+-- the word that spells a chip
+abbrev pub word_of : Chip → List ℕ
+word_of (ram units) = codes "ram:" ++ decimal units
+word_of (file units path) = codes "file:" ++ (decimal units ++ 58 ∷ path)
+
+-- it has one
+abbrev pub IsNameable : Chip → Type 0
+IsNameable (ram units) = units < 2 ^ 32
+IsNameable (file units path) = (units < 2 ^ 32) × (0 < length path)
+
+-- what is spelled is read
+abbrev pub SpelledIsRead : Type 0
+SpelledIsRead = (chip : Chip) → IsNameable chip → chip_of (word_of chip) ≡ Some chip
+
+-- nothing else is
+abbrev pub ReadIsSpelled : Type 0
+ReadIsSpelled = (word : List ℕ) (chip : Chip) → chip_of word ≡ Some chip
+    → (word ≡ word_of chip) × IsNameable chip
+
+-- no chip is chosen exactly where nothing is asked
+abbrev pub NothingTogether : Type 0
+NothingTogether = (words : List Text) → (chosen words ≡ choice.Nothing → requested words ≡ None)
+    × (requested words ≡ None → chosen words ≡ choice.Nothing)
+
+-- words that name a chip
+pub record ChipExamples : Type 0 where
+  pub memory : chip_of (codes "ram:5") ≡ Some (ram 5)
+  pub none_there : chip_of (codes "ram:0") ≡ Some (ram 0)
+  pub most : chip_of (codes "ram:4294967295") ≡ Some (ram 4294967295)
+  pub in_file : chip_of (codes "file:5:a:b") ≡ Some (file 5 (codes "a:b"))
+
+-- and words that name none
+pub record NoChipExamples : Type 0 where
+  pub no_number : chip_of (codes "ram:") ≡ None
+  pub leading_zero : chip_of (codes "ram:05") ≡ None
+  pub plus : chip_of (codes "ram:+5") ≡ None
+  pub too_many : chip_of (codes "ram:4294967296") ≡ None
+  pub no_path : chip_of (codes "file:5") ≡ None
+  pub empty_path : chip_of (codes "file:5:") ≡ None
+  pub other_kind : chip_of (codes "disk:5") ≡ None
+
+-- valid words, and what they ask
+pub record WordExamples : Type 0 where
+  pub formats : requested (codes "format" ∷ codes "ram:5" ∷ []) ≡ Some Format
+  pub runs : requested (codes "run" ∷ codes "ram:5" ∷ []) ≡ Some (Run false)
+  pub formats_first : requested (codes "run" ∷ codes "ram:5" ∷ codes "--format" ∷ []) ≡ Some (Run true)
+  pub flag_before : requested (codes "run" ∷ codes "--format" ∷ codes "ram:5" ∷ []) ≡ Some (Run true)
+  pub chip_behind_dashes : requested (codes "run" ∷ codes "--" ∷ codes "ram:5" ∷ []) ≡ Some (Run false)
+  pub memory : chosen (codes "run" ∷ codes "ram:5" ∷ []) ≡ choice.Ram 5
+  pub in_file : chosen (codes "run" ∷ codes "file:5:a:b" ∷ []) ≡ choice.File 5 (codes "a:b")
+
+-- and words that aren't
+pub record NoWordExamples : Type 0 where
+  pub nothing : requested [] ≡ None
+  pub unknown : requested (codes "walk" ∷ []) ≡ None
+  pub no_command : requested (codes "ram:5" ∷ []) ≡ None
+  pub no_chip : requested (codes "run" ∷ []) ≡ None
+  pub two_chips : requested (codes "run" ∷ codes "ram:5" ∷ codes "ram:6" ∷ []) ≡ None
+  pub other_chip : requested (codes "run" ∷ codes "ram:05" ∷ []) ≡ None
+  pub format_flag : requested (codes "format" ∷ codes "ram:5" ∷ codes "--format" ∷ []) ≡ None
+  pub twice : requested (codes "run" ∷ codes "ram:5" ∷ codes "--format" ∷ codes "--format" ∷ []) ≡ None
+  pub valued : requested (codes "run" ∷ codes "ram:5" ∷ codes "--format=true" ∷ []) ≡ None
+  pub short : requested (codes "run" ∷ codes "ram:5" ∷ codes "-f" ∷ []) ≡ None
+  pub option : requested (codes "run" ∷ codes "ram:5" ∷ codes "--frames" ∷ codes "4" ∷ []) ≡ None
+  pub help : requested (codes "--help" ∷ []) ≡ None
+  pub help_of : requested (codes "run" ∷ codes "--help" ∷ []) ≡ None
+  pub help_word : requested (codes "help" ∷ []) ≡ None
+  pub version : requested (codes "--version" ∷ []) ≡ None

@@ -1,0 +1,5 @@
+pub mod Ipl
+pub mod Chip
+pub mod Asked
+pub mod Choice
+pub mod Laws

@@ -1,0 +1,17 @@
+//! What the words of the command line are, proved: bodies that do nothing, and contracts that are laws and examples.
+ghost use Rattle.command_line.specs.Laws.{SpelledIsRead, ReadIsSpelled, NothingTogether, ChipExamples, NoChipExamples, WordExamples, NoWordExamples};
+
+/// A word names a chip exactly where it is the chip's one spelling.
+pub fn chip_word_laws()
+    ensures read { SpelledIsRead }
+    ensures spelled { ReadIsSpelled }
+    ensures examples { ChipExamples }
+    ensures others { NoChipExamples }
+{}
+
+/// Which words are valid, and what they ask.
+pub fn command_line_laws()
+    ensures together { NothingTogether }
+    ensures examples { WordExamples }
+    ensures others { NoWordExamples }
+{}

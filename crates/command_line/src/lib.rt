@@ -1,0 +1,15 @@
+//! The words of the command line: what they ask, and the chip that they choose. Which words are valid is clap's own
+//! definition, over the command that stands in specs/Ipl.antt.
+#![tactic(auto)]
+
+mod asked;
+mod chip_word;
+mod choice;
+mod command;
+mod laws;
+#[cfg(test)]
+mod tests;
+
+pub use asked::Request;
+pub use choice::{Choice, PathText, chip_choice, request};
+pub use laws::{chip_word_laws, command_line_laws};

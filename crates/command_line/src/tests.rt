@@ -1,0 +1,61 @@
+//! Command lines as they are typed, and what is read.
+use crate::{Choice, Request, chip_choice, request};
+use std::alloc::{AllocError, Global};
+use std::test::Fail;
+
+/// The words of a line.
+fn words_of(alloc: Global, line: &str) -> Result<Vec<String>, AllocError> {
+    let mut words = Vec::new(alloc);
+    for word in line.split(' ') {
+        if !word.is_empty() {
+            words.push(String::from_str(alloc, word)?)?;
+        }
+    }
+    Ok(words)
+}
+
+/// The places of a chip and the path of its file, if it has one.
+fn chip_parts(choice: &Choice) -> (Option<u32>, Option<&str>) {
+    match choice {
+        Choice::Ram(units) => (Some(*units), None),
+        Choice::File(units, path) => (Some(*units), Some(path.as_str())),
+        Choice::Nothing => (None, None),
+    }
+}
+
+#[test]
+fn a_line_asks_what_it_says(rt: HostRuntime) -> Result<(), Fail> {
+    let alloc = rt.alloc();
+    let run = Some(Request::Run { format: false });
+    let run_anew = Some(Request::Run { format: true });
+    let lines = [
+        ("format ram:5", Some(Request::Format), Some(5), None),
+        ("run ram:4294967295", run, Some(4294967295), None),
+        ("run ram:0 --format", run_anew, Some(0), None),
+        ("run --format ram:5", run_anew, Some(5), None),
+        ("run -- ram:5", run, Some(5), None),
+        ("run file:5:a:b", run, Some(5), Some("a:b")),
+        ("run ram:05", None, None, None),
+        ("run ram:", None, None, None),
+        ("run ram:+5", None, None, None),
+        ("run ram:4294967296", None, None, None),
+        ("run file:5:", None, None, None),
+        ("run disk:5", None, None, None),
+        ("run", None, None, None),
+        ("run ram:5 ram:6", None, None, None),
+        ("run ram:5 --frames 4", None, None, None),
+        ("run ram:5 --format --format", None, None, None),
+        ("run ram:5 --format=true", None, None, None),
+        ("format ram:5 --format", None, None, None),
+        ("run ram:5 --help", None, None, None),
+        ("walk", None, None, None),
+        ("", None, None, None),
+    ];
+    for (line, asked, units, path) in lines {
+        let words = words_of(alloc, line)?;
+        assert_eq!(rt; request(alloc, &words)?, asked, "{line}");
+        let choice = chip_choice(alloc, &words)?;
+        assert_eq!(rt; chip_parts(&choice), (units, path), "{line}");
+    }
+    Ok(())
+}
