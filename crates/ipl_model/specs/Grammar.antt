@@ -6,7 +6,7 @@ use Rattle.std.specs.Result.{result_ok}
 use Rattle.std.specs.Str.{bytes_eq}
 use Rattle.hex.specs.Hex.{decode_of}
 use Rattle.ipl_model.specs.declared.command.Command.{Command}
-use Rattle.ipl_model.specs.declared.command.Command.TheVariants.{Begin, Get, Put, Commit, Abort, Syntax}
+use Rattle.ipl_model.specs.declared.command.Command.TheVariants.{Begin, Get, Put, Del, Commit, Abort, List as ListRecords, Syntax}
 use Rattle.ipl_model.specs.declared.line.Line.{Line}
 use Rattle.ipl_model.specs.declared.line.Line.TheVariants.{Skip, Do}
 
@@ -57,8 +57,10 @@ command_of (verb ∷ words) =
     if bytes_eq verb (codes "begin") then option_map_or Begin (one_number words) Syntax
     else if bytes_eq verb (codes "get") then option_map_or (λ a. Get a.0 a.1) (two_numbers words) Syntax
     else if bytes_eq verb (codes "put") then option_map_or (λ a. Put a.0 a.1 a.2) (numbers_and_value words) Syntax
+    else if bytes_eq verb (codes "del") then option_map_or (λ a. Del a.0 a.1) (two_numbers words) Syntax
     else if bytes_eq verb (codes "commit") then option_map_or Commit (one_number words) Syntax
     else if bytes_eq verb (codes "abort") then option_map_or Abort (one_number words) Syntax
+    else if bytes_eq verb (codes "list") then option_map_or (λ a. ListRecords a.0 a.1) (two_numbers words) Syntax
     else Syntax
 
 -- a line that is empty or begins with a `#` is skipped

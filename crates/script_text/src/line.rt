@@ -59,10 +59,14 @@ fn command(line: &[u8]) -> Command
             Some((session, name, bytes)) => Command::Put(session, name, bytes),
             None => Command::Syntax,
         }
+    } else if verb == b"del".as_slice() {
+        two_numbers(words).map_or(Command::Syntax, |a| Command::Del(a.0, a.1))
     } else if verb == b"commit".as_slice() {
         one_number(words).map_or(Command::Syntax, |s| Command::Commit(s))
     } else if verb == b"abort".as_slice() {
         one_number(words).map_or(Command::Syntax, |s| Command::Abort(s))
+    } else if verb == b"list".as_slice() {
+        two_numbers(words).map_or(Command::Syntax, |a| Command::List(a.0, a.1))
     } else {
         Command::Syntax
     }

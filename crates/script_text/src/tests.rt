@@ -14,7 +14,7 @@ fn put(session: u32, name: u32, bytes: &[u8]) -> Line
 
 #[test]
 fn lines_say_commands(rt: HostRuntime) {
-    let table: [(&[u8], Line); 18] = [
+    let table: [(&[u8], Line); 20] = [
         (b"", Line::Skip),
         (b"#", Line::Skip),
         (b"# begin 0", Line::Skip),
@@ -30,9 +30,11 @@ fn lines_say_commands(rt: HostRuntime) {
         (b"put 0 5 00", put(0, 5, &[0])),
         (b"put 0 5 -", put(0, 5, &[])),
         (b"put 7 960 FF", put(7, 960, &[255])),
+        (b"del 0 5", Line::Do(Command::Del(0, 5))),
         (b"commit 3", Line::Do(Command::Commit(3))),
         (b"abort 0", Line::Do(Command::Abort(0))),
         (b"abort 4294967295", Line::Do(Command::Abort(4_294_967_295))),
+        (b"list 0 9", Line::Do(Command::List(0, 9))),
     ];
     for (line, want) in &table {
         assert_eq!(rt; parse(line), *want, "at {line:?}");
@@ -41,7 +43,7 @@ fn lines_say_commands(rt: HostRuntime) {
 
 #[test]
 fn other_lines_are_no_commands(rt: HostRuntime) {
-    let table: [&[u8]; 36] = [
+    let table: [&[u8]; 38] = [
         b" ",
         b" # begin 0",
         b"begin",
@@ -77,6 +79,8 @@ fn other_lines_are_no_commands(rt: HostRuntime) {
         b"put 0 5 0g",
         b"put 0 5 --",
         b"put 0 5 61 62",
+        b"del 0",
+        b"list 0",
         b"walk",
     ];
     for line in &table {
