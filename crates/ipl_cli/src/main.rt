@@ -1,6 +1,8 @@
 //! `ipl`: a store of short records over a chip, run by scripts.
 #![tactic(auto)]
 
+#[cfg(test)]
+mod cuts;
 mod end;
 mod failing;
 mod mem_desk;

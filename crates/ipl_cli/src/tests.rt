@@ -9,7 +9,7 @@ use std::alloc::Global;
 use std::test::Fail;
 
 /// One session: a put that is seen, committed and seen again, and a name that has no record.
-const ONE_SESSION: &[u8] =
+pub(crate) const ONE_SESSION: &[u8] =
     b"begin 0\nput 0 5 6869\nget 0 5\ncommit 0\nbegin 0\nget 0 5\nget 0 6\nabort 0";
 
 /// Its replies.
@@ -24,18 +24,23 @@ fn words_of(alloc: Global, texts: &[&str]) -> Result<Vec<String>, Fail> {
 }
 
 /// A desk of five places whose chip has room for so many events.
-fn desk_with(alloc: Global, script: &[u8], cuts: &[u32], room: u64) -> Result<MemDesk, Fail> {
+pub(crate) fn desk_with(
+    alloc: Global,
+    script: &[u8],
+    cuts: &[u32],
+    room: u64,
+) -> Result<MemDesk, Fail> {
     Ok(MemDesk::new(alloc, MemChip::new(alloc, 5, room)?, script, cuts)?)
 }
 
 /// The status that valid words end with.
-fn run(alloc: Global, desk: &mut MemDesk) -> Result<u8, Fail> {
+pub(crate) fn run(alloc: Global, desk: &mut MemDesk) -> Result<u8, Fail> {
     let words = words_of(alloc, &["run", "ram:5", "--format"])?;
     Ok(top(alloc, &words, desk))
 }
 
 /// All that was said, joined.
-fn said(alloc: Global, desk: &MemDesk) -> Result<Vec<u8>, Fail> {
+pub(crate) fn said(alloc: Global, desk: &MemDesk) -> Result<Vec<u8>, Fail> {
     let mut out = Vec::new(alloc);
     for event in desk.chip().events() {
         if let Event::Said(piece) = event {
@@ -58,7 +63,7 @@ fn long_put(alloc: Global, digits: u32) -> Result<Vec<u8>, Fail> {
 fn a_script_of_one_session(rt: HostRuntime) -> Result<(), Fail> {
     let alloc = rt.alloc();
     for cuts in [&[][..], &[1; 80], &[1, 2, 3, 5, 1, 7, 30]] {
-        let mut desk = desk_with(alloc, ONE_SESSION, cuts, 20)?;
+        let mut desk = desk_with(alloc, ONE_SESSION, cuts, 60)?;
         assert_eq!(rt; run(alloc, &mut desk)?, 0);
         assert_eq!(rt; said(alloc, &desk)?.as_slice(), ITS_REPLIES);
         assert_eq!(rt; desk.noted().len(), 0);
@@ -96,7 +101,7 @@ fn lines_of_every_kind(rt: HostRuntime) -> Result<(), Fail> {
         ),
     ];
     for (script, replies) in cases {
-        let mut desk = desk_with(alloc, script, &[], 20)?;
+        let mut desk = desk_with(alloc, script, &[], 60)?;
         assert_eq!(rt; run(alloc, &mut desk)?, 0);
         assert_eq!(rt; said(alloc, &desk)?.as_slice(), replies);
     }
@@ -110,7 +115,7 @@ fn long_lines(rt: HostRuntime) -> Result<(), Fail> {
         (1016, b"err 4 toolong\n".as_slice()),
         (1018, b"err 1 syntax\n"),
     ] {
-        let mut desk = desk_with(alloc, &long_put(alloc, digits)?, &[], 2)?;
+        let mut desk = desk_with(alloc, &long_put(alloc, digits)?, &[], 60)?;
         assert_eq!(rt; run(alloc, &mut desk)?, 0);
         assert_eq!(rt; said(alloc, &desk)?.as_slice(), reply);
     }
@@ -125,7 +130,7 @@ fn a_long_comment(rt: HostRuntime) -> Result<(), Fail> {
         script.push(b'x')?;
     }
     script.extend_from_slice(b"\nbegin 0\n")?;
-    let mut desk = desk_with(alloc, &script, &[], 2)?;
+    let mut desk = desk_with(alloc, &script, &[], 60)?;
     assert_eq!(rt; run(alloc, &mut desk)?, 0);
     assert_eq!(rt; said(alloc, &desk)?.as_slice(), b"ok\n".as_slice());
     Ok(())
@@ -134,7 +139,7 @@ fn a_long_comment(rt: HostRuntime) -> Result<(), Fail> {
 #[test]
 fn the_second_read_fails(rt: HostRuntime) -> Result<(), Fail> {
     let alloc = rt.alloc();
-    let mut desk = desk_with(alloc, ONE_SESSION, &[30], 20)?;
+    let mut desk = desk_with(alloc, ONE_SESSION, &[30], 60)?;
     desk.fail_reads(Vec::from_slice(alloc, &[1])?);
     assert_eq!(rt; run(alloc, &mut desk)?, 6);
     assert_eq!(rt; desk.noted(), b"ipl: script failed\n".as_slice());
@@ -148,7 +153,7 @@ fn the_second_read_fails(rt: HostRuntime) -> Result<(), Fail> {
 #[test]
 fn a_saying_fails_after_one_byte(rt: HostRuntime) -> Result<(), Fail> {
     let alloc = rt.alloc();
-    let mut desk = desk_with(alloc, ONE_SESSION, &[], 20)?;
+    let mut desk = desk_with(alloc, ONE_SESSION, &[], 60)?;
     let mut says = Vec::new(alloc);
     says.push(FailingSay { number: 2, kept: 1 })?;
     desk.fail_says(says);
@@ -161,7 +166,8 @@ fn a_saying_fails_after_one_byte(rt: HostRuntime) -> Result<(), Fail> {
 #[test]
 fn the_room_is_spent(rt: HostRuntime) -> Result<(), Fail> {
     let alloc = rt.alloc();
-    let mut desk = desk_with(alloc, ONE_SESSION, &[], 2)?;
+    // The format takes nine events, and the third saying has no room.
+    let mut desk = desk_with(alloc, ONE_SESSION, &[], 11)?;
     assert_eq!(rt; run(alloc, &mut desk)?, 7);
     assert_eq!(rt; said(alloc, &desk)?.as_slice(), b"ok\nok\n".as_slice());
     Ok(())
@@ -170,17 +176,45 @@ fn the_room_is_spent(rt: HostRuntime) -> Result<(), Fail> {
 #[test]
 fn other_places_and_other_words(rt: HostRuntime) -> Result<(), Fail> {
     let alloc = rt.alloc();
-    let mut desk = MemDesk::new(alloc, MemChip::new(alloc, 6, 1)?, b"begin 0\n", &[])?;
-    assert_eq!(rt; run(alloc, &mut desk)?, 4);
+    for places in [4, 1029] {
+        let mut desk = MemDesk::new(alloc, MemChip::new(alloc, places, 1)?, b"begin 0\n", &[])?;
+        assert_eq!(rt; run(alloc, &mut desk)?, 4);
+        assert_eq!(rt; desk.noted(), b"ipl: geometry\n".as_slice());
+        assert_eq!(rt; desk.chip().events().len(), 0);
+    }
+    let mut desk = desk_with(alloc, b"begin 0\n", &[], 1)?;
     let words = words_of(alloc, &["walk"])?;
     assert_eq!(rt; top(alloc, &words, &mut desk), 2);
-    assert_eq!(rt;
-        desk.noted(),
-        b"ipl: geometry\nipl: bad command line\n".as_slice()
-    );
+    assert_eq!(rt; desk.noted(), b"ipl: bad command line\n".as_slice());
     assert_eq!(rt; desk.chip().events().len(), 0);
     assert_eq!(rt; chip_choice(alloc, &words)?, Choice::Nothing);
     let words = words_of(alloc, &["run", "ram:5", "--format"])?;
     assert_eq!(rt; chip_choice(alloc, &words)?, Choice::Ram(5));
+    Ok(())
+}
+
+#[test]
+fn names_end_at_960_on_six_places_too(rt: HostRuntime) -> Result<(), Fail> {
+    let alloc = rt.alloc();
+    let script = b"begin 0\nput 0 959 aa\nput 0 960 bb\n";
+    let mut desk = MemDesk::new(alloc, MemChip::new(alloc, 6, 60)?, script, &[])?;
+    assert_eq!(rt; run(alloc, &mut desk)?, 0);
+    assert_eq!(rt;
+        said(alloc, &desk)?.as_slice(),
+        b"ok\nok\nerr 3 badname\n".as_slice()
+    );
+    Ok(())
+}
+
+#[test]
+fn a_list_and_a_delete(rt: HostRuntime) -> Result<(), Fail> {
+    let alloc = rt.alloc();
+    let script =
+        b"begin 0\nput 0 7 01\nput 0 2 -\nlist 0 9\ncommit 0\nlist 0 9\nlist 9 0\nbegin 0\ndel 0 7\ncommit 0\nlist 0 9\nlist 0 960\n";
+    let replies =
+        b"ok\nok\nok\nend\nok\n2 -\n7 01\nend\nend\nok\nok\nok\n2 -\nend\nerr 3 badname\n";
+    let mut desk = desk_with(alloc, script, &[], 60)?;
+    assert_eq!(rt; run(alloc, &mut desk)?, 0);
+    assert_eq!(rt; said(alloc, &desk)?.as_slice(), replies.as_slice());
     Ok(())
 }

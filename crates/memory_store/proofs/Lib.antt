@@ -1,3 +1,2 @@
-mod KeptLemmas
-mod QuietLemmas
-mod StandingLemmas
+pub mod KeptLemmas
+pub mod StandingLemmas

@@ -1,15 +1,16 @@
 -- What the store's memory stands for, before and after each operation.
-use Rattle.std.proofs.Common.{◌≡◌, ℕ, ◌+◌, ◌/◌, ◌<◌, ◌≤◌, ◌==◌, nat_lt, nat_le, Bool, true, false, not, ◌&&◌, ◌||◌, cond, List, [], ◌∷◌, ◌++◌, length, filter, Option, Some, None, is_some, find, unwrap_or, refl, sym, ◌∙◌, ap, subst, arith}
+use Rattle.std.proofs.Common.{◌≡◌, inl, inr, ℕ, ◌+◌, ◌/◌, ◌<◌, ◌≤◌, ◌==◌, nat_lt, nat_le, Bool, true, false, not, ◌&&◌, ◌||◌, cond, List, [], ◌∷◌, ◌++◌, length, filter, Option, Some, None, is_some, find, unwrap_or, refl, sym, ◌∙◌, ap, subst, arith}
 use Rattle.std.specs.Cmp.{nat_cmp_total}
 use Rattle.std.specs.FinMap.{FinMap, get, insert, remove, empty, entries, get-empty, get-insert, get-remove, entries-insert, len-entries, len-empty, same_map, nat_cmp-IsAntisymmetric, put}
 use Rattle.std.specs.List.{flat_map, list_any}
 use Rattle.std.specs.Option.{option_map, option_map_or}
 use Rattle.std.specs.Ordering.{nat_cmp, eq_by_cmp}
+use Rattle.std.proofs.lemmas.Bool.{cases_eq}
 use Rattle.std.proofs.lemmas.Bool.Decides.{nat_tests}
 use Rattle.std.proofs.lemmas.List.{nil_from_length, append-nil, length-append}
 use Rattle.ipl_base.specs.declared.fault.Refusal.{Refusal}
-use Rattle.ipl_base.specs.declared.fault.Refusal.TheVariants.{AlreadyOpen, NotOpen, Conflict, SharesFull, PendingFull}
-use Rattle.ipl_rules.specs.State.{State, Session, Write, last_write, written_names, writes_of, shared_of, pending, see, seen_through, is_open, at_rest, least_other, holder_for_share, holder_for_write}
+use Rattle.ipl_base.specs.declared.fault.Refusal.TheVariants.{BadSession, AlreadyOpen, NotOpen, Conflict, SharesFull, PendingFull}
+use Rattle.ipl_rules.specs.State.{Map, State, Session, with_writes, Write, last_write, written_names, writes_of, shared_of, pending, see, seen_through, is_open, at_rest, least_other, holder_for_share, holder_for_write}
 use Rattle.ipl_rules.specs.Refusals.{refuses_get, refuses_share, refuses_end, first_of, conflict, shares_full, writes_full, pending_full, is_new_write, is_new_share}
 use Rattle.ipl_rules.specs.Operations.{new_session, after_share, after_write}
 use Rattle.ipl_rules.proofs.SeenLemmas.{get-with_writes}
@@ -68,6 +69,23 @@ in_one_unit (w ∷ older) named = at_head (is_some (last_write older w.0)) (in_o
     at_head true rest = rest
     at_head false rest = ap (λ (t : Bool). cond t (w.0 ∷ filter (λ n. n / 960 == 0) (written_names older)) (filter (λ n. n / 960 == 0) (written_names older))) unit_zero ∙ ap (λ (l : List ℕ). w.0 ∷ l) rest
 
+-- these writes write no name of another unit
+unnamed : (writes : List Write) (n : ℕ) → AreNamed writes → 960 ≤ n → last_write writes n ≡ None
+unnamed [] n named past = refl
+unnamed (w ∷ older) n named past =
+    let other : (w.0 == n) ≡ false = grind (arith, nat_tests, named.0) in
+    ap (λ (t : Bool). cond t (Some w.1) (last_write older n)) other ∙ unnamed older n named.1 past
+
+no_length : (kept : List Kept) → nat_lt 0 (length kept) ≡ false → kept ≡ []
+no_length [] is = refl
+no_length (k ∷ kept) is = absurd (never (sym some ∙ is))
+  where
+    some : nat_lt 0 (length (k ∷ kept)) ≡ true
+    some = grind (arith, nat_tests)
+
+    never : true ≡ false → ⊥
+    never e = cc
+
 -- a reply, and what the store stands for then
 abbrev pub Gives : Stepped → Reply → List (Option (List ℕ)) → List Kept → List ℕ → Bool → Type 0
 Gives stepped r records kept shares opened = (stepped.1 ≡ r ∷ []) × FitsParts records kept shares opened stepped.0
@@ -84,7 +102,7 @@ fresh records kept shares none unshared blank = record {
   session = new_session;
   sessions = refl;
   closed = λ e. (none, unshared);
-  map = λ n. get-empty nat_cmp n ∙ sym (blank n);
+  map = λ n lt. get-empty nat_cmp n ∙ sym (blank n);
   written = λ n. sym (ap (λ (l : List Kept). kept_change l n) none);
   named = tt;
   count = sym (ap length none);
@@ -120,6 +138,10 @@ module _ (records : List (Option (List ℕ))) (kept : List Kept) (shares : List 
       let stepped : step unit_limits state c ≡ accepted state c = ap (λ (o : Option Refusal). option_map_or (λ r. (state, reply.Refused r ∷ [])) o (accepted state c)) is in
       subst (λ (p : Stepped). Gives p r then_records then_kept then_shares then_open) (sym stepped) gives
 
+  stepped_closed : (c : Command) (rest : Option Refusal) → refusal_of unit_limits state c ≡ cond (not (is_open state 0)) (Some NotOpen) rest → opened ≡ false → step unit_limits state c ≡ (state, reply.Refused NotOpen ∷ [])
+  stepped_closed c rest tests is =
+      ap (λ (o : Option Refusal). option_map_or (λ r. (state, reply.Refused r ∷ [])) o (accepted state c)) (tests ∙ ap (λ (b : Bool). cond (not b) (Some NotOpen) rest) (open_is ∙ is))
+
   -- where no session is open
   pub closed_refused : (c : Command) (rest : Option Refusal) → refusal_of unit_limits state c ≡ cond (not (is_open state 0)) (Some NotOpen) rest → opened ≡ false → Gives (step unit_limits state c) (reply.Refused NotOpen) records kept shares opened
   closed_refused c rest tests is = refused c NotOpen (tests ∙ ap (λ (b : Bool). cond (not b) (Some NotOpen) rest) (open_is ∙ is))
@@ -147,16 +169,13 @@ module _ (records : List (Option (List ℕ))) (kept : List Kept) (shares : List 
         },
       )
 
-  -- ---- restart and merge
+  -- ---- restart
 
   pub restart_done : Gives (step unit_limits state command.Restart) reply.Ok records [] [] false
   restart_done = (
     refl,
     record { session = new_session; sessions = refl; closed = λ e. (refl, refl); map = f.map; written = λ n. refl; named = tt; count = refl; shared = λ n. refl; share_count = refl },
   )
-
-  pub merge_done : Gives (step unit_limits state (command.Merge 0)) reply.Ok records kept shares opened
-  merge_done = (refl, f)
 
   -- ---- tests of one name
 
@@ -193,11 +212,11 @@ module _ (records : List (Option (List ℕ))) (kept : List Kept) (shares : List 
         ∙ ap (λ (ws : List Write). length (filter (λ n. n / 960 == 0) (written_names ws))) (append-nil f.session.writes)
         ∙ ap length (in_one_unit f.session.writes f.named) ∙ f.count
 
-    seen_is : (n : ℕ) → see state 0 n ≡ seen kept records n
-    seen_is n =
+    seen_is : (n : ℕ) → n < 960 → see state 0 n ≡ seen kept records n
+    seen_is n lt =
         ap (λ (ws : List Write). seen_through ws state.map n) writes_are
         ∙ ap (λ (o : Option (Option (List ℕ))). option_map_or (λ change. change) o (get state.map n)) (f.written n)
-        ∙ ap (λ (o : Option (List ℕ)). option_map_or (λ change. change) (kept_change kept n) o) (f.map n)
+        ∙ ap (λ (o : Option (List ℕ)). option_map_or (λ change. change) (kept_change kept n) o) (f.map n lt)
 
     new_write_is : (n : ℕ) → is_new_write state 0 n ≡ not (is_some (kept_change kept n))
     new_write_is n = ap (λ (ws : List Write). not (is_some (last_write ws n))) writes_are ∙ ap (λ (o : Option (Option (List ℕ))). not (is_some o)) (f.written n)
@@ -210,7 +229,7 @@ module _ (records : List (Option (List ℕ))) (kept : List Kept) (shares : List 
     pub get_done : (n : ℕ) (found : Option (List ℕ)) → n < 960 → found ≡ seen kept records n → Gives (step unit_limits state (command.Get 0 n)) (found_reply found) records kept shares opened
     get_done n found lt found_is =
         done (command.Get 0 n) (found_reply found) records kept shares opened (open_then (refuses_get unit_limits state 0 n) None (get_tests n lt))
-        (ap (λ (o : Option (List ℕ)). found_reply o ∷ []) (seen_is n ∙ sym found_is), f)
+        (ap (λ (o : Option (List ℕ)). found_reply o ∷ []) (seen_is n lt ∙ sym found_is), f)
 
     -- ---- share
 
@@ -237,7 +256,7 @@ module _ (records : List (Option (List ℕ))) (kept : List Kept) (shares : List 
     pub share_again : (n : ℕ) (found : Option (List ℕ)) → n < 960 → found ≡ seen kept records n → is_unshared n ≡ false → Gives (step unit_limits state (command.Share 0 n)) (found_reply found) records kept shares opened
     share_again n found lt found_is old =
         done (command.Share 0 n) (found_reply found) records kept shares opened (share_tests n lt ∙ ap (λ (b : Bool). cond (b && nat_le 256 (length shares)) (Some SharesFull) None) old)
-        (ap (λ (o : Option (List ℕ)). found_reply o ∷ []) (seen_is n ∙ sym found_is), subst (FitsParts records kept shares opened) (sym same) f)
+        (ap (λ (o : Option (List ℕ)). found_reply o ∷ []) (seen_is n lt ∙ sym found_is), subst (FitsParts records kept shares opened) (sym same) f)
       where
         same : after_share state 0 n ≡ state
         same = ap (λ (b : Bool). cond b (option_map_or (λ session. record state { sessions = insert state.sessions 0 (record session { shared = n ∷ session.shared }) }) (get state.sessions 0) state) state) (new_share_is n ∙ old)
@@ -254,7 +273,7 @@ module _ (records : List (Option (List ℕ))) (kept : List Kept) (shares : List 
         let test : nat_le 256 (length shares) ≡ false = grind (arith, nat_tests) in
         done (command.Share 0 n) (found_reply found) records kept (shares ++ n ∷ []) opened
         (share_tests n lt ∙ ap (λ (b : Bool). cond (b && nat_le 256 (length shares)) (Some SharesFull) None) new ∙ ap (λ (b : Bool). cond b (Some SharesFull) None) test)
-        (ap (λ (o : Option (List ℕ)). found_reply o ∷ []) (seen_is n ∙ sym found_is), subst (FitsParts records kept (shares ++ n ∷ []) opened) (sym state_is) shared_now)
+        (ap (λ (o : Option (List ℕ)). found_reply o ∷ []) (seen_is n lt ∙ sym found_is), subst (FitsParts records kept (shares ++ n ∷ []) opened) (sym state_is) shared_now)
       where
         session : Session
         session = record f.session { shared = n ∷ f.session.shared }
@@ -352,7 +371,7 @@ module _ (records : List (Option (List ℕ))) (kept : List Kept) (shares : List 
     none_open : remove state.sessions 0 ≡ empty
     none_open = ap (λ (m : FinMap nat_cmp Session). remove m 0) all_sessions ∙ gone f.session
 
-    pub commit_done : (later : List (Option (List ℕ))) → ((n : ℕ) → record_of later n ≡ seen kept records n) → Gives (step unit_limits state (command.Commit 0)) reply.Ok later [] [] false
+    pub commit_done : (later : List (Option (List ℕ))) → ((n : ℕ) → n < 960 → record_of later n ≡ seen kept records n) → Gives (step unit_limits state (command.Commit 0)) reply.Ok later [] [] false
     commit_done later each =
         done (command.Commit 0) reply.Ok later [] [] false (open_then (refuses_end unit_limits state 0) None refl) (
           refl,
@@ -360,7 +379,7 @@ module _ (records : List (Option (List ℕ))) (kept : List Kept) (shares : List 
             session = new_session;
             sessions = none_open;
             closed = λ e. (refl, refl);
-            map = λ n. get-with_writes (writes_of state 0) state.map n ∙ seen_is n ∙ sym (each n);
+            map = λ n lt. get-with_writes (writes_of state 0) state.map n ∙ seen_is n lt ∙ sym (each n lt);
             written = λ n. refl;
             named = tt;
             count = refl;
@@ -369,12 +388,50 @@ module _ (records : List (Option (List ℕ))) (kept : List Kept) (shares : List 
           },
         )
 
+    committed_map : (step unit_limits state (command.Commit 0)).0.map ≡ with_writes (writes_of state 0) state.map
+    committed_map = ap (λ (o : Option Refusal). (option_map_or (λ r. (state, reply.Refused r ∷ [])) o (accepted state (command.Commit 0))).0.map) (open_then (refuses_end unit_limits state 0) None refl)
+
+    -- the records then: of a name of the unit what the session saw, of each other what it was
+    pub commit_below : (n : ℕ) → n < 960 → get (step unit_limits state (command.Commit 0)).0.map n ≡ seen kept records n
+    commit_below n lt = ap (λ (m : Map). get m n) committed_map ∙ get-with_writes (writes_of state 0) state.map n ∙ seen_is n lt
+
+    pub commit_above : (n : ℕ) → 960 ≤ n → get (step unit_limits state (command.Commit 0)).0.map n ≡ get state.map n
+    commit_above n past =
+        ap (λ (m : Map). get m n) committed_map ∙ get-with_writes (writes_of state 0) state.map n
+        ∙ ap (λ (ws : List Write). seen_through ws state.map n) writes_are
+        ∙ ap (λ (o : Option (Option (List ℕ))). option_map_or (λ change. change) o (get state.map n)) (unnamed f.session.writes n f.named past)
+
+    commit_of_nothing : kept ≡ [] → (step unit_limits state (command.Commit 0)).0.map ≡ state.map
+    commit_of_nothing none = committed_map ∙ same_map nat_cmp_total nat_cmp-IsAntisymmetric _ _ (λ n.
+        get-with_writes (writes_of state 0) state.map n
+        ∙ ap (λ (ws : List Write). seen_through ws state.map n) writes_are
+        ∙ ap (λ (o : Option (Option (List ℕ))). option_map_or (λ change. change) o (get state.map n)) (f.written n)
+        ∙ ap (λ (l : List Kept). option_map_or (λ change. change) (kept_change l n) (get state.map n)) none)
+
     pub abort_done : Gives (step unit_limits state (command.Abort 0)) reply.Ok records [] [] false
     abort_done =
         done (command.Abort 0) reply.Ok records [] [] false (open_then (refuses_end unit_limits state 0) None refl) (
           refl,
           record { session = new_session; sessions = none_open; closed = λ e. (refl, refl); map = f.map; written = λ n. refl; named = tt; count = refl; shared = λ n. refl; share_count = refl },
         )
+
+  -- a commit that makes no record of a write leaves the records as they were
+  pub quiet_commit : (s : ℕ) → (nat_lt s 1 && (opened && nat_lt 0 (length kept))) ≡ false → (step unit_limits state (command.Commit s)).0.map ≡ state.map
+  quiet_commit s is = elim (cases_eq s 0) [
+    | inl same ↦ at_zero same
+    | inr other ↦
+        let bad : nat_le 1 s ≡ true = grind (arith, nat_tests) in
+        ap (λ (b : Bool). (option_map_or (λ r. (state, reply.Refused r ∷ [])) (cond b (Some BadSession) (cond (not (is_open state s)) (Some NotOpen) None)) (accepted state (command.Commit s))).0.map) bad
+  ]
+    where
+      by_open : (b : Bool) → opened ≡ b → (b && nat_lt 0 (length kept)) ≡ false → (step unit_limits state (command.Commit 0)).0.map ≡ state.map
+      by_open true is_open nothing = commit_of_nothing is_open (no_length kept nothing)
+      by_open false closed nothing = ap (λ (p : Stepped). p.0.map) (stepped_closed (command.Commit 0) None refl closed)
+
+      at_zero : s ≡ 0 → (step unit_limits state (command.Commit s)).0.map ≡ state.map
+      at_zero same =
+          let here : (nat_lt 0 1 && (opened && nat_lt 0 (length kept))) ≡ false = subst (λ (j : ℕ). (nat_lt j 1 && (opened && nat_lt 0 (length kept))) ≡ false) same is in
+          subst (λ (j : ℕ). (step unit_limits state (command.Commit j)).0.map ≡ state.map) (sym same) (by_open opened refl here)
 
   -- a write where no session is open
   pub write_closed : (n : ℕ) (change : Option (List ℕ)) → opened ≡ false → Gives (write_step state n change) (reply.Refused NotOpen) records kept shares opened

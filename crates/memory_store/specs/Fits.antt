@@ -1,5 +1,5 @@
 -- The state that the store's memory stands for.
-use Rattle.std.specs.Prelude.{◌≡◌, ◌<◌, ◌==◌, ℕ, Bool, false, List, [], ◌∷◌, length, Option, if◌then◌else◌}
+use Rattle.std.specs.Prelude.{◌≡◌, ◌<◌, ◌==◌, nat_lt, ◌&&◌, ℕ, Bool, false, List, [], ◌∷◌, length, Option, if◌then◌else◌}
 use Rattle.std.specs.List.{list_any}
 use Rattle.std.specs.Ordering.{nat_cmp}
 use Rattle.std.specs.FinMap.{FinMap, get, insert, empty}
@@ -12,7 +12,6 @@ use Rattle.ipl_model.specs.declared.command.Command.{Command}
 use Rattle.ipl_model.specs.declared.reply.Reply.{Reply}
 use Rattle.ipl_model.specs.declared.reply.Reply.TheVariants as reply
 use Rattle.ipl_model.specs.Step.{Stepped, step}
-use Rattle.script_run.specs.Keeping.{Keeping}
 use Rattle.memory_store.specs.declared.kept.Kept.{Kept}
 use Rattle.memory_store.specs.declared.store.MemoryStore.{MemoryStore}
 use Rattle.memory_store.specs.Kept.{kept_change, record_of}
@@ -30,12 +29,12 @@ abbrev pub AreNamed : List Write → Type 0
 AreNamed [] = Unit {0}
 AreNamed (w ∷ older) = (w.0 < 960) × AreNamed older
 
--- The records are the map; the one session, where it is open, has the writes and the shared names that are kept.
+-- The records are those of the map below 960; the one session, where it is open, has the writes and the shared names that are kept.
 pub record FitsParts (records : List (Option (List ℕ))) (kept : List Kept) (shares : List ℕ) (is_open : Bool) (state : State) : Type 0 where
   pub session : Session
   pub sessions : state.sessions ≡ sessions_of is_open session
   pub closed : is_open ≡ false → (kept ≡ []) × (shares ≡ [])
-  pub map : (n : ℕ) → get state.map n ≡ record_of records n
+  pub map : (n : ℕ) → n < 960 → get state.map n ≡ record_of records n
   pub written : (n : ℕ) → last_write session.writes n ≡ kept_change kept n
   pub named : AreNamed session.writes
   pub count : length (written_names session.writes) ≡ length kept
@@ -65,17 +64,6 @@ write_step state n change = option_map_or (λ refusal. (state, reply.Refused ref
 abbrev pub Writes : MemoryStore → MemoryStore → ℕ → Option (List ℕ) → Reply → Type 0
 Writes old new n change r = (state : State) → Fits old state → ((write_step state n change).1 ≡ r ∷ []) × Fits new (write_step state n change).0
 
--- Such a store keeps its state in memory: nothing is asked of a chip, and nothing is left on it.
-abbrev pub memory_keeping : Keeping MemoryStore
-memory_keeping = record {
-  checks = λ bytes. false;
-  stands = λ x m. Unit {0};
-  holds = λ limits store t state. (limits ≡ unit_limits) × Fits store state;
-  suits = λ store places. Unit {0};
-  clean = λ store p s. ⊥;
-  does = λ e. ⊥;
-  cause = λ fault old new. ⊥;
-  each = λ limits store t state h holds told x image. tt;
-  still = λ limits store old new state still holds. holds;
-  caused = λ fault first old new last before cause after. cause;
-}
+-- a commit of this session would make records of writes
+abbrev pub is_writing : MemoryStore → ℕ → Bool
+is_writing store session = nat_lt session 1 && (store.is_open && nat_lt 0 (length store.kept.items))

@@ -1,8 +1,7 @@
-//! The plainest store: the records of one unit and the writes of one session, in memory. It makes no chip call.
+//! The records of one unit and the writes of one session, in memory: each operation follows the model. It makes no chip call.
 #![tactic(auto)]
 
-mod commands;
 mod kept;
 mod store;
 
-pub use store::MemoryStore;
+pub use store::{MemoryStore, NAMES};

@@ -14,9 +14,6 @@ pub const NAMES: u32 = 960;
 /// Sessions are below this.
 const SESSIONS: u32 = 1;
 
-/// Units are below this.
-const UNITS: u32 = 1;
-
 /// The most names that are pending in one unit, over all sessions. With one unit, a session writes no more.
 const PENDING: usize = 48;
 
@@ -79,7 +76,7 @@ fn found(value: Option<Value>) -> Reply
 }
 
 impl MemoryStore {
-    ghost use Rattle.memory_store.specs.Fits.{Follows, Writes};
+    ghost use Rattle.memory_store.specs.Fits.{Follows, Writes, is_writing};
     ghost use Rattle.std.specs.Prelude.{◌||◌, is_some};
     ghost use Rattle.memory_store.specs.Kept.{is_among, kept_change, seen};
     ghost use Rattle.ipl_model.specs.declared.command.Command.TheVariants as command;
@@ -98,15 +95,30 @@ impl MemoryStore {
         Reply::Ok
     }
 
-    /// What the session sees of a name below 960: its own last write, or else the record.
+    /// What the session sees of a name below 960: its own last write, or else the record. With no open session, the record.
+    pub fn seen(&self, name: u32) -> Option<Value>
+        requires { name < 960 }
+        ensures { result ≡ seen self.now.kept.items self.now.records.items name }
+    {
+        match find(&self.kept, name) {
+            Some(i) => copied(&self.kept[i].change),
+            None => self.record(name),
+        }
+    }
+
+    /// The same as a reply.
     fn see(&self, name: u32) -> Reply
         requires { name < 960 }
         ensures { result ≡ found_reply (seen self.now.kept.items self.now.records.items name) }
     {
-        match find(&self.kept, name) {
-            Some(i) => found(copied(&self.kept[i].change)),
-            None => found(self.record(name)),
-        }
+        found(self.seen(name))
+    }
+
+    /// Whether a commit of this session would make records of writes.
+    pub fn is_writing(&self, session: u32) -> bool
+        ensures { result ≡ is_writing self.now session }
+    {
+        session < SESSIONS && self.is_open && !self.kept.is_empty()
     }
 
     /// What a session sees of a name below 960.
@@ -249,16 +261,6 @@ impl MemoryStore {
         ensures { Follows self.old self.new command.Restart result }
     {
         self.close();
-        Reply::Ok
-    }
-
-    /// A merge of a unit changes no record; the unit must be 0.
-    pub fn merge(&self, unit: u32) -> Reply
-        ensures { Follows self.now self.now (command.Merge unit) result }
-    {
-        if unit >= UNITS {
-            return Reply::Refused(Refusal::BadUnit);
-        }
         Reply::Ok
     }
 }

@@ -91,17 +91,17 @@ module _ {S : Type 0} (k : Keeping S) (limits : Limits) (state : State) where
   -- ---- a row of a list
 
   pub row_said : (n : ℕ) (before then : S) (h : History) (old mid new : Told) (value : List ℕ) → LooksUpFor k limits state n before h (Ok (Some value)) then old mid → Appends (Said (reply_text (reply.Row n value))) mid new
-      → SayingLeaves k state.map (row_lines n (get state.map n)) before h then new true × k.holds limits then new state
+      → SayingLeaves k limits state.map (row_lines n (get state.map n)) before h then new true × k.holds limits then new state
   row_said n before then h old mid new value w did = (
-    subst (λ (found : Option (List ℕ)). SayingLeaves k state.map (row_lines n found) before h then new true) w.ends.1
-        (saying_then k state.map [] (reply_text (reply.Row n value) ∷ []) before then then h mid new true (saying_work k state.map before then h mid true w.leaves)
+    subst (λ (found : Option (List ℕ)). SayingLeaves k limits state.map (row_lines n found) before h then new true) w.ends.1
+        (saying_then k limits state.map [] (reply_text (reply.Row n value) ∷ []) before then then h mid new true (saying_work k limits state.map before then h mid true w.leaves)
         (saying_said k limits state then (adds_all w.leaves.added h) mid new (reply_text (reply.Row n value)) w.ends.0 w.leaves.history did)),
     k.still limits then mid new state (still_said mid new (reply_text (reply.Row n value)) did) w.ends.0,
   )
 
   pub row_absent : (n : ℕ) (before then : S) (h : History) (old new : Told) → LooksUpFor k limits state n before h (Ok None) then old new
-      → SayingLeaves k state.map (row_lines n (get state.map n)) before h then new true × k.holds limits then new state
-  row_absent n before then h old new w = (subst (λ (found : Option (List ℕ)). SayingLeaves k state.map (row_lines n found) before h then new true) w.ends.1 (saying_work k state.map before then h new true w.leaves), w.ends.0)
+      → SayingLeaves k limits state.map (row_lines n (get state.map n)) before h then new true × k.holds limits then new state
+  row_absent n before then h old new w = (subst (λ (found : Option (List ℕ)). SayingLeaves k limits state.map (row_lines n found) before h then new true) w.ends.1 (saying_work k limits state.map before then h new true w.leaves), w.ends.0)
 
   pub row_unsaid : (n : ℕ) (before then : S) (h : History) (old mid new : Told) (value : List ℕ) → LooksUpFor k limits state n before h (Ok (Some value)) then old mid → FailsToSay (reply_text (reply.Row n value)) mid new
       → SaysSome k limits state (row_lines n (get state.map n)) before h then old new
@@ -110,22 +110,22 @@ module _ {S : Type 0} (k : Keeping S) (limits : Limits) (state : State) where
       let cut = saying_cut k limits state then (adds_all w.leaves.added h) mid new line [] w.ends.0 w.leaves.history did in record {
         said = cut.0;
         part = subst (λ (found : Option (List ℕ)). SaysLines (row_lines n found) cut.0) w.ends.1 (says_cut line [] cut.0 cut.1);
-        leaves = saying_then k state.map [] cut.0 before then then h mid new false (saying_work k state.map before then h mid true w.leaves) cut.2;
+        leaves = saying_then k limits state.map [] cut.0 before then then h mid new false (saying_work k limits state.map before then h mid true w.leaves) cut.2;
         stays = λ quiet. k.still limits then mid new state (still_cut mid new line did) w.ends.0;
       }
 
   pub row_failed : (n : ℕ) (before then : S) (h : History) (old new : Told) (fault : Fault) → LooksUpFor k limits state n before h (Err fault) then old new → SaysSome k limits state (row_lines n (get state.map n)) before h then old new
   row_failed n before then h old new fault w =
-      record { said = []; part = says_none (row_lines n (get state.map n)); leaves = saying_work k state.map before then h new false w.leaves; stays = w.ends }
+      record { said = []; part = says_none (row_lines n (get state.map n)); leaves = saying_work k limits state.map before then h new false w.leaves; stays = w.ends }
 
   -- ---- rows, one after another
 
   pub rows_then : (first n : ℕ) (before mid then : S) (h : History) (between new : Told) → first ≤ n
-      → (so_far : SayingLeaves k state.map (rows_lines state.map first (n - first)) before h mid between true) → SayingLeaves k state.map (row_lines n (get state.map n)) mid (adds_all so_far.added h) then new true
-      → SayingLeaves k state.map (rows_lines state.map first (n + 1 - first)) before h then new true
+      → (so_far : SayingLeaves k limits state.map (rows_lines state.map first (n - first)) before h mid between true) → SayingLeaves k limits state.map (row_lines n (get state.map n)) mid (adds_all so_far.added h) then new true
+      → SayingLeaves k limits state.map (rows_lines state.map first (n + 1 - first)) before h then new true
   rows_then first n before mid then h between new le so_far more =
-      subst (λ (l : List (List ℕ)). SayingLeaves k state.map l before h then new true) (sym (rows_more state.map first n le))
-      (saying_then k state.map (rows_lines state.map first (n - first)) (row_lines n (get state.map n)) before mid then h between new true so_far more)
+      subst (λ (l : List (List ℕ)). SayingLeaves k limits state.map l before h then new true) (sym (rows_more state.map first n le))
+      (saying_then k limits state.map (rows_lines state.map first (n - first)) (row_lines n (get state.map n)) before mid then h between new true so_far more)
 
   -- the rows from one on begin with the first of them
   rows_begin : (first j i : ℕ) → (more : List (List ℕ)) × (rows_lines state.map first (j + i) ≡ rows_lines state.map first j ++ more)
@@ -142,7 +142,7 @@ module _ {S : Type 0} (k : Keeping S) (limits : Limits) (state : State) where
 
   -- it stopped in a row
   pub rows_stop : (first n end : ℕ) (before mid then : S) (h : History) (old between new : Told) → first ≤ n → n < end → old.write_faults ≤ between.write_faults
-      → (so_far : SayingLeaves k state.map (rows_lines state.map first (n - first)) before h mid between true) → SaysSome k limits state (row_lines n (get state.map n)) mid (adds_all so_far.added h) then between new
+      → (so_far : SayingLeaves k limits state.map (rows_lines state.map first (n - first)) before h mid between true) → SaysSome k limits state (row_lines n (get state.map n)) mid (adds_all so_far.added h) then between new
       → SaysSome k limits state (rows_lines state.map first (end - first)) before h then old new
   rows_stop first n end before mid then h old between new le lt counted so_far some =
       let rest = rows_begin first (n + 1 - first) (end - (n + 1)) in
@@ -153,18 +153,18 @@ module _ {S : Type 0} (k : Keeping S) (limits : Limits) (state : State) where
         part = subst (λ (l : List (List ℕ)). SaysLines l (rows_lines state.map first (n - first) ++ some.said)) (sym are)
             (says_longer (rows_lines state.map first (n - first) ++ row_lines n (get state.map n)) rest.0 (rows_lines state.map first (n - first) ++ some.said)
             (says_behind (rows_lines state.map first (n - first)) (row_lines n (get state.map n)) some.said some.part));
-        leaves = saying_then k state.map (rows_lines state.map first (n - first)) some.said before mid then h between new false so_far some.leaves;
+        leaves = saying_then k limits state.map (rows_lines state.map first (n - first)) some.said before mid then h between new false so_far some.leaves;
         stays = λ quiet. some.stays (unrisen_later old between new counted quiet);
       }
 
   -- ---- a whole list
 
   -- nothing was done yet
-  work_none : (c : Command) (store : S) (h : History) (t : Told) → k.holds limits store t state → t.history ≡ Some h → WorkLeaves k (λ x. k.stands x state.map ⊎ k.stands x (Next c).map) store h store t true
+  work_none : (c : Command) (store : S) (h : History) (t : Told) → k.holds limits store t state → t.history ≡ Some h → WorkLeaves k (λ x. k.stands limits x state.map ⊎ k.stands limits x (Next c).map) store h store t true
   work_none c store h t holds told = record {
     added = [];
     history = told;
-    each_moment = at_start (Leaves k.checks (λ x. k.stands x state.map ⊎ k.stands x (Next c).map) h) (λ x is. inl (k.each limits store t state h holds told x is));
+    each_moment = at_start (Leaves k.checks (λ x. k.stands limits x state.map ⊎ k.stands limits x (Next c).map) h) (λ x is. inl (k.each limits store t state h holds told x is));
     silent = refl;
     only = tt;
     lawful = lawful_none (k.clean store);
@@ -173,17 +173,17 @@ module _ {S : Type 0} (k : Keeping S) (limits : Limits) (state : State) where
 
   -- what is said of a command that changes nothing
   pub run_saying : (c : Command) (before then : S) (h : History) (R : State → Type 0) (old new : Told) (part : List (List ℕ)) (done : Bool) → k.holds limits before old state → old.history ≡ Some h → Next c ≡ state
-      → SayingLeaves k state.map part before h then new done → SaysLines (reply_lines limits state c) part → (done ≡ true → part ≡ reply_lines limits state c) → R state → RunLeaves k limits state (c ∷ []) before h R then new done
+      → SayingLeaves k limits state.map part before h then new done → SaysLines (reply_lines limits state c) part → (done ≡ true → part ≡ reply_lines limits state c) → R state → RunLeaves k limits state (c ∷ []) before h R then new done
   unfolding work_none
   run_saying c before then h R old new part done holds told same more front all r =
       run_command k limits state c before before then h R old new part done (work_none c before h old holds told)
-      (subst (λ (s : State). SayingLeaves k s.map part before h then new done) (sym same) more) front all (subst R (sym same) r)
+      (subst (λ (s : State). SayingLeaves k limits s.map part before h then new done) (sym same) more) front all (subst R (sym same) r)
 
   -- no row yet
-  pub rows_none : (first : ℕ) (store : S) (h : History) (t : Told) → k.holds limits store t state → t.history ≡ Some h → SayingLeaves k state.map (rows_lines state.map first (first - first)) store h store t true
+  pub rows_none : (first : ℕ) (store : S) (h : History) (t : Told) → k.holds limits store t state → t.history ≡ Some h → SayingLeaves k limits state.map (rows_lines state.map first (first - first)) store h store t true
   rows_none first store h t holds told =
       let none : first - first ≡ 0 = omega arith in
-      subst (λ (j : ℕ). SayingLeaves k state.map (rows_lines state.map first j) store h store t true) (sym none) (saying_none k limits state store h t true holds told)
+      subst (λ (j : ℕ). SayingLeaves k limits state.map (rows_lines state.map first j) store h store t true) (sym none) (saying_none k limits state store h t true holds told)
 
   -- a command that is answered without work, as a refusal is
   pub works_at_once : (c : Command) (store : S) (h : History) (t : Told) (r : Reply) → step limits state c ≡ (state, r ∷ []) → k.holds limits store t state → t.history ≡ Some h → WorksFor k limits state c store h (Ok r) store t t
@@ -199,7 +199,7 @@ module _ {S : Type 0} (k : Keeping S) (limits : Limits) (state : State) where
 
     -- all rows were said, and the end
     pub list_done : (before then : S) (h : History) (old mid new : Told) → a < names → b < names → k.holds limits before old state → old.history ≡ Some h
-        → (said : SayingLeaves k state.map (rows_lines state.map a (b + 1 - a)) before h then mid true) → k.holds limits then mid state → Appends (Said (reply_text reply.End)) mid new
+        → (said : SayingLeaves k limits state.map (rows_lines state.map a (b + 1 - a)) before h then mid true) → k.holds limits then mid state → Appends (Said (reply_text reply.End)) mid new
         → RunLeaves k limits state (command.List a b ∷ []) before h (k.holds limits then new) then new true × k.holds limits then new (Next (command.List a b))
     list_done before then h old mid new a_in b_in holds told said then_holds did =
         let lines = rows_lines state.map a (b + 1 - a) in
@@ -207,21 +207,21 @@ module _ {S : Type 0} (k : Keeping S) (limits : Limits) (state : State) where
         let end = reply_text reply.End in
         let now = k.still limits then mid new state (still_said mid new end did) then_holds in (
           run_saying (command.List a b) before then h (k.holds limits then new) old new (lines ++ end ∷ []) true holds told (list_stays a_in b_in)
-              (saying_then k state.map lines (end ∷ []) before then then h mid new true said (saying_said k limits state then (adds_all said.added h) mid new end then_holds said.history did))
+              (saying_then k limits state.map lines (end ∷ []) before then then h mid new true said (saying_said k limits state then (adds_all said.added h) mid new end then_holds said.history did))
               (subst (λ (l : List (List ℕ)). SaysLines l (lines ++ end ∷ [])) all (says_all (lines ++ end ∷ []))) (λ e. all) now,
           subst (k.holds limits then new) (sym (list_stays a_in b_in)) now,
         )
 
     -- the end couldn't be said
     pub list_unsaid : (before then : S) (h : History) (old mid new : Told) → a < names → b < names → k.holds limits before old state → old.history ≡ Some h
-        → (said : SayingLeaves k state.map (rows_lines state.map a (b + 1 - a)) before h then mid true) → k.holds limits then mid state → FailsToSay (reply_text reply.End) mid new
+        → (said : SayingLeaves k limits state.map (rows_lines state.map a (b + 1 - a)) before h then mid true) → k.holds limits then mid state → FailsToSay (reply_text reply.End) mid new
         → RunLeaves k limits state (command.List a b ∷ []) before h (Stays k limits then old new) then new false
     list_unsaid before then h old mid new a_in b_in holds told said then_holds did =
         let lines = rows_lines state.map a (b + 1 - a) in
         let end = reply_text reply.End in
         let cut = saying_cut k limits state then (adds_all said.added h) mid new end [] then_holds said.history did in
         run_saying (command.List a b) before then h (Stays k limits then old new) old new (lines ++ cut.0) false holds told (list_stays a_in b_in)
-        (saying_then k state.map lines cut.0 before then then h mid new false said cut.2)
+        (saying_then k limits state.map lines cut.0 before then then h mid new false said cut.2)
         (subst (λ (l : List (List ℕ)). SaysLines l (lines ++ cut.0)) (list_lines a_in b_in) (says_behind lines (end ∷ []) cut.0 (says_cut end [] cut.0 cut.1))) (λ e. cc)
         (λ quiet. k.still limits then mid new state (still_cut mid new end did) then_holds)
 

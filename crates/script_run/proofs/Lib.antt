@@ -1,6 +1,6 @@
-mod OnwardLemmas
+pub mod OnwardLemmas
 mod LineLemmas
-mod RunLemmas
+pub mod RunLemmas
 mod AnswerLemmas
 mod GoesLemmas
-mod CauseLemmas
+pub mod CauseLemmas

@@ -112,11 +112,11 @@ regrouped checks h later earlier x is = subst (λ (story : Story). IsNoChanceIma
 module _ {S : Type 0} (k : Keeping S) where
   -- ---- what is said while the store keeps its state
 
-  pub saying_none : (limits : Limits) (state : State) (store : S) (h : History) (t : Told) (done : Bool) → k.holds limits store t state → t.history ≡ Some h → SayingLeaves k state.map [] store h store t done
+  pub saying_none : (limits : Limits) (state : State) (store : S) (h : History) (t : Told) (done : Bool) → k.holds limits store t state → t.history ≡ Some h → SayingLeaves k limits state.map [] store h store t done
   saying_none limits state store h t done holds told = record {
     added = [];
     history = told;
-    each_moment = at_start (Leaves k.checks (λ x. k.stands x state.map) h) (k.each limits store t state h holds told);
+    each_moment = at_start (Leaves k.checks (λ x. k.stands limits x state.map) h) (k.each limits store t state h holds told);
     says = refl;
     only = tt;
     lawful = lawful_none (k.clean store);
@@ -124,8 +124,8 @@ module _ {S : Type 0} (k : Keeping S) where
   }
 
   -- work that says nothing
-  abbrev pub saying_work : (m : Map) (before then : S) (h : History) (new : Told) (done : Bool) → WorkLeaves k (λ x. k.stands x m) before h then new done → SayingLeaves k m [] before h then new done
-  saying_work m before then h new done did = record {
+  abbrev pub saying_work : (limits : Limits) (m : Map) (before then : S) (h : History) (new : Told) (done : Bool) → WorkLeaves k (λ x. k.stands limits x m) before h then new done → SayingLeaves k limits m [] before h then new done
+  saying_work limits m before then h new done did = record {
     added = did.added;
     history = did.history;
     each_moment = did.each_moment;
@@ -137,9 +137,9 @@ module _ {S : Type 0} (k : Keeping S) where
 
   -- one piece
   one_piece : (limits : Limits) (state : State) (store : S) (h : History) (mid new : Told) (piece : List ℕ) (done : Bool) → k.holds limits store mid state → mid.history ≡ Some h → new.history ≡ option_map (adds (Said piece)) mid.history
-      → SayingLeaves k state.map (piece ∷ []) store h store new done
+      → SayingLeaves k limits state.map (piece ∷ []) store h store new done
   one_piece limits state store h mid new piece done holds told grown =
-      let P = λ (x : Contents). k.stands x state.map in
+      let P = λ (x : Contents). k.stands limits x state.map in
       let here = k.each limits store mid state h holds told in record {
         added = Said piece ∷ [];
         history = grown ∙ ap (option_map (adds (Said piece))) told;
@@ -151,12 +151,12 @@ module _ {S : Type 0} (k : Keeping S) where
       }
 
   pub saying_said : (limits : Limits) (state : State) (store : S) (h : History) (mid new : Told) (piece : List ℕ) → k.holds limits store mid state → mid.history ≡ Some h → Appends (Said piece) mid new
-      → SayingLeaves k state.map (piece ∷ []) store h store new true
+      → SayingLeaves k limits state.map (piece ∷ []) store h store new true
   saying_said limits state store h mid new piece holds told did = one_piece limits state store h mid new piece true holds told did.history
 
   -- a piece cut short
   pub saying_cut : (limits : Limits) (state : State) (store : S) (h : History) (mid new : Told) (piece : List ℕ) (more : List (List ℕ)) → k.holds limits store mid state → mid.history ≡ Some h → FailsToSay piece mid new
-      → (cut : List (List ℕ)) × IsCut cut (piece ∷ more) × SayingLeaves k state.map cut store h store new false
+      → (cut : List (List ℕ)) × IsCut cut (piece ∷ more) × SayingLeaves k limits state.map cut store h store new false
   unfolding saying_none
   saying_cut limits state store h mid new piece more holds told did = elim did.history [
     | inl some ↦ (some.0 ∷ [], some.1, one_piece limits state store h mid new some.0 false holds told some.2)
@@ -166,12 +166,12 @@ module _ {S : Type 0} (k : Keeping S) where
   ]
 
   -- one after another
-  pub saying_then : (m : Map) (a b : List (List ℕ)) (before mid then : S) (h : History) (between new : Told) (done : Bool) → (first : SayingLeaves k m a before h mid between true)
-      → SayingLeaves k m b mid (adds_all first.added h) then new done → SayingLeaves k m (a ++ b) before h then new done
-  saying_then m a b before mid then h between new done first two = record {
+  pub saying_then : (limits : Limits) (m : Map) (a b : List (List ℕ)) (before mid then : S) (h : History) (between new : Told) (done : Bool) → (first : SayingLeaves k limits m a before h mid between true)
+      → SayingLeaves k limits m b mid (adds_all first.added h) then new done → SayingLeaves k limits m (a ++ b) before h then new done
+  saying_then limits m a b before mid then h between new done first two = record {
     added = two.added ++ first.added;
     history = two.history ∙ ap Some (twice_added two.added first.added h);
-    each_moment = at_both (Leaves k.checks (λ x. k.stands x m) h) two.added first.added first.each_moment
+    each_moment = at_both (Leaves k.checks (λ x. k.stands limits x m) h) two.added first.added first.each_moment
         (λ later f split x is. two.each_moment later f split x (regrouped k.checks h f first.added x is));
     says = pieces-append two.added first.added ∙ ap (λ (l : List (List ℕ)). l ++ pieces two.added) first.says ∙ ap (λ (l : List (List ℕ)). a ++ l) two.says;
     only = all_both (IsSaidOr k.does) two.added first.added two.only first.only;
@@ -200,15 +200,15 @@ module _ {S : Type 0} (k : Keeping S) where
 
   -- the work of one command, and what is said after it
   pub run_command : (limits : Limits) (state : State) (c : Command) (before mid then : S) (h : History) (R : State → Type 0) (between new : Told) (part : List (List ℕ)) (done : Bool)
-      → (did : WorkLeaves k (λ x. k.stands x state.map ⊎ k.stands x (step limits state c).0.map) before h mid between true)
-      → SayingLeaves k (step limits state c).0.map part mid (adds_all did.added h) then new done
+      → (did : WorkLeaves k (λ x. k.stands limits x state.map ⊎ k.stands limits x (step limits state c).0.map) before h mid between true)
+      → SayingLeaves k limits (step limits state c).0.map part mid (adds_all did.added h) then new done
       → SaysLines (reply_lines limits state c) part → (done ≡ true → part ≡ reply_lines limits state c) → R (step limits state c).0 → RunLeaves k limits state (c ∷ []) before h R then new done
   run_command limits state c before mid then h R between new part done did more front all r = record {
     added = more.added ++ did.added;
     history = more.history ∙ ap Some (twice_added more.added did.added h);
     each_moment = at_both (Moment limits state (c ∷ []) h) more.added did.added
-        (λ later e split x is. found_silent limits state c (said e) (λ s. k.stands x s.map) (ap joined (silent-part later e (ap pieces split ∙ did.silent))) (did.each_moment later e split x is))
-        (λ later f split x is. found_said limits state c (said (f ++ did.added)) (λ s. k.stands x s.map) (more.each_moment later f split x (regrouped k.checks h f did.added x is)));
+        (λ later e split x is. found_silent limits state c (said e) (λ s. k.stands limits x s.map) (ap joined (silent-part later e (ap pieces split ∙ did.silent))) (did.each_moment later e split x is))
+        (λ later f split x is. found_said limits state c (said (f ++ did.added)) (λ s. k.stands limits x s.map) (more.each_moment later f split x (regrouped k.checks h f did.added x is)));
     replies = subst (SaysLines (reply_lines limits state c ++ [])) (sym all_said) (says_longer (reply_lines limits state c) [] part front);
     all = λ e. all_said ∙ all e ∙ sym (append-nil (reply_lines limits state c));
     only = all_both (IsSaidOr k.does) more.added did.added more.only (all_or_said k.does did.added did.only);
@@ -222,11 +222,11 @@ module _ {S : Type 0} (k : Keeping S) where
 
   -- the work failed, and nothing was said
   pub run_failed : (limits : Limits) (state : State) (c : Command) (before then : S) (h : History) (R : State → Type 0) (new : Told)
-      → WorkLeaves k (λ x. k.stands x state.map ⊎ k.stands x (step limits state c).0.map) before h then new false → R state → RunLeaves k limits state (c ∷ []) before h R then new false
+      → WorkLeaves k (λ x. k.stands limits x state.map ⊎ k.stands limits x (step limits state c).0.map) before h then new false → R state → RunLeaves k limits state (c ∷ []) before h R then new false
   run_failed limits state c before then h R new did r = record {
     added = did.added;
     history = did.history;
-    each_moment = λ later e split x is. found_silent limits state c (said e) (λ s. k.stands x s.map) (ap joined (silent-part later e (ap pieces split ∙ did.silent))) (did.each_moment later e split x is);
+    each_moment = λ later e split x is. found_silent limits state c (said e) (λ s. k.stands limits x s.map) (ap joined (silent-part later e (ap pieces split ∙ did.silent))) (did.each_moment later e split x is);
     replies = subst (SaysLines (lines limits state (c ∷ []))) (sym did.silent) (says_none (lines limits state (c ∷ [])));
     all = λ e. cc;
     only = all_or_said k.does did.added did.only;
@@ -249,9 +249,9 @@ module _ {S : Type 0} (k : Keeping S) where
     added = two.added ++ first.added;
     history = two.history ∙ ap Some (twice_added two.added first.added h);
     each_moment = at_both (Moment limits state (cs ++ ds) h) two.added first.added
-        (λ later e split x is. found_longer limits state cs ds (said e) (λ s. k.stands x s.map) (said_so_far limits state cs before mid h Q between true first later e split) (first.each_moment later e split x is))
+        (λ later e split x is. found_longer limits state cs ds (said e) (λ s. k.stands limits x s.map) (said_so_far limits state cs before mid h Q between true first later e split) (first.each_moment later e split x is))
         (λ later f split x is. subst (λ (bytes : List ℕ). IsFound k limits state (cs ++ ds) bytes x) (sym (both_said f))
-        (found_after limits state cs ds (said f) (λ s. k.stands x s.map) (two.each_moment later f split x (regrouped k.checks h f first.added x is))));
+        (found_after limits state cs ds (said f) (λ s. k.stands limits x s.map) (two.each_moment later f split x (regrouped k.checks h f first.added x is))));
     replies = subst (λ (l : List (List ℕ)). SaysLines l (pieces (two.added ++ first.added))) (sym (lines-append limits state cs ds))
         (subst (SaysLines (lines limits state cs ++ lines limits (after_all limits state cs) ds)) (sym both_pieces) (says_behind (lines limits state cs) (lines limits (after_all limits state cs) ds) (pieces two.added) two.replies));
     all = λ e. both_pieces ∙ ap (λ (l : List (List ℕ)). lines limits state cs ++ l) (two.all e) ∙ sym (lines-append limits state cs ds);
@@ -273,7 +273,7 @@ module _ {S : Type 0} (k : Keeping S) where
   run_longer limits state cs ds before then h R new first = record {
     added = first.added;
     history = first.history;
-    each_moment = λ later e split x is. found_longer limits state cs ds (said e) (λ s. k.stands x s.map) (said_so_far limits state cs before then h R new false first later e split) (first.each_moment later e split x is);
+    each_moment = λ later e split x is. found_longer limits state cs ds (said e) (λ s. k.stands limits x s.map) (said_so_far limits state cs before then h R new false first later e split) (first.each_moment later e split x is);
     replies = subst (λ (l : List (List ℕ)). SaysLines l (pieces first.added)) (sym (lines-append limits state cs ds)) (says_longer (lines limits state cs) (lines limits (after_all limits state cs) ds) (pieces first.added) first.replies);
     all = λ e. cc;
     only = first.only;

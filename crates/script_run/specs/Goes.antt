@@ -39,13 +39,13 @@ module _ {S : Type 0} (k : Keeping S) where
   pub record SaysSome (limits : Limits) (state : State) (lines : List (List ℕ)) (before : S) (h : History) (then : S) (old new : Told) : Type 0 where
     pub said : List (List ℕ)
     pub part : SaysLines lines said
-    pub leaves : SayingLeaves k state.map said before h then new false
+    pub leaves : SayingLeaves k limits state.map said before h then new false
     pub stays : Stays k limits then old new state
 
   abbrev pub SaysUnder : Limits → (State → List (List ℕ)) → S → Told → Result (Unit {0}) Stop → S → Told → Type 0
   SaysUnder limits lines before old result then new = (state : State) (h : History) → k.holds limits before old state → old.history ≡ Some h →
       MatchResult result
-      (λ _. SayingLeaves k state.map (lines state) before h then new true × k.holds limits then new state)
+      (λ _. SayingLeaves k limits state.map (lines state) before h then new true × k.holds limits then new state)
       (λ _. SaysSome limits state (lines state) before h then old new)
 
   -- commands were answered, or it stopped in them

@@ -1,5 +1,5 @@
 -- How a store keeps a state on a chip, and what one command's work leaves.
-use Rattle.std.specs.Prelude.{◌≡◌, ◌⊎◌, ◌<◌, ℕ, Bool, true, List, [], ◌∷◌, Option, Some, Result, MatchResult, is_ok}
+use Rattle.std.specs.Prelude.{◌≡◌, ◌⊎◌, ◌<◌, ◌≤◌, ◌+◌, ◌-◌, ◌^◌, ℕ, Bool, true, List, [], ◌∷◌, Option, Some, Result, MatchResult, is_ok}
 use Rattle.std.specs.FinMap.{get}
 use Rattle.ipl_rules.specs.State.{Map, State, Limits}
 use Rattle.ipl_model.specs.declared.command.Command.{Command}
@@ -23,24 +23,44 @@ AllOf P (e ∷ story) = P e × AllOf P story
 pub record Keeping (S : Type 0) : Type 1 where
   -- the bytes of a sector check, so that a power cut leaves them only where they were written
   pub checks : List ℕ → Bool
-  -- the contents of a chip stand for these records
-  pub stands : Contents → Map → Type 0
+  -- under these limits the contents of a chip stand for these records
+  pub stands : Limits → Contents → Map → Type 0
   -- under these limits the store, over a chip that tells this, keeps the state
   pub holds : Limits → S → Told → State → Type 0
   -- the store is made for a chip of so many places
   pub suits : S → ℕ → Type 0
   -- the store counts this sector of this place as clean
   pub clean : S → ℕ → ℕ → Type 0
+  -- the next number that the store draws
+  pub counter : S → ℕ
   -- the store's work may add such an event
   pub does : Event → Type 0
   -- a fault comes only where this was so of what was told before it and after it
   pub cause : Fault → Told → Told → Type 0
   -- whatever a power cut leaves of a chip whose history is told stands for the records
-  pub each : (limits : Limits) (store : S) (t : Told) (state : State) (h : History) → holds limits store t state → t.history ≡ Some h → Leaves checks (λ x. stands x state.map) h []
+  pub each : (limits : Limits) (store : S) (t : Told) (state : State) (h : History) → holds limits store t state → t.history ≡ Some h → Leaves checks (λ x. stands limits x state.map) h []
   -- what is said and what is read of a script changes nothing
   pub still : (limits : Limits) (store : S) (old new : Told) (state : State) → Still old new → holds limits store old state → holds limits store new state
   -- a cause is one for a longer time too
   pub caused : (fault : Fault) (first old new last : Told) → Further first old → cause fault old new → Further new last → cause fault first last
+
+-- a store answers that its numbers are used up only above this
+abbrev pub LAST_NUMBER : ℕ
+LAST_NUMBER = 2 ^ 64 - 2 ^ 20
+
+-- the most numbers that the work of one command draws, that looking one record up draws, and that answering one command does
+abbrev pub WORK_DRAWS : ℕ
+WORK_DRAWS = 2 ^ 20
+
+abbrev pub LOOK_UP_DRAWS : ℕ
+LOOK_UP_DRAWS = 16
+
+abbrev pub COMMAND_DRAWS : ℕ
+COMMAND_DRAWS = 2 ^ 24
+
+-- the most that the commands of a script draw
+abbrev pub SCRIPT_DRAWS : ℕ
+SCRIPT_DRAWS = 2 ^ 56
 
 -- every command but a list has one line as its reply
 abbrev pub IsSingle : Command → Type 0
@@ -70,6 +90,11 @@ module _ {S : Type 0} (k : Keeping S) where
     pub lawful : IsLawfulAfter (k.clean before) added
     pub clean : done ≡ true → LeavesClean (k.clean before) (k.clean then) added
 
+  -- At most n numbers were drawn; and where this says that the numbers are used up, the counter would have come near its end.
+  pub record Draws (n : ℕ) (before : S) (IsSpent : Type 0) (then : S) : Type 0 where
+    pub most : k.counter then ≤ k.counter before + n
+    pub spent : IsSpent → LAST_NUMBER < k.counter before + n
+
   -- the store still keeps the state, unless a write failed
   abbrev pub Stays : Limits → S → Told → Told → State → Type 0
   Stays limits store old new state = Unrisen old new → k.holds limits store new state
@@ -78,7 +103,7 @@ module _ {S : Type 0} (k : Keeping S) where
   -- Done, the store keeps the model's next state, and the reply is the model's. After a fault it keeps the state, unless a
   -- write failed.
   pub record WorksFor (limits : Limits) (state : State) (c : Command) (before : S) (h : History) (result : Result Reply Fault) (then : S) (old new : Told) : Type 0 where
-    pub leaves : WorkLeaves (λ x. k.stands x state.map ⊎ k.stands x (step limits state c).0.map) before h then new (is_ok result)
+    pub leaves : WorkLeaves (λ x. k.stands limits x state.map ⊎ k.stands limits x (step limits state c).0.map) before h then new (is_ok result)
     pub ends : MatchResult result
         (λ reply. k.holds limits then new (step limits state c).0 × ((step limits state c).1 ≡ reply ∷ []))
         (λ fault. Stays limits then old new state)
@@ -89,7 +114,7 @@ module _ {S : Type 0} (k : Keeping S) where
 
   -- Looking a record up: wherever the power is cut, the chip stands for the same records.
   pub record LooksUpFor (limits : Limits) (state : State) (n : ℕ) (before : S) (h : History) (result : Result (Option (List ℕ)) Fault) (then : S) (old new : Told) : Type 0 where
-    pub leaves : WorkLeaves (λ x. k.stands x state.map) before h then new (is_ok result)
+    pub leaves : WorkLeaves (λ x. k.stands limits x state.map) before h then new (is_ok result)
     pub ends : MatchResult result (λ found. k.holds limits then new state × (found ≡ get state.map n)) (λ fault. Stays limits then old new state)
 
   abbrev pub LooksUp : ℕ → S → Told → Result (Option (List ℕ)) Fault → S → Told → Type 0

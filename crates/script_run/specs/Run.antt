@@ -38,7 +38,7 @@ IsSaidOr P (Said piece) = Unit {0}
 module _ {S : Type 0} (k : Keeping S) where
   -- the contents stand for the records after the commands that were answered, or after one more
   abbrev pub IsFound : Limits → State → List Command → List ℕ → Contents → Type 0
-  IsFound limits state commands bytes x = IsNear (λ s. k.stands x s.map) limits state commands bytes
+  IsFound limits state commands bytes x = IsNear (λ s. k.stands limits x s.map) limits state commands bytes
 
   -- Whatever moment the power is cut at, the chip stands for the records after the commands that were answered, or after one
   -- more. What was said is a beginning of the replies, line by line, and all of them where the commands are done. No sector
@@ -55,10 +55,10 @@ module _ {S : Type 0} (k : Keeping S) where
     pub rests : IsNear R limits state commands (said added)
 
   -- what is left while these pieces are said, chip calls between them, of a chip that stands for the same records throughout
-  pub record SayingLeaves (m : Map) (said : List (List ℕ)) (before : S) (h : History) (then : S) (new : Told) (done : Bool) : Type 0 where
+  pub record SayingLeaves (limits : Limits) (m : Map) (said : List (List ℕ)) (before : S) (h : History) (then : S) (new : Told) (done : Bool) : Type 0 where
     pub added : Story
     pub history : new.history ≡ Some (adds_all added h)
-    pub each_moment : AtEachMoment (Leaves k.checks (λ x. k.stands x m) h) added
+    pub each_moment : AtEachMoment (Leaves k.checks (λ x. k.stands limits x m) h) added
     pub says : pieces added ≡ said
     pub only : AllOf (IsSaidOr k.does) added
     pub lawful : IsLawfulAfter (k.clean before) added

@@ -1,5 +1,5 @@
 //! One command: the store's work, and then its reply.
-ghost use Rattle.std.specs.Prelude.{◌≡◌, ◌≤◌, ◌<◌, ◌+◌, ◌-◌, ◌∷◌, ◌++◌, [], ℕ, List, IfErr, IsErrOf, MatchResult};
+ghost use Rattle.std.specs.Prelude.{◌≡◌, ◌≤◌, ◌<◌, ◌+◌, ◌-◌, ◌*◌, ◌∷◌, ◌++◌, [], ℕ, List, IfErr, IsErrOf, MatchResult};
 ghost use Rattle.chip_trait.specs.declared.event.Event.TheVariants.{Said};
 ghost use Rattle.chip_trait.specs.Told.{Told, Rose, Appends, FailsToSay};
 ghost use Rattle.ipl_rules.specs.State.{State, Limits};
@@ -8,7 +8,7 @@ ghost use Rattle.ipl_model.specs.Text.{reply_text};
 ghost use Rattle.ipl_model.specs.Grammar.{line_of, commands_in};
 ghost use Rattle.ipl_model.specs.declared.command.Command.TheVariants as command;
 ghost use Rattle.script_run.specs.Onward.{Onward};
-ghost use Rattle.script_run.specs.Keeping.{IsSingle};
+ghost use Rattle.script_run.specs.Keeping.{IsSingle, Draws, WORK_DRAWS, LOOK_UP_DRAWS, COMMAND_DRAWS};
 ghost use Rattle.script_run.specs.Goes.{StopCause, Answers, SaysUnder, row_lines, rows_lines};
 
 use crate::store::Store;
@@ -36,6 +36,7 @@ fn answer_one<S: Store, D: Desk>(store: &mut S, desk: &mut D, command: &Command)
     requires single { IsSingle command.now }
     requires suits { S.keeping.suits store.old (D.told desk.old).places }
     ensures answers { Answers S.keeping (command.now ∷ []) store.old (D.told desk.old) result store.new (D.told desk.new) }
+    ensures draws { Draws S.keeping WORK_DRAWS store.old (IsErrOf result (Stop.Store Fault.Spent)) store.new }
     ensures suited { (places : ℕ) → S.keeping.suits store.old places → S.keeping.suits store.new places }
     ensures onward { Onward (D.told desk.old) (D.told desk.new) }
     ensures cause { IfErr result (λ stop. StopCause S.keeping (D.told desk.old) (D.told desk.new) stop) }
@@ -52,6 +53,7 @@ fn answer_one<S: Store, D: Desk>(store: &mut S, desk: &mut D, command: &Command)
 fn say_row<S: Store, D: Desk>(store: &mut S, desk: &mut D, n: u32) -> Result<(), Stop>
     requires { S.keeping.suits store.old (D.told desk.old).places }
     ensures says { (limits : Limits) → n < limits.names → SaysUnder S.keeping limits (λ state. row_lines n (get state.map n)) store.old (D.told desk.old) result store.new (D.told desk.new) }
+    ensures draws { Draws S.keeping LOOK_UP_DRAWS store.old (IsErrOf result (Stop.Store Fault.Spent)) store.new }
     ensures suited { (places : ℕ) → S.keeping.suits store.old places → S.keeping.suits store.new places }
     ensures onward { Onward (D.told desk.old) (D.told desk.new) }
     ensures cause { IfErr result (λ stop. StopCause S.keeping (D.told desk.old) (D.told desk.new) stop) }
@@ -75,6 +77,7 @@ fn say_rows<S: Store, D: Desk>(
 ) -> Result<(), Stop>
     requires { S.keeping.suits store.old (D.told desk.old).places }
     ensures says { (limits : Limits) → end ≤ limits.names → SaysUnder S.keeping limits (λ state. rows_lines state.map first (end - first)) store.old (D.told desk.old) result store.new (D.told desk.new) }
+    ensures draws { Draws S.keeping (LOOK_UP_DRAWS * (end - first)) store.old (IsErrOf result (Stop.Store Fault.Spent)) store.new }
     ensures suited { (places : ℕ) → S.keeping.suits store.old places → S.keeping.suits store.new places }
     ensures onward { Onward (D.told desk.old) (D.told desk.new) }
     ensures cause { IfErr result (λ stop. StopCause S.keeping (D.told desk.old) (D.told desk.new) stop) }
@@ -90,6 +93,7 @@ fn say_rows<S: Store, D: Desk>(
 fn list<S: Store, D: Desk>(store: &mut S, desk: &mut D, first: u32, last: u32) -> Result<(), Stop>
     requires { S.keeping.suits store.old (D.told desk.old).places }
     ensures answers { Answers S.keeping (command.List first last ∷ []) store.old (D.told desk.old) result store.new (D.told desk.new) }
+    ensures draws { Draws S.keeping COMMAND_DRAWS store.old (IsErrOf result (Stop.Store Fault.Spent)) store.new }
     ensures suited { (places : ℕ) → S.keeping.suits store.old places → S.keeping.suits store.new places }
     ensures onward { Onward (D.told desk.old) (D.told desk.new) }
     ensures cause { IfErr result (λ stop. StopCause S.keeping (D.told desk.old) (D.told desk.new) stop) }
@@ -113,6 +117,7 @@ fn list<S: Store, D: Desk>(store: &mut S, desk: &mut D, first: u32, last: u32) -
 fn answer<S: Store, D: Desk>(store: &mut S, desk: &mut D, command: &Command) -> Result<(), Stop>
     requires { S.keeping.suits store.old (D.told desk.old).places }
     ensures answers { Answers S.keeping (command.now ∷ []) store.old (D.told desk.old) result store.new (D.told desk.new) }
+    ensures draws { Draws S.keeping COMMAND_DRAWS store.old (IsErrOf result (Stop.Store Fault.Spent)) store.new }
     ensures suited { (places : ℕ) → S.keeping.suits store.old places → S.keeping.suits store.new places }
     ensures onward { Onward (D.told desk.old) (D.told desk.new) }
     ensures cause { IfErr result (λ stop. StopCause S.keeping (D.told desk.old) (D.told desk.new) stop) }
@@ -128,6 +133,7 @@ fn answer<S: Store, D: Desk>(store: &mut S, desk: &mut D, command: &Command) -> 
 pub fn answer_line<S: Store, D: Desk>(store: &mut S, desk: &mut D, line: &[u8]) -> Result<(), Stop>
     requires { S.keeping.suits store.old (D.told desk.old).places }
     ensures answers { Answers S.keeping (commands_in (line_of line.now)) store.old (D.told desk.old) result store.new (D.told desk.new) }
+    ensures draws { Draws S.keeping COMMAND_DRAWS store.old (IsErrOf result (Stop.Store Fault.Spent)) store.new }
     ensures suited { (places : ℕ) → S.keeping.suits store.old places → S.keeping.suits store.new places }
     ensures onward { Onward (D.told desk.old) (D.told desk.new) }
     ensures cause { IfErr result (λ stop. StopCause S.keeping (D.told desk.old) (D.told desk.new) stop) }

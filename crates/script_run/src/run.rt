@@ -1,13 +1,14 @@
 //! A script to its end, in whatever pieces its bytes come.
-ghost use Rattle.std.specs.Prelude.{◌≡◌, ◌≤◌, ◌+◌, ◌-◌, ◌^◌, ◌∷◌, ◌<◌, [], ℕ, List, length, IfOk, IfErr, IsErrOf};
+ghost use Rattle.std.specs.Prelude.{◌≡◌, ◌≤◌, ◌+◌, ◌-◌, ◌*◌, ◌^◌, ◌∷◌, ◌<◌, [], ℕ, List, length, IfOk, IfErr, IsErrOf};
 ghost use Rattle.chip_trait.specs.Told.{Told, Grew};
 ghost use Rattle.script_run.specs.Onward.{Onward, Further};
+ghost use Rattle.script_run.specs.Keeping.{Draws, COMMAND_DRAWS, SCRIPT_DRAWS};
 ghost use Rattle.script_run.specs.Goes.{HasRead, StopCause, TakesBytes, TakesNext, RunsScript};
 
-use crate::Stop;
 use crate::answer::answer_line;
 use crate::buffer::LineBuffer;
 use crate::store::Store;
+use crate::{Fault, Stop};
 use chip_trait::Desk;
 
 /// The most bytes that are read at once.
@@ -25,6 +26,7 @@ fn take_byte<S: Store, D: Desk>(
 ) -> Result<(), Stop>
     requires { S.keeping.suits store.old (D.told desk.old).places }
     ensures takes { TakesBytes S.keeping (byte ∷ []) store.old line.old (D.told desk.old) result store.new line.new (D.told desk.new) }
+    ensures draws { Draws S.keeping COMMAND_DRAWS store.old (IsErrOf result (Stop.Store Fault.Spent)) store.new }
     ensures suited { (places : ℕ) → S.keeping.suits store.old places → S.keeping.suits store.new places }
     ensures onward { Onward (D.told desk.old) (D.told desk.new) }
     ensures cause { IfErr result (λ stop. StopCause S.keeping (D.told desk.old) (D.told desk.new) stop) }
@@ -48,6 +50,7 @@ fn take_piece<S: Store, D: Desk>(
 ) -> Result<(), Stop>
     requires { S.keeping.suits store.old (D.told desk.old).places }
     ensures takes { TakesBytes S.keeping piece.now store.old line.old (D.told desk.old) result store.new line.new (D.told desk.new) }
+    ensures draws { Draws S.keeping (COMMAND_DRAWS * length piece.now) store.old (IsErrOf result (Stop.Store Fault.Spent)) store.new }
     ensures suited { (places : ℕ) → S.keeping.suits store.old places → S.keeping.suits store.new places }
     ensures onward { Onward (D.told desk.old) (D.told desk.new) }
     ensures cause { IfErr result (λ stop. StopCause S.keeping (D.told desk.old) (D.told desk.new) stop) }
@@ -69,6 +72,8 @@ fn take_next<S: Store, D: Desk>(
     requires some { 0 < length piece.old }
     requires suits { S.keeping.suits store.old (D.told desk.old).places }
     ensures takes { TakesNext S.keeping store.old line.old (D.told desk.old) result store.new line.new (D.told desk.new) }
+    ensures draws { Draws S.keeping (COMMAND_DRAWS * length piece.old) store.old (IsErrOf result (Stop.Store Fault.Spent)) store.new }
+    ensures drew { IfOk result (λ n. S.keeping.counter store.new ≤ S.keeping.counter store.old + COMMAND_DRAWS * n) }
     ensures suited { (places : ℕ) → S.keeping.suits store.old places → S.keeping.suits store.new places }
     ensures further { Further (D.told desk.old) (D.told desk.new) }
     ensures bytes { IfOk result (λ n. Grew (D.told desk.old).beside.script_bytes n (D.told desk.new).beside.script_bytes) }
@@ -91,6 +96,7 @@ fn take_next<S: Store, D: Desk>(
 pub fn run_script<S: Store, D: Desk>(store: &mut S, desk: &mut D) -> Result<(), Stop>
     requires { S.keeping.suits store.old (D.told desk.old).places }
     ensures run { RunsScript S.keeping store.old (D.told desk.old) result store.new (D.told desk.new) }
+    ensures draws { Draws S.keeping SCRIPT_DRAWS store.old (IsErrOf result (Stop.Store Fault.Spent)) store.new }
     ensures further { Further (D.told desk.old) (D.told desk.new) }
     ensures cause { IfErr result (λ stop. StopCause S.keeping (D.told desk.old) (D.told desk.new) stop) }
     ensures exact { IsErrOf result Stop.TooLong → Grew (D.told desk.old).beside.script_bytes 4294967295 (D.told desk.new).beside.script_bytes }

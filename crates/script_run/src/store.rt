@@ -1,5 +1,5 @@
 //! What keeps records on a chip and does the work of commands.
-ghost use Rattle.std.specs.Prelude.{◌≡◌, ◌<◌, ℕ, IfErr};
+ghost use Rattle.std.specs.Prelude.{◌≡◌, ◌<◌, ◌≤◌, ℕ, IfErr, IsErrOf};
 ghost use Rattle.chip_trait.specs.Told.{Told, Counts};
 
 use crate::Fault;
@@ -10,19 +10,21 @@ use ipl_model::{Command, Reply};
 /// A store of records over a chip. It says nothing; a run says its replies.
 pub trait Store {
     ghost use Rattle.ipl_rules.specs.State.{State, Limits};
-    ghost use Rattle.script_run.specs.Keeping.{Keeping, IsSingle, Works, LooksUp};
+    ghost use Rattle.script_run.specs.Keeping.{Keeping, IsSingle, Works, LooksUp, Draws, WORK_DRAWS, LOOK_UP_DRAWS};
 
     /// How it keeps a state on a chip.
     ghost keeping: { Keeping Self };
 
     /// Names are numbers below this.
     fn names(&self) -> u32
-        ensures { (limits : Limits) (t : Told) (state : State) → keeping.holds limits self.now t state → result ≡ limits.names };
+        ensures most { result ≤ 983040 }
+        ensures limit { (limits : Limits) (t : Told) (state : State) → keeping.holds limits self.now t state → result ≡ limits.names };
 
     /// Does the work of a command that has one line as its reply, and answers that line.
     fn work<C: Chip>(&mut self, chip: &mut C, command: &Command) -> Result<Reply, Fault>
         requires single { IsSingle command.now }
         requires suits { keeping.suits self.old (C.told chip.old).places }
+        ensures draws { Draws keeping WORK_DRAWS self.old (IsErrOf result Fault.Spent) self.new }
         ensures works { Works keeping command.now self.old (C.told chip.old) result self.new (C.told chip.new) }
         ensures suited { (places : ℕ) → keeping.suits self.old places → keeping.suits self.new places }
         ensures places { (C.told chip.new).places ≡ (C.told chip.old).places }
@@ -32,6 +34,7 @@ pub trait Store {
     /// The committed record of a name, where there is one.
     fn look_up<C: Chip>(&mut self, chip: &mut C, n: u32) -> Result<Option<Value>, Fault>
         requires { keeping.suits self.old (C.told chip.old).places }
+        ensures draws { Draws keeping LOOK_UP_DRAWS self.old (IsErrOf result Fault.Spent) self.new }
         ensures looks_up { LooksUp keeping n self.old (C.told chip.old) result self.new (C.told chip.new) }
         ensures suited { (places : ℕ) → keeping.suits self.old places → keeping.suits self.new places }
         ensures places { (C.told chip.new).places ≡ (C.told chip.old).places }

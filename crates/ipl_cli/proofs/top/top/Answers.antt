@@ -1,12 +1,11 @@
 use Rattle.std.proofs.Common.{◌∙◌, sym}
-use Rattle.ipl_cli.proofs.EndLemmas.{undone, noted_besides, never_zero}
+use Rattle.ipl_cli.proofs.EndLemmas.{formatted_noted, stopped_noted, status_runs, status_stops}
 use Rattle.ipl_cli.proofs.top.top.Goals as goal
 
-pub returns-in-Ok-clause-said : goal.returns-in-Ok-clause-said
-returns-in-Ok-clause-said g c = (λ zero. c.in-Ok.ensures.said, λ h script told left. undone script h (g.D.Chip.told c.run.new.desk) (c.in-Ok.ensures.said h script told left))
+pub returns-in-Err-clause-runs : goal.returns-in-Err-clause-runs
+returns-in-Err-clause-runs g c = λ is.
+    formatted_noted (g.D.Chip.told c.args.desk.now) (g.D.Chip.told c.run.new.desk) (g.D.Chip.told c.note.new.self) _ _ c.note.ensures (status_runs (g.D.Chip.told c.args.desk.now) (g.D.Chip.told c.run.new.desk) c.in-Err.end c.in-Err.ensures.leaves (rw c.status.ensures at is))
 
-pub returns-in-Err-clause-said : goal.returns-in-Err-clause-said
-returns-in-Err-clause-said g c = (
-  λ zero. absurd (never_zero c.in-Err.end (sym c.status.ensures ∙ zero)),
-  λ h script told left. noted_besides script h (g.D.Chip.told c.run.new.desk) (g.D.Chip.told c.note.new.self) _ _ c.note.ensures (c.in-Err.ensures.said h script told left),
-)
+pub returns-in-Err-clause-stops : goal.returns-in-Err-clause-stops
+returns-in-Err-clause-stops g c = λ is.
+    stopped_noted (g.D.Chip.told c.args.desk.now) (g.D.Chip.told c.run.new.desk) (g.D.Chip.told c.note.new.self) _ c.note.ensures (status_stops (g.D.Chip.told c.args.desk.now) (g.D.Chip.told c.run.new.desk) c.in-Err.end c.in-Err.ensures.leaves (sym c.status.ensures ∙ is))

@@ -7,30 +7,30 @@ use Rattle.script_run.proofs.answer.list.Goals as goal
 pub returns-in-Ok-clause-answers : goal.returns-in-Ok-clause-answers
 returns-in-Ok-clause-answers g c = λ limits state h holds told.
     let out = past_names c.names-names.result c.args.first c.args.last c.then-first-names.either in
-    let works = works_refused g.S.Store.keeping limits state c.args.first c.args.last c.names-names.result (c.names-names.ensures limits (g.D.Chip.told c.args.desk.now) state holds) c.args.store.now h (g.D.Chip.told c.args.desk.now) out holds told in
+    let works = works_refused g.S.Store.keeping limits state c.args.first c.args.last c.names-names.result (c.names-names.ensures.limit limits (g.D.Chip.told c.args.desk.now) state holds) c.args.store.now h (g.D.Chip.told c.args.desk.now) out holds told in
     answered g.S.Store.keeping limits state (command.List c.args.first c.args.last) c.args.store.now c.args.store.now h _ _ _ _ works c.in-Ok.ensures.says
 
 pub returns-in-Err-clause-answers : goal.returns-in-Err-clause-answers
 returns-in-Err-clause-answers g c = λ limits state h holds told.
     let out = past_names c.names-names.result c.args.first c.args.last c.then-first-names.either in
-    let works = works_refused g.S.Store.keeping limits state c.args.first c.args.last c.names-names.result (c.names-names.ensures limits (g.D.Chip.told c.args.desk.now) state holds) c.args.store.now h (g.D.Chip.told c.args.desk.now) out holds told in
+    let works = works_refused g.S.Store.keeping limits state c.args.first c.args.last c.names-names.result (c.names-names.ensures.limit limits (g.D.Chip.told c.args.desk.now) state holds) c.args.store.now h (g.D.Chip.told c.args.desk.now) out holds told in
     unsaid g.S.Store.keeping limits state (command.List c.args.first c.args.last) c.args.store.now c.args.store.now h _ _ _ _ works c.in-Err.ensures.says
 
 pub returns-in_err-say_rows-clause-answers : goal.returns-in_err-say_rows-clause-answers
 returns-in_err-say_rows-clause-answers g c = λ limits state h holds told.
     let stop = err_from_is_err_and c.from_residual.result c.from_residual.ensures.1 in
-    let named = c.names-names.ensures limits (g.D.Chip.told c.args.desk.now) state holds in
+    let named = c.names-names.ensures.limit limits (g.D.Chip.told c.args.desk.now) state holds in
     rw stop.1 (list_failed g.S.Store.keeping limits state c.args.first c.args.last c.names-names.result named c.args.store.now c.say_rows.new.store h _ _ c.if-first-names.false c.if-last-names.false holds told
     (c.in_err-say_rows.ensures.says limits (omega (arith, named, c.if-last-names.false)) state h holds told))
 
 pub returns-in-Ok-say_reply-clause-answers : goal.returns-in-Ok-say_reply-clause-answers
 returns-in-Ok-say_reply-clause-answers g c = λ limits state h holds told.
-    let named = c.names-names.ensures limits (g.D.Chip.told c.args.desk.now) state holds in
+    let named = c.names-names.ensures.limit limits (g.D.Chip.told c.args.desk.now) state holds in
     let rows = c.in_ok-say_rows.ensures.says limits (omega (arith, named, c.if-last-names.false)) state h holds told in
     list_done g.S.Store.keeping limits state c.args.first c.args.last c.names-names.result named c.args.store.now c.say_rows.new.store h _ _ _ c.if-first-names.false c.if-last-names.false holds told rows.0 rows.1 c.in-Ok-say_reply.ensures.says
 
 pub returns-in-Err-say_reply-clause-answers : goal.returns-in-Err-say_reply-clause-answers
 returns-in-Err-say_reply-clause-answers g c = λ limits state h holds told.
-    let named = c.names-names.ensures limits (g.D.Chip.told c.args.desk.now) state holds in
+    let named = c.names-names.ensures.limit limits (g.D.Chip.told c.args.desk.now) state holds in
     let rows = c.in_ok-say_rows.ensures.says limits (omega (arith, named, c.if-last-names.false)) state h holds told in
     list_unsaid g.S.Store.keeping limits state c.args.first c.args.last c.names-names.result named c.args.store.now c.say_rows.new.store h _ _ _ c.if-first-names.false c.if-last-names.false holds told rows.0 rows.1 c.in-Err-say_reply.ensures.says

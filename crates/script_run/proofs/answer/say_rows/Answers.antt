@@ -12,6 +12,7 @@ pub loop-n-init : goal.loop-n-init
 loop-n-init g c = record {
   says = λ limits named state h holds told. (rows_none g.S.Store.keeping limits state c.args.first c.args.store.now h _ holds told, holds);
   suited = λ places suits. suits;
+  drew = omega arith;
   none = λ lt. refl;
   onward = onward_none (g.D.Chip.told c.args.desk.now);
 }
@@ -30,6 +31,7 @@ loop-n-preserved g c = record {
       let row = c.in_ok-say_row.ensures.says limits (omega arith) state (adds_all so_far.0.added h) so_far.1 so_far.0.history in
       (rows_then g.S.Store.keeping limits state c.args.first c.loop-n.n c.args.store.now c.loop-n.store c.say_row.new.store h _ _ (omega arith) so_far.0 row.0, row.1);
   suited = λ places suits. c.say_row.ensures.suited places (c.loop-n.invariant.suited places suits);
+  drew = omega (arith, c.loop-n.invariant.drew, c.say_row.ensures.draws.most);
   none = λ lt. absurd (omega arith);
   onward = onward_then (g.D.Chip.told c.args.desk.now) (g.D.Chip.told c.loop-n.desk) (g.D.Chip.told c.say_row.new.desk) c.loop-n.invariant.onward c.say_row.ensures.onward;
 }
@@ -38,4 +40,4 @@ pub returns-clause-says : goal.returns-clause-says
 returns-clause-says g c = λ limits named state h holds told.
     let all : c.loop-n.n - c.args.first ≡ c.args.end - c.args.first = elim (cases_lt c.args.end c.args.first) [ inl none ↦ let here = c.loop-n.invariant.none none in omega arith | inr some ↦ omega arith ] in
     let so_far = c.loop-n.invariant.says limits named state h holds told in
-    (subst (λ (j : ℕ). SayingLeaves g.S.Store.keeping state.map (rows_lines state.map c.args.first j) c.args.store.now h c.loop-n.store (g.D.Chip.told c.loop-n.desk) true) all so_far.0, so_far.1)
+    (subst (λ (j : ℕ). SayingLeaves g.S.Store.keeping limits state.map (rows_lines state.map c.args.first j) c.args.store.now h c.loop-n.store (g.D.Chip.told c.loop-n.desk) true) all so_far.0, so_far.1)

@@ -1,6 +1,7 @@
-use Rattle.std.proofs.Common.{◌≡◌, ◌≤◌, ◌<◌, ◌-◌, ℕ, true, Some}
+use Rattle.std.proofs.Common.{◌≡◌, ◌≤◌, ◌<◌, ◌-◌, ◌+◌, ◌*◌, ℕ, true, Some}
 use Rattle.ipl_rules.specs.State.{State, Limits}
 use Rattle.chip_trait.specs.Told.{History}
+use Rattle.script_run.specs.Keeping.{LOOK_UP_DRAWS}
 use Rattle.script_run.specs.Onward.{Onward}
 use Rattle.script_run.specs.Run.{SayingLeaves}
 use Rattle.script_run.specs.Goes.{rows_lines}
@@ -12,8 +13,9 @@ invariant-loop-n g l =
     let k = g.S.Store.keeping in
     record {
       says : (limits : Limits) → l.end ≤ limits.names → (state : State) (h : History) → k.holds limits l.fn.store (told l.fn.desk) state → (told l.fn.desk).history ≡ Some h
-          → SayingLeaves k state.map (rows_lines state.map l.first (l.n - l.first)) l.fn.store h l.store (told l.desk) true × k.holds limits l.store (told l.desk) state;
+          → SayingLeaves k limits state.map (rows_lines state.map l.first (l.n - l.first)) l.fn.store h l.store (told l.desk) true × k.holds limits l.store (told l.desk) state;
       suited : (places : ℕ) → k.suits l.fn.store places → k.suits l.store places;
+      drew : k.counter l.store ≤ k.counter l.fn.store + LOOK_UP_DRAWS * (l.n - l.first);
       none : l.end < l.first → l.n ≡ l.first;
       onward : Onward (told l.fn.desk) (told l.desk);
     }

@@ -20,6 +20,7 @@ loop-total-init g c =
       further = further_none t;
       bytes = grew_none t.beside.script_bytes;
       read = read_none t;
+      drew = omega arith;
       few = omega arith;
     }
 
@@ -36,6 +37,7 @@ loop-total-preserved g c =
       further = further_then (at c.args.desk.now) (at c.loop-total.desk) (at t.new.desk) was.further t.ensures.further;
       bytes = grew_then (at c.args.desk.now).beside.script_bytes (at c.loop-total.desk).beside.script_bytes (at t.new.desk).beside.script_bytes c.loop-total.total c.in_ok-count.count was.bytes o.bytes;
       read = read_then (at c.args.desk.now) (at c.loop-total.desk) (at t.new.desk) c.loop-total.total c.in_ok-count.count was.read o.read;
+      drew = let d = o.drew in omega (arith, was.drew, d);
       few = let count = o.few in omega (arith, count, length-take c.min-most.result c.loop-total.piece, c.loop-total-test.true);
     }
 

@@ -12,6 +12,7 @@ pub loop-byte-init : goal.loop-byte-init
 loop-byte-init g c = record {
   goes = λ limits state h holds told. goes_none g.S.Store.keeping limits state c.args.line.now c.args.store.now h (g.D.Chip.told c.args.desk.now) holds told;
   suited = λ places suits. suits;
+  drew = omega arith;
   onward = onward_none (g.D.Chip.told c.args.desk.now);
 }
 
@@ -30,6 +31,7 @@ loop-byte-preserved g c =
           (goes_then g.S.Store.keeping limits state c.args.line.now (take c.loop-byte.byte-index c.args.piece.now) (get_or c.args.piece.now c.loop-byte.byte-index 0 ∷ []) c.args.store.now c.loop-byte.store t.new.store h
           c.loop-byte.line t.new.line (told_of c.loop-byte.desk) (told_of t.new.desk) (was.goes limits state h holds told) (λ s g' now is. c.in_ok-take_byte.ensures.takes limits s g' now is));
       suited = λ places suits. t.ensures.suited places (was.suited places suits);
+      drew = omega (arith, was.drew, t.ensures.draws.most);
       onward = onward_then (told_of c.args.desk.now) (told_of c.loop-byte.desk) (told_of t.new.desk) was.onward t.ensures.onward;
     }
 

@@ -1,6 +1,7 @@
-use Rattle.std.proofs.Common.{◌≡◌, ℕ, take, Some}
+use Rattle.std.proofs.Common.{◌≡◌, ◌≤◌, ◌+◌, ◌*◌, ℕ, take, Some}
 use Rattle.ipl_rules.specs.State.{State, Limits}
 use Rattle.chip_trait.specs.Told.{History}
+use Rattle.script_run.specs.Keeping.{COMMAND_DRAWS}
 use Rattle.script_run.specs.Onward.{Onward}
 use Rattle.script_run.specs.Goes.{Goes}
 use Rattle.script_run.proofs.run.take_piece.Given as goal
@@ -13,5 +14,6 @@ invariant-loop-byte g l =
       goes : (limits : Limits) (state : State) (h : History) → k.holds limits l.fn.store (told l.fn.desk) state → (told l.fn.desk).history ≡ Some h
           → Goes k limits state l.fn.line (take l.byte-index l.piece) l.fn.store h l.store l.line (told l.desk);
       suited : (places : ℕ) → k.suits l.fn.store places → k.suits l.store places;
+      drew : k.counter l.store ≤ k.counter l.fn.store + COMMAND_DRAWS * l.byte-index;
       onward : Onward (told l.fn.desk) (told l.desk);
     }

@@ -12,4 +12,4 @@ pub returns : goal.returns
 returns c = λ state f.
     let zero : c.args.session ≡ 0 = omega arith in
     emptied _ _ _ _ _ _ _ c.close.ensures.records c.close.ensures.kept c.close.ensures.shares c.close.ensures.closed
-    (at_session command.Commit state _ _ _ _ _ _ zero (commit_done _ _ _ _ state f c.if-not-self.false _ c.apply.ensures.records))
+    (at_session command.Commit state _ _ _ _ _ _ zero (commit_done _ _ _ _ state f c.if-not-self.false _ (λ n lt. c.apply.ensures.records n)))

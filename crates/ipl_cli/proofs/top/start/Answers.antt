@@ -1,0 +1,10 @@
+use Rattle.ipl_cli.proofs.EndLemmas.{started, stopped_early}
+use Rattle.ipl_cli.proofs.top.start.Goals as goal
+
+pub returns-in-Ok-format-clause-starts : goal.returns-in-Ok-format-clause-starts
+returns-in-Ok-format-clause-starts g c =
+    started (g.D.Chip.told c.args.desk.now) (g.D.Chip.told c.format.new.chip) c.in-Ok.store (rw c.units.ensures at c.in-Some.ensures.some.0) (rw (c.in-Some.ensures.some.1, c.units.ensures) at c.in-Ok.ensures) c.format.ensures.places c.in-Ok-format.ensures.settled
+    (λ h told. c.in-Ok-format.ensures.formats h told)
+
+pub returns-in-Err-clause-leaves : goal.returns-in-Err-clause-leaves
+returns-in-Err-clause-leaves g c = λ h script settled told left. stopped_early c.in-Err.field-0 (g.D.Chip.told c.args.desk.now) (g.D.Chip.told c.format.new.chip) h script c.format.ensures.counts left (c.in-Err.ensures.formats h told)

@@ -1,0 +1,7 @@
+mod PagesLemmas
+mod RewriteLemmas
+mod FilingLemmas
+mod FirstLemmas
+pub mod FirstKeeps
+mod CommitLemmas
+mod StepLemmas

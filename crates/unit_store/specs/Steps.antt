@@ -1,0 +1,35 @@
+-- What the store's operations do.
+use Rattle.std.specs.Prelude.{ℕ, ◌≡◌, Bool, [], ◌∷◌, ◌++◌}
+use Rattle.chip_trait.specs.Story.{Story, pieces}
+use Rattle.chip_trait.specs.Lawful.{IsLawful}
+use Rattle.ipl_rules.specs.State.{State}
+use Rattle.ipl_model.specs.declared.command.Command.{Command}
+use Rattle.ipl_model.specs.declared.command.Command.TheVariants as command
+use Rattle.ipl_model.specs.declared.reply.Reply.{Reply}
+use Rattle.ipl_model.specs.Step.{step}
+use Rattle.memory_store.specs.declared.store.MemoryStore.{MemoryStore}
+use Rattle.memory_store.specs.Fits.{Fits}
+use Rattle.unit_store.specs.Keeps.{limits_of}
+
+-- a command that is answered in memory: one with one line as its reply, but a commit
+abbrev pub IsPlain : Command → Type 0
+IsPlain (command.Begin s) = Unit {0}
+IsPlain (command.Get s n) = Unit {0}
+IsPlain (command.Share s n) = Unit {0}
+IsPlain (command.Put s n bytes) = Unit {0}
+IsPlain (command.Del s n) = Unit {0}
+IsPlain (command.Commit s) = ⊥
+IsPlain (command.Abort s) = Unit {0}
+IsPlain (command.List a b) = ⊥
+IsPlain (command.Merge u) = Unit {0}
+IsPlain command.Restart = Unit {0}
+IsPlain command.Syntax = Unit {0}
+
+-- with so many units, the reply is the model's, and so is the state that the memory stands for then
+abbrev pub Answers : ℕ → MemoryStore → MemoryStore → Command → Reply → Type 0
+Answers units old new c reply = (state : State) → Fits old state → ((step (limits_of units) state c).1 ≡ reply ∷ []) × Fits new (step (limits_of units) state c).0
+
+-- the events say nothing, and are lawful after any lawful events
+pub record IsWork (done : Bool) (added : Story) : Type 0 where
+  pub silent : pieces added ≡ []
+  pub lawful : (base : Story) → IsLawful base → IsLawful (added ++ base)
