@@ -2,7 +2,7 @@
 use Rattle.std.proofs.Common.{ℕ, suc, ◌≡◌, ◌≢◌, inl, inr, ◌+◌, ◌*◌, ◌/◌, ◌%◌, ◌-◌, ◌^◌, ◌<◌, ◌≤◌, Bool, true, false, nat_le, ◌==◌, List, length, map, get_or, Option, Some, None, refl, sym, ◌∙◌, ap, ap₂, subst, arith, cond}
 use Rattle.std.specs.List.{Contains, count_by}
 use Rattle.std.specs.Option.{option_map}
-use Rattle.std.proofs.lemmas.Bool.{cases_Bool, cases_order, eqb-true, eq-eqb, lt-leb, and_parts, and_from, and_left, and_right, or_from, not_from_true, not_from_false, cond-true, cond-false}
+use Rattle.std.proofs.lemmas.Bool.{cases_Bool, cases_lt, cases_order, eqb-true, eq-eqb, lt-leb, and_parts, and_from, and_left, and_right, or_from, not_from_true, not_from_false, cond-true, cond-false}
 use Rattle.std.proofs.lemmas.List.{get_or_default, length-map, get_or-map}
 use Rattle.std.proofs.lemmas.List.Elements.{All-contains}
 use Rattle.std.proofs.lemmas.Option.{same_Some}
@@ -18,13 +18,13 @@ use Rattle.opening_rules.specs.Payloads.{begins_with_other_units, is_data_payloa
 use Rattle.opening_rules.specs.Chosen.{Head, Pick, head_of, header_at, current_at, status_at, is_head_payload}
 use Rattle.opening_rules.specs.Live.{sectors, commit_at, is_spare, live_at, Mark, mark_of, mark_at, marks}
 use Rattle.opening_rules.specs.Faults.{malformed, not_formatted, other_geometry, missing, bad_header, commit_test, commit_fault, clashes, shares_spares, is_full, is_log_well, log_test, greatest_found, is_in, holds_live, spares_found}
-use Rattle.opening_rules.specs.Laws.{IsByteChart, LaidHasNoFault}
+use Rattle.opening_rules.specs.Laws.{IsByteChart, LaidHasNoFault, LaidIsFineOrSpent}
 use Rattle.opening_rules.proofs.PayloadLemmas.{spelled_data_passes, spelled_status_passes, spelled_commits_pass, spelled_logs_pass}
 use Rattle.opening_rules.proofs.HeaderLemmas.{current_low}
 use Rattle.opening_rules.proofs.BelowLemmas.{any_none, any_there, count_all, count_within}
 use Rattle.opening_rules.proofs.LiveLemmas.{sectors_are, commit_from, spare_from, home_apart, live_from}
 use Rattle.opening_rules.proofs.NumberLemmas.{status_is, home_is, number_found}
-use Rattle.opening_rules.proofs.PartLemmas.{HasNoFault, no_fault_from}
+use Rattle.opening_rules.proofs.PartLemmas.{IsFormed, no_fault_from, spent_from}
 
 -- ---- marks
 
@@ -269,8 +269,8 @@ module _ (c : Chart) (places : ℕ) (it : Layout) (laid : Laid places c it) wher
       let among = count_within (holds_live heads (marks heads current c (places * 256))) places laid.shelves held_listed in
       omega (arith, among, laid.two)
 
-  pub has_no_fault : IsByteChart places c → IsAbove places c it (2 ^ 63) → HasNoFault c places
-  has_no_fault bytes above =
+  pub is_formed : IsFormed c places
+  is_formed =
       let status_here : status_at c places ≡ Some status = status_is c places it laid in
       let home_here : (u : ℕ) → u < places - 4 → current u ≡ Some (own u) = home_is c places it laid in
       record {
@@ -284,9 +284,14 @@ module _ (c : Chart) (places : ℕ) (it : Layout) (laid : Laid places c it) wher
         header = ap bad_header status_here ∙ status_good;
         commits = λ s low. ap (λ (o : Option Pick). commit_fault c o s) status_here ∙ commit_good s low;
         logs = λ k low. log_none heads (marks heads current c k) k (live k) (λ sector at. is_well k sector at);
-        fresh = fresh bytes above;
         spares = few_spares;
       }
 
 pub laid_has_no_fault : LaidHasNoFault
-laid_has_no_fault c places it bytes laid above = no_fault_from c places (has_no_fault c places it laid bytes above)
+laid_has_no_fault c places it bytes laid above = no_fault_from c places (record { formed = is_formed c places it laid; fresh = fresh c places it laid bytes above })
+
+pub laid_is_fine_or_spent : LaidIsFineOrSpent
+laid_is_fine_or_spent c places it laid = elim (cases_lt (greatest_found c places) (2 ^ 63)) [
+  | inl low ↦ inl (no_fault_from c places (record { formed = is_formed c places it laid; fresh = low }))
+  | inr high ↦ inr (spent_from c places (is_formed c places it laid) high)
+]

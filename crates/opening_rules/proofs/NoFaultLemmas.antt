@@ -116,7 +116,7 @@ module _ (c : Chart) (places : ℕ) (bytes : IsByteChart places c) (fine : HasNo
   -- ---- log sectors
 
   well : (k : ℕ) (sector : Sector) → k < places * 256 → live k ≡ Some sector → is_log_well (mark_of heads k sector) (marks heads current c k) sector.payload ≡ true
-  well k sector low is = log_well heads (marks heads current c k) k (live k) sector is (fine.logs k low)
+  well k sector low is = log_well heads (marks heads current c k) k (live k) sector is (fine.formed.logs k low)
 
   -- a live sector stands on the chip
   low_from : (k : ℕ) (sector : Sector) → live k ≡ Some sector → k < places * 256
@@ -251,7 +251,7 @@ module _ (c : Chart) (places : ℕ) (bytes : IsByteChart places c) (fine : HasNo
 
   has_home : (u : ℕ) → u < places - 4 → HasHome u
   has_home u low =
-      let there = there_from u (current u) (fine.there u low) in
+      let there = there_from u (current u) (fine.formed.there u low) in
       record { pick = there.0; is = there.1; home = home_of c places u there.0 there.1 }
 
   sector_is : (o : Option Pick) (pick : Pick) (sector : Sector) → o ≡ Some pick → c pick.place 0 ≡ Some sector → sector_of c o ≡ sector
@@ -264,7 +264,7 @@ module _ (c : Chart) (places : ℕ) (bytes : IsByteChart places c) (fine : HasNo
       let here : c it.pick.place 0 ≡ Some head = it.home.chosen.here in
       let generation : it.pick.head.generation ≡ head.generation = ap (λ (h : Head). h.generation) it.home.kept in
       let well_is : is_head_payload (places - 4) head.kind head.payload ≡ true =
-      ap (λ (h : Head). h.well) (sym it.home.kept) ∙ header_well (current u) it.pick it.is (fine.headers u low) in
+      ap (λ (h : Head). h.well) (sym it.home.kept) ∙ header_well (current u) it.pick it.is (fine.formed.headers u low) in
       let passes_it : is_data_payload (places - 4) head.payload ≡ true =
       ap (λ (kind : ℕ). is_head_payload (places - 4) kind head.payload) (sym it.home.chosen.fits.0) ∙ well_is in
       let shape : Shape = record { home = it.pick.place; head = head; pieces = pieces_in head.payload; log = log_in c places u } in
@@ -291,7 +291,7 @@ module _ (c : Chart) (places : ℕ) (bytes : IsByteChart places c) (fine : HasNo
     commit_spelled : (s : ℕ) (sector : Sector) → IsCommitSector c pick.place pick.head.generation s sector → SpellsCommit sector.payload (numbers_in sector.payload)
     commit_spelled s sector it =
         let passes_it = commit_well pick.place s (commit_at c (Some pick) s) sector (commit_to c pick s sector it)
-        (ap (λ (o : Option Pick). commit_fault c o s) (sym is) ∙ fine.commits s (omega (arith, it.where_it_is, sectors_are))) in
+        (ap (λ (o : Option Pick). commit_fault c o s) (sym is) ∙ fine.formed.commits s (omega (arith, it.where_it_is, sectors_are))) in
         commit_payloads_are_spelled sector.payload (bytes pick.place s sector (statuses_are_chosen c places pick is).counts.within it.where_it_is.1 (inr (inl at_status)) it.here) passes_it
 
     told_from : (tid s : ℕ) (o : Option Sector) → s < sectors → commit_at c (Some pick) s ≡ o → Contains (numbers_of o) tid → IsCommitted c pick.place pick.head.generation tid
@@ -325,26 +325,26 @@ module _ (c : Chart) (places : ℕ) (bytes : IsByteChart places c) (fine : HasNo
         let here : c pick.place 0 ≡ Some head = it.counts.here in
         let generation : pick.head.generation ≡ head.generation = ap (λ (h : Head). h.generation) it.head in
         let well_is : is_head_payload (places - 4) head.kind head.payload ≡ true =
-        ap (λ (h : Head). h.well) (sym it.head) ∙ header_well (status_at c places) pick is fine.header in
+        ap (λ (h : Head). h.well) (sym it.head) ∙ header_well (status_at c places) pick is fine.formed.header in
         let passes_it : is_status_payload (places - 4) head.payload ≡ true =
         ap (λ (kind : ℕ). is_head_payload (places - 4) kind head.payload) (sym it.counts.fits) ∙ well_is in
         let layout : Layout = record { status = pick.place; head = head; committed = committed_in c (Some pick); units = shape_in c places } in
         let same : layout ≡ layout_in c places = ap₂ (λ (o : Option Pick) (s : Sector). let x : Layout = record { status = place_of o; head = s; committed = committed_in c o; units = shape_in c places } in x)
         (sym is) (sym (sector_is (status_at c places) pick head is here)) in
         subst (Laid places c) same (record {
-          least = fine.least;
-          most = fine.most;
+          least = fine.formed.least;
+          most = fine.formed.most;
           chosen = it.counts;
           counts = status_payloads_are_spelled (places - 4) head.payload (bytes pick.place 0 head it.counts.within (omega arith) (inl refl) here) passes_it;
           commits = subst (λ (g : ℕ). IsStatus c pick.place g (committed_in c (Some pick))) generation status_is;
           each = unit_is;
           shelves = passing (holds_live heads all_marks) places;
-          two = omega (arith, passing_count (holds_live heads all_marks) places, fine.spares);
+          two = omega (arith, passing_count (holds_live heads all_marks) places, fine.formed.spares);
           shelved = shelved;
         })
 
   pub laid_from : Laid places c (layout_in c places)
-  laid_from = let formatted = formatted_from (status_at c places) fine.formatted in laid_with formatted.0 formatted.1
+  laid_from = let formatted = formatted_from (status_at c places) fine.formed.formatted in laid_with formatted.0 formatted.1
 
 pub no_fault_is_laid : NoFaultIsLaid
 no_fault_is_laid c places bytes none = laid_from c places bytes (no_fault_parts c places none)

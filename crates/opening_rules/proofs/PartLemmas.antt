@@ -1,7 +1,7 @@
 -- No fault is no fault of each kind.
 use Rattle.std.proofs.Common.{ℕ, ◌≡◌, ◌-◌, ◌*◌, ◌^◌, ◌<◌, ◌≤◌, nat_lt, nat_le, Bool, true, false, cond, ◌&&◌, Option, Some, None, refl}
 use Rattle.std.specs.Option.{option_or}
-use Rattle.std.proofs.lemmas.Bool.{leb-true, ltb-true, le-leb, lt-ltb, and_parts, and_from, cond-true}
+use Rattle.std.proofs.lemmas.Bool.{leb-true, ltb-true, le-leb, lt-ltb, le-ltb, and_parts, and_from, cond-true, cond-false}
 use Rattle.ipl_base.specs.declared.fault.ImageFault.{ImageFault}
 use Rattle.ipl_base.specs.declared.fault.ImageFault.TheVariants.{Geometry, Spent, NoSpare}
 use Rattle.ipl_meaning.specs.Chart.{Chart}
@@ -34,8 +34,8 @@ if_none false x e = cc
 
 -- ---- the parts
 
--- each test passes
-pub record HasNoFault (c : Chart) (places : ℕ) : Type 0 where
+-- each test passes but that of the numbers
+pub record IsFormed (c : Chart) (places : ℕ) : Type 0 where
   pub least : 5 ≤ places
   pub most : places ≤ 1028
   pub formatted : not_formatted (status_at c places) ≡ None
@@ -46,8 +46,12 @@ pub record HasNoFault (c : Chart) (places : ℕ) : Type 0 where
   pub header : bad_header (status_at c places) ≡ None
   pub commits : (s : ℕ) → s < sectors → commit_fault c (status_at c places) s ≡ None
   pub logs : (k : ℕ) → k < places * 256 → log_fault (header_at c places) (current_at c places) c k ≡ None
-  pub fresh : greatest_found c places < 2 ^ 63
   pub spares : spares_found c places ≤ 2
+
+-- each test passes
+pub record HasNoFault (c : Chart) (places : ℕ) : Type 0 where
+  pub formed : IsFormed c places
+  pub fresh : greatest_found c places < 2 ^ 63
 
 module _ (c : Chart) (places : ℕ) where
   abbrev geometries_fault : Option ImageFault
@@ -67,32 +71,51 @@ module _ (c : Chart) (places : ℕ) where
       (bad_header (status_at c places)) all.1 in
       let bounds = and_parts (nat_le 5 places) (nat_le places 1028) (if_none (nat_le 5 places && nat_le places 1028) Geometry all.0) in
       record {
-        least = leb-true 5 places bounds.0;
-        most = leb-true places 1028 bounds.1;
-        formatted = heads.0;
-        geometry = heads.1;
-        geometries = none_before (λ u. other_geometry (current_at c places u)) (places - 4) heads.2;
-        there = none_before (λ u. missing u (current_at c places u)) (places - 4) heads.3;
-        headers = none_before (λ u. bad_header (current_at c places u)) (places - 4) heads.4;
-        header = heads.5;
-        commits = none_before (commit_fault c (status_at c places)) sectors all.2;
-        logs = none_before (log_fault (header_at c places) (current_at c places) c) (places * 256) all.3;
+        formed = record {
+          least = leb-true 5 places bounds.0;
+          most = leb-true places 1028 bounds.1;
+          formatted = heads.0;
+          geometry = heads.1;
+          geometries = none_before (λ u. other_geometry (current_at c places u)) (places - 4) heads.2;
+          there = none_before (λ u. missing u (current_at c places u)) (places - 4) heads.3;
+          headers = none_before (λ u. bad_header (current_at c places u)) (places - 4) heads.4;
+          header = heads.5;
+          commits = none_before (commit_fault c (status_at c places)) sectors all.2;
+          logs = none_before (log_fault (header_at c places) (current_at c places) c) (places * 256) all.3;
+          spares = leb-true (spares_found c places) 2 (if_none (nat_le (spares_found c places) 2) (NoSpare (spares_found c places)) all.5);
+        };
         fresh = ltb-true (greatest_found c places) (2 ^ 63) (if_none (nat_lt (greatest_found c places) (2 ^ 63)) Spent all.4);
-        spares = leb-true (spares_found c places) 2 (if_none (nat_le (spares_found c places) 2) (NoSpare (spares_found c places)) all.5);
       }
 
+  module _ (it : IsFormed c places) where
+    size_passes : size_fault places ≡ None
+    size_passes = cond-true (nat_le 5 places && nat_le places 1028) None (Some Geometry) (and_from _ _ (le-leb 5 places it.least) (le-leb places 1028 it.most))
+
+    headers_pass : header_fault c places ≡ None
+    headers_pass = six_none (not_formatted (status_at c places)) (other_geometry (status_at c places)) geometries_fault missing_fault headers_fault (bad_header (status_at c places))
+        it.formatted
+        it.geometry
+        (first_none (λ u. other_geometry (current_at c places u)) (places - 4) it.geometries)
+        (first_none (λ u. missing u (current_at c places u)) (places - 4) it.there)
+        (first_none (λ u. bad_header (current_at c places u)) (places - 4) it.headers)
+        it.header
+
+    commits_pass : first_commit_fault c places ≡ None
+    commits_pass = first_none (commit_fault c (status_at c places)) sectors it.commits
+
+    logs_pass : first_log_fault c places ≡ None
+    logs_pass = first_none (log_fault (header_at c places) (current_at c places) c) (places * 256) it.logs
+
+    -- numbers that are used up are then the one fault
+    pub spent_from : 2 ^ 63 ≤ greatest_found c places → first_fault c places ≡ Some Spent
+    spent_from high = rw (size_passes, headers_pass, commits_pass, logs_pass, cond-false (nat_lt (greatest_found c places) (2 ^ 63)) None (Some Spent) (le-ltb (greatest_found c places) (2 ^ 63) high)) refl
+
   pub no_fault_from : HasNoFault c places → first_fault c places ≡ None
-  no_fault_from it = six_none (size_fault places) (header_fault c places) (first_commit_fault c places) (first_log_fault c places) (spent (greatest_found c places))
+  no_fault_from all = six_none (size_fault places) (header_fault c places) (first_commit_fault c places) (first_log_fault c places) (spent (greatest_found c places))
       (no_spare (spares_found c places))
-      (cond-true (nat_le 5 places && nat_le places 1028) None (Some Geometry) (and_from _ _ (le-leb 5 places it.least) (le-leb places 1028 it.most)))
-      (six_none (not_formatted (status_at c places)) (other_geometry (status_at c places)) geometries_fault missing_fault headers_fault (bad_header (status_at c places))
-      it.formatted
-      it.geometry
-      (first_none (λ u. other_geometry (current_at c places u)) (places - 4) it.geometries)
-      (first_none (λ u. missing u (current_at c places u)) (places - 4) it.there)
-      (first_none (λ u. bad_header (current_at c places u)) (places - 4) it.headers)
-      it.header)
-      (first_none (commit_fault c (status_at c places)) sectors it.commits)
-      (first_none (log_fault (header_at c places) (current_at c places) c) (places * 256) it.logs)
-      (cond-true (nat_lt (greatest_found c places) (2 ^ 63)) None (Some Spent) (lt-ltb (greatest_found c places) (2 ^ 63) it.fresh))
-      (cond-true (nat_le (spares_found c places) 2) None (Some (NoSpare (spares_found c places))) (le-leb (spares_found c places) 2 it.spares))
+      (size_passes all.formed)
+      (headers_pass all.formed)
+      (commits_pass all.formed)
+      (logs_pass all.formed)
+      (cond-true (nat_lt (greatest_found c places) (2 ^ 63)) None (Some Spent) (lt-ltb (greatest_found c places) (2 ^ 63) all.fresh))
+      (cond-true (nat_le (spares_found c places) 2) None (Some (NoSpare (spares_found c places))) (le-leb (spares_found c places) 2 all.formed.spares))

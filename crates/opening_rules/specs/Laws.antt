@@ -1,6 +1,7 @@
 -- The laws of an opening: no fault is a chart that is laid out rightly, with numbers that are not used up.
 use Rattle.std.specs.Prelude.{ℕ, ◌≡◌, ◌<◌, ◌≤◌, ◌⊎◌, ◌+◌, ◌^◌, true, List, length, Some, None}
 use Rattle.chip_trait.specs.Story.{Contents}
+use Rattle.ipl_base.specs.declared.fault.ImageFault.TheVariants.{Spent}
 use Rattle.ipl_format.specs.Numbers.{IsBytes}
 use Rattle.ipl_format.specs.Sector.{Sector}
 use Rattle.ipl_meaning.specs.Chart.{Chart, chart_of}
@@ -51,6 +52,12 @@ abbrev pub LaidHasNoFault : Type 0
 LaidHasNoFault =
     (c : Chart) (places : ℕ) (it : Layout) → IsByteChart places c → Laid places c it → IsAbove places c it (2 ^ 63)
     → first_fault c places ≡ None
+
+-- whatever its sectors are, it has no fault, or its numbers are used up
+abbrev pub LaidIsFineOrSpent : Type 0
+LaidIsFineOrSpent =
+    (c : Chart) (places : ℕ) (it : Layout) → Laid places c it
+    → (first_fault c places ≡ None) ⊎ (first_fault c places ≡ Some Spent)
 
 -- a chip that was just formatted has none
 abbrev pub FormattedChipsHaveNoFault : Type 0
