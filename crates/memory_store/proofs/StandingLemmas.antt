@@ -21,7 +21,8 @@ use Rattle.ipl_model.specs.declared.reply.Reply.TheVariants as reply
 use Rattle.ipl_model.specs.Step.{Stepped, step, accepted, refusal_of, found_reply}
 use Rattle.memory_store.specs.declared.kept.Kept.{Kept}
 use Rattle.memory_store.specs.Kept.{kept_change, record_of, seen}
-use Rattle.memory_store.specs.Fits.{unit_limits, sessions_of, AreNamed, FitsParts, write_refusal, write_step}
+use Rattle.memory_store.specs.declared.store.MemoryStore.{MemoryStore}
+use Rattle.memory_store.specs.Fits.{unit_limits, sessions_of, AreNamed, FitsParts, Fits, IsIdle, write_refusal, write_step}
 
 -- ---- one session in a finite map
 
@@ -96,19 +97,28 @@ paired state = (state, reply.Ok ∷ [])
 skipped : {X : Type 0} (t : Bool) (x y : X) → t ≡ false → cond t x y ≡ y
 skipped t x y is = ap (λ (b : Bool). cond b x y) is
 
--- a new store
-pub fresh : (records : List (Option (List ℕ))) (kept : List Kept) (shares : List ℕ) → kept ≡ [] → shares ≡ [] → ((n : ℕ) → record_of records n ≡ None) → FitsParts records kept shares false (at_rest empty)
-fresh records kept shares none unshared blank = record {
+-- with no open session, a state at rest
+at_rest_fits : (records : List (Option (List ℕ))) (kept : List Kept) (shares : List ℕ) (opened : Bool) (m : Map) → kept ≡ [] → shares ≡ [] → opened ≡ false
+    → ((n : ℕ) → n < 960 → get m n ≡ record_of records n) → FitsParts records kept shares opened (at_rest m)
+at_rest_fits records kept shares opened m none unshared closed each = record {
   session = new_session;
-  sessions = refl;
+  sessions = ap (λ (b : Bool). sessions_of b new_session) (sym closed);
   closed = λ e. (none, unshared);
-  map = λ n lt. get-empty nat_cmp n ∙ sym (blank n);
+  map = each;
   written = λ n. sym (ap (λ (l : List Kept). kept_change l n) none);
   named = tt;
   count = sym (ap length none);
   shared = λ n. sym (ap (list_any (λ k. k == n)) unshared);
   share_count = sym (ap length unshared);
 }
+
+-- a store with no open session stands for a map at rest that has its records
+pub idle_fits : (store : MemoryStore) (m : Map) → IsIdle store → ((n : ℕ) → n < 960 → get m n ≡ record_of store.records.items n) → Fits store (at_rest m)
+idle_fits store m idle each = at_rest_fits _ _ _ _ m idle.kept idle.shares idle.closed each
+
+-- a new store
+pub fresh : (records : List (Option (List ℕ))) (kept : List Kept) (shares : List ℕ) → kept ≡ [] → shares ≡ [] → ((n : ℕ) → record_of records n ≡ None) → FitsParts records kept shares false (at_rest empty)
+fresh records kept shares none unshared blank = at_rest_fits records kept shares false empty none unshared refl (λ n lt. get-empty nat_cmp n ∙ sym (blank n))
 
 module _ (records : List (Option (List ℕ))) (kept : List Kept) (shares : List ℕ) (opened : Bool) (state : State) (f : FitsParts records kept shares opened state) where
   session_is : get state.sessions 0 ≡ cond opened (Some f.session) None

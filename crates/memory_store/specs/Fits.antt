@@ -49,6 +49,12 @@ Fits store state = FitsParts store.records.items store.kept.items store.shares.i
 abbrev pub IsFresh : MemoryStore → Type 0
 IsFresh store = Fits store (at_rest empty)
 
+-- no session is open, and nothing is written or shared
+pub record IsIdle (store : MemoryStore) : Type 0 where
+  pub kept : store.kept.items ≡ []
+  pub shares : store.shares.items ≡ []
+  pub closed : store.is_open ≡ false
+
 -- the reply is the model's, and so is the state that the store stands for then
 abbrev pub Follows : MemoryStore → MemoryStore → Command → Reply → Type 0
 Follows old new c reply = (state : State) → Fits old state → ((step unit_limits state c).1 ≡ reply ∷ []) × Fits new (step unit_limits state c).0

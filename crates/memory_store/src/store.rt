@@ -36,13 +36,14 @@ pub struct MemoryStore {
 }
 
 impl MemoryStore {
-    ghost use Rattle.memory_store.specs.Fits.{IsFresh, Follows};
+    ghost use Rattle.memory_store.specs.Fits.{IsFresh, IsIdle};
     ghost use Rattle.memory_store.specs.Kept.{record_of};
-    ghost use Rattle.ipl_model.specs.declared.command.Command.TheVariants as command;
+    ghost use Rattle.std.specs.Prelude.{slice_set};
 
     /// A store with no record and no open session.
     pub fn new(alloc: Global) -> Result<MemoryStore, OutOfMemory>
-        ensures { IfOk result IsFresh }
+        ensures fresh { IfOk result IsFresh }
+        ensures idle { IfOk result IsIdle }
     {
         let mut records = Vec::with_capacity(alloc, NAMES as usize)?;
         for _ in 0..NAMES {
@@ -62,6 +63,17 @@ impl MemoryStore {
         ensures { result ≡ record_of self.now.records.items name }
     {
         copied(&self.records[name as usize])
+    }
+
+    /// Makes a value the record of a name below 960, or takes its record away. The session stays as it is.
+    pub fn load(&mut self, name: u32, value: Option<Value>)
+        requires { name < 960 }
+        ensures records { self.new.records.items ≡ slice_set self.old.records.items name value }
+        ensures kept { self.new.kept ≡ self.old.kept }
+        ensures shares { self.new.shares ≡ self.old.shares }
+        ensures session { self.new.is_open ≡ self.old.is_open }
+    {
+        self.records[name as usize] = value;
     }
 }
 
