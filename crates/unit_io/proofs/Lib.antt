@@ -9,3 +9,4 @@ pub mod ReadsLemmas
 pub mod PiecesLemmas
 pub mod TextLemmas
 pub mod HeldLemmas
+pub mod PlainLemmas

@@ -5,3 +5,4 @@ pub mod Reads
 pub mod Kinds
 pub mod Faults
 pub mod Laws
+pub mod Plain

@@ -10,6 +10,7 @@ ghost use Rattle.ipl_meaning.specs.Rests.{now, EachStands, StoryRests};
 ghost use Rattle.unit_io.specs.Leads.{IsSteady, Leads, IsStopped};
 ghost use Rattle.unit_io.specs.Spots.{Programs, IsSpot, IsPieceSpot};
 ghost use Rattle.unit_io.specs.Charts.{Charts, Gains, HasPieces, HasPage};
+ghost use Rattle.unit_io.specs.Plain.{AddsPlain};
 
 use crate::sectors::program_aside;
 use chip_trait::Chip;
@@ -52,6 +53,7 @@ fn program_piece<C: Chip>(
         × Gains place (base_sector_of page piece) (base_sector head.now.unit head.now.generation page piece text.now) (now h) (now then))
         h result (C.told chip.new) }
     ensures tells { OnOk result (Charts (Gains place (base_sector_of page piece) (base_sector head.now.unit head.now.generation page piece text.now)) (C.told chip.old) (C.told chip.new)) }
+    ensures plain { AddsPlain (C.told chip.old) (C.told chip.new) }
     ensures places { (C.told chip.new).places ≡ (C.told chip.old).places }
     ensures counts { Counts (C.told chip.old) (C.told chip.new) }
     ensures cause { IfErr result (λ fault. IsStopped fault (C.told chip.old) (C.told chip.new)) }
@@ -94,6 +96,7 @@ fn program_pieces<C: Chip>(
         × HasPieces place head.now.unit head.now.generation page text.now n (now h) (now then))
         h result (C.told chip.new) }
     ensures tells { IfOk result (λ n. Charts (HasPieces place head.now.unit head.now.generation page text.now n) (C.told chip.old) (C.told chip.new)) }
+    ensures plain { AddsPlain (C.told chip.old) (C.told chip.new) }
     ensures cut { IfOk result (λ n. IsCutInto text.now n) }
     ensures few { IfOk result (λ n. n ≤ 16) }
     ensures places { (C.told chip.new).places ≡ (C.told chip.old).places }
@@ -128,6 +131,7 @@ pub fn program_page<C: Chip>(
         × HasPage place head.now.unit head.now.generation page map.now n (now h) (now then))
         h result (C.told chip.new) }
     ensures tells { IfOk result (λ n. Charts (HasPage place head.now.unit head.now.generation page map.now n) (C.told chip.old) (C.told chip.new)) }
+    ensures plain { AddsPlain (C.told chip.old) (C.told chip.new) }
     ensures few { IfOk result (λ n. n ≤ 16) }
     ensures places { (C.told chip.new).places ≡ (C.told chip.old).places }
     ensures counts { Counts (C.told chip.old) (C.told chip.new) }

@@ -14,6 +14,7 @@ ghost use Rattle.ipl_meaning.specs.Steps.{IsIdle};
 ghost use Rattle.unit_io.specs.Leads.{IsSteady, Leads, IsStopped};
 ghost use Rattle.unit_io.specs.Spots.{Clears, Programs, IsSpot};
 ghost use Rattle.unit_io.specs.Charts.{Charts, IsCleared, Gains};
+ghost use Rattle.unit_io.specs.Plain.{AddsPlain, IsPlain, IsPlainSector};
 
 use crate::calls::{barrier, erase, program};
 use chip_trait::Chip;
@@ -31,6 +32,7 @@ pub fn begin_unit<C: Chip>(chip: &mut C, place: u32) -> Result<(), ChipFault>
         (λ done then. StoryRests (C.told chip.old).places m then × IsCleared place (now h) (now then))
         h result (C.told chip.new) }
     ensures tells { OnOk result (Charts (IsCleared place) (C.told chip.old) (C.told chip.new)) }
+    ensures plain { AddsPlain (C.told chip.old) (C.told chip.new) }
     ensures places { (C.told chip.new).places ≡ (C.told chip.old).places }
     ensures counts { Counts (C.told chip.old) (C.told chip.new) }
     ensures cause { IfErr result (λ fault. IsStopped fault (C.told chip.old) (C.told chip.new)) }
@@ -49,6 +51,7 @@ fn add_header<C: Chip>(chip: &mut C, place: u32, bytes: &[u8; 512]) -> Result<()
         → Leads (EachStandsEither (C.told chip.old).places m n) (Programs place (IsSpot 0))
         (λ done then. StoryRests (C.told chip.old).places n then × Gains place 0 said (now h) (now then)) h result (C.told chip.new) }
     ensures tells { (said : Sector) → sector_in bytes.now ≡ Some said → OnOk result (Charts (Gains place 0 said) (C.told chip.old) (C.told chip.new)) }
+    ensures plain { IsPlain bytes.now → AddsPlain (C.told chip.old) (C.told chip.new) }
     ensures places { (C.told chip.new).places ≡ (C.told chip.old).places }
     ensures counts { Counts (C.told chip.old) (C.told chip.new) }
     ensures cause { IfErr result (λ fault. IsStopped fault (C.told chip.old) (C.told chip.new)) }
@@ -73,6 +76,7 @@ pub fn seal<C: Chip>(chip: &mut C, place: u32, head: &Head, payload: &[u8]) -> R
         (λ done then. StoryRests (C.told chip.old).places n then × Gains place 0 (sector_of head.now payload.now) (now h) (now then))
         h result (C.told chip.new) }
     ensures tells { OnOk result (Charts (Gains place 0 (sector_of head.now payload.now)) (C.told chip.old) (C.told chip.new)) }
+    ensures plain { IsPlainSector (sector_of head.now payload.now) → AddsPlain (C.told chip.old) (C.told chip.new) }
     ensures places { (C.told chip.new).places ≡ (C.told chip.old).places }
     ensures counts { Counts (C.told chip.old) (C.told chip.new) }
     ensures cause { IfErr result (λ fault. IsStopped fault (C.told chip.old) (C.told chip.new)) }

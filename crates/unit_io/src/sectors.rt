@@ -12,6 +12,7 @@ ghost use Rattle.ipl_meaning.specs.Steps.{MayLog};
 ghost use Rattle.unit_io.specs.Leads.{IsSteady, Leads, IsStopped};
 ghost use Rattle.unit_io.specs.Spots.{Programs, IsSpot};
 ghost use Rattle.unit_io.specs.Charts.{Charts, Gains};
+ghost use Rattle.unit_io.specs.Plain.{AddsPlain, IsPlain};
 
 use crate::calls::program;
 use chip_trait::Chip;
@@ -33,6 +34,7 @@ pub(crate) fn program_aside<C: Chip>(
         → Leads (EachStands (C.told chip.old).places m) (Programs place (IsSpot sector))
         (λ done then. StoryRests (C.told chip.old).places m then × Gains place sector said (now h) (now then)) h result (C.told chip.new) }
     ensures tells { (said : Sector) → sector_in bytes.now ≡ Some said → OnOk result (Charts (Gains place sector said) (C.told chip.old) (C.told chip.new)) }
+    ensures plain { IsPlain bytes.now → AddsPlain (C.told chip.old) (C.told chip.new) }
     ensures places { (C.told chip.new).places ≡ (C.told chip.old).places }
     ensures counts { Counts (C.told chip.old) (C.told chip.new) }
     ensures cause { IfErr result (λ fault. IsStopped fault (C.told chip.old) (C.told chip.new)) }

@@ -1,12 +1,14 @@
 use Rattle.std.proofs.Common.{◌≡◌, ◌<◌, ℕ, Ok, Err, subst, arith, refl, ◌∙◌}
 use Rattle.std.proofs.lemmas.Result.{err_from_is_err_and}
 use Rattle.unit_io.proofs.PageLemmas.{piled_none, piled_more, piled_fails, piled_all, charts_none, charts_more, IsOpenFor, PieceSays, Piled}
+use Rattle.unit_io.proofs.PlainLemmas.{plain_none, plain_then}
 use Rattle.unit_io.proofs.pages.program_pieces.Goals as goal
 
 pub loop-piece-init : goal.loop-piece-init
 loop-piece-init g c = record {
   keeps = λ m h steady ready. piled_none _ c.args.place c.args.head.now.unit c.args.head.now.generation c.args.page c.args.text.now m h (g.C.Chip.told c.args.chip.now) steady ready;
   tells = charts_none c.args.place c.args.head.now.unit c.args.head.now.generation c.args.page c.args.text.now (g.C.Chip.told c.args.chip.now);
+  plain = plain_none (g.C.Chip.told c.args.chip.now);
   places = refl;
   counts = record { reads = omega arith; writes = omega arith; beside = refl };
 }
@@ -20,6 +22,7 @@ loop-piece-preserved g c =
           (subst (λ (q : ℕ). PieceSays q c.args.place c.args.head.now.unit c.args.head.now.generation c.args.page c.args.text.now c.loop-piece.piece (g.C.Chip.told c.loop-piece.chip) (Ok tt) (g.C.Chip.told c.program_piece.new.chip))
           so_far.places c.in_ok-program_piece.ensures.aside);
       tells = charts_more c.args.place c.args.head.now.unit c.args.head.now.generation c.args.page c.args.text.now c.loop-piece.piece (g.C.Chip.told c.args.chip.now) (g.C.Chip.told c.loop-piece.chip) (g.C.Chip.told c.program_piece.new.chip) so_far.tells c.in_ok-program_piece.ensures.tells;
+      plain = plain_then (g.C.Chip.told c.args.chip.now) (g.C.Chip.told c.loop-piece.chip) (g.C.Chip.told c.program_piece.new.chip) so_far.plain c.in_ok-program_piece.ensures.plain;
       places = c.in_ok-program_piece.ensures.places ∙ so_far.places;
       counts = record {
         reads = omega (arith, so_far.counts.reads, c.in_ok-program_piece.ensures.counts.reads);
@@ -45,3 +48,10 @@ returns-clause-keeps g c = λ m h steady rests bare clean.
     piled_all _ c.args.place c.args.head.now.unit c.args.head.now.generation c.args.page c.args.text.now m h c.piece_count-count.result c.piece_count-count.ensures.few (g.C.Chip.told c.loop-piece.chip)
     (subst (λ (n : ℕ). Piled (g.C.Chip.told c.args.chip.now).places c.args.place c.args.head.now.unit c.args.head.now.generation c.args.page c.args.text.now m h n (g.C.Chip.told c.loop-piece.chip)) done
     (c.loop-piece.invariant.keeps m h steady (record { rests = rests; bare = bare; clean = clean })))
+
+pub returns-in_err-program_piece-clause-plain : goal.returns-in_err-program_piece-clause-plain
+returns-in_err-program_piece-clause-plain g c =
+    plain_then (g.C.Chip.told c.args.chip.now) (g.C.Chip.told c.loop-piece.chip) (g.C.Chip.told c.program_piece.new.chip) c.loop-piece.invariant.plain c.in_err-program_piece.ensures.plain
+
+pub returns-clause-plain : goal.returns-clause-plain
+returns-clause-plain g c = c.loop-piece.invariant.plain

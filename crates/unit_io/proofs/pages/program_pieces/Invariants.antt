@@ -3,6 +3,7 @@ use Rattle.chip_trait.specs.Told.{Told, History, Counts}
 use Rattle.ipl_rules.specs.State.{Map}
 use Rattle.unit_io.specs.Leads.{IsSteady}
 use Rattle.unit_io.specs.Charts.{Charts, HasPieces}
+use Rattle.unit_io.specs.Plain.{AddsPlain}
 use Rattle.unit_io.proofs.PageLemmas.{IsOpenFor, Piled}
 use Rattle.unit_io.proofs.pages.program_pieces.Given as goal
 
@@ -10,6 +11,7 @@ use Rattle.unit_io.proofs.pages.program_pieces.Given as goal
 pub record IsPiled (first t : Told) (place unit generation page : ℕ) (text : List ℕ) (n : ℕ) : Type 0 where
   pub keeps : (m : Map) (h : History) → IsSteady h first → IsOpenFor first.places place page m h → Piled first.places place unit generation page text m h n t
   pub tells : Charts (HasPieces place unit generation page text n) first t
+  pub plain : AddsPlain first t
   pub places : t.places ≡ first.places
   pub counts : Counts first t
 

@@ -1,5 +1,6 @@
 use Rattle.std.proofs.lemmas.Result.{err_from_is_err_and}
 use Rattle.unit_io.proofs.SealLemmas.{added_leads, added_fails}
+use Rattle.unit_io.proofs.PlainLemmas.{plain_then, plain_did, plain_waited}
 use Rattle.unit_io.proofs.places.add_header.Goals as goal
 
 pub returns-in_err-program-clause-leads : goal.returns-in_err-program-clause-leads
@@ -10,3 +11,12 @@ returns-in_err-program-clause-leads g c = λ m n h said says steady rests closed
 pub returns-clause-leads : goal.returns-clause-leads
 returns-clause-leads g c = λ m n h said says steady rests closed clean stands.
     added_leads _ m n h c.args.place c.args.bytes.now said says rests clean stands closed _ _ _ _ steady c.in_ok-program.ensures.did c.barrier.ensures.did
+
+pub returns-in_err-program-clause-plain : goal.returns-in_err-program-clause-plain
+returns-in_err-program-clause-plain g c = λ plain. plain_did _ (g.C.Chip.told c.args.chip.now) (g.C.Chip.told c.program.new.chip) plain c.program.result c.program.ensures.did
+
+pub returns-clause-plain : goal.returns-clause-plain
+returns-clause-plain g c = λ plain.
+    plain_then (g.C.Chip.told c.args.chip.now) (g.C.Chip.told c.program.new.chip) (g.C.Chip.told c.barrier.new.chip)
+    (plain_did _ (g.C.Chip.told c.args.chip.now) (g.C.Chip.told c.program.new.chip) plain c.program.result c.program.ensures.did)
+    (plain_waited (g.C.Chip.told c.program.new.chip) (g.C.Chip.told c.barrier.new.chip) c.barrier.result c.barrier.ensures.did)

@@ -1,5 +1,6 @@
 use Rattle.std.proofs.lemmas.Result.{err_from_is_err_and}
 use Rattle.unit_io.proofs.PlaceLemmas.{begin_leads, begin_fails, begin_tells}
+use Rattle.unit_io.proofs.PlainLemmas.{plain_then, plain_did, plain_waited}
 use Rattle.unit_io.proofs.places.begin_unit.Goals as goal
 
 pub returns-in_err-erase-clause-keeps : goal.returns-in_err-erase-clause-keeps
@@ -13,3 +14,12 @@ returns-clause-keeps g c = λ m it h steady rests laid idle.
 
 pub returns-clause-tells : goal.returns-clause-tells
 returns-clause-tells g c = begin_tells c.args.place _ _ _ _ c.in_ok-erase.ensures.did c.barrier.ensures.did
+
+pub returns-in_err-erase-clause-plain : goal.returns-in_err-erase-clause-plain
+returns-in_err-erase-clause-plain g c = plain_did _ (g.C.Chip.told c.args.chip.now) (g.C.Chip.told c.erase.new.chip) tt c.erase.result c.erase.ensures.did
+
+pub returns-clause-plain : goal.returns-clause-plain
+returns-clause-plain g c =
+    plain_then (g.C.Chip.told c.args.chip.now) (g.C.Chip.told c.erase.new.chip) (g.C.Chip.told c.barrier.new.chip)
+    (plain_did _ (g.C.Chip.told c.args.chip.now) (g.C.Chip.told c.erase.new.chip) tt c.erase.result c.erase.ensures.did)
+    (plain_waited (g.C.Chip.told c.erase.new.chip) (g.C.Chip.told c.barrier.new.chip) c.barrier.result c.barrier.ensures.did)

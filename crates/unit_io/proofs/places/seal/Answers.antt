@@ -2,6 +2,7 @@ use Rattle.std.proofs.Common.{refl, ap}
 use Rattle.std.proofs.lemmas.Result.{err_from_is_err_and}
 use Rattle.chip_trait.specs.Lawful.{settled}
 use Rattle.unit_io.proofs.SealLemmas.{seal_leads, seal_fails, settled_rests, steady_settled}
+use Rattle.unit_io.proofs.PlainLemmas.{plain_then, plain_waited, plain_said}
 use Rattle.unit_io.proofs.places.seal.Goals as goal
 
 pub returns-in_err-barrier-clause-leads : goal.returns-in_err-barrier-clause-leads
@@ -15,3 +16,12 @@ returns-clause-leads g c = λ m n h steady rests clean stands.
     seal_leads _ m n h c.args.place _ rests _ _ steady _ _ wait
     (rw (wait.places) at (c.add_header.ensures.leads m n _ _ c.encode.ensures.said (steady_settled h _ _ steady wait)
     (rw wait.places (settled_rests _ m h rests)) (λ p s. refl) (ap settled clean) (rw wait.places stands)))
+
+pub returns-in_err-barrier-clause-plain : goal.returns-in_err-barrier-clause-plain
+returns-in_err-barrier-clause-plain g c = λ plain. plain_waited (g.C.Chip.told c.args.chip.now) (g.C.Chip.told c.barrier.new.chip) c.barrier.result c.barrier.ensures.did
+
+pub returns-clause-plain : goal.returns-clause-plain
+returns-clause-plain g c = λ plain.
+    plain_then (g.C.Chip.told c.args.chip.now) (g.C.Chip.told c.barrier.new.chip) (g.C.Chip.told c.add_header.new.chip)
+    (plain_waited (g.C.Chip.told c.args.chip.now) (g.C.Chip.told c.barrier.new.chip) c.barrier.result c.barrier.ensures.did)
+    (c.add_header.ensures.plain (plain_said _ _ c.encode.ensures.said plain))
