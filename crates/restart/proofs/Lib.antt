@@ -13,3 +13,4 @@ pub mod LogLemmas
 pub mod FillLemmas
 pub mod OpenLemmas
 pub mod OpenedLemmas
+pub mod ReadingLemmas

@@ -114,6 +114,7 @@ fn open<C: Chip>(
         IsOpened geometry (chart_of x) directory.new counter.new)) }
     ensures laid { OnOk result (OfContents (C.told chip.old) (λ x.
         Laid geometry (chart_of x) (layout_in (chart_of x) geometry))) }
+    ensures size { OnOk result (length directory.new.in_use ≡ geometry) }
     ensures free { OnOk result (HasFree directory.new) }
     ensures left { OnOk result (counter.new ≤ 2 ^ 63) }
     ensures units { units_of noted.new ≡ units_of noted.old }
@@ -195,7 +196,8 @@ pub fn recover<C: Chip>(
     ensures laid { OnOk result (OfContents (C.told chip.old) (λ x.
         Laid (C.told chip.old).places (chart_of x) (layout_in (chart_of x) (C.told chip.old).places))) }
 
-    // Whether the chip tells its contents or not, a place is free, and numbers are left.
+    // Whether the chip tells its contents or not, the directory is of its size, a place is free, and numbers are left.
+    ensures size { OnOk result (length directory.new.in_use ≡ (C.told chip.old).places) }
     ensures free { OnOk result (HasFree directory.new) }
     ensures left { OnOk result (counter.new ≤ 2 ^ 63) }
 
