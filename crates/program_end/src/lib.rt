@@ -1,0 +1,10 @@
+//! How the program ends before its script does: the status of the process, and the line that is noted.
+#![tactic(auto)]
+
+mod end;
+mod note_line;
+#[cfg(test)]
+mod tests;
+
+pub use end::{End, status};
+pub use note_line::NoteLine;
