@@ -84,6 +84,7 @@ first_keeps places store t h least most first told settled rests same mirrors = 
       counter_is = sym first.counter;
       mirrors = first_mirrors places (now h) store.directory first.directory mirrors;
       says = first_says places (now h) least most same;
+      bare = record { logs = λ u low. refl; commits = λ tid. refl };
     }));
   };
 }

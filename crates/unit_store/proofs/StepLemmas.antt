@@ -28,6 +28,7 @@ use Rattle.script_run.specs.declared.fault.Fault.{Fault}
 use Rattle.script_run.specs.declared.fault.Fault.TheVariants.{Chip, Image, Spent}
 use Rattle.script_run.specs.Onward.{Unrisen}
 use Rattle.script_run.specs.Keeping.{AllOf, IsSingle, WorkLeaves, WorksFor, Works, LooksUpFor, LooksUp}
+use Rattle.unit_io.specs.Plain.{IsPlainEvent, ArePlain}
 use Rattle.unit_io.specs.Leads.{Leads}
 use Rattle.unit_store.specs.declared.store.UnitStore.{UnitStore}
 use Rattle.unit_store.specs.Rewritten.{IsRenamed}
@@ -87,10 +88,6 @@ renamed_by memory state units s fits writing =
     below_one lt = let under : s < 1 = grind (arith, nat_tests) in omega (arith, under)
 
 -- ---- what is left where nothing was asked of the chip
-
-pub all_units : (events : Story) → AllOf (λ e. Unit {0}) events
-all_units [] = tt
-all_units (e ∷ events) = (tt, all_units events)
 
 -- no moment, and the same records
 quiet_leaves : (units : ℕ) (n : Map) (before then : UnitStore) (t : Told) (state : State) (h : History) (done : Bool) → KeepsUnit (limits_of units) before t state → t.history ≡ Some h
@@ -195,6 +192,10 @@ abbrev pub CommitWrites : (before then : UnitStore) (old : Told) (result : Resul
 CommitWrites before then old result new = (state : State) (n : Map) (h : History) → old.history ≡ Some h → Stood before old state h → IsRenamed state.map n (seen_in before.memory)
     → Leads (EachStandsEither (before.units + 4) state.map n) IsWork (λ done after. OnChip (before.units + 4) then.directory then.counter n after) h result new
 
+all_plain : (events : Story) → ArePlain events → AllOf IsPlainEvent events
+all_plain [] plain = tt
+all_plain (e ∷ events) plain = (plain.0, all_plain events plain.1)
+
 written_leaves : (before then : UnitStore) (old new : Told) (state : State) (n : Map) (h : History) (result : Result (Unit {0}) Fault) (done : Bool)
     → (did : Leads (EachStandsEither (before.units + 4) state.map n) IsWork (λ done after. OnChip (before.units + 4) then.directory then.counter n after) h result new)
     → WorkLeaves unit_keeping (λ x. unit_keeping.stands (limits_of before.units) x state.map ⊎ unit_keeping.stands (limits_of before.units) x n) before h then new done
@@ -203,7 +204,7 @@ written_leaves before then old new state n h result done did = record {
   history = did.history;
   each_moment = did.each_moment;
   silent = did.does.silent;
-  only = all_units did.added;
+  only = all_plain did.added did.does.plain;
   lawful = record { lawful = λ base lawful clean. did.does.lawful base lawful };
   clean = λ is. record { clean = λ base lawful clean p s none. absurd none };
 }

@@ -10,6 +10,7 @@ use Rattle.ipl_rules.specs.State.{State, Limits}
 use Rattle.ipl_format.specs.Sector.{sector_in}
 use Rattle.ipl_meaning.specs.Chart.{chart_of}
 use Rattle.ipl_meaning.specs.Stands.{Stands}
+use Rattle.unit_io.specs.Plain.{IsPlainEvent}
 use Rattle.memory_store.specs.Fits.{Fits}
 use Rattle.script_run.specs.declared.fault.Fault.{Fault}
 use Rattle.script_run.specs.declared.fault.Fault.TheVariants.{Chip, Image, Spent}
@@ -82,7 +83,7 @@ longer (Chip (Malformed p s)) first old new last before cause after = cause
 longer (Image e) first old new last before cause after = cause
 longer Spent first old new last before cause after = tt
 
--- Such a store keeps the records of unit 0 on the chip and in memory.
+-- Such a store keeps the records of unit 0 on the chip and in memory. It programs no log sector and no commit sector.
 abbrev pub unit_keeping : Keeping UnitStore
 unit_keeping = record {
   checks = says sector_in;
@@ -91,7 +92,7 @@ unit_keeping = record {
   suits = Suits;
   clean = λ store p s. ⊥;
   counter = λ store. store.counter;
-  does = λ e. Unit {0};
+  does = IsPlainEvent;
   cause = FaultCause;
   each = each_stands;
   still = stays_still;

@@ -1,7 +1,11 @@
 pub mod Pages
 pub mod Values
 pub mod Rewritten
+pub mod Bare
 pub mod OnChip
+pub mod Unlogged
 pub mod Keeps
 pub mod First
 pub mod Steps
+pub mod Loads
+pub mod Opens

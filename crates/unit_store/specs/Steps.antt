@@ -3,6 +3,7 @@ use Rattle.std.specs.Prelude.{ℕ, ◌≡◌, Bool, [], ◌∷◌, ◌++◌}
 use Rattle.chip_trait.specs.Story.{Story, pieces}
 use Rattle.chip_trait.specs.Lawful.{IsLawful}
 use Rattle.ipl_rules.specs.State.{State}
+use Rattle.unit_io.specs.Plain.{ArePlain}
 use Rattle.ipl_model.specs.declared.command.Command.{Command}
 use Rattle.ipl_model.specs.declared.command.Command.TheVariants as command
 use Rattle.ipl_model.specs.declared.reply.Reply.{Reply}
@@ -29,7 +30,8 @@ IsPlain command.Syntax = Unit {0}
 abbrev pub Answers : ℕ → MemoryStore → MemoryStore → Command → Reply → Type 0
 Answers units old new c reply = (state : State) → Fits old state → ((step (limits_of units) state c).1 ≡ reply ∷ []) × Fits new (step (limits_of units) state c).0
 
--- the events say nothing, and are lawful after any lawful events
+-- the events say nothing, program no log sector and no commit sector, and are lawful after any lawful events
 pub record IsWork (done : Bool) (added : Story) : Type 0 where
   pub silent : pieces added ≡ []
+  pub plain : ArePlain added
   pub lawful : (base : Story) → IsLawful base → IsLawful (added ++ base)

@@ -3,11 +3,15 @@
 #![tactic(auto)]
 
 mod first;
+mod laws;
+mod loading;
 mod moves;
+mod opening;
 mod pages;
 mod store;
 #[cfg(test)]
 mod tests;
 mod writing;
 
+pub use laws::unlogged_laws;
 pub use store::UnitStore;

@@ -8,6 +8,7 @@ ghost use Rattle.ipl_meaning.specs.Rests.{now, EachStands, StoryRests};
 ghost use Rattle.unit_io.specs.Leads.{IsSteady, Leads, IsStopped};
 ghost use Rattle.unit_io.specs.Spots.{Programs, IsPieceSpot};
 ghost use Rattle.unit_io.specs.Charts.{HasPage};
+ghost use Rattle.unit_io.specs.Plain.{AddsPlain};
 ghost use Rattle.unit_store.specs.Pages.{HasPages, IsBaseSpotBelow, IsFew, page_slots};
 ghost use Rattle.unit_store.specs.Values.{seen_in};
 
@@ -19,10 +20,10 @@ use sector_format::Head;
 use unit_io::program_page;
 
 /// The pages of a unit.
-const PAGES: u32 = 15;
+pub(crate) const PAGES: u32 = 15;
 
 /// The slots of a page.
-const SLOTS: u32 = 64;
+pub(crate) const SLOTS: u32 = 64;
 
 /// A page (0 to 14) as a commit would leave it.
 fn page_of(memory: &MemoryStore, page: u32) -> PageMap
@@ -58,6 +59,7 @@ fn write_page<C: Chip>(
         h result (C.told chip.new) }
     ensures fits { IsPage (page_slots (seen_in memory.now) page) }
     ensures few { IfOk result (λ n. n ≤ 16) }
+    ensures plain { AddsPlain (C.told chip.old) (C.told chip.new) }
     ensures places { (C.told chip.new).places ≡ (C.told chip.old).places }
     ensures counts { Counts (C.told chip.old) (C.told chip.new) }
     ensures cause { IfErr result (λ fault. IsStopped fault (C.told chip.old) (C.told chip.new)) }
@@ -81,6 +83,7 @@ pub(crate) fn write_pages<C: Chip>(
         × HasPages place head.now.unit head.now.generation (page_slots (seen_in memory.now)) pieces 15 (now h) (now then))
         h result (C.told chip.new) }
     ensures few { IfOk result IsFew }
+    ensures plain { AddsPlain (C.told chip.old) (C.told chip.new) }
     ensures places { (C.told chip.new).places ≡ (C.told chip.old).places }
     ensures counts { Counts (C.told chip.old) (C.told chip.new) }
     ensures cause { IfErr result (λ fault. IsStopped fault (C.told chip.old) (C.told chip.new)) }

@@ -1,5 +1,5 @@
 //! The store.
-ghost use Rattle.std.specs.Prelude.{◌≡◌, ◌<◌, ◌≤◌, ◌+◌, ℕ, length, slice_index, IfOk, IfErr, IsErrOf, IsTrue, ◌↔◌, true, false};
+ghost use Rattle.std.specs.Prelude.{◌≡◌, ◌<◌, ◌≤◌, ◌+◌, ◌^◌, ℕ, length, slice_index, IfOk, IfErr, OnOk, IsErrOf, IsTrue, ◌↔◌, true, false};
 ghost use Rattle.chip_trait.specs.Told.{Told, History, Counts};
 ghost use Rattle.ipl_rules.specs.State.{State, Map};
 ghost use Rattle.ipl_meaning.specs.Tables.{IsFree};
@@ -7,12 +7,14 @@ ghost use Rattle.ipl_meaning.specs.Rests.{EachStandsEither};
 ghost use Rattle.unit_directory.specs.Free.{free_count};
 ghost use Rattle.script_run.specs.Keeping.{LAST_NUMBER};
 ghost use Rattle.unit_io.specs.Leads.{Leads};
+ghost use Rattle.unit_io.specs.Reads.{OfContents};
 
 use crate::first::first_directory;
 use crate::moves::{move_home, return_place, take_place};
+use crate::opening::{find_out, tables};
 use crate::writing::write_unit;
 use chip_trait::Chip;
-use ipl_base::{Counter, Geometry, OutOfMemory, Refusal, Value};
+use ipl_base::{Counter, Geometry, ImageFault, OpenFault, OutOfMemory, Refusal, Value};
 use ipl_model::{Command, Reply};
 use memory_store::{MemoryStore, NAMES};
 use script_run::{Fault, Store};
@@ -50,6 +52,70 @@ impl UnitStore {
             memory,
             directory,
             counter: Counter::at(u64::from(units) + 2),
+            units,
+        })
+    }
+}
+
+impl UnitStore {
+    ghost use Rattle.ipl_base.specs.Places.{IsGeometry};
+    ghost use Rattle.restart.specs.Looks.{OnlyReads};
+    ghost use Rattle.unit_store.specs.Keeps.{Suits};
+    ghost use Rattle.unit_store.specs.Opens.{opening_fault, TellsOpening, OpenCause, IsSound, HoldsMap, KeepsFound};
+    ghost use Rattle.std.specs.Prelude.{◌≢◌, Some};
+    ghost use Rattle.chip_trait.specs.Story.{Contents};
+    ghost use Rattle.chip_trait.specs.Told.{Rose};
+    ghost use Rattle.ipl_base.specs.declared.fault.OpenFault.TheVariants as OpenFault;
+    ghost use Rattle.ipl_meaning.specs.Chart.{chart_of};
+    ghost use Rattle.opening_rules.specs.Faults.{greatest_found};
+
+    /// Opens a chip: the store has the records of unit 0 that the chip holds, and no open session. Memory is taken before the
+    /// first read, and nothing is written.
+    ///
+    /// Fails with the first fault of the chip, in the order that docs/RECOVERY.md tells; then with that of the first base page
+    /// of unit 0 that reads badly; or with `Chip(ReadFault)` where a read of the chip failed.
+    pub fn open<C: Chip>(alloc: Global, chip: &mut C) -> Result<UnitStore, OpenFault>
+        // It fails exactly with the first fault of the chip's contents, unless a read failed or memory is wanting.
+        ensures fault { OfContents (C.told chip.old) (λ x. TellsOpening (opening_fault x (C.told chip.old).places) result) }
+        ensures cause { IfErr result (λ fault. OpenCause fault (C.told chip.old) (C.told chip.new)) }
+        ensures opens { (x : Contents) (m : Map) → (C.told chip.old).contents ≡ Some x → IsSound (C.told chip.old).places x m
+            → IfErr result (λ fault. fault ≢ OpenFault.OutOfMemory → Rose (C.told chip.old).read_faults (C.told chip.new).read_faults) }
+
+        // Else the store has the records of the map for which the contents stand, and keeps them where the story rests. The
+        // next number is the one after the greatest found.
+        ensures map { IfOk result (λ store. OfContents (C.told chip.old) (λ x. HoldsMap (C.told chip.old).places x store.memory)) }
+        ensures keeps { IfOk result (λ store. KeepsFound (C.told chip.old) store (C.told chip.new)) }
+        ensures number { IfOk result (λ store. OfContents (C.told chip.old) (λ x.
+            store.counter ≡ greatest_found (chart_of x) (C.told chip.old).places + 1)) }
+
+        // Whether the chip tells its contents or not, the store is made for it, and numbers are left.
+        ensures suits { IfOk result (λ store. Suits store (C.told chip.old).places) }
+        ensures left { IfOk result (λ store. store.counter ≤ 2 ^ 63) }
+        ensures size { OnOk result (IsGeometry (C.told chip.old).places) }
+
+        // It only reads.
+        ensures reads { OnlyReads (C.told chip.old) (C.told chip.new) }
+    {
+        let Some(geometry) = Geometry::of(chip.units()) else {
+            return Err(OpenFault::Image(ImageFault::Geometry));
+        };
+        // Memory is taken before the first read.
+        let Ok((mut scratch, mut directory, mut memory)) = tables(alloc, geometry) else {
+            return Err(OpenFault::OutOfMemory);
+        };
+        let mut counter = Counter::at(0);
+        find_out(
+            chip,
+            &mut scratch,
+            &mut directory,
+            &mut counter,
+            &mut memory,
+        )?;
+        let units = geometry.units();
+        Ok(UnitStore {
+            memory,
+            directory,
+            counter,
             units,
         })
     }

@@ -13,6 +13,7 @@ ghost use Rattle.ipl_meaning.specs.Mirrors.{Mirrors};
 ghost use Rattle.unit_io.specs.Leads.{IsSteady, Leads, IsStopped};
 ghost use Rattle.unit_io.specs.Spots.{Clears, Programs, IsSpot};
 ghost use Rattle.unit_io.specs.Charts.{Gains};
+ghost use Rattle.unit_io.specs.Plain.{AddsPlain};
 ghost use Rattle.unit_store.specs.Pages.{IsFew};
 ghost use Rattle.unit_store.specs.Rewritten.{IsRenamed, IsRewritten, IsUnitHead};
 ghost use Rattle.unit_store.specs.Values.{seen_in};
@@ -42,6 +43,7 @@ fn seal_unit<C: Chip>(
         (λ done then. StoryRests (C.told chip.old).places n then
         × (head : Sector) × IsUnitHead units pieces generation head × Gains place 0 head (now h) (now then))
         h result (C.told chip.new) }
+    ensures plain { AddsPlain (C.told chip.old) (C.told chip.new) }
     ensures places { (C.told chip.new).places ≡ (C.told chip.old).places }
     ensures counts { Counts (C.told chip.old) (C.told chip.new) }
     ensures cause { IfErr result (λ fault. IsStopped fault (C.told chip.old) (C.told chip.new)) }
@@ -82,6 +84,7 @@ pub(crate) fn write_unit<C: Chip>(
         (λ done then. StoryRests (C.told chip.old).places n then
         × IsRewritten (C.told chip.old).places (now then) it t place (generation + 1) n)
         h result (C.told chip.new) }
+    ensures plain { AddsPlain (C.told chip.old) (C.told chip.new) }
     ensures places { (C.told chip.new).places ≡ (C.told chip.old).places }
     ensures counts { Counts (C.told chip.old) (C.told chip.new) }
     ensures cause { IfErr result (λ fault. IsStopped fault (C.told chip.old) (C.told chip.new)) }

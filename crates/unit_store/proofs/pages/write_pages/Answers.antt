@@ -1,6 +1,7 @@
 use Rattle.std.proofs.Common.{◌≡◌, ◌<◌, ◌≤◌, ℕ, replicate, Ok, Err, subst, arith, refl, ◌∙◌}
 use Rattle.std.proofs.lemmas.List.{length-set}
 use Rattle.std.proofs.lemmas.Result.{err_from_is_err_and}
+use Rattle.unit_io.proofs.PlainLemmas.{plain_none, plain_then}
 use Rattle.unit_store.specs.Pages.{page_slots}
 use Rattle.unit_store.specs.Values.{seen_in}
 use Rattle.unit_store.proofs.PagesLemmas.{few_more, few_none}
@@ -10,6 +11,7 @@ use Rattle.unit_store.proofs.pages.write_pages.Goals as goal
 pub loop-page-init : goal.loop-page-init
 loop-page-init g c = record {
   keeps = λ m h steady ready. filed_none _ c.args.place c.args.head.now.unit c.args.head.now.generation (page_slots (seen_in c.args.memory.now)) m h (replicate 15 0) (g.C.Chip.told c.args.chip.now) steady ready;
+  plain = plain_none (g.C.Chip.told c.args.chip.now);
   places = refl;
   counts = record { reads = omega arith; writes = omega arith; beside = refl };
   few = few_none 15;
@@ -26,6 +28,7 @@ loop-page-preserved g c =
           c.in_ok-count.count (g.C.Chip.told c.write_page.new.chip) (omega (arith, low, so_far.long)) so_far.few small says.fits (so_far.keeps m h steady ready)
           (subst (λ (q : ℕ). PageSays q c.args.place c.args.head.now.unit c.args.head.now.generation c.loop-page.page (page_slots (seen_in c.args.memory.now) c.loop-page.page) (g.C.Chip.told c.loop-page.chip) (Ok c.in_ok-count.count) (g.C.Chip.told c.write_page.new.chip))
           so_far.places says.keeps);
+      plain = plain_then (g.C.Chip.told c.args.chip.now) (g.C.Chip.told c.loop-page.chip) (g.C.Chip.told c.write_page.new.chip) so_far.plain says.plain;
       places = says.places ∙ so_far.places;
       counts = record {
         reads = omega (arith, so_far.counts.reads, says.counts.reads);
@@ -53,3 +56,9 @@ returns-clause-keeps g c = λ m h steady rests bare clean.
     filed_all _ c.args.place c.args.head.now.unit c.args.head.now.generation (page_slots (seen_in c.args.memory.now)) m h c.loop-page.pieces (g.C.Chip.told c.loop-page.chip)
     (subst (λ (k : ℕ). Filed (g.C.Chip.told c.args.chip.now).places c.args.place c.args.head.now.unit c.args.head.now.generation (page_slots (seen_in c.args.memory.now)) m h k c.loop-page.pieces (g.C.Chip.told c.loop-page.chip)) done
     (c.loop-page.invariant.keeps m h steady (record { rests = rests; bare = bare; clean = clean })))
+
+pub returns-in_err-count-clause-plain : goal.returns-in_err-count-clause-plain
+returns-in_err-count-clause-plain g c = plain_then (g.C.Chip.told c.args.chip.now) (g.C.Chip.told c.loop-page.chip) (g.C.Chip.told c.write_page.new.chip) c.loop-page.invariant.plain c.in_err-count.ensures.plain
+
+pub returns-clause-plain : goal.returns-clause-plain
+returns-clause-plain g c = c.loop-page.invariant.plain

@@ -1,5 +1,6 @@
 use Rattle.std.proofs.lemmas.Result.{err_from_is_err_and}
 use Rattle.std.proofs.Common.{◌∙◌, ℕ, Ok, Err, subst}
+use Rattle.unit_io.proofs.PlainLemmas.{plain_then}
 use Rattle.unit_store.specs.Values.{seen_in}
 use Rattle.unit_store.proofs.FilingLemmas.{erase_failed, pages_failed, unit_leads, PagesSay, SealSays}
 use Rattle.ipl_meaning.proofs.MirrorLemmas.{free_places_are_idle}
@@ -28,3 +29,11 @@ returns-clause-writes g c = λ m n it t h steady rests mirrors says free newer r
     c.in_ok-begin_unit.ensures.places c.in_ok-pieces.ensures.keeps)
     (subst (λ (q : ℕ). SealSays q m n it t h c.args.place c.args.generation (seen_in c.args.memory.now) c.args.units c.in_ok-pieces.pieces (g.C.Chip.told c.write_pages.new.chip) c.seal_unit.result (g.C.Chip.told c.seal_unit.new.chip))
     (c.in_ok-pieces.ensures.places ∙ c.in_ok-begin_unit.ensures.places) c.seal_unit.ensures.seals)
+
+pub returns-in_err-pieces-clause-plain : goal.returns-in_err-pieces-clause-plain
+returns-in_err-pieces-clause-plain g c = plain_then (g.C.Chip.told c.args.chip.now) (g.C.Chip.told c.begin_unit.new.chip) (g.C.Chip.told c.write_pages.new.chip) c.begin_unit.ensures.plain c.write_pages.ensures.plain
+
+pub returns-clause-plain : goal.returns-clause-plain
+returns-clause-plain g c =
+    plain_then (g.C.Chip.told c.args.chip.now) (g.C.Chip.told c.write_pages.new.chip) (g.C.Chip.told c.seal_unit.new.chip)
+    (plain_then (g.C.Chip.told c.args.chip.now) (g.C.Chip.told c.begin_unit.new.chip) (g.C.Chip.told c.write_pages.new.chip) c.begin_unit.ensures.plain c.write_pages.ensures.plain) c.seal_unit.ensures.plain

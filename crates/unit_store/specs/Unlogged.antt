@@ -1,0 +1,34 @@
+-- A chip on which nobody wrote a log, whatever a power cut leaves of it.
+use Rattle.std.specs.Prelude.{ℕ, ◌<◌, ◌≤◌, [], List}
+use Rattle.chip_trait.specs.Chart.{says}
+use Rattle.chip_trait.specs.Image.{IsNamedValue, IsNoChanceImage}
+use Rattle.chip_trait.specs.Moment.{AtEachMoment}
+use Rattle.chip_trait.specs.Story.{Story, Contents}
+use Rattle.chip_trait.specs.Told.{History, adds_all}
+use Rattle.ipl_format.specs.Sector.{sector_in}
+use Rattle.ipl_meaning.specs.Rests.{now}
+use Rattle.unit_io.specs.Plain.{IsPlain, ArePlain}
+use Rattle.restart.specs.Events.{format_events}
+use Rattle.unit_store.specs.Bare.{HasNoLog}
+
+-- no sector of the chip held a log sector or a commit sector at the last barrier (or the start), or after one of the later
+-- events
+abbrev pub IsUnlogged : ℕ → History → Type 0
+IsUnlogged places h = (p s : ℕ) (bytes : List ℕ) → p < places → s < 256 → IsNamedValue h.start h.story p s bytes → IsPlain bytes
+
+-- so it has no log
+abbrev pub UnloggedHasNoLog : Type 0
+UnloggedHasNoLog = (places : ℕ) (h : History) → IsUnlogged places h → HasNoLog places (now h)
+
+-- and what a power cut leaves of it is such a chip again, with a story that begins there
+abbrev pub ImagesAreUnlogged : Type 0
+ImagesAreUnlogged = (places : ℕ) (h : History) (x : Contents) → IsUnlogged places h → IsNoChanceImage (says sector_in) h.start h.story x
+    → IsUnlogged places (record { start = x; story = [] })
+
+-- it stays so at each moment of events that program no log sector and no commit sector
+abbrev pub PlainEventsKeepUnlogged : Type 0
+PlainEventsKeepUnlogged = (places : ℕ) (h : History) (added : Story) → IsUnlogged places h → ArePlain added → AtEachMoment (λ e. IsUnlogged places (adds_all e h)) added
+
+-- and a format makes it so, whatever the chip held
+abbrev pub FormatsAreUnlogged : Type 0
+FormatsAreUnlogged = (places : ℕ) (h : History) → 5 ≤ places → places ≤ 1028 → IsUnlogged places (adds_all (format_events places) h)
