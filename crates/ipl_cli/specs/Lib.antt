@@ -1,5 +1,5 @@
-pub mod Words
 pub mod Top
+pub mod Runs
 pub mod Failing
 pub mod MemDesk
 pub mod RealDesk

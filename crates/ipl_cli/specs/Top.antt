@@ -1,161 +1,304 @@
--- The program as a whole: its ends, what it says, and what it leaves on the chip.
-use Rattle.std.specs.Prelude.{◌≡◌, ◌⊎◌, ℕ, ◌==◌, ◌+◌, ◌-◌, Bool, true, false, List, [], ◌++◌, codes, Option, Some, Result, Ok, Err, length, ◌≤◌, if◌then◌else◌}
+-- The program as a whole: how it ends, what it says, and what it leaves on the chip.
+use Rattle.std.specs.Prelude.{◌≡◌, ◌≢◌, ◌⊎◌, ◌<◌, ◌≤◌, ℕ, ◌+◌, ◌-◌, ◌^◌, min, Bool, true, false, List, [], ◌∷◌, ◌++◌, codes, length, Option, Some, None, Result, Ok, Err}
+use Rattle.std.specs.Option.{option_map}
 use Rattle.std.specs.FinMap.{empty}
+use Rattle.chip_trait.specs.declared.event.Event.TheVariants.{Said}
 use Rattle.chip_trait.specs.Chart.{says}
 use Rattle.chip_trait.specs.Story.{Story, Contents, pieces, said}
 use Rattle.chip_trait.specs.Moment.{AtEachMoment, Leaves}
 use Rattle.chip_trait.specs.Lawful.{IsLawful}
 use Rattle.chip_trait.specs.Told.{History, Told, Grew, IsPrefix, Rose, adds_all}
 use Rattle.ipl_base.specs.Places.{IsGeometry}
-use Rattle.ipl_rules.specs.State.{State, at_rest}
+use Rattle.ipl_base.specs.declared.fault.ChipFault.TheVariants.{ReadFault, Stopped, Damaged, Malformed}
+use Rattle.ipl_base.specs.declared.fault.FormatFault.{FormatFault}
+use Rattle.ipl_base.specs.declared.fault.FormatFault.TheVariants as format
+use Rattle.ipl_base.specs.declared.fault.ImageFault.{ImageFault}
+use Rattle.ipl_base.specs.declared.fault.ImageFault.TheVariants as image
+use Rattle.ipl_rules.specs.State.{State, Map, at_rest}
 use Rattle.ipl_model.specs.Grammar.{commands_of}
 use Rattle.ipl_model.specs.Run.{joined, lines, IsNear}
 use Rattle.ipl_format.specs.Sector.{sector_in}
 use Rattle.ipl_meaning.specs.Chart.{chart_of}
 use Rattle.ipl_meaning.specs.Stands.{Stands}
-use Rattle.ipl_meaning.specs.Rests.{StoryRests}
+use Rattle.ipl_meaning.specs.Rests.{now, StoryRests}
+use Rattle.unit_io.specs.Reads.{OfContents}
+use Rattle.unit_io.specs.Plain.{ArePlain}
+use Rattle.opening_rules.specs.Faults.{greatest_found}
 use Rattle.script_run.specs.Onward.{Unrisen}
 use Rattle.script_run.specs.Run.{SaysLines}
 use Rattle.restart.specs.Events.{format_events}
-use Rattle.unit_store.specs.declared.store.UnitStore.{UnitStore}
-use Rattle.unit_store.specs.Keeps.{KeepsUnit, Suits, limits_of}
-use Rattle.ipl_cli.specs.declared.end.End.{End}
-use Rattle.ipl_cli.specs.declared.end.End.TheVariants.{Words, Geometry, OutOfMemory, ChipWrite, Script, Output, TooLong}
+use Rattle.restart.specs.Looks.{only_reads}
+use Rattle.unit_store.specs.Bare.{HasNoLog}
+use Rattle.unit_store.specs.Keeps.{limits_of}
+use Rattle.unit_store.specs.Opens.{opening_fault, IsSound}
+use Rattle.command_line.specs.declared.asked.Request.{Request}
+use Rattle.command_line.specs.declared.asked.Request.TheVariants.{Format, Run}
+use Rattle.program_end.specs.Ends.{status_of, note_of}
+use Rattle.program_end.specs.declared.end.End.{End}
+use Rattle.program_end.specs.declared.end.End.TheVariants.{Words, Chip, OutOfMemory, Script, Output, TooLong}
 
-abbrev pub status_of : End → ℕ
-status_of Words = 2
-status_of ChipWrite = 3
-status_of Geometry = 4
-status_of OutOfMemory = 5
-status_of Script = 6
-status_of Output = 7
-status_of TooLong = 8
+-- what the words ask, where they are valid
+abbrev pub Asked : Type 0
+Asked = Option Request
 
-abbrev pub note_of : End → List ℕ
-note_of Words = codes "ipl: bad command line\n"
-note_of ChipWrite = codes "ipl: chip write failed\n"
-note_of Geometry = codes "ipl: geometry\n"
-note_of OutOfMemory = codes "ipl: out of memory\n"
-note_of Script = codes "ipl: script failed\n"
-note_of Output = codes "ipl: output failed\n"
-note_of TooLong = codes "ipl: script too long\n"
+-- how the program ends: its script was run to its end, or its chip was formatted; or it ends before
+abbrev pub Ending : Type 0
+Ending = Result (Unit {0}) End
 
--- the line that is noted at a status, none at 0
-abbrev pub note_at : ℕ → List ℕ
-note_at status =
-    if status == 2 then note_of Words
-    else if status == 3 then note_of ChipWrite
-    else if status == 4 then note_of Geometry
-    else if status == 5 then note_of OutOfMemory
-    else if status == 6 then note_of Script
-    else if status == 7 then note_of Output
-    else if status == 8 then note_of TooLong
-    else []
+-- the status
+abbrev pub status_at : Ending → ℕ
+status_at (Ok u) = 0
+status_at (Err end) = status_of end
 
--- when each end may come, of words that ask for a run or don't
-abbrev pub EndCause : {A : Type 0} → Bool → Told → Told → Result A End → Type 0
-EndCause asked old new (Ok a) = (asked ≡ true) × IsGeometry old.places
-EndCause asked old new (Err Words) = asked ≡ false
-EndCause asked old new (Err ChipWrite) = (asked ≡ true) × Rose old.write_faults new.write_faults
-EndCause asked old new (Err Geometry) = (asked ≡ true) × ¬ IsGeometry old.places
-EndCause asked old new (Err OutOfMemory) = asked ≡ true
-EndCause asked old new (Err Script) = (asked ≡ true) × Rose old.beside.script_faults new.beside.script_faults
-EndCause asked old new (Err Output) = (asked ≡ true) × Rose old.beside.say_faults new.beside.say_faults
-EndCause asked old new (Err TooLong) = (asked ≡ true) × Grew old.beside.script_bytes 4294967295 new.beside.script_bytes
+-- the line that is noted, none at 0
+abbrev pub note_at : Ending → List ℕ
+note_at (Ok u) = []
+note_at (Err end) = note_of end
 
--- none of the counts rose that a run of a script may raise
-pub record IsCalm (old new : Told) : Type 0 where
-  pub writes : ¬ Rose old.write_faults new.write_faults
-  pub script : ¬ Rose old.beside.script_faults new.beside.script_faults
-  pub says : ¬ Rose old.beside.say_faults new.beside.say_faults
+-- ---- causes
 
--- the lines that answer a script on so many places, from no record and no open session
-abbrev pub answers : ℕ → List ℕ → List (List ℕ)
-answers places script = lines (limits_of (places - 4)) (at_rest empty) (commands_of script)
+-- where the chip tells what it holds, this is the first thing that is wrong with that
+abbrev pub IsAtFault : Told → ImageFault → Type 0
+IsAtFault old e = OfContents old (λ x. opening_fault x old.places ≡ Some e)
+
+-- when a fault of the chip ends a run that opens it
+abbrev pub OpenedCause : ImageFault → Told → Told → Type 0
+OpenedCause image.Geometry old new = IsAtFault old image.Geometry
+OpenedCause image.NotFormatted old new = IsAtFault old image.NotFormatted
+OpenedCause (image.Missing u) old new = IsAtFault old (image.Missing u)
+OpenedCause (image.Chip ReadFault) old new = Rose old.read_faults new.read_faults
+OpenedCause (image.Chip Stopped) old new = Rose old.write_faults new.write_faults
+OpenedCause (image.Chip (Damaged p s stored computed)) old new = (stored ≢ computed) × IsAtFault old (image.Chip (Damaged p s stored computed))
+OpenedCause (image.Chip (Malformed p s)) old new = IsAtFault old (image.Chip (Malformed p s))
+OpenedCause image.Spent old new = IsAtFault old image.Spent
+OpenedCause (image.NoSpare n) old new = IsAtFault old (image.NoSpare n)
+
+-- when a fault of the chip ends what formats it
+abbrev pub FormattedCause : ImageFault → Told → Told → Type 0
+FormattedCause image.Geometry old new = ¬ IsGeometry old.places
+FormattedCause image.NotFormatted old new = ⊥
+FormattedCause (image.Missing u) old new = ⊥
+FormattedCause (image.Chip ReadFault) old new = ⊥
+FormattedCause (image.Chip Stopped) old new = Rose old.write_faults new.write_faults
+FormattedCause (image.Chip (Damaged p s stored computed)) old new = ⊥
+FormattedCause (image.Chip (Malformed p s)) old new = ⊥
+FormattedCause image.Spent old new = ⊥
+FormattedCause (image.NoSpare n) old new = ⊥
+
+-- when a fault of the chip ends what was asked
+abbrev pub ChipCause : Request → ImageFault → Told → Told → Type 0
+ChipCause Format e old new = FormattedCause e old new
+ChipCause (Run true) e old new = FormattedCause e old new
+ChipCause (Run false) e old new = OpenedCause e old new
+
+-- so many bytes of the script were read; where the script is told it has so many
+pub record IsTooLong (old new : Told) : Type 0 where
+  pub grew : Grew old.beside.script_bytes 4294967295 new.beside.script_bytes
+  pub told : (source : List ℕ) → old.beside.left ≡ Some source → 4294967295 ≤ length source
+
+-- when what was asked ends before its end
+abbrev pub RequestCause : Request → End → Told → Told → Type 0
+RequestCause request Words old new = ⊥
+RequestCause request (Chip e) old new = ChipCause request e old new
+RequestCause request OutOfMemory old new = Unit {0}
+RequestCause Format Script old new = ⊥
+RequestCause (Run formats) Script old new = Rose old.beside.script_faults new.beside.script_faults
+RequestCause request Output old new = Rose old.beside.say_faults new.beside.say_faults
+RequestCause Format TooLong old new = ⊥
+RequestCause (Run formats) TooLong old new = IsTooLong old new
+
+-- when the program ends so
+abbrev pub EndCause : Asked → Ending → Told → Told → Type 0
+EndCause None (Ok u) old new = ⊥
+EndCause None (Err end) old new = (end ≡ Words) ⊎ (end ≡ OutOfMemory)
+EndCause (Some request) (Ok u) old new = Unit {0}
+EndCause (Some request) (Err end) old new = RequestCause request end old new
+
+-- ---- the headline
+
+-- the lines that answer a script on so many places, from these records and no open session
+abbrev pub answers : ℕ → Map → List ℕ → List (List ℕ)
+answers places m script = lines (limits_of (places - 4)) (at_rest m) (commands_of script)
 
 -- this is so of the model's state after the commands of which the bytes have the whole replies, or after one more
-abbrev pub IsAbout : (State → Type 0) → ℕ → List ℕ → List ℕ → Type 0
-IsAbout Q places script bytes = IsNear Q (limits_of (places - 4)) (at_rest empty) (commands_of script) bytes
+abbrev pub IsAbout : (State → Type 0) → ℕ → Map → List ℕ → List ℕ → Type 0
+IsAbout Q places m script bytes = IsNear Q (limits_of (places - 4)) (at_rest m) (commands_of script) bytes
 
 -- the contents stand for the records of such a state
-abbrev pub IsFound : ℕ → List ℕ → List ℕ → Contents → Type 0
-IsFound places script bytes x = IsAbout (λ s. Stands places (chart_of x) s.map) places script bytes
+abbrev pub IsFound : ℕ → Map → List ℕ → List ℕ → Contents → Type 0
+IsFound places m script bytes x = IsAbout (λ s. Stands places (chart_of x) s.map) places m script bytes
 
--- What a run of a script leaves, after these first events on a chip with this history. Whatever moment the power is cut at,
--- within a chip operation too, the chip stands for the records after the commands whose replies were said, or after one more.
--- What is said is a beginning of the model's text, line by line. No sector is programmed twice between erases of its place.
--- Where no write failed, the story rests on such records at the end. Where all is done, the whole text is said.
-pub record Runs (places : ℕ) (script : List ℕ) (h : History) (first : Story) (old new : Told) (done : Bool) : Type 0 where
+-- What a run of a script leaves, from these records on, after these first events on a chip with this history. Whatever moment
+-- the power is cut at, within a chip operation too, the chip stands for the records after the commands whose replies were
+-- said, or after one more. What is said is a beginning of the model's text, line by line. No sector is programmed twice
+-- between erases of its place. No log sector and no commit sector is programmed. Where no write failed, the story rests on such records at the end, and there is no log, so that
+-- the next run may begin there. Where all is done, the whole text is said.
+pub record Runs (places : ℕ) (m : Map) (script : List ℕ) (h : History) (first : Story) (old new : Told) (done : Bool) : Type 0 where
   pub added : Story
   pub history : new.history ≡ Some (adds_all added (adds_all first h))
-  pub each_moment : AtEachMoment (λ e. Leaves (says sector_in) (IsFound places script (said e)) (adds_all first h) e) added
-  pub replies : SaysLines (answers places script) (pieces added)
-  pub is_prefix : IsPrefix (said added) (joined (answers places script))
+  pub each_moment : AtEachMoment (λ e. Leaves (says sector_in) (IsFound places m script (said e)) (adds_all first h) e) added
+  pub replies : SaysLines (answers places m script) (pieces added)
+  pub is_prefix : IsPrefix (said added) (joined (answers places m script))
   pub lawful : (base : Story) → IsLawful base → IsLawful (added ++ (first ++ base))
-  pub rests : Unrisen old new → IsAbout (λ s. StoryRests places s.map (adds_all added (adds_all first h))) places script (said added)
+  pub plain : ArePlain added
+  pub rests : Unrisen old new → IsAbout (λ s. StoryRests places s.map (adds_all added (adds_all first h))) places m script (said added)
+  pub bare : Unrisen old new → HasNoLog places (now (adds_all added (adds_all first h)))
   pub read : List ℕ
   pub unread : List ℕ
   pub script_is : script ≡ read ++ unread
   pub left_is : new.beside.left ≡ Some unread
-  pub all : done ≡ true → (pieces added ≡ answers places script) × (said added ≡ joined (answers places script)) × (unread ≡ [])
+  pub all : done ≡ true → (pieces added ≡ answers places m script) × (said added ≡ joined (answers places m script)) × (unread ≡ [])
+
+-- over a settled chip that tells its history, and a script that is told
+abbrev pub OverTold : (ℕ → List ℕ → History → Type 0) → Told → Type 0
+OverTold P old = (h : History) (script : List ℕ) → old.settled ≡ true → old.history ≡ Some h → old.beside.left ≡ Some script → P old.places script h
+
+-- The chip was opened, and the script was run: from the records on which its story rests, and there is no log. All events are
+-- in this, those of the opening too.
+abbrev pub RunsOpened : Told → Told → Bool → Type 0
+RunsOpened old new done = OverTold (λ places script h. (m : Map) → StoryRests places m h → HasNoLog places (now h) → Runs places m script h [] old new done) old
+
+-- the chip was formatted, and the script was run from no records on
+abbrev pub RunsFormatted : Told → Told → Bool → Type 0
+RunsFormatted old new done = OverTold (λ places script h. Runs places empty script h (format_events places) old new done) old
 
 -- What a format leaves that was stopped: an earlier part of its events, or all. Nothing was said, and nothing read of the script.
-pub record StopsEarly (places : ℕ) (script : List ℕ) (h : History) (new : Told) : Type 0 where
+pub record StopsEarly (places : ℕ) (h : History) (old new : Told) : Type 0 where
   pub later : Story
   pub added : Story
   pub part : later ++ added ≡ format_events places
   pub history : new.history ≡ Some (adds_all added h)
   pub silent : pieces added ≡ []
   pub lawful : (base : Story) → IsLawful base → IsLawful (added ++ base)
-  pub left_is : new.beside.left ≡ Some script
+  pub left_is : new.beside.left ≡ old.beside.left
 
--- over a settled chip that tells its history, and a script that is told
-abbrev pub OverTold : (ℕ → List ℕ → History → Type 0) → Told → Type 0
-OverTold P old = (h : History) (script : List ℕ) → old.settled ≡ true → old.history ≡ Some h → old.beside.left ≡ Some script → P old.places script h
-
--- the format was done, and the script was run
-abbrev pub RunsFormatted : Told → Told → Bool → Type 0
-RunsFormatted old new done = OverTold (λ places script h. Runs places script h (format_events places) old new done) old
+-- a format was stopped, over a chip that tells its history
+abbrev pub IsStopped : Told → Told → Type 0
+IsStopped old new = (h : History) → old.history ≡ Some h → StopsEarly old.places h old new
 
 -- a write failed in the run, or before it in the format
 abbrev pub RunsOrStops : Told → Told → Type 0
-RunsOrStops old new = OverTold (λ places script h. Runs places script h (format_events places) old new false ⊎ StopsEarly places script h new) old
+RunsOrStops old new = OverTold (λ places script h. Runs places empty script h (format_events places) old new false ⊎ StopsEarly places h old new) old
 
--- what each end leaves
-abbrev pub EndLeaves : Told → Told → Result (Unit {0}) End → Type 0
-EndLeaves old new (Ok u) = RunsFormatted old new true
-EndLeaves old new (Err Words) = new ≡ old
-EndLeaves old new (Err ChipWrite) = RunsOrStops old new
-EndLeaves old new (Err Geometry) = new ≡ old
-EndLeaves old new (Err OutOfMemory) = new ≡ old
-EndLeaves old new (Err Script) = RunsFormatted old new false
-EndLeaves old new (Err Output) = RunsFormatted old new false
-EndLeaves old new (Err TooLong) = RunsFormatted old new false
+-- ---- a format
 
--- what is left where the script isn't begun
-abbrev pub StartLeaves : Told → Told → End → Type 0
-StartLeaves old new Words = new ≡ old
-StartLeaves old new ChipWrite = OverTold (λ places script h. StopsEarly places script h new) old
-StartLeaves old new Geometry = new ≡ old
-StartLeaves old new OutOfMemory = new ≡ old
-StartLeaves old new Script = ⊥
-StartLeaves old new Output = ⊥
-StartLeaves old new TooLong = ⊥
+-- what a format says
+abbrev pub ok_line : List ℕ
+ok_line = codes "ok\n"
 
--- The chip is formatted, and the store keeps no record on it.
-pub record Starts (old : Told) (store : UnitStore) (new : Told) : Type 0 where
-  pub fits : IsGeometry old.places
-  pub suits : Suits store new.places
-  pub counter : store.counter ≡ old.places - 4 + 2
-  pub lawful : (h : History) → old.history ≡ Some h → (base : Story) → IsLawful base → IsLawful (format_events old.places ++ base)
-  pub history : (h : History) → old.history ≡ Some h → new.history ≡ Some (adds_all (format_events old.places) h)
-  pub keeps : (h : History) → old.history ≡ Some h → old.settled ≡ true → KeepsUnit (limits_of (old.places - 4)) store new (at_rest empty)
+-- What a format leaves of a chip with this history: no record, whatever the power is cut at from then on. It said its line, or
+-- a beginning of it, or nothing, and read nothing of the script.
+pub record IsLaidOut (places : ℕ) (h : History) (old new : Told) (done : Bool) : Type 0 where
+  pub added : Story
+  pub says : (added ≡ []) ⊎ ((part : List ℕ) × IsPrefix part ok_line × (added ≡ Said part ∷ []))
+  pub history : new.history ≡ Some (adds_all added (adds_all (format_events places) h))
+  pub rests : StoryRests places empty (adds_all added (adds_all (format_events places) h))
+  pub bare : HasNoLog places (now (adds_all added (adds_all (format_events places) h)))
+  pub lawful : (base : Story) → IsLawful base → IsLawful (added ++ (format_events places ++ base))
+  pub left_is : new.beside.left ≡ old.beside.left
+  pub all : done ≡ true → added ≡ Said ok_line ∷ []
+
+-- over a chip that tells its history
+abbrev pub LaysOut : Told → Told → Bool → Type 0
+LaysOut old new done = (h : History) → old.history ≡ Some h → IsLaidOut old.places h old new done
+
+-- the end that a failed format is
+abbrev pub format_end : FormatFault → End
+format_end format.Geometry = Chip image.Geometry
+format_end format.Stopped = Chip (image.Chip Stopped)
+
+-- ---- what is left
 
 -- nothing but the noted bytes, which are these
 abbrev pub but_noted : Told → Option (List ℕ) → Told
 but_noted t noted = record t { beside = record t.beside { noted = noted } }
 
--- a source that is told is too long only where it has so many bytes
-abbrev pub IsLong : Told → Result (Unit {0}) End → Type 0
-IsLong old (Err TooLong) = (source : List ℕ) → old.beside.left ≡ Some source → 4294967295 ≤ length source
-IsLong old result = Unit {0}
+-- nothing was done but noted
+abbrev pub IsUntouched : Told → Told → Type 0
+IsUntouched old new = new ≡ but_noted old new.beside.noted
+
+-- what a format leaves
+abbrev pub FormatLeaves : Ending → Told → Told → Type 0
+FormatLeaves (Ok u) old new = LaysOut old new true
+FormatLeaves (Err Words) old new = ⊥
+FormatLeaves (Err (Chip image.Geometry)) old new = IsUntouched old new
+FormatLeaves (Err (Chip e)) old new = IsStopped old new
+FormatLeaves (Err OutOfMemory) old new = IsUntouched old new
+FormatLeaves (Err Script) old new = ⊥
+FormatLeaves (Err Output) old new = LaysOut old new false
+FormatLeaves (Err TooLong) old new = ⊥
+
+-- what a run leaves over a chip that is formatted first
+abbrev pub FormattedLeaves : Ending → Told → Told → Type 0
+FormattedLeaves (Ok u) old new = RunsFormatted old new true
+FormattedLeaves (Err Words) old new = ⊥
+FormattedLeaves (Err (Chip image.Geometry)) old new = IsUntouched old new
+FormattedLeaves (Err (Chip e)) old new = RunsOrStops old new
+FormattedLeaves (Err OutOfMemory) old new = IsUntouched old new
+FormattedLeaves (Err Script) old new = RunsFormatted old new false
+FormattedLeaves (Err Output) old new = RunsFormatted old new false
+FormattedLeaves (Err TooLong) old new = RunsFormatted old new false
+
+-- nothing was written: the chip was only read, nothing was said, and nothing read of the script
+pub record OnlyLooks (old new : Told) : Type 0 where
+  pub settled : new.settled ≡ old.settled
+  pub contents : new.contents ≡ old.contents
+  pub added : Story
+  pub reads : only_reads added ≡ true
+  pub history : new.history ≡ option_map (adds_all added) old.history
+  pub left_is : new.beside.left ≡ old.beside.left
+
+-- what a run leaves over a chip that is opened; only a failed write ends it with a fault of the chip once it is open
+abbrev pub OpenedLeaves : Ending → Told → Told → Type 0
+OpenedLeaves (Ok u) old new = RunsOpened old new true
+OpenedLeaves (Err Words) old new = ⊥
+OpenedLeaves (Err (Chip e)) old new = RunsOpened old new false × (e ≢ image.Chip Stopped → OnlyLooks old new)
+OpenedLeaves (Err OutOfMemory) old new = IsUntouched old new
+OpenedLeaves (Err Script) old new = RunsOpened old new false
+OpenedLeaves (Err Output) old new = RunsOpened old new false
+OpenedLeaves (Err TooLong) old new = RunsOpened old new false
+
+-- what the program leaves, wherever it ends
+abbrev pub EndLeaves : Asked → Ending → Told → Told → Type 0
+EndLeaves None ending old new = IsUntouched old new
+EndLeaves (Some Format) ending old new = FormatLeaves ending old new
+EndLeaves (Some (Run true)) ending old new = FormattedLeaves ending old new
+EndLeaves (Some (Run false)) ending old new = OpenedLeaves ending old new
+
+-- How the program ends: with its status and its line, which is noted alone; for a cause; and what it leaves.
+pub record Ends (asked : Asked) (old new : Told) (status : ℕ) : Type 0 where
+  pub ending : Ending
+  pub status_is : status ≡ status_at ending
+  pub noted : (bytes : List ℕ) → new.beside.noted ≡ Some bytes → (before : List ℕ) × (old.beside.noted ≡ Some before) × (bytes ≡ before ++ note_at ending)
+  pub cause : EndCause asked ending old new
+  pub leaves : EndLeaves asked ending old new
+
+-- ---- completeness
+
+-- none of the counts rose
+pub record IsCalm (old new : Told) : Type 0 where
+  pub reads : ¬ Rose old.read_faults new.read_faults
+  pub writes : ¬ Rose old.write_faults new.write_faults
+  pub script : ¬ Rose old.beside.script_faults new.beside.script_faults
+  pub says : ¬ Rose old.beside.say_faults new.beside.say_faults
+
+-- what a request asks of the chip: 5 to 1,028 places, and where it isn't formatted, contents that stand for a map, with no
+-- number of 2^63 or more
+abbrev pub Suffices : Request → Told → Type 0
+Suffices Format old = IsGeometry old.places
+Suffices (Run true) old = IsGeometry old.places
+Suffices (Run false) old = (x : Contents) × (m : Map) × (old.contents ≡ Some x) × IsSound old.places x m
+
+-- the script ends in time: by the count of its bytes, or as it is told
+abbrev pub EndsInTime : Told → Told → Type 0
+EndsInTime old new =
+    (new.beside.script_bytes < min (old.beside.script_bytes + 4294967295) (2 ^ 64 - 1))
+    ⊎ ((source : List ℕ) × (old.beside.left ≡ Some source) × (length source < 4294967295))
+
+-- the contents that the chip tells have a number of 2^63 or more
+abbrev pub IsSpent : Told → Type 0
+IsSpent old = OfContents old (λ x. 2 ^ 63 ≤ greatest_found (chart_of x) old.places)
+
+-- the contents that the chip tells stand for no map
+abbrev pub IsStray : Told → Type 0
+IsStray old = OfContents old (λ x. (m : Map) → ¬ Stands old.places (chart_of x) m)

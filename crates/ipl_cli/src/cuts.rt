@@ -1,19 +1,32 @@
-//! One session over a chip in memory, cut after each event and stopped at each call of the chip. What is left is read as a
-//! restart would read it: the header of the greatest serial, and its first page.
+//! Runs over a chip in memory, cut after each event and failing at each call of the chip. What is left is opened, and its
+//! records are listed.
 use crate::mem_desk::MemDesk;
-use crate::tests::{ONE_SESSION, desk_with, run, said};
+use crate::tests::{
+    ITS_REPLIES, ONE_SESSION, desk_with, ends, formatted, left_by, lists, run, said,
+};
 use chip_mem::{Choice, MemChip, Pick};
-use chip_trait::{Chip, Event};
-use ipl_base::ChipFault;
-use page_text::PageMap;
-use sector_format::Head;
+use chip_trait::Event;
 use std::alloc::Global;
 use std::process::Abort;
 use std::test::Fail;
-use unit_io::{read_head, read_page};
 
 /// How many events a format of five places has.
 const FORMAT: usize = 9;
+
+/// How many sectors are read where such a chip is opened: five headers, the rest of the status place, the log sectors of
+/// unit 0 and its header again.
+const OPENING: usize = 5 + 255 + 15 + 1;
+
+/// What a list says of no record, of the first run's and of the second's besides.
+const NO_RECORD: &[u8] = b"end\n";
+
+const ONE_RECORD: &[u8] = b"5 6869\nend\n";
+
+const TWO_RECORDS: &[u8] = b"5 6869\n6 61\nend\n";
+
+const READ_FAILED: &[u8] = b"ipl: chip read failed\n";
+
+const WRITE_FAILED: &[u8] = b"ipl: chip write failed\n";
 
 /// What a cut leaves of the open sectors.
 #[derive(Clone, Copy, Debug, PartialEq, Eq)]
@@ -21,34 +34,6 @@ enum Left {
     Old,
     Whole,
     Torn,
-}
-
-/// The place of unit 0, its header, and how many base sectors its first page has.
-fn home<C: Chip>(rt: &impl Abort, chip: &mut C) -> Result<Option<(u32, Head, u32)>, ChipFault> {
-    let mut chosen = None;
-    let mut greatest = 0;
-    for place in 0..5 {
-        assert!(rt; place < chip.units());
-        let mut bytes = [0; 512];
-        if let Some((head, _)) = read_head(chip, place, &mut bytes)? {
-            if head.kind == Head::DATA_HEADER && head.serial > greatest {
-                greatest = head.serial;
-                chosen = Some((place, head, u32::from(bytes[36])));
-            }
-        }
-    }
-    Ok(chosen)
-}
-
-/// Whether the chip has the record of the session.
-fn has_record<C: Chip>(rt: &impl Abort, chip: &mut C) -> Result<bool, Fail> {
-    let Some((place, head, pieces)) = home(rt, chip)? else {
-        return Err(Fail::from("no header"));
-    };
-    assert!(rt; place < chip.units() && pieces <= 16);
-    let mut page = PageMap::empty();
-    read_page(chip, place, &head, 0, pieces, &mut page)?;
-    Ok(page.get(5) == Some(b"hi".as_slice()))
 }
 
 /// What is left of a sector that an event of this number programs.
@@ -93,34 +78,91 @@ fn picks(alloc: Global, events: &[Event], at: usize, left: Left) -> Result<Vec<P
     Ok(picks)
 }
 
-/// The number of the event that programs the header of unit 0 anew.
-fn header_event(events: &[Event]) -> usize {
-    let mut found = 0;
-    for (number, event) in events.iter().enumerate() {
-        if number >= FORMAT && matches!(event, Event::Program(_, 0, _)) {
-            found = number;
+/// The chip that a cut leaves after the first `at` events of a desk.
+fn cut(alloc: Global, desk: &MemDesk, at: usize, left: Left) -> Result<MemChip, Fail> {
+    let picks = picks(alloc, desk.chip().events(), at, left)?;
+    Ok(desk.chip().image(alloc, at as u64, picks.as_slice())?)
+}
+
+/// Cuts a desk after each of its events, from the first `start` on, and opens what is left. It lists what there was before,
+/// and from `with_header` events on, the last of which programs the new header, what was committed.
+fn cut_each(
+    rt: &impl Abort,
+    alloc: Global,
+    desk: &MemDesk,
+    start: usize,
+    with_header: usize,
+    before: &[u8],
+    after: &[u8],
+) -> Result<(), Fail> {
+    for at in start..desk.chip().events().len() + 1 {
+        for left in [Left::Old, Left::Whole, Left::Torn] {
+            // Only while the new header is open does it depend on what is left of it.
+            let is_new = at > with_header || (at == with_header && left == Left::Whole);
+            let records = if is_new { after } else { before };
+            let image = cut(alloc, desk, at, left)?;
+            assert!(rt; lists(alloc, image, records)?, "{left:?} after {at} events");
         }
     }
-    found
+    Ok(())
 }
 
 #[test]
 fn cut_after_each_event(rt: HostRuntime) -> Result<(), Fail> {
     let alloc = rt.alloc();
-    let mut desk = desk_with(alloc, ONE_SESSION, &[], 60)?;
+    let mut desk = desk_with(alloc, ONE_SESSION, &[], 300)?;
     assert_eq!(rt; run(alloc, &mut desk)?, 0);
     let events = desk.chip().events();
-    let header = header_event(events);
-    assert!(rt; matches!(events.get(header), Some(Event::Program(2, 0, _))));
     assert_eq!(rt; events.len(), 23);
-    for at in FORMAT..24 {
-        for left in [Left::Old, Left::Whole, Left::Torn] {
-            let picks = picks(alloc, events, at, left)?;
-            let mut image = desk.chip().image(alloc, at as u64, picks.as_slice())?;
-            // Only while the new header is open does it depend on what is left of it.
-            let expected = at > header + 1 || (at == header + 1 && left == Left::Whole);
-            assert_eq!(rt; has_record(&rt, &mut image)?, expected);
-        }
+    assert!(rt; matches!(events.get(16), Some(Event::Program(2, 0, _))));
+    cut_each(&rt, alloc, &desk, FORMAT, 17, NO_RECORD, ONE_RECORD)
+}
+
+#[test]
+fn a_second_run_is_cut_after_each_event(rt: HostRuntime) -> Result<(), Fail> {
+    let alloc = rt.alloc();
+    let mut first = desk_with(alloc, ONE_SESSION, &[], 300)?;
+    assert_eq!(rt; run(alloc, &mut first)?, 0);
+    // The commit's last barrier is event 17, and its reply event 18.
+    assert!(rt; matches!(first.chip().events().get(18), Some(Event::Said(_))));
+    let image = cut(alloc, &first, 19, Left::Old)?;
+    let mut second = MemDesk::new(alloc, image, b"begin 0\nput 0 6 61\ncommit 0\n", &[])?;
+    assert_eq!(rt; ends(alloc, "run ram:5", &mut second)?, 0);
+    assert_eq!(rt;
+        said(alloc, &second)?.as_slice(),
+        b"ok\nok\nok\n".as_slice()
+    );
+    // After the opening, which reads a base sector too: two replies, the commit's six events and its reply.
+    let header = OPENING + 7;
+    let events = second.chip().events();
+    assert_eq!(rt; events.len(), header + 3);
+    assert!(rt; matches!(events.get(header), Some(Event::Program(0, 0, _))));
+    cut_each(&rt, alloc, &second, 0, header + 1, ONE_RECORD, TWO_RECORDS)
+}
+
+/// From which call to below which, what is noted and what is said where that call fails, and what the chip lists after it.
+type Outcome<'a> = (u64, u64, &'a [u8], &'a [u8], Option<&'a [u8]>);
+
+/// Runs a script over a formatted chip whose call of this number fails.
+fn fail(
+    rt: &impl Abort,
+    alloc: Global,
+    line: &str,
+    script: &[u8],
+    call: u64,
+    outcome: Outcome<'_>,
+) -> Result<(), Fail> {
+    let (_, _, noted, replies, listed) = outcome;
+    let mut chip = formatted(alloc, 5, 300)?;
+    chip.fail_at([call].to_vec(alloc)?);
+    let mut desk = MemDesk::new(alloc, chip, script, &[])?;
+    let status = if noted.is_empty() { 0 } else { 3 };
+    assert_eq!(rt; ends(alloc, line, &mut desk)?, status, "call {call}");
+    assert_eq!(rt; desk.noted(), noted, "call {call}");
+    assert_eq!(rt; said(alloc, &desk)?.as_slice(), replies, "call {call}");
+    if let Some(records) = listed {
+        let left = left_by(alloc, &desk)?;
+        assert!(rt; lists(alloc, left, records)?, "call {call}");
     }
     Ok(())
 }
@@ -128,27 +170,46 @@ fn cut_after_each_event(rt: HostRuntime) -> Result<(), Fail> {
 #[test]
 fn each_call_of_the_chip_fails(rt: HostRuntime) -> Result<(), Fail> {
     let alloc = rt.alloc();
-    // Nine calls of the format, and six of the commit: erase, barrier, page, barrier, header, barrier.
-    for call in 0..15 {
-        let mut chip = MemChip::new(alloc, 5, 60)?;
-        chip.fail_at([call].to_vec(alloc)?);
-        let mut desk = MemDesk::new(alloc, chip, ONE_SESSION, &[])?;
-        assert_eq!(rt; run(alloc, &mut desk)?, 3);
-        assert_eq!(rt; desk.noted(), b"ipl: chip write failed\n".as_slice());
-        let replies = said(alloc, &desk)?;
-        if call < 9 {
-            assert_eq!(rt; replies.len(), 0);
-        } else {
-            assert_eq!(rt; replies.as_slice(), b"ok\nok\nvalue 6869\n".as_slice());
-            // With the last barrier the header stands already.
-            let mut held = desk.chip().image(alloc, 60, &[])?;
-            assert_eq!(rt; has_record(&rt, &mut held)?, call == 14);
+    // The format; of the commit an erase, a barrier, the page, a barrier and the header; its last barrier; none.
+    let begun = b"ok\nok\nvalue 6869\n".as_slice();
+    let cases = [
+        (0, 9, WRITE_FAILED, b"".as_slice(), None),
+        (9, 14, WRITE_FAILED, begun, Some(NO_RECORD)),
+        (14, 15, WRITE_FAILED, begun, Some(ONE_RECORD)),
+        (15, 16, b"", ITS_REPLIES, Some(ONE_RECORD)),
+    ];
+    for case in cases {
+        for call in case.0..case.1 {
+            fail(&rt, alloc, "run ram:5 --format", ONE_SESSION, call, case)?;
         }
     }
-    let mut chip = MemChip::new(alloc, 5, 60)?;
-    chip.fail_at([15].to_vec(alloc)?);
-    let mut desk = MemDesk::new(alloc, chip, ONE_SESSION, &[])?;
-    assert_eq!(rt; run(alloc, &mut desk)?, 0);
+    Ok(())
+}
+
+#[test]
+fn each_call_of_a_run_that_opens_fails(rt: HostRuntime) -> Result<(), Fail> {
+    let alloc = rt.alloc();
+    let script = b"list 0 9\nbegin 0\nput 0 5 6869\ncommit 0\n";
+    // The opening, and then the commit as above.
+    let end = OPENING as u64;
+    let begun = b"end\nok\nok\n".as_slice();
+    let cases = [
+        (0, end, READ_FAILED, b"".as_slice(), Some(NO_RECORD)),
+        (end, end + 5, WRITE_FAILED, begun, Some(NO_RECORD)),
+        (end + 5, end + 6, WRITE_FAILED, begun, Some(ONE_RECORD)),
+        (
+            end + 6,
+            end + 7,
+            b"",
+            b"end\nok\nok\nok\n",
+            Some(ONE_RECORD),
+        ),
+    ];
+    for case in cases {
+        for call in case.0..case.1 {
+            fail(&rt, alloc, "run ram:5", script, call, case)?;
+        }
+    }
     Ok(())
 }
 

@@ -2,9 +2,9 @@
 use crate::failing::FailingSay;
 use crate::mem_desk::MemDesk;
 use crate::top::top;
-use crate::words::{Choice, chip_choice};
 use chip_mem::MemChip;
 use chip_trait::Event;
+use restart::format;
 use std::alloc::Global;
 use std::test::Fail;
 
@@ -13,12 +13,15 @@ pub(crate) const ONE_SESSION: &[u8] =
     b"begin 0\nput 0 5 6869\nget 0 5\ncommit 0\nbegin 0\nget 0 5\nget 0 6\nabort 0";
 
 /// Its replies.
-const ITS_REPLIES: &[u8] = b"ok\nok\nvalue 6869\nok\nok\nvalue 6869\nnone\nok\n";
+pub(crate) const ITS_REPLIES: &[u8] = b"ok\nok\nvalue 6869\nok\nok\nvalue 6869\nnone\nok\n";
 
-fn words_of(alloc: Global, texts: &[&str]) -> Result<Vec<String>, Fail> {
+/// The words of a line.
+fn words_of(alloc: Global, line: &str) -> Result<Vec<String>, Fail> {
     let mut words = Vec::new(alloc);
-    for text in texts {
-        words.push(String::from_str(alloc, text)?)?;
+    for word in line.split(' ') {
+        if !word.is_empty() {
+            words.push(String::from_str(alloc, word)?)?;
+        }
     }
     Ok(words)
 }
@@ -33,10 +36,15 @@ pub(crate) fn desk_with(
     Ok(MemDesk::new(alloc, MemChip::new(alloc, 5, room)?, script, cuts)?)
 }
 
-/// The status that valid words end with.
-pub(crate) fn run(alloc: Global, desk: &mut MemDesk) -> Result<u8, Fail> {
-    let words = words_of(alloc, &["run", "ram:5", "--format"])?;
+/// The status that the words of a line end with.
+pub(crate) fn ends(alloc: Global, line: &str, desk: &mut MemDesk) -> Result<u8, Fail> {
+    let words = words_of(alloc, line)?;
     Ok(top(alloc, &words, desk))
+}
+
+/// The status of a run over a chip that is formatted first.
+pub(crate) fn run(alloc: Global, desk: &mut MemDesk) -> Result<u8, Fail> {
+    ends(alloc, "run ram:5 --format", desk)
 }
 
 /// All that was said, joined.
@@ -48,6 +56,28 @@ pub(crate) fn said(alloc: Global, desk: &MemDesk) -> Result<Vec<u8>, Fail> {
         }
     }
     Ok(out)
+}
+
+/// A chip that a format left, with room for so many events.
+pub(crate) fn formatted(alloc: Global, places: u32, room: u64) -> Result<MemChip, Fail> {
+    let mut chip = MemChip::new(alloc, places, room)?;
+    if format(&mut chip).is_err() {
+        return Err(Fail::from("no format"));
+    }
+    Ok(chip.image(alloc, u64::MAX, &[])?)
+}
+
+/// The chip as a desk leaves it, with nothing asked of it yet.
+pub(crate) fn left_by(alloc: Global, desk: &MemDesk) -> Result<MemChip, Fail> {
+    Ok(desk.chip().image(alloc, u64::MAX, &[])?)
+}
+
+/// Whether a chip opens, and a list of the names up to 9 says this.
+pub(crate) fn lists(alloc: Global, chip: MemChip, replies: &[u8]) -> Result<bool, Fail> {
+    let mut desk = MemDesk::new(alloc, chip, b"list 0 9\n", &[])?;
+    let status = ends(alloc, "run ram:5", &mut desk)?;
+    let lines = said(alloc, &desk)?;
+    Ok(status == 0 && desk.noted().is_empty() && lines.as_slice() == replies)
 }
 
 /// A put into a session that isn't open, with so many digits.
@@ -174,22 +204,73 @@ fn the_room_is_spent(rt: HostRuntime) -> Result<(), Fail> {
 }
 
 #[test]
-fn other_places_and_other_words(rt: HostRuntime) -> Result<(), Fail> {
+fn other_places_and_blank_chips(rt: HostRuntime) -> Result<(), Fail> {
     let alloc = rt.alloc();
-    for places in [4, 1029] {
-        let mut desk = MemDesk::new(alloc, MemChip::new(alloc, places, 1)?, b"begin 0\n", &[])?;
-        assert_eq!(rt; run(alloc, &mut desk)?, 4);
-        assert_eq!(rt; desk.noted(), b"ipl: geometry\n".as_slice());
-        assert_eq!(rt; desk.chip().events().len(), 0);
+    let cases: [(&str, u32, &[u8]); 5] = [
+        ("run ram:4 --format", 4, b"ipl: geometry\n"),
+        ("run ram:1029 --format", 1029, b"ipl: geometry\n"),
+        ("run ram:4", 4, b"ipl: geometry\n"),
+        ("format ram:4", 4, b"ipl: geometry\n"),
+        ("run ram:5", 5, b"ipl: not formatted\n"),
+    ];
+    for (line, places, noted) in cases {
+        let mut desk = MemDesk::new(alloc, MemChip::new(alloc, places, 9)?, b"begin 0\n", &[])?;
+        assert_eq!(rt; ends(alloc, line, &mut desk)?, 4, "{line}");
+        assert_eq!(rt; desk.noted(), noted, "{line}");
+        for event in desk.chip().events() {
+            assert!(rt; places == 5 && matches!(event, Event::Read(_, 0)), "{line}");
+        }
     }
-    let mut desk = desk_with(alloc, b"begin 0\n", &[], 1)?;
-    let words = words_of(alloc, &["walk"])?;
-    assert_eq!(rt; top(alloc, &words, &mut desk), 2);
-    assert_eq!(rt; desk.noted(), b"ipl: bad command line\n".as_slice());
-    assert_eq!(rt; desk.chip().events().len(), 0);
-    assert_eq!(rt; chip_choice(alloc, &words)?, Choice::Nothing);
-    let words = words_of(alloc, &["run", "ram:5", "--format"])?;
-    assert_eq!(rt; chip_choice(alloc, &words)?, Choice::Ram(5));
+    Ok(())
+}
+
+#[test]
+fn other_words_leave_the_script_and_the_chip(rt: HostRuntime) -> Result<(), Fail> {
+    let alloc = rt.alloc();
+    let lines = [
+        "",
+        "walk",
+        "ram:5",
+        "run",
+        "run ram:05",
+        "run ram:5 --format --format",
+        "run ram:5 ram:6",
+        "run ram:5 --frames 4",
+        "format ram:5 --format",
+        "run file:5:",
+        "--help",
+    ];
+    for line in lines {
+        let mut desk = desk_with(alloc, b"begin 0\n", &[], 60)?;
+        assert_eq!(rt; ends(alloc, line, &mut desk)?, 2, "{line}");
+        let noted = b"ipl: bad command line\n".as_slice();
+        assert_eq!(rt; desk.noted(), noted, "{line}");
+        assert_eq!(rt; desk.chip().events().len(), 0, "{line}");
+        // All of the script is still to be read.
+        assert_eq!(rt; run(alloc, &mut desk)?, 0, "{line}");
+        let replies = said(alloc, &desk)?;
+        assert_eq!(rt; replies.as_slice(), b"ok\n".as_slice(), "{line}");
+    }
+    Ok(())
+}
+
+#[test]
+fn a_format_and_two_runs_after_it(rt: HostRuntime) -> Result<(), Fail> {
+    let alloc = rt.alloc();
+    let mut desk = desk_with(alloc, b"begin 0\n", &[], 300)?;
+    assert_eq!(rt; ends(alloc, "format ram:5", &mut desk)?, 0);
+    assert_eq!(rt; desk.noted().len(), 0);
+    // Five erases, a barrier, two headers and a barrier, and then the line.
+    assert_eq!(rt; desk.chip().events().len(), 10);
+    assert!(rt; matches!(desk.chip().events().get(9), Some(Event::Said(_))));
+    assert_eq!(rt; said(alloc, &desk)?.as_slice(), b"ok\n".as_slice());
+    let script = b"begin 0\nput 0 5 6869\nget 0 5\ncommit 0\nlist 0 9";
+    let mut second = MemDesk::new(alloc, left_by(alloc, &desk)?, script, &[])?;
+    assert_eq!(rt; ends(alloc, "run ram:5", &mut second)?, 0);
+    assert_eq!(rt; second.noted().len(), 0);
+    let replies = b"ok\nok\nvalue 6869\nok\n5 6869\nend\n";
+    assert_eq!(rt; said(alloc, &second)?.as_slice(), replies.as_slice());
+    assert!(rt; lists(alloc, left_by(alloc, &second)?, b"5 6869\nend\n")?);
     Ok(())
 }
 
@@ -198,7 +279,7 @@ fn names_end_at_960_on_six_places_too(rt: HostRuntime) -> Result<(), Fail> {
     let alloc = rt.alloc();
     let script = b"begin 0\nput 0 959 aa\nput 0 960 bb\n";
     let mut desk = MemDesk::new(alloc, MemChip::new(alloc, 6, 60)?, script, &[])?;
-    assert_eq!(rt; run(alloc, &mut desk)?, 0);
+    assert_eq!(rt; ends(alloc, "run ram:6 --format", &mut desk)?, 0);
     assert_eq!(rt;
         said(alloc, &desk)?.as_slice(),
         b"ok\nok\nerr 3 badname\n".as_slice()

@@ -1,64 +1,62 @@
 //! The program, over a desk.
-ghost use Rattle.std.specs.Prelude.{◌≡◌, ◌<◌, ◌+◌, ◌-◌, ◌^◌, ◌⊎◌, ◌++◌, true, false, map, min, length, List, ℕ, Some, IfOk, IfErr};
+ghost use Rattle.std.specs.Prelude.{◌≡◌, ◌≢◌, ◌<◌, ◌≤◌, ◌⊎◌, ◌+◌, ◌++◌, ◌==◌, ◌^◌, true, false, map, List, ℕ, Some, None, IfOk, IfErr, OnOk};
 ghost use Rattle.std.specs.String.{string_bytes};
-ghost use Rattle.chip_trait.specs.Told.{Counts, Grew, Rose};
+ghost use Rattle.chip_trait.specs.Told.{History, Counts, Grew, Rose};
 ghost use Rattle.ipl_base.specs.Places.{IsGeometry};
 ghost use Rattle.script_run.specs.Onward.{Further};
-ghost use Rattle.ipl_cli.specs.Words.{is_run};
-ghost use Rattle.ipl_cli.specs.Top.{status_of, note_of, note_at, but_noted, EndCause, EndLeaves, StartLeaves, Starts, RunsFormatted, RunsOrStops, IsCalm, IsLong};
+ghost use Rattle.unit_store.specs.Keeps.{Suits};
+ghost use Rattle.command_line.specs.Choice.{requested};
+ghost use Rattle.command_line.specs.declared.asked.Request.TheVariants.{Format, Run};
+ghost use Rattle.ipl_cli.specs.Top.{status_at, note_at, but_noted, format_end, EndCause, RequestCause, FormatLeaves, FormattedLeaves, OpenedLeaves, EndLeaves, IsUntouched, RunsOpened, RunsFormatted, RunsOrStops, LaysOut, OnlyLooks, IsAtFault, IsCalm, Suffices, EndsInTime, IsSpent, IsStray, Ends};
+ghost use Rattle.ipl_cli.specs.Runs.{StartsFormatted, StartsOpened, RunCause, RunsOver};
 
-use crate::end::End;
-use crate::words::asks_run;
 use chip_trait::Desk;
-use ipl_base::{ChipFault, Geometry};
+use command_line::{Request, request};
+use ipl_base::{ChipFault, FormatFault, Geometry, ImageFault, OpenFault};
+use program_end::{End, NoteLine, status};
 use restart::format;
 use script_run::{Fault, Stop, run_script};
 use std::alloc::Global;
 use unit_store::UnitStore;
 
-/// The number with which an end ends the program.
-fn status(end: End) -> u8
-    ensures { result ≡ status_of end }
+/// What a format says.
+const OK_LINE: &[u8] = b"ok\n";
+
+/// The end that a failed format is.
+fn format_end(fault: FormatFault) -> End
+    ensures { result ≡ format_end fault }
 {
-    match end {
-        End::Words => 2,
-        End::ChipWrite => 3,
-        End::Geometry => 4,
-        End::OutOfMemory => 5,
-        End::Script => 6,
-        End::Output => 7,
-        End::TooLong => 8,
+    match fault {
+        FormatFault::Geometry => End::Chip(ImageFault::Geometry),
+        FormatFault::Stopped => End::Chip(ImageFault::Chip(ChipFault::Stopped)),
     }
 }
 
-/// The line that is noted.
-fn text(end: End) -> &'static [u8]
-    ensures { result.now ≡ note_of end }
+/// Formats the chip, and says so.
+fn format_chip<D: Desk>(desk: &mut D) -> Result<(), End>
+    ensures leaves { FormatLeaves result (D.told desk.old) (D.told desk.new) }
+    ensures cause { EndCause (Some Format) result (D.told desk.old) (D.told desk.new) }
+    ensures noted { (D.told desk.new).beside.noted ≡ (D.told desk.old).beside.noted }
 {
-    match end {
-        End::Words => b"ipl: bad command line\n",
-        End::ChipWrite => b"ipl: chip write failed\n",
-        End::Geometry => b"ipl: geometry\n",
-        End::OutOfMemory => b"ipl: out of memory\n",
-        End::Script => b"ipl: script failed\n",
-        End::Output => b"ipl: output failed\n",
-        End::TooLong => b"ipl: script too long\n",
+    match format(desk) {
+        Ok(()) => match desk.say(OK_LINE) {
+            Ok(()) => Ok(()),
+            Err(_) => Err(End::Output),
+        },
+        Err(fault) => Err(format_end(fault)),
     }
 }
 
-/// Formats the chip, where the words ask for a run, and makes the store of no record.
-fn start<D: Desk>(alloc: Global, words: &[String], desk: &mut D) -> Result<UnitStore, End>
-    ensures starts { IfOk result (λ store. Starts (D.told desk.old) store (D.told desk.new)) }
-    ensures leaves { IfErr result (λ end. StartLeaves (D.told desk.old) (D.told desk.new) end) }
-    ensures cause { EndCause (is_run (map string_bytes words.now)) (D.told desk.old) (D.told desk.new) result }
+/// Formats the chip, and makes the store of no record.
+fn start_formatted<D: Desk>(alloc: Global, desk: &mut D) -> Result<UnitStore, End>
+    ensures starts { IfOk result (λ store. StartsFormatted (D.told desk.old) store (D.told desk.new)) }
+    ensures leaves { IfErr result (λ end. FormattedLeaves (Err end) (D.told desk.old) (D.told desk.new)) }
+    ensures cause { IfErr result (λ end. RequestCause (Run true) end (D.told desk.old) (D.told desk.new)) }
     ensures places { (D.told desk.new).places ≡ (D.told desk.old).places }
     ensures counts { Counts (D.told desk.old) (D.told desk.new) }
 {
-    if !asks_run(words) {
-        return Err(End::Words);
-    }
     let Some(geometry) = Geometry::of(desk.units()) else {
-        return Err(End::Geometry);
+        return Err(End::Chip(ImageFault::Geometry));
     };
     // Memory is taken before the chip is touched.
     let Ok(store) = UnitStore::formatted(alloc, geometry) else {
@@ -66,72 +64,137 @@ fn start<D: Desk>(alloc: Global, words: &[String], desk: &mut D) -> Result<UnitS
     };
     match format(desk) {
         Ok(()) => Ok(store),
-        Err(_) => Err(End::ChipWrite),
+        Err(fault) => Err(format_end(fault)),
     }
 }
 
-/// Runs what the words ask for.
-fn run<D: Desk>(alloc: Global, words: &[String], desk: &mut D) -> Result<(), End>
-    ensures leaves { EndLeaves (D.told desk.old) (D.told desk.new) result }
-    ensures cause { EndCause (is_run (map string_bytes words.now)) (D.told desk.old) (D.told desk.new) result }
-    ensures long { IsLong (D.told desk.old) result }
+/// Opens the chip, and makes the store of what it holds.
+fn start_opened<D: Desk>(alloc: Global, desk: &mut D) -> Result<UnitStore, End>
+    ensures starts { IfOk result (λ store. StartsOpened (D.told desk.old) store (D.told desk.new)) }
+    ensures leaves { IfErr result (λ end. OpenedLeaves (Err end) (D.told desk.old) (D.told desk.new)) }
+    ensures cause { IfErr result (λ end. RequestCause (Run false) end (D.told desk.old) (D.told desk.new)) }
+    ensures places { (D.told desk.new).places ≡ (D.told desk.old).places }
+    ensures counts { Counts (D.told desk.old) (D.told desk.new) }
+{
+    match UnitStore::open(alloc, desk) {
+        Ok(store) => Ok(store),
+        Err(OpenFault::Image(fault)) => Err(End::Chip(fault)),
+        Err(OpenFault::OutOfMemory) => Err(End::OutOfMemory),
+    }
+}
+
+/// Runs the script over a store whose numbers last for it.
+fn run_over<D: Desk>(store: &mut UnitStore, desk: &mut D) -> Result<(), End>
+    requires suits { Suits store.old (D.told desk.old).places }
+    requires left { store.old.counter ≤ 2 ^ 63 }
+    ensures runs { RunsOver result store.old (D.told desk.old) store.new (D.told desk.new) }
+    ensures cause { IfErr result (λ end. RunCause end (D.told desk.old) (D.told desk.new)) }
     ensures further { Further (D.told desk.old) (D.told desk.new) }
 {
-    let mut store = start(alloc, words, desk)?;
-    match run_script(&mut store, desk) {
+    match run_script(store, desk) {
         Ok(()) => Ok(()),
         Err(Stop::Script) => Err(End::Script),
         Err(Stop::Output) => Err(End::Output),
         Err(Stop::TooLong) => Err(End::TooLong),
-        Err(Stop::Store(Fault::Chip(ChipFault::Stopped))) => Err(End::ChipWrite),
+        Err(Stop::Store(Fault::Chip(ChipFault::Stopped))) => {
+            Err(End::Chip(ImageFault::Chip(ChipFault::Stopped)))
+        }
         Err(Stop::Store(Fault::Spent)) => unreachable!("the numbers last for any script"),
         Err(Stop::Store(_)) => unreachable!("nothing is read from the chip"),
     }
 }
 
-/// Does what the words ask for, notes the text of a fault, and answers the status of the process.
-pub fn top<D: Desk>(alloc: Global, words: &[String], desk: &mut D) -> u8
-    ensures status { (result ≡ 0) ⊎ (result ≡ 2) ⊎ (result ≡ 3) ⊎ (result ≡ 4) ⊎ (result ≡ 5) ⊎ (result ≡ 6) ⊎ (result ≡ 7) ⊎ (result ≡ 8) }
-
-    // The headline. At 0 the whole script was run on a formatted chip, and at 6, 7 and 8 a part of it; at 3 too, or the format
-    // was stopped.
-    ensures done { result ≡ 0 → RunsFormatted (D.told desk.old) (D.told desk.new) true }
-    ensures runs { (result ≡ 6) ⊎ (result ≡ 7) ⊎ (result ≡ 8) → RunsFormatted (D.told desk.old) (D.told desk.new) false }
-    ensures stops { result ≡ 3 → RunsOrStops (D.told desk.old) (D.told desk.new) }
-
-    // At 2, 4 and 5 nothing was asked of the chip, said or read.
-    ensures early { (result ≡ 2) ⊎ (result ≡ 4) ⊎ (result ≡ 5) → D.told desk.new ≡ but_noted (D.told desk.old) (D.told desk.new).beside.noted }
-
-    // 0 and 2 come only for their words, 4 only where there are fewer than 5 places or more than 1,028, 3, 6 and 7 only where
-    // the count of such faults rose, and 8 only where so many bytes of the script were read.
-    ensures valid { result ≡ 0 → is_run (map string_bytes words.now) ≡ true }
-    ensures words { result ≡ 2 → is_run (map string_bytes words.now) ≡ false }
-    ensures write { result ≡ 3 → Rose (D.told desk.old).write_faults (D.told desk.new).write_faults }
-    ensures places { result ≡ 4 → ¬ IsGeometry (D.told desk.old).places }
-    ensures script { result ≡ 6 → Rose (D.told desk.old).beside.script_faults (D.told desk.new).beside.script_faults }
-    ensures output { result ≡ 7 → Rose (D.told desk.old).beside.say_faults (D.told desk.new).beside.say_faults }
-    ensures too_long { result ≡ 8 → Grew (D.told desk.old).beside.script_bytes 4294967295 (D.told desk.new).beside.script_bytes }
-
-    // Where the noted bytes are told, they are those before with the one line for the status.
-    ensures noted { (bytes : List ℕ) → (D.told desk.new).beside.noted ≡ Some bytes
-        → (before : List ℕ) × ((D.told desk.old).beside.noted ≡ Some before) × (bytes ≡ before ++ note_at result) }
-
-    // Words that don't ask for a run give 2.
-    ensures invalid { is_run (map string_bytes words.now) ≡ false → result ≡ 2 }
-
-    // Where no count rises and the script ends in time, by the count of its bytes or as it is told, the answer is 0, or 5.
-    ensures counted { is_run (map string_bytes words.now) ≡ true → IsGeometry (D.told desk.old).places → IsCalm (D.told desk.old) (D.told desk.new)
-        → (D.told desk.new).beside.script_bytes < min ((D.told desk.old).beside.script_bytes + 4294967295) (2 ^ 64 - 1)
-        → (result ≡ 0) ⊎ (result ≡ 5) }
-    ensures completes { (source : List ℕ) → (D.told desk.old).beside.left ≡ Some source → length source < 4294967295
-        → is_run (map string_bytes words.now) ≡ true → IsGeometry (D.told desk.old).places → IsCalm (D.told desk.old) (D.told desk.new)
-        → (result ≡ 0) ⊎ (result ≡ 5) }
+/// Runs the script over a chip that is formatted first.
+fn run_formatted<D: Desk>(alloc: Global, desk: &mut D) -> Result<(), End>
+    ensures leaves { FormattedLeaves result (D.told desk.old) (D.told desk.new) }
+    ensures cause { EndCause (Some (Run true)) result (D.told desk.old) (D.told desk.new) }
+    ensures noted { (D.told desk.new).beside.noted ≡ (D.told desk.old).beside.noted }
 {
-    match run(alloc, words, desk) {
+    let mut store = start_formatted(alloc, desk)?;
+    run_over(&mut store, desk)?;
+    Ok(())
+}
+
+/// Runs the script over a chip that is opened.
+fn run_opened<D: Desk>(alloc: Global, desk: &mut D) -> Result<(), End>
+    ensures leaves { OpenedLeaves result (D.told desk.old) (D.told desk.new) }
+    ensures cause { EndCause (Some (Run false)) result (D.told desk.old) (D.told desk.new) }
+    ensures noted { (D.told desk.new).beside.noted ≡ (D.told desk.old).beside.noted }
+{
+    let mut store = start_opened(alloc, desk)?;
+    run_over(&mut store, desk)?;
+    Ok(())
+}
+
+/// Does what the words ask for.
+fn run<D: Desk>(alloc: Global, words: &[String], desk: &mut D) -> Result<(), End>
+    ensures leaves { EndLeaves (requested (map string_bytes words.now)) result (D.told desk.old) (D.told desk.new) }
+    ensures cause { EndCause (requested (map string_bytes words.now)) result (D.told desk.old) (D.told desk.new) }
+    ensures noted { (D.told desk.new).beside.noted ≡ (D.told desk.old).beside.noted }
+{
+    let Ok(request) = request(alloc, words) else {
+        return Err(End::OutOfMemory);
+    };
+    match request {
+        None => Err(End::Words),
+        Some(Request::Format) => format_chip(desk),
+        Some(Request::Run { format: true }) => run_formatted(alloc, desk),
+        Some(Request::Run { format: false }) => run_opened(alloc, desk),
+    }
+}
+
+/// Notes the line of an end before the end, and answers the status of the process.
+fn finish<D: Desk>(ending: Result<(), End>, desk: &mut D) -> u8
+    ensures status { result ≡ status_at ending }
+    ensures only { D.told desk.new ≡ but_noted (D.told desk.old) (D.told desk.new).beside.noted }
+    ensures noted { (bytes : List ℕ) → (D.told desk.new).beside.noted ≡ Some bytes
+        → (before : List ℕ) × ((D.told desk.old).beside.noted ≡ Some before) × (bytes ≡ before ++ note_at ending) }
+{
+    match ending {
         Ok(()) => 0,
         Err(end) => {
-            desk.note(text(end));
+            desk.note(NoteLine::of(end).bytes());
             status(end)
         }
     }
+}
+
+/// Does what the words ask for, notes the text of a fault, and answers the status of the process.
+pub fn top<D: Desk>(alloc: Global, words: &[String], desk: &mut D) -> u8
+    // The program ends with a status and a line for it, each for its cause, and leaves what that end leaves.
+    ensures ends { Ends (requested (map string_bytes words.now)) (D.told desk.old) (D.told desk.new) result }
+
+    // The headline, over a chip that is opened: wherever the program ends. At 0 the whole script was run.
+    ensures opened { requested (map string_bytes words.now) ≡ Some (Run false) → RunsOpened (D.told desk.old) (D.told desk.new) (result == 0) }
+
+    // The same over a chip that is formatted first. At 6, 7 and 8 a part of the script was run; at 3 too, or the format was
+    // stopped.
+    ensures formatted { requested (map string_bytes words.now) ≡ Some (Run true) → result ≡ 0 → RunsFormatted (D.told desk.old) (D.told desk.new) true }
+    ensures part { requested (map string_bytes words.now) ≡ Some (Run true) → (result ≡ 6) ⊎ (result ≡ 7) ⊎ (result ≡ 8) → RunsFormatted (D.told desk.old) (D.told desk.new) false }
+    ensures stops { requested (map string_bytes words.now) ≡ Some (Run true) → result ≡ 3 → RunsOrStops (D.told desk.old) (D.told desk.new) }
+
+    // A format says its line at 0, and the chip has no record then, whatever moment the power is cut at.
+    ensures formats { requested (map string_bytes words.now) ≡ Some Format → result ≡ 0 → LaysOut (D.told desk.old) (D.told desk.new) true }
+
+    // At 2 and 5 nothing was asked of the chip, said or read; at 4 and 9 nothing but reads of the chip.
+    ensures early { (result ≡ 2) ⊎ (result ≡ 5) → IsUntouched (D.told desk.old) (D.told desk.new) }
+    ensures looks { (result ≡ 4) ⊎ (result ≡ 9) → OnlyLooks (D.told desk.old) (D.told desk.new) }
+
+    // Each status but 0 and 5 comes only for its cause.
+    ensures words { result ≡ 2 → requested (map string_bytes words.now) ≡ None }
+    ensures chip { result ≡ 3 → Rose (D.told desk.old).read_faults (D.told desk.new).read_faults ⊎ Rose (D.told desk.old).write_faults (D.told desk.new).write_faults }
+    ensures image { result ≡ 4 → ¬ IsGeometry (D.told desk.old).places ⊎ ((requested (map string_bytes words.now) ≡ Some (Run false)) × IsStray (D.told desk.old)) }
+    ensures script { result ≡ 6 → Rose (D.told desk.old).beside.script_faults (D.told desk.new).beside.script_faults }
+    ensures output { result ≡ 7 → Rose (D.told desk.old).beside.say_faults (D.told desk.new).beside.say_faults }
+    ensures too_long { result ≡ 8 → Grew (D.told desk.old).beside.script_bytes 4294967295 (D.told desk.new).beside.script_bytes }
+    ensures spent { result ≡ 9 → (requested (map string_bytes words.now) ≡ Some (Run false)) × IsSpent (D.told desk.old) }
+
+    // Words that aren't valid give 2, or 5. Where they are, the chip is such as they ask for, no count rises and the script ends
+    // in time, the answer is 0, or 5.
+    ensures invalid { requested (map string_bytes words.now) ≡ None → (result ≡ 2) ⊎ (result ≡ 5) }
+    ensures completes { (request : Request) → requested (map string_bytes words.now) ≡ Some request → Suffices request (D.told desk.old)
+        → IsCalm (D.told desk.old) (D.told desk.new) → EndsInTime (D.told desk.old) (D.told desk.new) → (result ≡ 0) ⊎ (result ≡ 5) }
+{
+    let ending = run(alloc, words, desk);
+    finish(ending, desk)
 }

@@ -1,11 +1,58 @@
-use Rattle.std.proofs.Common.{◌∙◌, sym}
-use Rattle.ipl_cli.proofs.EndLemmas.{formatted_noted, stopped_noted, status_runs, status_stops}
+use Rattle.std.proofs.Common.{map}
+use Rattle.std.specs.String.{string_bytes}
+use Rattle.command_line.specs.Choice.{requested}
+use Rattle.ipl_cli.proofs.TopLemmas.{ends, end_opened, end_formatted, end_part, end_stops, end_formats, end_early, end_looks, end_words, end_chip, end_image, end_script, end_output, end_long, end_spent, end_invalid, end_completes}
 use Rattle.ipl_cli.proofs.top.top.Goals as goal
 
-pub returns-in-Err-clause-runs : goal.returns-in-Err-clause-runs
-returns-in-Err-clause-runs g c = λ is.
-    formatted_noted (g.D.Chip.told c.args.desk.now) (g.D.Chip.told c.run.new.desk) (g.D.Chip.told c.note.new.self) _ _ c.note.ensures (status_runs (g.D.Chip.told c.args.desk.now) (g.D.Chip.told c.run.new.desk) c.in-Err.end c.in-Err.ensures.leaves (rw c.status.ensures at is))
+pub returns-clause-ends : goal.returns-clause-ends
+returns-clause-ends g c =
+    ends (requested (map string_bytes c.args.words.now)) c.run-ending.result (g.D.Chip.told c.args.desk.now) (g.D.Chip.told c.run-ending.new.desk) (g.D.Chip.told c.finish.new.desk) c.finish.result c.run-ending.ensures.cause c.run-ending.ensures.leaves c.run-ending.ensures.noted
+    c.finish.ensures.status c.finish.ensures.only c.finish.ensures.noted
 
-pub returns-in-Err-clause-stops : goal.returns-in-Err-clause-stops
-returns-in-Err-clause-stops g c = λ is.
-    stopped_noted (g.D.Chip.told c.args.desk.now) (g.D.Chip.told c.run.new.desk) (g.D.Chip.told c.note.new.self) _ c.note.ensures (status_stops (g.D.Chip.told c.args.desk.now) (g.D.Chip.told c.run.new.desk) c.in-Err.end c.in-Err.ensures.leaves (sym c.status.ensures ∙ is))
+pub returns-clause-opened : goal.returns-clause-opened
+returns-clause-opened g c = end_opened (requested (map string_bytes c.args.words.now)) (g.D.Chip.told c.args.desk.now) (g.D.Chip.told c.finish.new.desk) c.finish.result (returns-clause-ends g c)
+
+pub returns-clause-formatted : goal.returns-clause-formatted
+returns-clause-formatted g c = end_formatted (requested (map string_bytes c.args.words.now)) (g.D.Chip.told c.args.desk.now) (g.D.Chip.told c.finish.new.desk) c.finish.result (returns-clause-ends g c)
+
+pub returns-clause-part : goal.returns-clause-part
+returns-clause-part g c = end_part (requested (map string_bytes c.args.words.now)) (g.D.Chip.told c.args.desk.now) (g.D.Chip.told c.finish.new.desk) c.finish.result (returns-clause-ends g c)
+
+pub returns-clause-stops : goal.returns-clause-stops
+returns-clause-stops g c = end_stops (requested (map string_bytes c.args.words.now)) (g.D.Chip.told c.args.desk.now) (g.D.Chip.told c.finish.new.desk) c.finish.result (returns-clause-ends g c)
+
+pub returns-clause-formats : goal.returns-clause-formats
+returns-clause-formats g c = end_formats (requested (map string_bytes c.args.words.now)) (g.D.Chip.told c.args.desk.now) (g.D.Chip.told c.finish.new.desk) c.finish.result (returns-clause-ends g c)
+
+pub returns-clause-early : goal.returns-clause-early
+returns-clause-early g c = end_early (requested (map string_bytes c.args.words.now)) (g.D.Chip.told c.args.desk.now) (g.D.Chip.told c.finish.new.desk) c.finish.result (returns-clause-ends g c)
+
+pub returns-clause-looks : goal.returns-clause-looks
+returns-clause-looks g c = end_looks (requested (map string_bytes c.args.words.now)) (g.D.Chip.told c.args.desk.now) (g.D.Chip.told c.finish.new.desk) c.finish.result (returns-clause-ends g c)
+
+pub returns-clause-words : goal.returns-clause-words
+returns-clause-words g c = end_words (requested (map string_bytes c.args.words.now)) (g.D.Chip.told c.args.desk.now) (g.D.Chip.told c.finish.new.desk) c.finish.result (returns-clause-ends g c)
+
+pub returns-clause-chip : goal.returns-clause-chip
+returns-clause-chip g c = end_chip (requested (map string_bytes c.args.words.now)) (g.D.Chip.told c.args.desk.now) (g.D.Chip.told c.finish.new.desk) c.finish.result (returns-clause-ends g c)
+
+pub returns-clause-image : goal.returns-clause-image
+returns-clause-image g c = end_image (requested (map string_bytes c.args.words.now)) (g.D.Chip.told c.args.desk.now) (g.D.Chip.told c.finish.new.desk) c.finish.result (returns-clause-ends g c)
+
+pub returns-clause-script : goal.returns-clause-script
+returns-clause-script g c = end_script (requested (map string_bytes c.args.words.now)) (g.D.Chip.told c.args.desk.now) (g.D.Chip.told c.finish.new.desk) c.finish.result (returns-clause-ends g c)
+
+pub returns-clause-output : goal.returns-clause-output
+returns-clause-output g c = end_output (requested (map string_bytes c.args.words.now)) (g.D.Chip.told c.args.desk.now) (g.D.Chip.told c.finish.new.desk) c.finish.result (returns-clause-ends g c)
+
+pub returns-clause-too_long : goal.returns-clause-too_long
+returns-clause-too_long g c = end_long (requested (map string_bytes c.args.words.now)) (g.D.Chip.told c.args.desk.now) (g.D.Chip.told c.finish.new.desk) c.finish.result (returns-clause-ends g c)
+
+pub returns-clause-spent : goal.returns-clause-spent
+returns-clause-spent g c = end_spent (requested (map string_bytes c.args.words.now)) (g.D.Chip.told c.args.desk.now) (g.D.Chip.told c.finish.new.desk) c.finish.result (returns-clause-ends g c)
+
+pub returns-clause-invalid : goal.returns-clause-invalid
+returns-clause-invalid g c = end_invalid (requested (map string_bytes c.args.words.now)) (g.D.Chip.told c.args.desk.now) (g.D.Chip.told c.finish.new.desk) c.finish.result (returns-clause-ends g c)
+
+pub returns-clause-completes : goal.returns-clause-completes
+returns-clause-completes g c = end_completes (requested (map string_bytes c.args.words.now)) (g.D.Chip.told c.args.desk.now) (g.D.Chip.told c.finish.new.desk) c.finish.result (returns-clause-ends g c)

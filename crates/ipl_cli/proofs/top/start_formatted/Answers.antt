@@ -1,5 +1,6 @@
-use Rattle.ipl_cli.proofs.EndLemmas.{started, stopped_early}
-use Rattle.ipl_cli.proofs.top.start.Goals as goal
+use Rattle.ipl_cli.proofs.EndLemmas.{started}
+use Rattle.ipl_cli.proofs.TopLemmas.{failed_start}
+use Rattle.ipl_cli.proofs.top.start_formatted.Goals as goal
 
 pub returns-in-Ok-format-clause-starts : goal.returns-in-Ok-format-clause-starts
 returns-in-Ok-format-clause-starts g c =
@@ -7,4 +8,5 @@ returns-in-Ok-format-clause-starts g c =
     (λ h told. c.in-Ok-format.ensures.formats h told)
 
 pub returns-in-Err-clause-leaves : goal.returns-in-Err-clause-leaves
-returns-in-Err-clause-leaves g c = λ h script settled told left. stopped_early c.in-Err.field-0 (g.D.Chip.told c.args.desk.now) (g.D.Chip.told c.format.new.chip) h script c.format.ensures.counts left (c.in-Err.ensures.formats h told)
+returns-in-Err-clause-leaves g c =
+    rw c.format_end.ensures (failed_start (g.D.Chip.told c.args.desk.now) (g.D.Chip.told c.format.new.chip) c.format.ensures.counts c.in-Err.fault c.in-Err.ensures.unchanged (λ h told. c.in-Err.ensures.formats h told))

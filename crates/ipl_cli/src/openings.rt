@@ -1,0 +1,236 @@
+//! Chips that a format or a run left and that were changed after it, opened; and how much an opening reads.
+use crate::mem_desk::MemDesk;
+use crate::tests::{desk_with, ends, formatted, left_by, run, said};
+use chip_mem::MemChip;
+use chip_trait::{Chip, Event};
+use crc_sum::crc32_parts;
+use sector_format::{Head, encode};
+use std::alloc::Global;
+use std::process::Abort;
+use std::test::Fail;
+
+/// The header of unit 0 that a format of five places writes at place 0, and the status header that it writes at place 1.
+const DATA: Head = Head {
+    kind: Head::DATA_HEADER,
+    unit: 0,
+    generation: 1,
+    serial: 1,
+};
+
+const STATUS: Head = Head {
+    kind: Head::STATUS_HEADER,
+    generation: 2,
+    serial: 2,
+    ..DATA
+};
+
+/// A commit sector that counts, and one that doesn't.
+const COMMIT: Head = Head {
+    kind: Head::COMMIT,
+    ..STATUS
+};
+
+const DEAD_COMMIT: Head = Head {
+    generation: 9,
+    ..COMMIT
+};
+
+const OVERFLOW: Head = Head {
+    kind: Head::OVERFLOW_HEADER,
+    ..STATUS
+};
+
+/// Three log sectors that are live, and one that isn't.
+const FIFTH: Head = Head {
+    kind: Head::LOG,
+    serial: 5,
+    ..DATA
+};
+
+const SIXTH: Head = Head { serial: 6, ..FIFTH };
+
+const SEVENTH: Head = Head { serial: 7, ..FIFTH };
+
+const USED_UP: Head = Head {
+    generation: 1 << 63,
+    ..FIFTH
+};
+
+/// No sector is of this kind: it stands for one of zeros.
+const ZEROS: Head = Head { kind: 0, ..DATA };
+
+/// The payload of unit 0's first header, and that on a chip of two units.
+const FIRST: [u8; 20] = [0, 0, 0, 1, 0, 0, 0, 0, 0, 0, 0, 0, 0, 0, 0, 0, 0, 0, 0, 0];
+
+const FOREIGN: [u8; 20] = [0, 0, 0, 2, 0, 0, 0, 0, 0, 0, 0, 0, 0, 0, 0, 0, 0, 0, 0, 0];
+
+/// A log record that deletes the last name of unit 0, without its last byte.
+const TOO_SHORT: &[u8] = &[14, 2, 63, 0, 0, 0, 0, 0, 0, 0, 0];
+
+/// Puts a sector where it is no matter what stood there.
+fn put(rt: &impl Abort, chip: &mut MemChip, place: u32, sector: u32, head: Head, payload: &[u8]) {
+    let mut bytes = [0; 512];
+    if head.kind > 0 {
+        assert!(rt; payload.len() <= 480 && head.kind <= 6);
+        encode(&head, payload, &mut bytes);
+    }
+    assert!(rt; place < chip.units() && sector < 256);
+    chip.alter(place, sector, &bytes);
+}
+
+/// A formatted chip of five places into which these sectors were put.
+fn changed(
+    rt: &impl Abort,
+    alloc: Global,
+    sectors: &[(u32, u32, Head, &[u8])],
+) -> Result<MemChip, Fail> {
+    let mut chip = formatted(alloc, 5, 2000)?;
+    for (place, sector, head, payload) in sectors {
+        put(rt, &mut chip, *place, *sector, *head, payload);
+    }
+    Ok(chip)
+}
+
+/// The status that a fault of the chip ends with.
+fn status_of(fault: &str) -> u8 {
+    match fault {
+        "" => 0,
+        "numbers spent" => 9,
+        _ => 4,
+    }
+}
+
+/// Opens a chip: this fault is noted and nothing is said; or nothing is noted, and no record is listed.
+fn check(rt: &impl Abort, alloc: Global, chip: MemChip, fault: &str) -> Result<(), Fail> {
+    let mut desk = MemDesk::new(alloc, chip, b"list 0 9\n", &[])?;
+    let status = ends(alloc, "run ram:5", &mut desk)?;
+    assert_eq!(rt; status, status_of(fault), "{fault}");
+    let lines = said(alloc, &desk)?;
+    if fault.is_empty() {
+        assert_eq!(rt; desk.noted().len(), 0);
+        assert_eq!(rt; lines.as_slice(), b"end\n".as_slice());
+        return Ok(());
+    }
+    let line = format!(in alloc; "ipl: {fault}\n")?;
+    assert_eq!(rt; desk.noted(), line.as_bytes());
+    assert_eq!(rt; lines.len(), 0, "{fault}");
+    Ok(())
+}
+
+#[test]
+fn the_first_fault_is_noted(rt: HostRuntime) -> Result<(), Fail> {
+    let alloc = rt.alloc();
+    let cases: [(&[(u32, u32, Head, &[u8])], &str); 16] = [
+        (&[(0, 0, ZEROS, &[])], "missing unit 0"),
+        (&[(1, 0, ZEROS, &[])], "not formatted"),
+        (&[(0, 0, DATA, &FOREIGN)], "geometry"),
+        (&[(1, 0, STATUS, &FOREIGN[..4])], "geometry"),
+        (&[(0, 0, DATA, &FIRST[..3])], "malformed place 0 sector 0"),
+        (&[(0, 0, DATA, &FIRST[..19])], "malformed place 0 sector 0"),
+        (&[(1, 0, STATUS, &FIRST[..5])], "malformed place 1 sector 0"),
+        (&[(1, 1, COMMIT, &[0; 12])], "malformed place 1 sector 1"),
+        (&[(1, 255, COMMIT, &[])], "malformed place 1 sector 255"),
+        (&[(1, 1, DEAD_COMMIT, &[0; 12])], ""),
+        (
+            &[(0, 241, FIFTH, TOO_SHORT)],
+            "malformed place 0 sector 241",
+        ),
+        (
+            &[(0, 241, FIFTH, &[]), (0, 242, FIFTH, &[])],
+            "malformed place 0 sector 242",
+        ),
+        (
+            &[(0, 241, FIFTH, &[]), (0, 255, FIFTH, &[])],
+            "malformed place 0 sector 255",
+        ),
+        (
+            &[
+                (2, 0, OVERFLOW, &[]),
+                (2, 1, FIFTH, &[]),
+                (3, 0, OVERFLOW, &[]),
+                (3, 255, SIXTH, &[]),
+                (4, 0, OVERFLOW, &[]),
+                (4, 9, SEVENTH, &[]),
+            ],
+            "no spare 3",
+        ),
+        (&[(0, 241, USED_UP, &[])], "numbers spent"),
+        (&[(3, 0, DATA, &FIRST)], ""),
+    ];
+    for (sectors, fault) in cases {
+        let chip = changed(&rt, alloc, sectors)?;
+        check(&rt, alloc, chip, fault)?;
+    }
+    Ok(())
+}
+
+#[test]
+fn a_unit_has_sixteen_live_sectors_in_overflow_places(rt: HostRuntime) -> Result<(), Fail> {
+    let alloc = rt.alloc();
+    for (most, fault) in [(16, ""), (17, "malformed place 2 sector 17")] {
+        let mut chip = formatted(alloc, 5, 2000)?;
+        put(&rt, &mut chip, 2, 0, OVERFLOW, &[]);
+        for sector in 1..most + 1 {
+            let serial = u64::from(sector) + 9;
+            put(&rt, &mut chip, 2, sector, Head { serial, ..FIFTH }, &[]);
+        }
+        check(&rt, alloc, chip, fault)?;
+    }
+    Ok(())
+}
+
+/// A chip after one commit. Its record stands at place 2, sector 1.
+fn with_record(rt: &impl Abort, alloc: Global) -> Result<MemChip, Fail> {
+    let mut desk = desk_with(alloc, b"begin 0\nput 0 5 6869\ncommit 0\n", &[], 2000)?;
+    assert_eq!(rt; run(alloc, &mut desk)?, 0);
+    left_by(alloc, &desk)
+}
+
+#[test]
+fn a_base_sector_that_reads_badly_is_noted(rt: HostRuntime) -> Result<(), Fail> {
+    let alloc = rt.alloc();
+    let mut chip = with_record(&rt, alloc)?;
+    let mut bytes = [0; 512];
+    assert!(rt; 2 < chip.units());
+    assert!(rt; chip.read(2, 1, &mut bytes).is_ok());
+    bytes[40] ^= 1;
+    assert!(rt; 2 < chip.units());
+    chip.alter(2, 1, &bytes);
+    let stored = u32::from_be_bytes([bytes[28], bytes[29], bytes[30], bytes[31]]);
+    let computed = crc32_parts(&bytes[..28], &bytes[32..]);
+    let sums = format!(in alloc; "stored {stored:08x} computed {computed:08x}")?;
+    let fault = format!(in alloc; "damaged place 2 sector 1 {sums}")?;
+    check(&rt, alloc, chip, fault.as_str())?;
+    let mut chip = with_record(&rt, alloc)?;
+    assert!(rt; 2 < chip.units());
+    chip.alter(2, 1, &[0xff; 512]);
+    check(&rt, alloc, chip, "malformed place 2 sector 1")
+}
+
+/// How many sectors an opening reads, where it asks for nothing else.
+fn reads(rt: &impl Abort, alloc: Global, line: &str, chip: MemChip) -> Result<usize, Fail> {
+    let mut desk = MemDesk::new(alloc, chip, b"", &[])?;
+    assert_eq!(rt; ends(alloc, line, &mut desk)?, 0);
+    let events = desk.chip().events();
+    for event in events {
+        assert!(rt; matches!(event, Event::Read(_, _)));
+    }
+    Ok(events.len())
+}
+
+#[test]
+fn an_opening_reads_only_what_counts(rt: HostRuntime) -> Result<(), Fail> {
+    let alloc = rt.alloc();
+    // The headers, the rest of the status place, the log sectors of each unit, and the header of unit 0 again.
+    let small = formatted(alloc, 5, 2000)?;
+    assert_eq!(rt; reads(&rt, alloc, "run ram:5", small)?, 5 + 255 + 15 + 1);
+    let large = formatted(alloc, 257, 5000)?;
+    assert_eq!(rt;
+        reads(&rt, alloc, "run ram:257", large)?,
+        257 + 255 + 253 * 15 + 1
+    );
+    // And the one base sector.
+    let written = with_record(&rt, alloc)?;
+    assert_eq!(rt; reads(&rt, alloc, "run ram:5", written)?, 276 + 1);
+    Ok(())
+}
