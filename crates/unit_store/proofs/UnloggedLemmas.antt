@@ -3,15 +3,17 @@ use Rattle.std.proofs.Common.{◌≡◌, ◌<◌, ◌-◌, ◌&&◌, ℕ, Bool, 
 use Rattle.std.proofs.lemmas.Bool.{cases_Bool}
 use Rattle.chip_trait.specs.declared.event.Event.TheVariants.{Read, Program, Erase, Barrier, Said}
 use Rattle.chip_trait.specs.Story.{Story, Contents, blank, held}
+use Rattle.chip_trait.specs.Told.{History}
 use Rattle.chip_trait.proofs.ImageLemmas.{held_is_named}
 use Rattle.ipl_format.specs.Sector.{Sector, sector_in}
 use Rattle.ipl_format.proofs.SectorLemmas.{blank_says_nothing}
 use Rattle.ipl_meaning.specs.Formatted.{formatted, header_at, first_head, first_status}
 use Rattle.ipl_meaning.specs.Layout.{Entry}
 use Rattle.ipl_meaning.specs.Rests.{now}
+use Rattle.ipl_meaning.proofs.StoryLemmas.{closed_rests}
 use Rattle.unit_io.specs.Plain.{IsPlain, IsPlainSector, ArePlain}
 use Rattle.restart.proofs.FreshLemmas.{fresh_history}
-use Rattle.unit_store.specs.Unlogged.{IsUnlogged, UnloggedHasNoLog, ImagesAreUnlogged, PlainEventsKeepUnlogged, FormatsAreUnlogged}
+use Rattle.unit_store.specs.Unlogged.{IsUnlogged, UnloggedHasNoLog, ImagesAreUnlogged, ImagesMayBeOpened, PlainEventsKeepUnlogged, FormatsAreUnlogged}
 
 some_one : {X : Type 0} {a b : X} → Some a ≡ Some b → a ≡ b
 some_one e = cc
@@ -84,6 +86,11 @@ unlogged_has_no_log places h so it laid = record { logs = logs; commits = commit
           absurd ((plain it.status _ _ laid.chosen.within is.where_it_is.1 is.here).no_commit is.kind)
       | inr none ↦ none
     ]
+
+pub images_may_be_opened : ImagesMayBeOpened
+images_may_be_opened places m h x so image stands =
+    let then : History = record { start = x; story = [] } in
+    (closed_rests places m then (λ p s. refl) stands, unlogged_has_no_log places then (images_are_unlogged places h x so image))
 
 -- ---- a format
 

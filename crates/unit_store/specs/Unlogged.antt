@@ -6,7 +6,10 @@ use Rattle.chip_trait.specs.Moment.{AtEachMoment}
 use Rattle.chip_trait.specs.Story.{Story, Contents}
 use Rattle.chip_trait.specs.Told.{History, adds_all}
 use Rattle.ipl_format.specs.Sector.{sector_in}
-use Rattle.ipl_meaning.specs.Rests.{now}
+use Rattle.ipl_rules.specs.State.{Map}
+use Rattle.ipl_meaning.specs.Chart.{chart_of}
+use Rattle.ipl_meaning.specs.Stands.{Stands}
+use Rattle.ipl_meaning.specs.Rests.{now, StoryRests}
 use Rattle.unit_io.specs.Plain.{IsPlain, ArePlain}
 use Rattle.restart.specs.Events.{format_events}
 use Rattle.unit_store.specs.Bare.{HasNoLog}
@@ -24,6 +27,11 @@ UnloggedHasNoLog = (places : ℕ) (h : History) → IsUnlogged places h → HasN
 abbrev pub ImagesAreUnlogged : Type 0
 ImagesAreUnlogged = (places : ℕ) (h : History) (x : Contents) → IsUnlogged places h → IsNoChanceImage (says sector_in) h.start h.story x
     → IsUnlogged places (record { start = x; story = [] })
+
+-- and where that stands for records, a run may open it: its story rests on them, and it has no log
+abbrev pub ImagesMayBeOpened : Type 0
+ImagesMayBeOpened = (places : ℕ) (m : Map) (h : History) (x : Contents) → IsUnlogged places h → IsNoChanceImage (says sector_in) h.start h.story x → Stands places (chart_of x) m
+    → let then : History = record { start = x; story = [] } in StoryRests places m then × HasNoLog places (now then)
 
 -- it stays so at each moment of events that program no log sector and no commit sector
 abbrev pub PlainEventsKeepUnlogged : Type 0
