@@ -10,27 +10,27 @@ use Rattle.ipl_format.specs.Sector.{sector_in}
 use Rattle.ipl_format.proofs.SectorLemmas.{blank_says_nothing}
 use Rattle.ipl_meaning.specs.Rests.{now}
 use Rattle.ipl_meaning.specs.Steps.{SameBut}
-use Rattle.ipl_meaning.specs.Tables.{IsSpare}
-use Rattle.ipl_meaning.specs.AgreeingLaws.{SparesAreUntouched, SparesMayBeProgrammed, TidyAfterPrograms, TidyAfterMoves, TidyAfterBarriers, TidyAfterErases, ProgramsAgree, BarriersAgree, ReadsAgree, SaysAgree, ErasesAgree}
-use Rattle.ipl_meaning.proofs.IdleFollowLemmas.{spare_apart, tables_follow_idle_places}
+use Rattle.ipl_meaning.specs.Tables.{IsCountedClean}
+use Rattle.ipl_meaning.specs.AgreeingLaws.{CountedAreUntouched, CountedMayBeProgrammed, TidyAfterPrograms, TidyAfterMoves, TidyAfterBarriers, TidyAfterErases, ProgramsAgree, BarriersAgree, ReadsAgree, SaysAgree, ErasesAgree}
+use Rattle.ipl_meaning.proofs.IdleFollowLemmas.{counted_apart, tables_follow_idle_places}
 
-pub spares_are_untouched : SparesAreUntouched
-spares_are_untouched h t p s tidy spare = (clean_blank h.start h.story p s (tidy p s spare), clean_closed h.story p s (tidy p s spare))
+pub counted_are_untouched : CountedAreUntouched
+counted_are_untouched h t p s tidy counted_clean = (clean_blank h.start h.story p s (tidy p s counted_clean), clean_closed h.story p s (tidy p s counted_clean))
 
-pub spares_may_be_programmed : SparesMayBeProgrammed
-spares_may_be_programmed story t p s bytes tidy spare lawful = (tidy p s spare, lawful)
+pub counted_may_be_programmed : CountedMayBeProgrammed
+counted_may_be_programmed story t p s bytes tidy counted_clean lawful = (tidy p s counted_clean, lawful)
 
 pub tidy_after_programs : TidyAfterPrograms
-tidy_after_programs story t after p s bytes tidy shrink q n spare =
-    let (was, apart) = shrink q n spare in
+tidy_after_programs story t after p s bytes tidy shrink q n counted_clean =
+    let (was, apart) = shrink q n counted_clean in
     elim (cases_Bool (eqb p q && eqb s n)) [
       | inl here ↦ let both = and_parts _ _ here in absurd (apart (sym (eqb-true _ _ both.0)) (sym (eqb-true _ _ both.1)))
       | inr elsewhere ↦ rw elsewhere (tidy q n was)
     ]
 
 pub tidy_after_moves : TidyAfterMoves
-tidy_after_moves story t after p s from bytes tidy moves clean q n spare =
-    let (was, apart) = moves q n spare in
+tidy_after_moves story t after p s from bytes tidy moves clean q n counted_clean =
+    let (was, apart) = moves q n counted_clean in
     let fresh : age story q n ≡ Clean = elim was [ inl before ↦ tidy q n before | inr (at, above, small) ↦ rw at (clean n above small) ] in
     elim (cases_Bool (eqb p q && eqb s n)) [
       | inl here ↦ let both = and_parts _ _ here in absurd (apart (sym (eqb-true _ _ both.0)) (sym (eqb-true _ _ both.1)))
@@ -38,12 +38,12 @@ tidy_after_moves story t after p s from bytes tidy moves clean q n spare =
     ]
 
 pub tidy_after_barriers : TidyAfterBarriers
-tidy_after_barriers story t tidy q n spare = rw (tidy q n spare) refl
+tidy_after_barriers story t tidy q n counted_clean = rw (tidy q n counted_clean) refl
 
 pub tidy_after_erases : TidyAfterErases
-tidy_after_erases story t p tidy none q n spare = elim (cases_Bool (eqb p q)) [
-  | inl here ↦ let same : p ≡ q = eqb-true _ _ here in absurd (none n (rw (← same) at spare))
-  | inr elsewhere ↦ rw elsewhere (tidy q n spare)
+tidy_after_erases story t p tidy none q n counted_clean = elim (cases_Bool (eqb p q)) [
+  | inl here ↦ let same : p ≡ q = eqb-true _ _ here in absurd (none n (rw (← same) at counted_clean))
+  | inr elsewhere ↦ rw elsewhere (tidy q n counted_clean)
 ]
 
 pub programs_agree : ProgramsAgree
@@ -69,9 +69,9 @@ erased_there : (h : History) (p : ℕ) → now (adds (Erase p) h) p 0 ≡ None
 erased_there h p = rw (eq-eqb p p refl) blank_says_nothing
 
 pub erases_agree : ErasesAgree
-erases_agree places h it t p agrees idle not_shelf =
-    let none : (s : ℕ) → ¬ IsSpare t p s = λ s spare. spare_apart places (now h) it t p agrees.mirrors idle not_shelf p s spare refl in
+erases_agree places h it t p agrees idle not_overflow =
+    let none : (s : ℕ) → ¬ IsCountedClean t p s = λ s counted_clean. counted_apart places (now h) it t p agrees.mirrors idle not_overflow p s counted_clean refl in
     record {
-      mirrors = tables_follow_idle_places places (now h) it t p (now (adds (Erase p) h)) t.next agrees.mirrors idle not_shelf (erased_elsewhere h p) (erased_there h p) (omega arith);
+      mirrors = tables_follow_idle_places places (now h) it t p (now (adds (Erase p) h)) t.next agrees.mirrors idle not_overflow (erased_elsewhere h p) (erased_there h p) (omega arith);
       tidy = tidy_after_erases h.story t p agrees.tidy none;
     }

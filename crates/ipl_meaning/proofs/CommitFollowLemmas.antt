@@ -10,14 +10,14 @@ use Rattle.ipl_meaning.specs.Layout.{Layout, IsLiveIn}
 use Rattle.ipl_meaning.specs.Steps.{with_committed, MayCommit}
 use Rattle.ipl_meaning.specs.Found.{MentionsBelow}
 use Rattle.ipl_meaning.specs.Tables.{Tables}
-use Rattle.ipl_meaning.specs.Mirrors.{AreApart, MirrorsShelf, MirrorsStatus, MirrorsNumbers, Mirrors}
+use Rattle.ipl_meaning.specs.Mirrors.{AreApart, MirrorsOverflow, MirrorsStatus, MirrorsNumbers, Mirrors}
 use Rattle.ipl_meaning.specs.TableSteps.{after_commit}
 use Rattle.ipl_meaning.specs.FollowingLaws.{TablesFollowCommits}
 use Rattle.ipl_meaning.proofs.PutLemmas.{kept, live_still, live_back}
 use Rattle.ipl_meaning.proofs.CommitLemmas.{commit_sectors_add}
 use Rattle.ipl_meaning.proofs.CounterLemmas.{commit_sectors_keep_the_counter}
 use Rattle.ipl_meaning.proofs.ApartLemmas.{none_still}
-use Rattle.ipl_meaning.proofs.SpareLemmas.{commit_spares}
+use Rattle.ipl_meaning.proofs.CountedLemmas.{commit_counted}
 
 module _ (places : ℕ) (c : Chart) (it : Layout) (t : Tables) (sector : Sector) (numbers : List ℕ) (committed : ℕ → Bool) (next : ℕ) (active : List ℕ) (mirrors : Mirrors places c it t)
     (may : MayCommit c it t.status.first sector numbers committed) (more : t.next ≤ next) (below : MentionsBelow next sector)
@@ -43,15 +43,15 @@ module _ (places : ℕ) (c : Chart) (it : Layout) (t : Tables) (sector : Sector)
   was_live : (v q n : ℕ) (x : Sector) → IsLiveIn y places jt v q n x → IsLiveIn c places it v q n x
   was_live v q n x live = live_back c it.status first sector may.free (λ none. absurd (no_header none)) places v (it.units v).home (it.units v).head.generation (λ is _. omega (arith, is, may.kind)) q n x live
 
-  shelf : MirrorsShelf places y jt tables
-  shelf = let was = mirrors.shelf in record {
+  overflow : MirrorsOverflow places y jt tables
+  overflow = let was = mirrors.overflow in record {
     units = was.units;
     listed = λ v q n x less live away. was.listed v q n x less (was_live v q n x live) away;
     only = λ v q n less is. let (away, x, live) = was.only v q n less is in (away, x, live_then v q n x live);
     once = was.once;
     few = was.few;
-    shelved = was.shelved;
-    overflow = λ q is. let (within, over) = was.overflow q is in (within, (over.0, kept c it.status first sector may.free q 0 over.0 over.1, over.2));
+    in_overflow = was.in_overflow;
+    headed = λ q is. let (within, over) = was.headed q is in (within, (over.0, kept c it.status first sector may.free q 0 over.0 over.1, over.2));
     two = was.two;
     apart = was.apart;
   }
@@ -89,11 +89,11 @@ module _ (places : ℕ) (c : Chart) (it : Layout) (t : Tables) (sector : Sector)
   commit_followed : Mirrors places y jt tables
   commit_followed = record {
     laid = (commit_sectors_add places c it first sector numbers committed mirrors.laid may).0;
-    directory = let was = mirrors.directory in record { units = was.units; logs = was.logs; all = was.all; current = was.current; not_home = was.not_home; not_status = was.not_status; not_shelf = was.not_shelf };
-    shelf = shelf;
+    directory = let was = mirrors.directory in record { units = was.units; logs = was.logs; all = was.all; current = was.current; not_home = was.not_home; not_status = was.not_status; not_overflow = was.not_overflow };
+    overflow = overflow;
     status = status;
     numbers = numbers_there;
-    spare = λ q n is. let (before, apart) = commit_spares places c it t mirrors numbers active next q n is in none_still c it.status first sector q n (mirrors.spare q n before) apart;
+    counted_clean = λ q n is. let (before, apart) = commit_counted places c it t mirrors numbers active next q n is in none_still c it.status first sector q n (mirrors.counted_clean q n before) apart;
   }
 
 pub tables_follow_commits : TablesFollowCommits

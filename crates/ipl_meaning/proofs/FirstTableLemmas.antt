@@ -7,7 +7,7 @@ use Rattle.std.proofs.lemmas.List.FromFn.{length-range_with_len, get_or-range_wi
 use Rattle.ipl_format.specs.Sector.{Sector}
 use Rattle.ipl_meaning.specs.Chart.{Chart}
 use Rattle.ipl_meaning.specs.Found.{IsRead, Mentions}
-use Rattle.ipl_meaning.specs.Tables.{IsFree, Tables, spots_of, IsSpare}
+use Rattle.ipl_meaning.specs.Tables.{IsFree, Tables, spots_of, IsCountedClean}
 use Rattle.ipl_meaning.specs.Mirrors.{Mirrors}
 use Rattle.ipl_meaning.specs.Formatted.{first_head, first_status, formatted}
 use Rattle.ipl_meaning.specs.FirstTables.{first_layout, first_tables}
@@ -37,10 +37,10 @@ module _ (places : ℕ) (least : 5 ≤ places) (most : places ≤ 1028) where
   none_listed : {X : Type 0} (x : X) → ¬ Contains [] x
   none_listed x (k, within, is) = omega (arith, within)
 
-  no_spare : (p s : ℕ) → ¬ IsSpare t p s
-  no_spare p s (small, inl (u, less, is, first)) = omega (arith, small, first, get_or-replicate {A = ℕ} (places - 4) u 15 0 (omega (arith, less, length-range_with_len 0 (places - 4))))
-  no_spare p s (small, inr (inl (first, is, above))) = none_listed (p, first) is
-  no_spare p s (small, inr (inr (is, above))) = omega (arith, small, above)
+  none_counted : (p s : ℕ) → ¬ IsCountedClean t p s
+  none_counted p s (small, inl (u, less, is, first)) = omega (arith, small, first, get_or-replicate {A = ℕ} (places - 4) u 15 0 (omega (arith, less, length-range_with_len 0 (places - 4))))
+  none_counted p s (small, inr (inl (first, is, above))) = none_listed (p, first) is
+  none_counted p s (small, inr (inr (is, above))) = omega (arith, small, above)
 
   -- what a header mentions
   own_only : (x : Sector) (n : ℕ) → x.kind ≤ 2 → Mentions x n → (n ≡ x.generation) ⊎ (n ≡ x.serial)
@@ -71,16 +71,16 @@ module _ (places : ℕ) (least : 5 ≤ places) (most : places ≤ 1028) where
       current = λ u low. get_or-range_with_len 0 (places - 4) u 0 low ∙ (let e : 0 + u ≡ u = omega arith in e);
       not_home = λ q free u low is. omega (arith, free_after q free, low, is);
       not_status = λ q free is. omega (arith, free_after q free, is);
-      not_shelf = λ q free is. none_listed q is;
+      not_overflow = λ q free is. none_listed q is;
     };
-    shelf = record {
+    overflow = record {
       units = length-replicate (places - 4) [];
       listed = λ u p s x low live. absurd (never_live places least most u u (u + 1) p s x live);
       only = λ u p s low is. absurd (none_listed (p, s) (rw (no_spots u low) at is));
       once = λ u low. rw (no_spots u low) (λ i j d before within. absurd (omega (arith, within)));
       few = λ u low. rw (no_spots u low) (omega arith);
-      shelved = λ u p s low is. absurd (none_listed (p, s) (rw (no_spots u low) at is));
-      overflow = λ p is. absurd (none_listed p is);
+      in_overflow = λ u p s low is. absurd (none_listed (p, s) (rw (no_spots u low) at is));
+      headed = λ p is. absurd (none_listed p is);
       two = omega arith;
       apart = λ i j d before within. absurd (omega (arith, within));
     };
@@ -91,7 +91,7 @@ module _ (places : ℕ) (least : 5 ≤ places) (most : places ≤ 1028) where
       once = λ i j d before within. absurd (omega (arith, within));
       waits = λ k none within. absurd (omega (arith, within));
     };
-    spare = λ p s is. absurd (no_spare p s is);
+    counted_clean = λ p s is. absurd (none_counted p s is);
   }
 
 pub first_tables_mirror : FirstTablesMirror

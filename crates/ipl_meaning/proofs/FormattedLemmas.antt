@@ -91,9 +91,9 @@ module _ (places : ℕ) (least : 5 ≤ places) (most : places ≤ 1028) where
       all_told = λ tid w. absurd (no_sector _ w.number w.sector (λ none. omega (arith, w.is.where_it_is.0, none)) w.is.here);
     };
     each = unit;
-    shelves = [];
+    overflows = [];
     two = omega arith;
-    shelved = λ u low k none within. absurd (omega (arith, within));
+    in_overflow = λ u low k none within. absurd (omega (arith, within));
   }
 
   no_count : (page : ℕ) → slice_index no_pieces page ≡ 0

@@ -7,7 +7,7 @@ use Rattle.ipl_format.specs.Sector.{Sector}
 use Rattle.ipl_meaning.specs.Chart.{Chart}
 use Rattle.ipl_meaning.specs.Layout.{Layout, IsLiveIn}
 use Rattle.ipl_meaning.specs.Steps.{SameBut, IsIdle, ComesToNothing}
-use Rattle.ipl_meaning.specs.Tables.{IsFree, Tables, shelf_places, IsSpare}
+use Rattle.ipl_meaning.specs.Tables.{IsFree, Tables, overflow_places, IsCountedClean}
 use Rattle.ipl_meaning.specs.Mirrors.{Mirrors}
 use Rattle.ipl_meaning.specs.TableSteps.{with_next, taken}
 use Rattle.ipl_meaning.specs.MovingLaws.{TablesFollowIdlePlaces, PlacesMayBeTaken}
@@ -16,12 +16,12 @@ use Rattle.ipl_meaning.proofs.CounterLemmas.{bare_places_keep_the_counter}
 use Rattle.ipl_meaning.proofs.MirrorLemmas.{map_contains}
 
 -- none of its sectors is counted as clean
-pub spare_apart : (places : ℕ) (c : Chart) (it : Layout) (t : Tables) (p : ℕ) → Mirrors places c it t → IsIdle places c it p → ¬ Contains (shelf_places t) p → (q n : ℕ) → IsSpare t q n → q ≢ p
-spare_apart places c it t p mirrors idle not_shelf q n (small, inl (v, less, is, first)) at = let low : v < places - 4 = omega (arith, less, mirrors.directory.units) in idle.not_home v low (sym (mirrors.directory.current v low) ∙ sym is ∙ at)
-spare_apart places c it t p mirrors idle not_shelf q n (small, inr (inl (first, is, above))) at = not_shelf (rw at at (map_contains t.shelf.in_use q first is))
-spare_apart places c it t p mirrors idle not_shelf q n (small, inr (inr (is, above))) at = idle.not_status (sym mirrors.status.place ∙ sym is ∙ at)
+pub counted_apart : (places : ℕ) (c : Chart) (it : Layout) (t : Tables) (p : ℕ) → Mirrors places c it t → IsIdle places c it p → ¬ Contains (overflow_places t) p → (q n : ℕ) → IsCountedClean t q n → q ≢ p
+counted_apart places c it t p mirrors idle not_overflow q n (small, inl (v, less, is, first)) at = let low : v < places - 4 = omega (arith, less, mirrors.directory.units) in idle.not_home v low (sym (mirrors.directory.current v low) ∙ sym is ∙ at)
+counted_apart places c it t p mirrors idle not_overflow q n (small, inr (inl (first, is, above))) at = not_overflow (rw at at (map_contains t.overflow.in_use q first is))
+counted_apart places c it t p mirrors idle not_overflow q n (small, inr (inr (is, above))) at = idle.not_status (sym mirrors.status.place ∙ sym is ∙ at)
 
-module _ (places : ℕ) (c : Chart) (it : Layout) (t : Tables) (p : ℕ) (y : Chart) (next : ℕ) (mirrors : Mirrors places c it t) (idle : IsIdle places c it p) (not_shelf : ¬ Contains (shelf_places t) p)
+module _ (places : ℕ) (c : Chart) (it : Layout) (t : Tables) (p : ℕ) (y : Chart) (next : ℕ) (mirrors : Mirrors places c it t) (idle : IsIdle places c it p) (not_overflow : ¬ Contains (overflow_places t) p)
     (same : SameBut p c y) (bare : y p 0 ≡ None) (more : t.next ≤ next) where
   nothing : ComesToNothing places y it p
   nothing = record {
@@ -62,8 +62,8 @@ module _ (places : ℕ) (c : Chart) (it : Layout) (t : Tables) (p : ℕ) (y : Ch
   idle_followed : Mirrors places y it (with_next t next)
   idle_followed = record {
     laid = (idle_places_do_not_count places c it p y mirrors.laid idle same nothing).0;
-    directory = let was = mirrors.directory in record { units = was.units; logs = was.logs; all = was.all; current = was.current; not_home = was.not_home; not_status = was.not_status; not_shelf = was.not_shelf };
-    shelf = let was = mirrors.shelf in record {
+    directory = let was = mirrors.directory in record { units = was.units; logs = was.logs; all = was.all; current = was.current; not_home = was.not_home; not_status = was.not_status; not_overflow = was.not_overflow };
+    overflow = let was = mirrors.overflow in record {
       units = was.units;
       listed = λ v q n x low live away. was.listed v q n x low (live_before v q n x (live_apart v q n x low live) live) away;
       only = λ v q n low is.
@@ -71,8 +71,8 @@ module _ (places : ℕ) (c : Chart) (it : Layout) (t : Tables) (p : ℕ) (y : Ch
           (away, x, live_then v q n x (was_apart v q n x low live) live);
       once = was.once;
       few = was.few;
-      shelved = was.shelved;
-      overflow = λ q is. let (within, over) = was.overflow q is in (within, (over.0, same q 0 (λ at. not_shelf (rw at at is)) ∙ over.1, over.2));
+      in_overflow = was.in_overflow;
+      headed = λ q is. let (within, over) = was.headed q is in (within, (over.0, same q 0 (λ at. not_overflow (rw at at is)) ∙ over.1, over.2));
       two = was.two;
       apart = was.apart;
     };
@@ -83,11 +83,11 @@ module _ (places : ℕ) (c : Chart) (it : Layout) (t : Tables) (p : ℕ) (y : Ch
       once = was.once;
       waits = was.waits;
     };
-    spare = λ q n is. same q n (spare_apart places c it t p mirrors idle not_shelf q n is) ∙ mirrors.spare q n is;
+    counted_clean = λ q n is. same q n (counted_apart places c it t p mirrors idle not_overflow q n is) ∙ mirrors.counted_clean q n is;
   }
 
 pub tables_follow_idle_places : TablesFollowIdlePlaces
-tables_follow_idle_places places c it t p y next mirrors idle not_shelf same bare more = idle_followed places c it t p y next mirrors idle not_shelf same bare more
+tables_follow_idle_places places c it t p y next mirrors idle not_overflow same bare more = idle_followed places c it t p y next mirrors idle not_overflow same bare more
 
 module _ (places : ℕ) (c : Chart) (it : Layout) (t : Tables) (p : ℕ) (mirrors : Mirrors places c it t) (low : p < places) where
   free_before : (q : ℕ) → IsFree (taken t p).places q → IsFree t.places q
@@ -107,12 +107,12 @@ module _ (places : ℕ) (c : Chart) (it : Layout) (t : Tables) (p : ℕ) (mirror
       current = was.current;
       not_home = λ q free. was.not_home q (free_before q free);
       not_status = λ q free. was.not_status q (free_before q free);
-      not_shelf = λ q free. was.not_shelf q (free_before q free);
+      not_overflow = λ q free. was.not_overflow q (free_before q free);
     };
-    shelf = let was = mirrors.shelf in record { units = was.units; listed = was.listed; only = was.only; once = was.once; few = was.few; shelved = was.shelved; overflow = was.overflow; two = was.two; apart = was.apart };
+    overflow = let was = mirrors.overflow in record { units = was.units; listed = was.listed; only = was.only; once = was.once; few = was.few; in_overflow = was.in_overflow; headed = was.headed; two = was.two; apart = was.apart };
     status = let was = mirrors.status in record { place = was.place; generation = was.generation; numbers = was.numbers };
     numbers = let was = mirrors.numbers in record { above = was.above; below = was.below; once = was.once; waits = was.waits };
-    spare = mirrors.spare;
+    counted_clean = mirrors.counted_clean;
   }
 
 pub places_may_be_taken : PlacesMayBeTaken

@@ -90,9 +90,9 @@ idle_places_do_not_count places c it p y laid idle same nothing = (
     counts = laid.counts;
     commits = status_still p c y same it.status it.head.generation idle.not_status it.committed laid.commits;
     each = λ u low. unit_still p c y same places u (it.units u) (idle.not_home u low) (idle.no_live u low) (nothing.no_live u low) (nothing.unit_header u low) (laid.each u low);
-    shelves = laid.shelves;
+    overflows = laid.overflows;
     two = laid.two;
-    shelved = laid.shelved;
+    in_overflow = laid.in_overflow;
   },
   λ u page now low few was. let r = was.reads in record {
     base = was.base;

@@ -16,13 +16,13 @@ pub mod StoryLemmas
 pub mod AllowedLemmas
 pub mod PackLemmas
 pub mod ApartLemmas
-pub mod SpareLemmas
+pub mod CountedLemmas
 pub mod LogFollowLemmas
 pub mod HomeLogLemmas
-pub mod ShelfLogLemmas
+pub mod OverflowLogLemmas
 pub mod CommitFollowLemmas
 pub mod IdleFollowLemmas
 pub mod MergeFollowLemmas
 pub mod RenewalFollowLemmas
-pub mod ShelfFollowLemmas
+pub mod OverflowFollowLemmas
 pub mod AgreeLemmas

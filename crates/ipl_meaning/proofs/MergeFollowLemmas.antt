@@ -10,10 +10,10 @@ use Rattle.ipl_meaning.specs.Chart.{Chart, IsOverflow, IsLive}
 use Rattle.ipl_meaning.specs.Layout.{Entry, Shape, Layout, IsLiveIn}
 use Rattle.ipl_meaning.specs.Steps.{with_unit, MaySeal}
 use Rattle.ipl_meaning.specs.Found.{MentionsBelow, IsPlaceBelow}
-use Rattle.ipl_meaning.specs.Tables.{IsFree, Status, Tables, spots_of, shelf_places, place_of, IsSpare}
-use Rattle.ipl_meaning.specs.Mirrors.{MirrorsPlaces, MirrorsShelf, Mirrors}
+use Rattle.ipl_meaning.specs.Tables.{IsFree, Status, Tables, spots_of, overflow_places, place_of, IsCountedClean}
+use Rattle.ipl_meaning.specs.Mirrors.{MirrorsPlaces, MirrorsOverflow, Mirrors}
 use Rattle.ipl_meaning.specs.TableSteps.{IsReady, IsMoved}
-use Rattle.ipl_meaning.specs.MovingLaws.{SparesFollowMerges, TablesFollowMerges}
+use Rattle.ipl_meaning.specs.MovingLaws.{CountedFollowMerges, TablesFollowMerges}
 use Rattle.ipl_meaning.proofs.PutLemmas.{kept, live_still, live_back}
 use Rattle.ipl_meaning.proofs.SwitchLemmas.{headers_switch}
 use Rattle.ipl_meaning.proofs.CounterLemmas.{headers_keep_the_counter}
@@ -55,12 +55,12 @@ module _ (places : ℕ) (c : Chart) (it : Layout) (t after : Tables) (u p used :
   shape_mine : jt.units u ≡ fresh
   shape_mine = rw (eq-eqb u u refl) refl
 
-  shelf_part : (q : ℕ) → Contains (shelf_places after) q → Contains (shelf_places t) q
-  shelf_part q (k, within, is) =
-      let inside : k < length after.shelf.in_use = omega (arith, within, length-map after.shelf.in_use place_of) in
-      let o = get_or after.shelf.in_use k (q, 0) in
-      let same : place_of o ≡ q = sym (get_or-map place_of after.shelf.in_use k (q, 0) q inside) ∙ is in
-      subst (Contains (shelf_places t)) same (map_contains t.shelf.in_use o.0 o.1 (moved.some k (q, 0) inside))
+  overflow_part : (q : ℕ) → Contains (overflow_places after) q → Contains (overflow_places t) q
+  overflow_part q (k, within, is) =
+      let inside : k < length after.overflow.in_use = omega (arith, within, length-map after.overflow.in_use place_of) in
+      let o = get_or after.overflow.in_use k (q, 0) in
+      let same : place_of o ≡ q = sym (get_or-map place_of after.overflow.in_use k (q, 0) q inside) ∙ is in
+      subst (Contains (overflow_places t)) same (map_contains t.overflow.in_use o.0 o.1 (moved.some k (q, 0) inside))
 
   -- a place that is free now is none of these
   not_home : (q : ℕ) → IsFree after.places q → (v : ℕ) → v < places - 4 → (jt.units v).home ≢ q
@@ -73,8 +73,8 @@ module _ (places : ℕ) (c : Chart) (it : Layout) (t after : Tables) (u p used :
       | inl same ↦ bare_not_home u low (sym home_mine ∙ ap (λ (w : ℕ). (jt.units w).home) (sym same) ∙ is ∙ at_old ∙ old_is)
       | inr apart ↦ apart (homes_apart places c it mirrors.laid v u less low (ap (λ (z : Shape). z.home) (sym (shape_other v apart)) ∙ is ∙ at_old ∙ old_is))
     ]
-    | inr (inr (shelf, _)) ↦
-        let over = (mirrors.shelf.overflow q shelf).1 in
+    | inr (inr (overflow, _)) ↦
+        let over = (mirrors.overflow.headed q overflow).1 in
         elim (cases_eq v u) [
           | inl same ↦ bare_not_over (rw (sym (sym home_mine ∙ ap (λ (w : ℕ). (jt.units w).home) (sym same) ∙ is)) at over)
           | inr apart ↦ home_not_over places c it mirrors.laid v less (rw (sym (ap (λ (z : Shape). z.home) (sym (shape_other v apart)) ∙ is)) at over)
@@ -85,13 +85,13 @@ module _ (places : ℕ) (c : Chart) (it : Layout) (t after : Tables) (u p used :
   not_status q free is = elim (moved.free q free) [
     | inl was ↦ mirrors.directory.not_status q was is
     | inr (inl at_old) ↦ home_not_status places c it mirrors.laid u low (sym old_is ∙ sym at_old ∙ sym is)
-    | inr (inr (shelf, _)) ↦ status_not_over places c it mirrors.laid (let over = (mirrors.shelf.overflow q shelf).1 in rw (sym is) at over)
+    | inr (inr (overflow, _)) ↦ status_not_over places c it mirrors.laid (let over = (mirrors.overflow.headed q overflow).1 in rw (sym is) at over)
   ]
 
-  not_shelf : (q : ℕ) → IsFree after.places q → ¬ Contains (shelf_places after) q
-  not_shelf q free listed = elim (moved.free q free) [
-    | inl was ↦ mirrors.directory.not_shelf q was (shelf_part q listed)
-    | inr (inl at_old) ↦ home_not_over places c it mirrors.laid u low (let over = (mirrors.shelf.overflow q (shelf_part q listed)).1 in rw (at_old ∙ old_is) at over)
+  not_overflow : (q : ℕ) → IsFree after.places q → ¬ Contains (overflow_places after) q
+  not_overflow q free listed = elim (moved.free q free) [
+    | inl was ↦ mirrors.directory.not_overflow q was (overflow_part q listed)
+    | inr (inl at_old) ↦ home_not_over places c it mirrors.laid u low (let over = (mirrors.overflow.headed q (overflow_part q listed)).1 in rw (at_old ∙ old_is) at over)
     | inr (inr (_, gone)) ↦ gone listed
   ]
 
@@ -109,7 +109,7 @@ module _ (places : ℕ) (c : Chart) (it : Layout) (t after : Tables) (u p used :
     current = current;
     not_home = not_home;
     not_status = not_status;
-    not_shelf = not_shelf;
+    not_overflow = not_overflow;
   }
 
   no_overflow : (zero_is : ◌≡◌ {A = ℕ} 0 0) → fresh.head.kind ≢ 3
@@ -126,10 +126,10 @@ module _ (places : ℕ) (c : Chart) (it : Layout) (t after : Tables) (u p used :
       sym place ∙ All-contains (λ (e : Entry). e.place ≡ p) fresh.log e ready.gathered listed
 
   spots_mine : spots_of after u ≡ []
-  spots_mine = rw moved.spots (get_or-set_same t.shelf.spots u [] [] (omega (arith, low, mirrors.shelf.units)))
+  spots_mine = rw moved.spots (get_or-set_same t.overflow.spots u [] [] (omega (arith, low, mirrors.overflow.units)))
 
   spots_other : (v : ℕ) → v ≢ u → spots_of after v ≡ spots_of t v
-  spots_other v apart = rw moved.spots (get_or-set_other t.shelf.spots u v [] [] apart)
+  spots_other v apart = rw moved.spots (get_or-set_other t.overflow.spots u v [] [] apart)
 
   none_listed : (q n : ℕ) → ¬ Contains (spots_of after u) (q, n)
   none_listed q n is = let (k, within, same) = rw spots_mine at is in omega (arith, within)
@@ -137,9 +137,9 @@ module _ (places : ℕ) (c : Chart) (it : Layout) (t after : Tables) (u p used :
   live_same : (v q n : ℕ) (x : Sector) → v ≢ u → IsLiveIn y places jt v q n x → IsLiveIn c places it v q n x
   live_same v q n x apart live = back v (it.units v).home (it.units v).head.generation q n x (rw (shape_other v apart) at live)
 
-  shelf_there : MirrorsShelf places y jt after
-  shelf_there = let was = mirrors.shelf in record {
-    units = ap (λ (l : List (List (ℕ × ℕ))). length l) moved.spots ∙ length-set t.shelf.spots u [] ∙ was.units;
+  overflow_there : MirrorsOverflow places y jt after
+  overflow_there = let was = mirrors.overflow in record {
+    units = ap (λ (l : List (List (ℕ × ℕ))). length l) moved.spots ∙ length-set t.overflow.spots u [] ∙ was.units;
     listed = λ v q n x less live away. elim (cases_eq v u) [
       | inl same ↦ absurd (away (gathered q n x (rw same at live) ∙ sym home_mine ∙ ap (λ (w : ℕ). (jt.units w).home) (sym same)))
       | inr apart ↦ rw (spots_other v apart) (was.listed v q n x less (live_same v q n x apart live) (λ at. away (at ∙ ap (λ (z : Shape). z.home) (sym (shape_other v apart)))))
@@ -158,18 +158,18 @@ module _ (places : ℕ) (c : Chart) (it : Layout) (t after : Tables) (u p used :
       | inl same ↦ rw (same, spots_mine) (omega arith)
       | inr apart ↦ rw (spots_other v apart) (was.few v less)
     ];
-    shelved = λ v q n less is. elim (cases_eq v u) [
+    in_overflow = λ v q n less is. elim (cases_eq v u) [
       | inl same ↦ absurd (none_listed q n (rw same at is))
-      | inr apart ↦ let listed = rw (spots_other v apart) at is in moved.named v q n apart listed (was.shelved v q n less listed)
+      | inr apart ↦ let listed = rw (spots_other v apart) at is in moved.named v q n apart listed (was.in_overflow v q n less listed)
     ];
-    overflow = λ q is. let (within, over) = was.overflow q (shelf_part q is) in (within, (over.0, kept c p 0 fresh.head may.free q 0 over.0 over.1, over.2));
+    headed = λ q is. let (within, over) = was.headed q (overflow_part q is) in (within, (over.0, kept c p 0 fresh.head may.free q 0 over.0 over.1, over.2));
     two = moved.two;
     apart = moved.apart;
   }
 
   -- what is counted as clean now was so before, or stands behind the log sectors of the new place
-  merge_spares : (q n : ℕ) → IsSpare after q n → (IsSpare t q n ⊎ ((q ≡ p) × (241 + used ≤ n) × (n < 256))) × (q ≡ p → n ≢ 0)
-  merge_spares q n (small, inl (v, less, is, first)) =
+  merge_counted : (q n : ℕ) → IsCountedClean after q n → (IsCountedClean t q n ⊎ ((q ≡ p) × (241 + used ≤ n) × (n < 256))) × (q ≡ p → n ≢ 0)
+  merge_counted q n (small, inl (v, less, is, first)) =
       let inside : v < places - 4 = omega (arith, less, directory.units) in
       let number : n ≢ 0 = λ none. omega (arith, first, none) in
       elim (cases_eq v u) [
@@ -183,25 +183,25 @@ module _ (places : ℕ) (c : Chart) (it : Layout) (t after : Tables) (u p used :
             let home : q ≡ slice_index t.places.current v = is ∙ current v inside ∙ ap (λ (z : Shape). z.home) (shape_other v apart) ∙ sym (mirrors.directory.current v inside) in
             (inl (small, inl (v, omega (arith, inside, mirrors.directory.units), home, omega (arith, first, count))), λ _. number)
       ]
-  merge_spares q n (small, inr (inl (first, is, above))) = (
-    inl (small, inr (inl (first, All-contains (Contains t.shelf.in_use) after.shelf.in_use (q, first) moved.some is, above))),
-    λ at _. bare_not_over (let over = (mirrors.shelf.overflow q (shelf_part q (map_contains after.shelf.in_use q first is))).1 in rw at at over),
+  merge_counted q n (small, inr (inl (first, is, above))) = (
+    inl (small, inr (inl (first, All-contains (Contains t.overflow.in_use) after.overflow.in_use (q, first) moved.some is, above))),
+    λ at _. bare_not_over (let over = (mirrors.overflow.headed q (overflow_part q (map_contains after.overflow.in_use q first is))).1 in rw at at over),
   )
-  merge_spares q n (small, inr (inr (is, above))) = (
+  merge_counted q n (small, inr (inr (is, above))) = (
     inl (small, inr (inr (rw moved.status at is, rw moved.status at above))),
     λ at _. bare_not_status (sym at ∙ is ∙ ap (λ (s : Status). s.place) moved.status ∙ mirrors.status.place),
   )
 
   -- nothing was put where a sector is counted as clean
-  spare : (q n : ℕ) → IsSpare after q n → y q n ≡ None
-  spare q n is = let (was, apart) = merge_spares q n is in
-      none_still c p 0 fresh.head q n (elim was [ inl before ↦ mirrors.spare q n before | inr (at, from, small) ↦ rw at (clean n from small) ]) apart
+  counted_clean : (q n : ℕ) → IsCountedClean after q n → y q n ≡ None
+  counted_clean q n is = let (was, apart) = merge_counted q n is in
+      none_still c p 0 fresh.head q n (elim was [ inl before ↦ mirrors.counted_clean q n before | inr (at, from, small) ↦ rw at (clean n from small) ]) apart
 
   merge_followed : Mirrors places y jt after
   merge_followed = record {
     laid = (headers_switch places c it u p fresh mirrors.laid may).0;
     directory = directory;
-    shelf = shelf_there;
+    overflow = overflow_there;
     status = let was = mirrors.status in record {
       place = ap (λ (s : Status). s.place) moved.status ∙ was.place;
       generation = ap (λ (s : Status). s.generation) moved.status ∙ was.generation;
@@ -213,11 +213,11 @@ module _ (places : ℕ) (c : Chart) (it : Layout) (t after : Tables) (u p used :
       once = rw moved.active was.once;
       waits = rw moved.active was.waits;
     };
-    spare = spare;
+    counted_clean = counted_clean;
   }
 
 pub tables_follow_merges : TablesFollowMerges
 tables_follow_merges places c it t after u p used fresh mirrors low ready in_use moved below all_below clean = merge_followed places c it t after u p used fresh mirrors low ready in_use moved below all_below clean
 
-pub spares_follow_merges : SparesFollowMerges
-spares_follow_merges places c it t after u p used fresh mirrors low ready in_use moved below all_below clean = merge_spares places c it t after u p used fresh mirrors low ready in_use moved below all_below clean
+pub counted_follow_merges : CountedFollowMerges
+counted_follow_merges places c it t after u p used fresh mirrors low ready in_use moved below all_below clean = merge_counted places c it t after u p used fresh mirrors low ready in_use moved below all_below clean

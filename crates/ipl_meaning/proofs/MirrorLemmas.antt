@@ -9,7 +9,7 @@ use Rattle.ipl_format.specs.Record.{Record}
 use Rattle.ipl_meaning.specs.Chart.{Chart}
 use Rattle.ipl_meaning.specs.Layout.{Entry, Layout, IsLiveIn}
 use Rattle.ipl_meaning.specs.Steps.{IsIdle, MayLog}
-use Rattle.ipl_meaning.specs.Tables.{IsFree, Tables, spots_of, shelf_places, place_of, first_log}
+use Rattle.ipl_meaning.specs.Tables.{IsFree, Tables, spots_of, overflow_places, place_of, first_log}
 use Rattle.ipl_meaning.specs.Mirrors.{Mirrors}
 use Rattle.ipl_meaning.specs.TableSteps.{IsFreshLog}
 use Rattle.ipl_meaning.specs.TableLaws.{FreePlacesAreIdle, LogSectorsMayGoHome, LogSectorsMayGoElsewhere, CommitSectorsMayGo, HeadersMayGo, StatusHeadersMayGo, OverflowHeadersMayGo}
@@ -20,27 +20,27 @@ map_contains l p s (k, within, is) = (k, omega (arith, within, length-map l plac
 
 module _ (places : ℕ) (c : Chart) (it : Layout) (t : Tables) (mirrors : Mirrors places c it t) where
   -- a live sector stands at home, or in an overflow place in use
-  home_or_shelf : (u p s : ℕ) (sector : Sector) → u < places - 4 → IsLiveIn c places it u p s sector → (p ≡ (it.units u).home) ⊎ (Contains (spots_of t u) (p, s) × Contains (shelf_places t) p)
-  home_or_shelf u p s sector low live = elim (cases_eq p (it.units u).home) [
+  home_or_overflow : (u p s : ℕ) (sector : Sector) → u < places - 4 → IsLiveIn c places it u p s sector → (p ≡ (it.units u).home) ⊎ (Contains (spots_of t u) (p, s) × Contains (overflow_places t) p)
+  home_or_overflow u p s sector low live = elim (cases_eq p (it.units u).home) [
     | inl at ↦ inl at
-    | inr away ↦ let listed = mirrors.shelf.listed u p s sector low live away in inr (listed, mirrors.shelf.shelved u p s low listed)
+    | inr away ↦ let listed = mirrors.overflow.listed u p s sector low live away in inr (listed, mirrors.overflow.in_overflow u p s low listed)
   ]
 
   free_is_idle : (p : ℕ) → IsFree t.places p → IsIdle places c it p
   free_is_idle p free = record {
     not_status = mirrors.directory.not_status p free;
     not_home = mirrors.directory.not_home p free;
-    no_live = λ u low s sector live. elim (home_or_shelf u p s sector low live) [
+    no_live = λ u low s sector live. elim (home_or_overflow u p s sector low live) [
       | inl at ↦ mirrors.directory.not_home p free u low (sym at)
-      | inr (listed, shelf) ↦ mirrors.directory.not_shelf p free shelf
+      | inr (listed, overflow) ↦ mirrors.directory.not_overflow p free overflow
     ];
   }
 
-  shelved : (v q number : ℕ) (other : Sector) → v < places - 4 → IsLiveIn c places it v q number other → q ≢ (it.units v).home → Contains (shelf_places t) q
-  shelved v q number other low live away = mirrors.shelf.shelved v q number low (mirrors.shelf.listed v q number other low live away)
+  in_overflow : (v q number : ℕ) (other : Sector) → v < places - 4 → IsLiveIn c places it v q number other → q ≢ (it.units v).home → Contains (overflow_places t) q
+  in_overflow v q number other low live away = mirrors.overflow.in_overflow v q number low (mirrors.overflow.listed v q number other low live away)
 
-  two : length (shelf_places t) ≤ 2
-  two = omega (arith, mirrors.shelf.two, length-map t.shelf.in_use place_of)
+  two : length (overflow_places t) ≤ 2
+  two = omega (arith, mirrors.overflow.two, length-map t.overflow.in_use place_of)
 
   waits : (records : List Record) → All (λ r. Contains t.active r.tid) records → All (λ r. it.committed r.tid ≡ false) records
   waits records active k none low = All-contains (λ n. it.committed n ≡ false) t.active (get_or records k none).tid mirrors.numbers.waits (active k none low)
@@ -52,7 +52,7 @@ module _ (places : ℕ) (c : Chart) (it : Layout) (t : Tables) (mirrors : Mirror
     may_go_home : slice_index t.places.written u < 15 → MayLog places c it u (slice_index t.places.current u) (first_log t u) sector records
     may_go_home left = let at = mirrors.directory.current u low in record {
       unit = low;
-      free = mirrors.spare _ _ (omega (arith, left), inl (u, omega (arith, low, mirrors.directory.units), refl, omega arith));
+      free = mirrors.counted_clean _ _ (omega (arith, left), inl (u, omega (arith, low, mirrors.directory.units), refl, omega arith));
       kind = fresh.kind;
       of_unit = fresh.of_unit;
       of_generation = fresh.of_generation;
@@ -62,22 +62,22 @@ module _ (places : ℕ) (c : Chart) (it : Layout) (t : Tables) (mirrors : Mirror
       waits = waits records fresh.active;
       last = last;
       spots = spots_of t u;
-      few = mirrors.shelf.few u low;
-      listed = λ q number other live away. mirrors.shelf.listed u q number other low live away;
+      few = mirrors.overflow.few u low;
+      listed = λ q number other live away. mirrors.overflow.listed u q number other low live away;
       listed_here = λ away. absurd (away at);
-      shelves = shelf_places t;
+      overflows = overflow_places t;
       two = two;
-      shelved = shelved;
-      shelved_here = λ away. absurd (away at);
+      in_overflow = in_overflow;
+      in_overflow_here = λ away. absurd (away at);
     }
 
-    may_go_elsewhere : (p s : ℕ) → Contains t.shelf.in_use (p, s) → 1 ≤ s → s < 256 → length (spots_of t u) < 16 → MayLog places c it u p s sector records
+    may_go_elsewhere : (p s : ℕ) → Contains t.overflow.in_use (p, s) → 1 ≤ s → s < 256 → length (spots_of t u) < 16 → MayLog places c it u p s sector records
     may_go_elsewhere p s open_there some small room =
-        let shelf : Contains (shelf_places t) p = map_contains t.shelf.in_use p s open_there in
-        let (within, over) = mirrors.shelf.overflow p shelf in
+        let overflow : Contains (overflow_places t) p = map_contains t.overflow.in_use p s open_there in
+        let (within, over) = mirrors.overflow.headed p overflow in
         record {
           unit = low;
-          free = mirrors.spare p s (small, inr (inl (s, open_there, omega arith)));
+          free = mirrors.counted_clean p s (small, inr (inl (s, open_there, omega arith)));
           kind = fresh.kind;
           of_unit = fresh.of_unit;
           of_generation = fresh.of_generation;
@@ -88,12 +88,12 @@ module _ (places : ℕ) (c : Chart) (it : Layout) (t : Tables) (mirrors : Mirror
           last = last;
           spots = spots_of t u ++ (p, s) ∷ [];
           few = omega (arith, room, length-append (spots_of t u) ((p, s) ∷ []));
-          listed = λ q number other live away. Contains-append_left (spots_of t u) ((p, s) ∷ []) (q, number) (mirrors.shelf.listed u q number other low live away);
+          listed = λ q number other live away. Contains-append_left (spots_of t u) ((p, s) ∷ []) (q, number) (mirrors.overflow.listed u q number other low live away);
           listed_here = λ away. Contains-append_right (spots_of t u) ((p, s) ∷ []) (p, s) (0, omega arith, refl);
-          shelves = shelf_places t;
+          overflows = overflow_places t;
           two = two;
-          shelved = shelved;
-          shelved_here = λ away. shelf;
+          in_overflow = in_overflow;
+          in_overflow_here = λ away. overflow;
         }
 
 pub free_places_are_idle : FreePlacesAreIdle
@@ -107,7 +107,7 @@ log_sectors_may_go_elsewhere places c it t u p s sector records mirrors low open
 
 pub commit_sectors_may_go : CommitSectorsMayGo
 commit_sectors_may_go places c it t sector numbers committed mirrors some small kind generation spelled only both = record {
-  free = mirrors.spare it.status t.status.first (small, inr (inr (sym mirrors.status.place, omega arith)));
+  free = mirrors.counted_clean it.status t.status.first (small, inr (inr (sym mirrors.status.place, omega arith)));
   kind = kind;
   of_generation = generation ∙ mirrors.status.generation;
   where_it_is = (some, small);

@@ -74,9 +74,9 @@ outside_does_not_count places c it y laid same = (
     counts = laid.counts;
     commits = status_same places c y same it.status it.head.generation laid.chosen.within it.committed laid.commits;
     each = λ u low. unit_same places c y same u (it.units u) (laid.each u low);
-    shelves = laid.shelves;
+    overflows = laid.overflows;
     two = laid.two;
-    shelved = laid.shelved;
+    in_overflow = laid.in_overflow;
   },
   λ u page now low few was. let r = was.reads in let unit = laid.each u low in
       let most : slice_index (it.units u).pieces page ≤ 16 = All-get_or IsCount (it.units u).pieces page 0 (omega (arith, few, unit.counts.fifteen)) unit.counts.each in

@@ -106,8 +106,8 @@ module _ (places : ℕ) (c h : Chart) (part : IsPart c h) (jt it : Layout) (less
     few = may.few;
     listed = λ q t other live away. may.listed q t other (live_there u may.unit q t other live) (λ at_home. away (at_home ∙ sym unit.0));
     listed_here = λ away. may.listed_here (λ at_home. away (at_home ∙ sym unit.0));
-    shelves = may.shelves;
+    overflows = may.overflows;
     two = may.two;
-    shelved = λ v q t other low live away. may.shelved v q t other low (live_there v low q t other live) (λ at_home. away (at_home ∙ sym (same_unit v low).0));
-    shelved_here = λ away. may.shelved_here (λ at_home. away (at_home ∙ sym unit.0));
+    in_overflow = λ v q t other low live away. may.in_overflow v q t other low (live_there v low q t other live) (λ at_home. away (at_home ∙ sym (same_unit v low).0));
+    in_overflow_here = λ away. may.in_overflow_here (λ at_home. away (at_home ∙ sym unit.0));
   }

@@ -7,10 +7,10 @@ use Rattle.ipl_meaning.specs.Chart.{Chart}
 use Rattle.ipl_meaning.specs.Layout.{Layout, IsLiveIn}
 use Rattle.ipl_meaning.specs.Steps.{with_status, MaySwitch}
 use Rattle.ipl_meaning.specs.Found.{MentionsBelow, IsPlaceBelow}
-use Rattle.ipl_meaning.specs.Tables.{IsFree, Shelf, Tables, spots_of, shelf_places, place_of, first_log, IsSpare}
+use Rattle.ipl_meaning.specs.Tables.{IsFree, OverflowLists, Tables, spots_of, overflow_places, place_of, first_log, IsCountedClean}
 use Rattle.ipl_meaning.specs.Mirrors.{MirrorsPlaces, Mirrors}
 use Rattle.ipl_meaning.specs.TableSteps.{IsRenewed}
-use Rattle.ipl_meaning.specs.MovingLaws.{SparesFollowRenewals, TablesFollowRenewals}
+use Rattle.ipl_meaning.specs.MovingLaws.{CountedFollowRenewals, TablesFollowRenewals}
 use Rattle.ipl_meaning.proofs.PutLemmas.{kept, live_still, live_back}
 use Rattle.ipl_meaning.proofs.SwitchLemmas.{status_headers_switch}
 use Rattle.ipl_meaning.proofs.CounterLemmas.{headers_keep_the_counter}
@@ -35,11 +35,11 @@ module _ (places : ℕ) (c : Chart) (it : Layout) (t after : Tables) (p first : 
   bare_apart : (q : ℕ) (x : Sector) → c q 0 ≡ Some x → q ≢ p
   bare_apart q x there at = let none : c q 0 ≡ None = rw at may.free in cc (there, none)
 
-  same_shelves : shelf_places after ≡ shelf_places t
-  same_shelves = ap (λ (s : Shelf). map place_of s.in_use) renewed.shelf
+  same_overflows : overflow_places after ≡ overflow_places t
+  same_overflows = ap (λ (s : OverflowLists). map place_of s.in_use) renewed.overflow
 
   same_spots : (v : ℕ) → spots_of after v ≡ spots_of t v
-  same_spots v = ap (λ (s : Shelf). get_or s.spots v []) renewed.shelf
+  same_spots v = ap (λ (s : OverflowLists). get_or s.spots v []) renewed.overflow
 
   directory : MirrorsPlaces places jt after
   directory = let was = mirrors.directory in record {
@@ -55,45 +55,45 @@ module _ (places : ℕ) (c : Chart) (it : Layout) (t after : Tables) (p first : 
       | inl before ↦ in_use (rw (← is) at before)
       | inr status ↦ bare_apart it.status it.head mirrors.laid.chosen.here (sym mirrors.status.place ∙ sym status ∙ sym is)
     ];
-    not_shelf = λ q free. rw same_shelves (λ listed. elim (renewed.free q free) [
-      | inl before ↦ was.not_shelf q before listed
-      | inr status ↦ status_not_over places c it mirrors.laid (let over = (mirrors.shelf.overflow q listed).1 in rw (status ∙ mirrors.status.place) at over)
+    not_overflow = λ q free. rw same_overflows (λ listed. elim (renewed.free q free) [
+      | inl before ↦ was.not_overflow q before listed
+      | inr status ↦ status_not_over places c it mirrors.laid (let over = (mirrors.overflow.headed q listed).1 in rw (status ∙ mirrors.status.place) at over)
     ]);
   }
 
-  renewal_spares : (q n : ℕ) → IsSpare after q n → (IsSpare t q n ⊎ ((q ≡ p) × (first ≤ n) × (n < 256))) × (q ≡ p → n ≢ 0)
-  renewal_spares q n (small, inl (v, less, is, above)) =
+  renewal_counted : (q n : ℕ) → IsCountedClean after q n → (IsCountedClean t q n ⊎ ((q ≡ p) × (first ≤ n) × (n < 256))) × (q ≡ p → n ≢ 0)
+  renewal_counted q n (small, inl (v, less, is, above)) =
       let inside : v < places - 4 = omega (arith, less, directory.units) in
       let home : q ≡ slice_index t.places.current v = rw renewed.current at is in
       let from : first_log t v ≤ n = rw renewed.written at above in
       (inl (small, inl (v, omega (arith, inside, mirrors.directory.units), home, from)), λ _ none. omega (arith, above, none))
-  renewal_spares q n (small, inr (inl (its_first, is, above))) =
-      let listed : Contains t.shelf.in_use (q, its_first) = rw renewed.shelf at is in (
+  renewal_counted q n (small, inr (inl (its_first, is, above))) =
+      let listed : Contains t.overflow.in_use (q, its_first) = rw renewed.overflow at is in (
         inl (small, inr (inl (its_first, listed, above))),
-        λ at _. let over = (mirrors.shelf.overflow q (map_contains t.shelf.in_use q its_first listed)).1 in bare_apart q over.0 over.1 at,
+        λ at _. let over = (mirrors.overflow.headed q (map_contains t.overflow.in_use q its_first listed)).1 in bare_apart q over.0 over.1 at,
       )
-  renewal_spares q n (small, inr (inr (is, above))) =
+  renewal_counted q n (small, inr (inr (is, above))) =
       let from : first ≤ n = rw renewed.first at above in
       (inr (is ∙ renewed.place, from, small), λ _ none. omega (arith, some, from, none))
 
-  spare : (q n : ℕ) → IsSpare after q n → y q n ≡ None
-  spare q n is = let (was, apart) = renewal_spares q n is in
-      none_still c p 0 head q n (elim was [ inl before ↦ mirrors.spare q n before | inr (at, from, small) ↦ rw at (clean n from small) ]) apart
+  counted_clean : (q n : ℕ) → IsCountedClean after q n → y q n ≡ None
+  counted_clean q n is = let (was, apart) = renewal_counted q n is in
+      none_still c p 0 head q n (elim was [ inl before ↦ mirrors.counted_clean q n before | inr (at, from, small) ↦ rw at (clean n from small) ]) apart
 
   renewal_followed : Mirrors places y jt after
   renewal_followed = record {
     laid = (status_headers_switch places c it p head committed mirrors.laid may).0;
     directory = directory;
-    shelf = let was = mirrors.shelf in record {
-      units = ap (λ (s : Shelf). length s.spots) renewed.shelf ∙ was.units;
+    overflow = let was = mirrors.overflow in record {
+      units = ap (λ (s : OverflowLists). length s.spots) renewed.overflow ∙ was.units;
       listed = λ v q n x less live away. rw (same_spots v) (was.listed v q n x less (back v q n x live) away);
       only = λ v q n less is. let (away, x, live) = was.only v q n less (rw (same_spots v) at is) in (away, x, live_still c p 0 head may.free places v (it.units v).home (it.units v).head.generation q n x live);
       once = λ v less. rw (same_spots v) (was.once v less);
       few = λ v less. rw (same_spots v) (was.few v less);
-      shelved = λ v q n less is. rw same_shelves (was.shelved v q n less (rw (same_spots v) at is));
-      overflow = λ q is. let (within, over) = was.overflow q (rw same_shelves at is) in (within, (over.0, kept c p 0 head may.free q 0 over.0 over.1, over.2));
-      two = rw renewed.shelf was.two;
-      apart = rw same_shelves was.apart;
+      in_overflow = λ v q n less is. rw same_overflows (was.in_overflow v q n less (rw (same_spots v) at is));
+      headed = λ q is. let (within, over) = was.headed q (rw same_overflows at is) in (within, (over.0, kept c p 0 head may.free q 0 over.0 over.1, over.2));
+      two = rw renewed.overflow was.two;
+      apart = rw same_overflows was.apart;
     };
     status = record { place = renewed.place; generation = renewed.generation; numbers = numbers };
     numbers = let was = mirrors.numbers in record {
@@ -102,11 +102,11 @@ module _ (places : ℕ) (c : Chart) (it : Layout) (t after : Tables) (p first : 
       once = rw renewed.active was.once;
       waits = rw renewed.active wait_still;
     };
-    spare = spare;
+    counted_clean = counted_clean;
   }
 
 pub tables_follow_renewals : TablesFollowRenewals
 tables_follow_renewals places c it t after p first head committed mirrors may in_use renewed numbers wait_still below all_below some clean = renewal_followed places c it t after p first head committed mirrors may in_use renewed numbers wait_still below all_below some clean
 
-pub spares_follow_renewals : SparesFollowRenewals
-spares_follow_renewals places c it t after p first head committed mirrors may in_use renewed numbers wait_still below all_below some clean = renewal_spares places c it t after p first head committed mirrors may in_use renewed numbers wait_still below all_below some clean
+pub counted_follow_renewals : CountedFollowRenewals
+counted_follow_renewals places c it t after p first head committed mirrors may in_use renewed numbers wait_still below all_below some clean = renewal_counted places c it t after p first head committed mirrors may in_use renewed numbers wait_still below all_below some clean

@@ -7,7 +7,7 @@ use Rattle.ipl_meaning.specs.Layout.{Layout, Laid}
 use Rattle.ipl_meaning.specs.Stands.{Says, Stands}
 use Rattle.ipl_meaning.specs.Steps.{KeepsPages, with_unit, with_status, with_committed}
 use Rattle.ipl_meaning.specs.Laws.{KeptPagesKeepTheMap}
-use Rattle.ipl_meaning.specs.StandingLaws.{StandsAfterIdle, StandsAfterLogs, StandsAfterCommits, StandsAfterHeaders, StandsAfterMerges, StandsAfterRenewals, StandsAfterShelves}
+use Rattle.ipl_meaning.specs.StandingLaws.{StandsAfterIdle, StandsAfterLogs, StandsAfterCommits, StandsAfterHeaders, StandsAfterMerges, StandsAfterRenewals, StandsAfterOverflows}
 use Rattle.ipl_meaning.proofs.IdleLemmas.{idle_places_do_not_count}
 use Rattle.ipl_meaning.proofs.WaitLemmas.{log_sectors_wait}
 use Rattle.ipl_meaning.proofs.CommitLemmas.{commit_sectors_add}
@@ -50,5 +50,5 @@ stands_after_renewals places c it m p head committed laid says may keeps =
     let same = kept_numbers_keep_pages places c it p head committed keeps in
     stands_by places m c (with_sector c p 0 head) new new (status_headers_switch places c it p head committed laid may) (kept_pages_keep_the_map places c c it new m same says)
 
-pub stands_after_shelves : StandsAfterShelves
-stands_after_shelves places c it m p head laid says may = stands_by places m c (with_sector c p 0 head) it it (overflow_headers_wait places c it p head laid may) says
+pub stands_after_overflows : StandsAfterOverflows
+stands_after_overflows places c it m p head laid says may = stands_by places m c (with_sector c p 0 head) it it (overflow_headers_wait places c it p head laid may) says

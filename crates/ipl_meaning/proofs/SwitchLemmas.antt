@@ -7,8 +7,8 @@ use Rattle.ipl_format.specs.Record.{Record}
 use Rattle.ipl_format.specs.Page.{value_in}
 use Rattle.ipl_meaning.specs.Chart.{Chart, IsDataHeader, IsStatusHeader, IsLive}
 use Rattle.ipl_meaning.specs.Values.{counts_for, after_records}
-use Rattle.ipl_meaning.specs.Layout.{Shape, IsUnit, IsShelved, Layout, Laid, records_of}
-use Rattle.ipl_meaning.specs.Steps.{with_unit, with_status, MaySeal, MaySwitch, MayShelve}
+use Rattle.ipl_meaning.specs.Layout.{Shape, IsUnit, IsInOverflow, Layout, Laid, records_of}
+use Rattle.ipl_meaning.specs.Steps.{with_unit, with_status, MaySeal, MaySwitch, MayOpenOverflow}
 use Rattle.ipl_meaning.specs.Laws.{HeadersSwitch, MergesKeepPages, SameUnitsKeepPages, StatusHeadersSwitch, KeptNumbersKeepPages, OverflowHeadersWait}
 use Rattle.ipl_meaning.proofs.WaitLemmas.{waiting}
 use Rattle.ipl_meaning.proofs.PutLemmas.{new_or_old, pages_still, chosen_still, chosen_new, live_back, log_still, unit_still, status_still}
@@ -41,10 +41,10 @@ module _ (places : ℕ) (c : Chart) (it : Layout) (u p : ℕ) (fresh : Shape) (l
     | inr apart ↦ rw (ne_eqb v u apart) (unit_still c p 0 fresh.head may.free places v (it.units v) (λ _ fits. apart (sym fits.1 ∙ may.fits.1)) (back v (it.units v).home (it.units v).head.generation) (laid.each v low))
   ]
 
-  shelved : (v : ℕ) → v < places - 4 → All (IsShelved laid.shelves (jt.units v).home) (jt.units v).log
-  shelved v low = elim (cases_eq v u) [
+  in_overflow : (v : ℕ) → v < places - 4 → All (IsInOverflow laid.overflows (jt.units v).home) (jt.units v).log
+  in_overflow v low = elim (cases_eq v u) [
     | inl same ↦ rw (same, eq-eqb u u refl) (λ k none within away. absurd (away (may.gathered k none within ∙ sym may.home)))
-    | inr apart ↦ rw (ne_eqb v u apart) (laid.shelved v low)
+    | inr apart ↦ rw (ne_eqb v u apart) (laid.in_overflow v low)
   ]
 
   switched : Laid places y jt
@@ -55,9 +55,9 @@ module _ (places : ℕ) (c : Chart) (it : Layout) (u p : ℕ) (fresh : Shape) (l
     counts = laid.counts;
     commits = status_still c p 0 fresh.head may.free (λ is. omega (arith, may.fits.0, is)) it.status it.head.generation it.committed laid.commits;
     each = each_unit;
-    shelves = laid.shelves;
+    overflows = laid.overflows;
     two = laid.two;
-    shelved = shelved;
+    in_overflow = in_overflow;
   }
 
 pub headers_switch : HeadersSwitch
@@ -93,9 +93,9 @@ module _ (places : ℕ) (c : Chart) (it : Layout) (p : ℕ) (head : Sector) (com
     commits = status_still c p 0 head may.free (λ is. omega (arith, may.fits, is)) p head.generation committed may.commits;
     each = λ v low. unit_still c p 0 head may.free places v (it.units v) (λ _ fits. omega (arith, may.fits, fits.0))
         (live_back c p 0 head may.free no_overflow_status places v (it.units v).home (it.units v).head.generation (λ is _. omega (arith, may.fits, is))) (laid.each v low);
-    shelves = laid.shelves;
+    overflows = laid.overflows;
     two = laid.two;
-    shelved = laid.shelved;
+    in_overflow = laid.in_overflow;
   }
 
 pub status_headers_switch : StatusHeadersSwitch
@@ -117,13 +117,13 @@ kept_numbers_keep_pages places c it p head committed keeps u page now low few wa
 }
 
 -- ---- Overflow headers
-module _ (places : ℕ) (c : Chart) (it : Layout) (p : ℕ) (head : Sector) (laid : Laid places c it) (may : MayShelve places c it p head) where
+module _ (places : ℕ) (c : Chart) (it : Layout) (p : ℕ) (head : Sector) (laid : Laid places c it) (may : MayOpenOverflow places c it p head) where
   abbrev z : Chart
   z = with_sector c p 0 head
 
   -- what is live with the new header was live before
-  pub live_before_shelf : (v : ℕ) → v < places - 4 → (q t : ℕ) (x : Sector) → IsLive z places v (it.units v).home (it.units v).head.generation q t x → IsLive c places v (it.units v).home (it.units v).head.generation q t x
-  live_before_shelf v low q t x live = elim (new_or_old c p 0 head may.free q t x live.here) [
+  pub live_before_overflow : (v : ℕ) → v < places - 4 → (q t : ℕ) (x : Sector) → IsLive z places v (it.units v).home (it.units v).head.generation q t x → IsLive c places v (it.units v).home (it.units v).head.generation q t x
+  live_before_overflow v low q t x live = elim (new_or_old c p 0 head may.free q t x live.here) [
     | inl new ↦ absurd (omega (arith, may.kind, live.kind, ap (λ (s : Sector). s.kind) new.2))
     | inr old ↦ record {
       here = old;
@@ -148,10 +148,10 @@ module _ (places : ℕ) (c : Chart) (it : Layout) (p : ℕ) (head : Sector) (lai
     chosen = chosen_still c p 0 head may.free places IsStatusHeader it.status it.head (λ _ is. omega (arith, may.kind, is)) laid.chosen;
     counts = laid.counts;
     commits = status_still c p 0 head may.free (λ is. omega (arith, may.kind, is)) it.status it.head.generation it.committed laid.commits;
-    each = λ v low. unit_still c p 0 head may.free places v (it.units v) (λ _ fits. omega (arith, may.kind, fits.0)) (live_before_shelf v low) (laid.each v low);
-    shelves = laid.shelves;
+    each = λ v low. unit_still c p 0 head may.free places v (it.units v) (λ _ fits. omega (arith, may.kind, fits.0)) (live_before_overflow v low) (laid.each v low);
+    overflows = laid.overflows;
     two = laid.two;
-    shelved = laid.shelved;
+    in_overflow = laid.in_overflow;
   }
 
 pub overflow_headers_wait : OverflowHeadersWait

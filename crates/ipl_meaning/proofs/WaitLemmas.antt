@@ -11,7 +11,7 @@ use Rattle.ipl_format.specs.Record.{Record}
 use Rattle.ipl_format.specs.Page.{value_in}
 use Rattle.ipl_meaning.specs.Chart.{Chart, IsDataHeader, IsStatusHeader}
 use Rattle.ipl_meaning.specs.Values.{counts_for, after_records}
-use Rattle.ipl_meaning.specs.Layout.{Shape, Entry, IsEntry, IsListed, IsShelved, IsBelow, IsUnit, Layout, Laid, records_of}
+use Rattle.ipl_meaning.specs.Layout.{Shape, Entry, IsEntry, IsListed, IsInOverflow, IsBelow, IsUnit, Layout, Laid, records_of}
 use Rattle.ipl_meaning.specs.Stands.{Shows}
 use Rattle.ipl_meaning.specs.Steps.{with_log, grown, KeepsPages, MayLog}
 use Rattle.ipl_meaning.specs.Laws.{LogSectorsWait}
@@ -95,13 +95,13 @@ module _ (places : ℕ) (c : Chart) (it : Layout) (u p s : ℕ) (sector : Sector
         (live_back c p s sector may.free (λ none. absurd (no_header none)) places v (it.units v).home (it.units v).head.generation (λ _ is. apart (sym is ∙ may.of_unit))) (laid.each v low))
   ]
 
-  shelved_still : (v : ℕ) → v < places - 4 → All (IsShelved may.shelves (it.units v).home) (it.units v).log
-  shelved_still v low k none within away = let e = get_or (it.units v).log k none in may.shelved v e.place e.number e.sector low ((laid.each v low).log.each k none within).live away
+  in_overflow_still : (v : ℕ) → v < places - 4 → All (IsInOverflow may.overflows (it.units v).home) (it.units v).log
+  in_overflow_still v low k none within away = let e = get_or (it.units v).log k none in may.in_overflow v e.place e.number e.sector low ((laid.each v low).log.each k none within).live away
 
-  shelved : (v : ℕ) → v < places - 4 → All (IsShelved may.shelves (jt.units v).home) (jt.units v).log
-  shelved v low = elim (cases_eq v u) [
-    | inl same ↦ rw (same, eq-eqb u u refl) (All-push (IsShelved may.shelves was.home) was.log entry (shelved_still u may.unit) may.shelved_here)
-    | inr apart ↦ rw (ne_eqb v u apart) (shelved_still v low)
+  in_overflow : (v : ℕ) → v < places - 4 → All (IsInOverflow may.overflows (jt.units v).home) (jt.units v).log
+  in_overflow v low = elim (cases_eq v u) [
+    | inl same ↦ rw (same, eq-eqb u u refl) (All-push (IsInOverflow may.overflows was.home) was.log entry (in_overflow_still u may.unit) may.in_overflow_here)
+    | inr apart ↦ rw (ne_eqb v u apart) (in_overflow_still v low)
   ]
 
   same_values : (page slot : ℕ) (base : Option (List ℕ)) → after_records it.committed page slot (records_of (was.log ++ entry ∷ [])) base ≡ after_records it.committed page slot (records_of was.log) base
@@ -117,9 +117,9 @@ module _ (places : ℕ) (c : Chart) (it : Layout) (u p s : ℕ) (sector : Sector
     counts = laid.counts;
     commits = status_still c p s sector may.free (λ is. omega (arith, is, may.kind)) it.status it.head.generation it.committed laid.commits;
     each = each_unit;
-    shelves = may.shelves;
+    overflows = may.overflows;
     two = may.two;
-    shelved = shelved;
+    in_overflow = in_overflow;
   }
 
   pages_still : KeepsPages places c it after jt

@@ -10,31 +10,31 @@ use Rattle.ipl_meaning.specs.Layout.{Layout}
 use Rattle.ipl_meaning.specs.Rests.{now}
 use Rattle.ipl_meaning.specs.Steps.{IsIdle}
 use Rattle.ipl_meaning.specs.Mirrors.{Mirrors}
-use Rattle.ipl_meaning.specs.Tables.{Tables, IsSpare, shelf_places}
-use Rattle.ipl_meaning.specs.TableSteps.{SparesShrink, SparesMove}
+use Rattle.ipl_meaning.specs.Tables.{Tables, IsCountedClean, overflow_places}
+use Rattle.ipl_meaning.specs.TableSteps.{CountedShrink, CountedMove}
 use Rattle.ipl_meaning.specs.Agrees.{IsTidy, Agrees}
 use Rattle.ipl_meaning.specs.StoryLaws.{IsUntouched}
 
 -- a sector that is counted as clean is blank, and nothing was done to it since the last barrier
-abbrev pub SparesAreUntouched : Type 0
-SparesAreUntouched = (h : History) (t : Tables) (p s : ℕ) → IsTidy h.story t → IsSpare t p s → IsUntouched h p s
+abbrev pub CountedAreUntouched : Type 0
+CountedAreUntouched = (h : History) (t : Tables) (p s : ℕ) → IsTidy h.story t → IsCountedClean t p s → IsUntouched h p s
 
 -- so it may be programmed
-abbrev pub SparesMayBeProgrammed : Type 0
-SparesMayBeProgrammed =
-    (story : Story) (t : Tables) (p s : ℕ) (bytes : List ℕ) → IsTidy story t → IsSpare t p s → IsLawful story
+abbrev pub CountedMayBeProgrammed : Type 0
+CountedMayBeProgrammed =
+    (story : Story) (t : Tables) (p s : ℕ) (bytes : List ℕ) → IsTidy story t → IsCountedClean t p s → IsLawful story
     → IsLawful (Program p s bytes ∷ story)
 
 -- and what is counted as clean without it is clean
 abbrev pub TidyAfterPrograms : Type 0
 TidyAfterPrograms =
-    (story : Story) (t after : Tables) (p s : ℕ) (bytes : List ℕ) → IsTidy story t → SparesShrink t after p s
+    (story : Story) (t after : Tables) (p s : ℕ) (bytes : List ℕ) → IsTidy story t → CountedShrink t after p s
     → IsTidy (Program p s bytes ∷ story) after
 
 -- also where clean sectors of a new place come to be counted
 abbrev pub TidyAfterMoves : Type 0
 TidyAfterMoves =
-    (story : Story) (t after : Tables) (p s from : ℕ) (bytes : List ℕ) → IsTidy story t → SparesMove t after p s from
+    (story : Story) (t after : Tables) (p s from : ℕ) (bytes : List ℕ) → IsTidy story t → CountedMove t after p s from
     → ((n : ℕ) → from ≤ n → n < 256 → age story p n ≡ Clean) → IsTidy (Program p s bytes ∷ story) after
 
 -- it stays so with a barrier
@@ -43,7 +43,7 @@ TidyAfterBarriers = (story : Story) (t : Tables) → IsTidy story t → IsTidy (
 
 -- and with an erase of a place that has none of them
 abbrev pub TidyAfterErases : Type 0
-TidyAfterErases = (story : Story) (t : Tables) (p : ℕ) → IsTidy story t → ((s : ℕ) → ¬ IsSpare t p s) → IsTidy (Erase p ∷ story) t
+TidyAfterErases = (story : Story) (t : Tables) (p : ℕ) → IsTidy story t → ((s : ℕ) → ¬ IsCountedClean t p s) → IsTidy (Erase p ∷ story) t
 
 -- after a program the tables agree where they mirror the chart with its sector
 abbrev pub ProgramsAgree : Type 0
@@ -73,4 +73,4 @@ SaysAgree =
 abbrev pub ErasesAgree : Type 0
 ErasesAgree =
     (places : ℕ) (h : History) (it : Layout) (t : Tables) (p : ℕ) → Agrees places h it t
-    → IsIdle places (now h) it p → ¬ Contains (shelf_places t) p → Agrees places (adds (Erase p) h) it t
+    → IsIdle places (now h) it p → ¬ Contains (overflow_places t) p → Agrees places (adds (Erase p) h) it t

@@ -22,7 +22,7 @@ first_tables places = record {
     in_use = replicate (places - 4 + 1) true ++ replicate 3 false;
     written = replicate (places - 4) 15;
   };
-  shelf = record { spots = replicate (places - 4) []; in_use = [] };
+  overflow = record { spots = replicate (places - 4) []; in_use = [] };
   status = record { place = places - 4; generation = places - 4 + 1; numbers = []; first = 256 };
   next = places - 4 + 2;
   active = [];

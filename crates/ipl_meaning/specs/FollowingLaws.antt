@@ -9,7 +9,7 @@ use Rattle.ipl_meaning.specs.Found.{MentionsBelow}
 use Rattle.ipl_meaning.specs.Steps.{with_log, with_committed, entry_at, MayCommit}
 use Rattle.ipl_meaning.specs.Tables.{Tables, spots_of, first_log}
 use Rattle.ipl_meaning.specs.Mirrors.{AreApart, Mirrors}
-use Rattle.ipl_meaning.specs.TableSteps.{IsFreshLog, after_home_log, after_shelf_log, after_commit, SparesShrink}
+use Rattle.ipl_meaning.specs.TableSteps.{IsFreshLog, after_home_log, after_overflow_log, after_commit, CountedShrink}
 
 -- the tables mirror the chart after a log sector at home
 abbrev pub TablesFollowHomeLogs : Type 0
@@ -21,14 +21,14 @@ TablesFollowHomeLogs =
     Mirrors places (with_sector c p s sector) (with_log it u (entry_at p s sector records)) (after_home_log t u next)
 
 -- after one in an overflow place
-abbrev pub TablesFollowShelfLogs : Type 0
-TablesFollowShelfLogs =
+abbrev pub TablesFollowOverflowLogs : Type 0
+TablesFollowOverflowLogs =
     (places : ℕ) (c : Chart) (it : Layout) (t : Tables) (u p s next : ℕ) (sector : Sector) (records : List Record)
     → Mirrors places c it t → u < places - 4
-    → Contains t.shelf.in_use (p, s) → 1 ≤ s → s < 256 → length (spots_of t u) < 16 → IsFreshLog it t u sector records
+    → Contains t.overflow.in_use (p, s) → 1 ≤ s → s < 256 → length (spots_of t u) < 16 → IsFreshLog it t u sector records
     → t.next ≤ next → MentionsBelow next sector
     → Mirrors places (with_sector c p s sector) (with_log it u (entry_at p s sector records))
-    (after_shelf_log t u p s next)
+    (after_overflow_log t u p s next)
 
 -- after a commit sector
 abbrev pub TablesFollowCommits : Type 0
@@ -41,9 +41,9 @@ TablesFollowCommits =
     (after_commit t numbers next active)
 
 -- what is counted as clean shrinks with each of these
-abbrev pub SparesFollow : Type 0
-SparesFollow =
+abbrev pub CountedFollow : Type 0
+CountedFollow =
     (places : ℕ) (c : Chart) (it : Layout) (t : Tables) → Mirrors places c it t
-    → ((u next : ℕ) → u < places - 4 → SparesShrink t (after_home_log t u next) (slice_index t.places.current u) (first_log t u))
-    × ((u p s next : ℕ) → Contains t.shelf.in_use (p, s) → SparesShrink t (after_shelf_log t u p s next) p s)
-    × ((numbers active : List ℕ) (next : ℕ) → SparesShrink t (after_commit t numbers next active) it.status t.status.first)
+    → ((u next : ℕ) → u < places - 4 → CountedShrink t (after_home_log t u next) (slice_index t.places.current u) (first_log t u))
+    × ((u p s next : ℕ) → Contains t.overflow.in_use (p, s) → CountedShrink t (after_overflow_log t u p s next) p s)
+    × ((numbers active : List ℕ) (next : ℕ) → CountedShrink t (after_commit t numbers next active) it.status t.status.first)

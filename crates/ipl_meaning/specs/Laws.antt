@@ -11,7 +11,7 @@ use Rattle.ipl_meaning.specs.Allowed.{IsAllowed}
 use Rattle.ipl_meaning.specs.Values.{Values}
 use Rattle.ipl_meaning.specs.Stands.{Shows, Says, Stands}
 use Rattle.ipl_meaning.specs.Formatted.{formatted}
-use Rattle.ipl_meaning.specs.Steps.{SameBut, SameWithin, KeepsPages, with_unit, with_log, with_status, with_committed, entry_at, IsIdle, ComesToNothing, MayLog, MayCommit, MaySeal, IsSameUnit, IsMerged, MaySwitch, KeepsNumbers, MayShelve}
+use Rattle.ipl_meaning.specs.Steps.{SameBut, SameWithin, KeepsPages, with_unit, with_log, with_status, with_committed, entry_at, IsIdle, ComesToNothing, MayLog, MayCommit, MaySeal, IsSameUnit, IsMerged, MaySwitch, KeepsNumbers, MayOpenOverflow}
 
 -- a chart stands for one map at most
 abbrev pub StandsOnce : Type 0
@@ -111,7 +111,7 @@ KeptNumbersKeepPages =
 abbrev pub OverflowHeadersWait : Type 0
 OverflowHeadersWait =
     (places : ℕ) (c : Chart) (it : Layout) (p : ℕ) (head : Sector)
-    → Laid places c it → MayShelve places c it p head
+    → Laid places c it → MayOpenOverflow places c it p head
     → Laid places (with_sector c p 0 head) it × KeepsPages places c it (with_sector c p 0 head) it
 
 -- a formatted chip stands for the empty map

@@ -53,8 +53,8 @@ abbrev pub IsListed : List (ℕ × ℕ) → ℕ → Entry → Type 0
 IsListed spots home e = e.place ≢ home → Contains spots (e.place, e.number)
 
 -- the entry stands at home, or in one of these places
-abbrev pub IsShelved : List ℕ → ℕ → Entry → Type 0
-IsShelved shelves home e = e.place ≢ home → Contains shelves e.place
+abbrev pub IsInOverflow : List ℕ → ℕ → Entry → Type 0
+IsInOverflow overflows home e = e.place ≢ home → Contains overflows e.place
 
 -- the log has exactly the unit's live sectors
 pub record IsLog (c : Chart) (places u home generation : ℕ) (log : List Entry) : Type 0 where
@@ -109,9 +109,9 @@ pub record Laid (places : ℕ) (c : Chart) (it : Layout) : Type 0 where
   pub commits : IsStatus c it.status it.head.generation it.committed
   pub each : (u : ℕ) → u < places - 4 → IsUnit c places u (it.units u)
   -- at most two overflow places hold live sectors: these are all
-  pub shelves : List ℕ
-  pub two : length shelves ≤ 2
-  pub shelved : (u : ℕ) → u < places - 4 → All (IsShelved shelves (it.units u).home) (it.units u).log
+  pub overflows : List ℕ
+  pub two : length overflows ≤ 2
+  pub in_overflow : (u : ℕ) → u < places - 4 → All (IsInOverflow overflows (it.units u).home) (it.units u).log
 
 -- the sector is live for the unit, as it is laid out
 abbrev pub IsLiveIn : Chart → ℕ → Layout → ℕ → ℕ → ℕ → Sector → Type 0

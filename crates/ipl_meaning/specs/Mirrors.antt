@@ -4,7 +4,7 @@ use Rattle.ipl_format.specs.Sector.{Sector}
 use Rattle.ipl_meaning.specs.Chart.{Chart, IsOverflow}
 use Rattle.ipl_meaning.specs.Layout.{Layout, Laid, IsLiveIn}
 use Rattle.ipl_meaning.specs.Found.{IsAbove}
-use Rattle.ipl_meaning.specs.Tables.{IsFree, Tables, spots_of, shelf_places, IsSpare}
+use Rattle.ipl_meaning.specs.Tables.{IsFree, Tables, spots_of, overflow_places, IsCountedClean}
 
 -- the two are not the same
 abbrev pub AreApart : {X : Type 0} → X → X → Type 0
@@ -18,21 +18,21 @@ pub record MirrorsPlaces (places : ℕ) (it : Layout) (t : Tables) : Type 0 wher
   pub current : (u : ℕ) → u < places - 4 → slice_index t.places.current u ≡ (it.units u).home
   pub not_home : (p : ℕ) → IsFree t.places p → (u : ℕ) → u < places - 4 → (it.units u).home ≢ p
   pub not_status : (p : ℕ) → IsFree t.places p → it.status ≢ p
-  pub not_shelf : (p : ℕ) → IsFree t.places p → ¬ Contains (shelf_places t) p
+  pub not_overflow : (p : ℕ) → IsFree t.places p → ¬ Contains (overflow_places t) p
 
 -- the overflow lists have exactly the live sectors that stand elsewhere
-pub record MirrorsShelf (places : ℕ) (c : Chart) (it : Layout) (t : Tables) : Type 0 where
-  pub units : length t.shelf.spots ≡ places - 4
+pub record MirrorsOverflow (places : ℕ) (c : Chart) (it : Layout) (t : Tables) : Type 0 where
+  pub units : length t.overflow.spots ≡ places - 4
   pub listed : (u p s : ℕ) (sector : Sector) → u < places - 4 → IsLiveIn c places it u p s sector
       → p ≢ (it.units u).home → Contains (spots_of t u) (p, s)
   pub only : (u p s : ℕ) → u < places - 4 → Contains (spots_of t u) (p, s)
       → (p ≢ (it.units u).home) × (sector : Sector) × IsLiveIn c places it u p s sector
   pub once : (u : ℕ) → u < places - 4 → AllPairs AreApart (spots_of t u)
   pub few : (u : ℕ) → u < places - 4 → length (spots_of t u) ≤ 16
-  pub shelved : (u p s : ℕ) → u < places - 4 → Contains (spots_of t u) (p, s) → Contains (shelf_places t) p
-  pub overflow : (p : ℕ) → Contains (shelf_places t) p → (p < places) × IsOverflow c p
-  pub two : length t.shelf.in_use ≤ 2
-  pub apart : AllPairs AreApart (shelf_places t)
+  pub in_overflow : (u p s : ℕ) → u < places - 4 → Contains (spots_of t u) (p, s) → Contains (overflow_places t) p
+  pub headed : (p : ℕ) → Contains (overflow_places t) p → (p < places) × IsOverflow c p
+  pub two : length t.overflow.in_use ≤ 2
+  pub apart : AllPairs AreApart (overflow_places t)
 
 -- the status table has the status place, its generation and the committed numbers
 pub record MirrorsStatus (it : Layout) (t : Tables) : Type 0 where
@@ -51,8 +51,8 @@ pub record MirrorsNumbers (places : ℕ) (c : Chart) (it : Layout) (t : Tables) 
 pub record Mirrors (places : ℕ) (c : Chart) (it : Layout) (t : Tables) : Type 0 where
   pub laid : Laid places c it
   pub directory : MirrorsPlaces places it t
-  pub shelf : MirrorsShelf places c it t
+  pub overflow : MirrorsOverflow places c it t
   pub status : MirrorsStatus it t
   pub numbers : MirrorsNumbers places c it t
   -- no sector that is counted as clean checks
-  pub spare : (p s : ℕ) → IsSpare t p s → c p s ≡ None
+  pub counted_clean : (p s : ℕ) → IsCountedClean t p s → c p s ≡ None

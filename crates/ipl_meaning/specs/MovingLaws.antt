@@ -5,16 +5,16 @@ use Rattle.ipl_format.specs.Sector.{Sector}
 use Rattle.ipl_meaning.specs.Chart.{Chart}
 use Rattle.ipl_meaning.specs.Layout.{Shape, Layout}
 use Rattle.ipl_meaning.specs.Found.{MentionsBelow, IsPlaceBelow}
-use Rattle.ipl_meaning.specs.Steps.{SameBut, with_unit, with_status, IsIdle, MaySwitch, MayShelve}
-use Rattle.ipl_meaning.specs.Tables.{IsFree, Tables, shelf_places}
+use Rattle.ipl_meaning.specs.Steps.{SameBut, with_unit, with_status, IsIdle, MaySwitch, MayOpenOverflow}
+use Rattle.ipl_meaning.specs.Tables.{IsFree, Tables, overflow_places}
 use Rattle.ipl_meaning.specs.Mirrors.{Mirrors}
-use Rattle.ipl_meaning.specs.TableSteps.{IsReady, with_next, taken, IsMoved, IsRenewed, with_shelf, SparesMove}
+use Rattle.ipl_meaning.specs.TableSteps.{IsReady, with_next, taken, IsMoved, IsRenewed, with_overflow, CountedMove}
 
 -- a place that is no one's may change, but for a header, and numbers may be drawn
 abbrev pub TablesFollowIdlePlaces : Type 0
 TablesFollowIdlePlaces =
     (places : ℕ) (c : Chart) (it : Layout) (t : Tables) (p : ℕ) (y : Chart) (next : ℕ) → Mirrors places c it t
-    → IsIdle places c it p → ¬ Contains (shelf_places t) p → SameBut p c y → y p 0 ≡ None → t.next ≤ next
+    → IsIdle places c it p → ¬ Contains (overflow_places t) p → SameBut p c y → y p 0 ≡ None → t.next ≤ next
     → Mirrors places y it (with_next t next)
 
 -- a place may be taken
@@ -43,37 +43,37 @@ TablesFollowRenewals =
     → Mirrors places (with_sector c p 0 head) (with_status it p head committed) after
 
 -- after the header of a new overflow place
-abbrev pub TablesFollowShelves : Type 0
-TablesFollowShelves =
+abbrev pub TablesFollowOverflows : Type 0
+TablesFollowOverflows =
     (places : ℕ) (c : Chart) (it : Layout) (t : Tables) (p next : ℕ) (head : Sector) → Mirrors places c it t
-    → MayShelve places c it p head → p < places → ¬ IsFree t.places p → length t.shelf.in_use < 2
+    → MayOpenOverflow places c it p head → p < places → ¬ IsFree t.places p → length t.overflow.in_use < 2
     → t.next ≤ next → MentionsBelow next head → ((s : ℕ) → c p s ≡ None)
-    → Mirrors places (with_sector c p 0 head) it (with_shelf t p next)
+    → Mirrors places (with_sector c p 0 head) it (with_overflow t p next)
 
 -- what is counted as clean after a merge
-abbrev pub SparesFollowMerges : Type 0
-SparesFollowMerges =
+abbrev pub CountedFollowMerges : Type 0
+CountedFollowMerges =
     (places : ℕ) (c : Chart) (it : Layout) (t after : Tables) (u p used : ℕ) (fresh : Shape) → Mirrors places c it t
     → u < places - 4 → IsReady places c t u p fresh → ¬ IsFree t.places p
     → IsMoved t after u p used → MentionsBelow after.next fresh.head → IsPlaceBelow after.next c p
     → ((s : ℕ) → 241 + used ≤ s → s < 256 → c p s ≡ None)
-    → SparesMove t after p 0 (241 + used)
+    → CountedMove t after p 0 (241 + used)
 
 -- after a renewal
-abbrev pub SparesFollowRenewals : Type 0
-SparesFollowRenewals =
+abbrev pub CountedFollowRenewals : Type 0
+CountedFollowRenewals =
     (places : ℕ) (c : Chart) (it : Layout) (t after : Tables) (p first : ℕ) (head : Sector) (committed : ℕ → Bool)
     → Mirrors places c it t → MaySwitch places c p head committed → ¬ IsFree t.places p
     → IsRenewed t after p head.generation first
     → ((tid : ℕ) → IsTrue (committed tid) ↔ Contains after.status.numbers tid) → All (λ n. committed n ≡ false) t.active
     → MentionsBelow after.next head → IsPlaceBelow after.next c p → 1 ≤ first
     → ((s : ℕ) → first ≤ s → s < 256 → c p s ≡ None)
-    → SparesMove t after p 0 first
+    → CountedMove t after p 0 first
 
 -- after a new overflow place
-abbrev pub SparesFollowShelves : Type 0
-SparesFollowShelves =
+abbrev pub CountedFollowOverflows : Type 0
+CountedFollowOverflows =
     (places : ℕ) (c : Chart) (it : Layout) (t : Tables) (p next : ℕ) (head : Sector) → Mirrors places c it t
-    → MayShelve places c it p head → p < places → ¬ IsFree t.places p → length t.shelf.in_use < 2
+    → MayOpenOverflow places c it p head → p < places → ¬ IsFree t.places p → length t.overflow.in_use < 2
     → t.next ≤ next → MentionsBelow next head → ((s : ℕ) → c p s ≡ None)
-    → SparesMove t (with_shelf t p next) p 0 1
+    → CountedMove t (with_overflow t p next) p 0 1

@@ -7,7 +7,7 @@ use Rattle.ipl_format.specs.Record.{Record}
 use Rattle.ipl_meaning.specs.Chart.{Chart}
 use Rattle.ipl_meaning.specs.Layout.{Shape, Layout, Laid}
 use Rattle.ipl_meaning.specs.Stands.{Says, Stands}
-use Rattle.ipl_meaning.specs.Steps.{SameBut, IsIdle, ComesToNothing, with_unit, with_committed, MayLog, MayCommit, MaySeal, IsMerged, MaySwitch, KeepsNumbers, MayShelve}
+use Rattle.ipl_meaning.specs.Steps.{SameBut, IsIdle, ComesToNothing, with_unit, with_committed, MayLog, MayCommit, MaySeal, IsMerged, MaySwitch, KeepsNumbers, MayOpenOverflow}
 
 -- for the same map, where a place changed at which nothing counts
 abbrev pub StandsAfterIdle : Type 0
@@ -49,7 +49,7 @@ StandsAfterRenewals =
     → Stands places (with_sector c p 0 head) m
 
 -- with an overflow header, for the same map
-abbrev pub StandsAfterShelves : Type 0
-StandsAfterShelves =
+abbrev pub StandsAfterOverflows : Type 0
+StandsAfterOverflows =
     (places : ℕ) (c : Chart) (it : Layout) (m : Map) (p : ℕ) (head : Sector) → Laid places c it → Says places c it m
-    → MayShelve places c it p head → Stands places (with_sector c p 0 head) m
+    → MayOpenOverflow places c it p head → Stands places (with_sector c p 0 head) m

@@ -102,11 +102,11 @@ pub record MayLog (places : ℕ) (c : Chart) (it : Layout) (u p s : ℕ) (sector
       → Contains spots (q, t)
   pub listed_here : p ≢ (it.units u).home → Contains spots (p, s)
   -- and these places are all that hold live sectors elsewhere
-  pub shelves : List ℕ
-  pub two : length shelves ≤ 2
-  pub shelved : (v q t : ℕ) (other : Sector) → v < places - 4 → IsLiveIn c places it v q t other
-      → q ≢ (it.units v).home → Contains shelves q
-  pub shelved_here : p ≢ (it.units u).home → Contains shelves p
+  pub overflows : List ℕ
+  pub two : length overflows ≤ 2
+  pub in_overflow : (v q t : ℕ) (other : Sector) → v < places - 4 → IsLiveIn c places it v q t other
+      → q ≢ (it.units v).home → Contains overflows q
+  pub in_overflow_here : p ≢ (it.units u).home → Contains overflows p
 
 -- ---- commit sectors
 
@@ -173,7 +173,7 @@ KeepsNumbers places it committed = (u : ℕ) → u < places - 4
 -- ---- overflow headers
 
 -- an overflow header that may be put on the place: no log sector there comes to count
-pub record MayShelve (places : ℕ) (c : Chart) (it : Layout) (p : ℕ) (head : Sector) : Type 0 where
+pub record MayOpenOverflow (places : ℕ) (c : Chart) (it : Layout) (p : ℕ) (head : Sector) : Type 0 where
   pub free : c p 0 ≡ None
   pub kind : IsOverflowHeader head
   pub no_log : (u s : ℕ) (sector : Sector) → u < places - 4 → c p s ≡ Some sector → sector.kind ≡ 5 → sector.unit ≡ u

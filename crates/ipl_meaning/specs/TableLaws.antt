@@ -7,7 +7,7 @@ use Rattle.ipl_format.specs.Header.{SpellsUnits}
 use Rattle.ipl_meaning.specs.Chart.{Chart, IsStatusHeader, IsOverflowHeader}
 use Rattle.ipl_meaning.specs.Layout.{Shape, Layout, IsStatus}
 use Rattle.ipl_meaning.specs.Formatted.{formatted}
-use Rattle.ipl_meaning.specs.Steps.{IsIdle, MayLog, MayCommit, MaySeal, MaySwitch, MayShelve}
+use Rattle.ipl_meaning.specs.Steps.{IsIdle, MayLog, MayCommit, MaySeal, MaySwitch, MayOpenOverflow}
 use Rattle.ipl_meaning.specs.Tables.{IsFree, Tables, spots_of, first_log}
 use Rattle.ipl_meaning.specs.Mirrors.{Mirrors}
 use Rattle.ipl_meaning.specs.TableSteps.{IsFreshLog, IsReady}
@@ -31,7 +31,7 @@ abbrev pub LogSectorsMayGoElsewhere : Type 0
 LogSectorsMayGoElsewhere =
     (places : ℕ) (c : Chart) (it : Layout) (t : Tables) (u p s : ℕ) (sector : Sector) (records : List Record)
     → Mirrors places c it t → u < places - 4
-    → Contains t.shelf.in_use (p, s) → 1 ≤ s → s < 256 → length (spots_of t u) < 16 → IsFreshLog it t u sector records
+    → Contains t.overflow.in_use (p, s) → 1 ≤ s → s < 256 → length (spots_of t u) < 16 → IsFreshLog it t u sector records
     → MayLog places c it u p s sector records
 
 -- a commit sector may go to the first clean sector of the status place
@@ -64,7 +64,7 @@ StatusHeadersMayGo =
 abbrev pub OverflowHeadersMayGo : Type 0
 OverflowHeadersMayGo =
     (places : ℕ) (c : Chart) (it : Layout) (p : ℕ) (head : Sector) → ((s : ℕ) → c p s ≡ None) → IsOverflowHeader head
-    → MayShelve places c it p head
+    → MayOpenOverflow places c it p head
 
 -- the first tables mirror a formatted chip
 abbrev pub FirstTablesMirror : Type 0

@@ -5,7 +5,7 @@ use Rattle.ipl_format.specs.Record.{Record, SpellsLog}
 use Rattle.ipl_format.specs.Header.{SpellsDataHeader}
 use Rattle.ipl_meaning.specs.Chart.{Chart, IsDataHeader, IsLive}
 use Rattle.ipl_meaning.specs.Layout.{Entry, Shape, Layout, AllRise, IsEntry}
-use Rattle.ipl_meaning.specs.Tables.{IsFree, with_use, with_written, Tables, spots_of, shelf_places, IsSpare}
+use Rattle.ipl_meaning.specs.Tables.{IsFree, with_use, with_written, Tables, spots_of, overflow_places, IsCountedClean}
 use Rattle.ipl_meaning.specs.Mirrors.{AreApart}
 
 -- a log sector as the counter and the open sessions make it
@@ -34,17 +34,17 @@ pub record IsReady (places : ℕ) (c : Chart) (t : Tables) (u p : ℕ) (fresh : 
 
 -- a log sector was written to the unit's first clean one
 abbrev pub after_home_log : Tables → ℕ → ℕ → Tables
-after_home_log t u next = record { places = with_written t.places u; shelf = t.shelf; status = t.status; next = next; active = t.active }
+after_home_log t u next = record { places = with_written t.places u; overflow = t.overflow; status = t.status; next = next; active = t.active }
 
 -- the overflow place's first clean sector is the next one now
 abbrev pub with_next_spot : ℕ → ℕ × ℕ → ℕ × ℕ
 with_next_spot p it = if it.0 == p then (it.0, it.1 + 1) else it
 
 -- a log sector of the unit was written to this spot of an overflow place
-abbrev pub after_shelf_log : Tables → ℕ → ℕ → ℕ → ℕ → Tables
-after_shelf_log t u p s next = record {
+abbrev pub after_overflow_log : Tables → ℕ → ℕ → ℕ → ℕ → Tables
+after_overflow_log t u p s next = record {
   places = t.places;
-  shelf = record { spots = slice_set t.shelf.spots u (spots_of t u ++ (p, s) ∷ []); in_use = map (with_next_spot p) t.shelf.in_use };
+  overflow = record { spots = slice_set t.overflow.spots u (spots_of t u ++ (p, s) ∷ []); in_use = map (with_next_spot p) t.overflow.in_use };
   status = t.status;
   next = next;
   active = t.active;
@@ -54,7 +54,7 @@ after_shelf_log t u p s next = record {
 abbrev pub after_commit : Tables → List ℕ → ℕ → List ℕ → Tables
 after_commit t numbers next active = record {
   places = t.places;
-  shelf = t.shelf;
+  overflow = t.overflow;
   status = record {
     place = t.status.place;
     generation = t.status.generation;
@@ -66,22 +66,22 @@ after_commit t numbers next active = record {
 }
 
 -- what is counted as clean after a step was so before, and is not the sector just written
-abbrev pub SparesShrink : Tables → Tables → ℕ → ℕ → Type 0
-SparesShrink t after p s = (q n : ℕ) → IsSpare after q n → IsSpare t q n × (q ≡ p → n ≢ s)
+abbrev pub CountedShrink : Tables → Tables → ℕ → ℕ → Type 0
+CountedShrink t after p s = (q n : ℕ) → IsCountedClean after q n → IsCountedClean t q n × (q ≡ p → n ≢ s)
 
 -- what is counted as clean after a step was so before, or is a sector of this place from one on; and it is not the sector
 -- just written
-abbrev pub SparesMove : Tables → Tables → ℕ → ℕ → ℕ → Type 0
-SparesMove t after p s from = (q n : ℕ) → IsSpare after q n
-    → (IsSpare t q n ⊎ ((q ≡ p) × (from ≤ n) × (n < 256))) × (q ≡ p → n ≢ s)
+abbrev pub CountedMove : Tables → Tables → ℕ → ℕ → ℕ → Type 0
+CountedMove t after p s from = (q n : ℕ) → IsCountedClean after q n
+    → (IsCountedClean t q n ⊎ ((q ≡ p) × (from ≤ n) × (n < 256))) × (q ≡ p → n ≢ s)
 
 -- numbers were drawn
 abbrev pub with_next : Tables → ℕ → Tables
-with_next t next = record { places = t.places; shelf = t.shelf; status = t.status; next = next; active = t.active }
+with_next t next = record { places = t.places; overflow = t.overflow; status = t.status; next = next; active = t.active }
 
 -- the place was taken
 abbrev pub taken : Tables → ℕ → Tables
-taken t p = record { places = with_use t.places p true; shelf = t.shelf; status = t.status; next = t.next; active = t.active }
+taken t p = record { places = with_use t.places p true; overflow = t.overflow; status = t.status; next = t.next; active = t.active }
 
 -- the tables once the unit stands at its new place, with this many log sectors written there
 pub record IsMoved (t after : Tables) (u p used : ℕ) : Type 0 where
@@ -91,13 +91,13 @@ pub record IsMoved (t after : Tables) (u p used : ℕ) : Type 0 where
   -- what is free now was free, or was the unit's place, or was an overflow place that no list names any more
   pub free : (q : ℕ) → IsFree after.places q
       → IsFree t.places q ⊎ (q ≡ slice_index t.places.current u)
-      ⊎ (Contains (shelf_places t) q × ¬ Contains (shelf_places after) q)
-  pub spots : after.shelf.spots ≡ slice_set t.shelf.spots u []
-  pub some : All (Contains t.shelf.in_use) after.shelf.in_use
-  pub two : length after.shelf.in_use ≤ 2
-  pub apart : AllPairs AreApart (shelf_places after)
-  pub named : (v q s : ℕ) → v ≢ u → Contains (spots_of t v) (q, s) → Contains (shelf_places t) q
-      → Contains (shelf_places after) q
+      ⊎ (Contains (overflow_places t) q × ¬ Contains (overflow_places after) q)
+  pub spots : after.overflow.spots ≡ slice_set t.overflow.spots u []
+  pub some : All (Contains t.overflow.in_use) after.overflow.in_use
+  pub two : length after.overflow.in_use ≤ 2
+  pub apart : AllPairs AreApart (overflow_places after)
+  pub named : (v q s : ℕ) → v ≢ u → Contains (spots_of t v) (q, s) → Contains (overflow_places t) q
+      → Contains (overflow_places after) q
   pub status : after.status ≡ t.status
   pub next : t.next ≤ after.next
   pub active : after.active ≡ t.active
@@ -109,7 +109,7 @@ pub record IsRenewed (t after : Tables) (p own from : ℕ) : Type 0 where
   pub all : length after.places.in_use ≡ length t.places.in_use
   -- what is free now was free, or was the status place
   pub free : (q : ℕ) → IsFree after.places q → IsFree t.places q ⊎ (q ≡ t.status.place)
-  pub shelf : after.shelf ≡ t.shelf
+  pub overflow : after.overflow ≡ t.overflow
   pub place : after.status.place ≡ p
   pub generation : after.status.generation ≡ own
   pub first : after.status.first ≡ from
@@ -117,10 +117,10 @@ pub record IsRenewed (t after : Tables) (p own from : ℕ) : Type 0 where
   pub active : after.active ≡ t.active
 
 -- the place is an overflow place now, all of it clean
-abbrev pub with_shelf : Tables → ℕ → ℕ → Tables
-with_shelf t p next = record {
+abbrev pub with_overflow : Tables → ℕ → ℕ → Tables
+with_overflow t p next = record {
   places = t.places;
-  shelf = record { spots = t.shelf.spots; in_use = t.shelf.in_use ++ (p, 1) ∷ [] };
+  overflow = record { spots = t.overflow.spots; in_use = t.overflow.in_use ++ (p, 1) ∷ [] };
   status = t.status;
   next = next;
   active = t.active;

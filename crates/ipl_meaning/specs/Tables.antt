@@ -21,7 +21,7 @@ abbrev pub with_written : Places → ℕ → Places
 with_written it u = record it { written = slice_set it.written u (slice_index it.written u + 1) }
 
 -- the log sectors in overflow places
-pub record Shelf : Type 0 where
+pub record OverflowLists : Type 0 where
   -- by unit, where its log sectors in overflow places stand
   pub spots : List (List (ℕ × ℕ))
   -- the overflow places in use, each with its first clean sector (256 where it has none)
@@ -38,31 +38,31 @@ pub record Status : Type 0 where
 -- all tables, the counter, and the numbers of the open sessions
 pub record Tables : Type 0 where
   pub places : Places
-  pub shelf : Shelf
+  pub overflow : OverflowLists
   pub status : Status
   pub next : ℕ
   pub active : List ℕ
 
 -- where the unit's log sectors in overflow places stand
 abbrev pub spots_of : Tables → ℕ → List (ℕ × ℕ)
-spots_of t u = slice_index_or t.shelf.spots u []
+spots_of t u = slice_index_or t.overflow.spots u []
 
 -- the place of a spot
 abbrev pub place_of : ℕ × ℕ → ℕ
 place_of spot = spot.0
 
 -- the overflow places in use
-abbrev pub shelf_places : Tables → List ℕ
-shelf_places t = map place_of t.shelf.in_use
+abbrev pub overflow_places : Tables → List ℕ
+overflow_places t = map place_of t.overflow.in_use
 
 -- the first log sector of the unit that is known clean (256 where there is none)
 abbrev pub first_log : Tables → ℕ → ℕ
 first_log t u = 241 + slice_index t.places.written u
 
 -- the tables count the sector as clean
-abbrev pub IsSpare : Tables → ℕ → ℕ → Type 0
-IsSpare t p s =
+abbrev pub IsCountedClean : Tables → ℕ → ℕ → Type 0
+IsCountedClean t p s =
     (s < 256)
     × (((u : ℕ) × (u < length t.places.current) × (p ≡ slice_index t.places.current u) × (first_log t u ≤ s))
-    ⊎ ((first : ℕ) × Contains t.shelf.in_use (p, first) × (first ≤ s))
+    ⊎ ((first : ℕ) × Contains t.overflow.in_use (p, first) × (first ≤ s))
     ⊎ ((p ≡ t.status.place) × (t.status.first ≤ s)))

@@ -1,13 +1,13 @@
 //! The laws of what the sectors of a chip mean.
 ghost use Rattle.ipl_meaning.specs.Laws.{StandsOnce, LaidOnce, AllowedSectorsSuffice, KeptPagesKeepTheMap, IdlePlacesDoNotCount, OutsideDoesNotCount, LogSectorsWait, CommitSectorsAdd, HeadersSwitch, MergesKeepPages, SameUnitsKeepPages, StatusHeadersSwitch, KeptNumbersKeepPages, OverflowHeadersWait, FormattedChipsAreEmpty};
-ghost use Rattle.ipl_meaning.specs.StandingLaws.{StandsAfterIdle, StandsAfterLogs, StandsAfterCommits, StandsAfterHeaders, StandsAfterMerges, StandsAfterRenewals, StandsAfterShelves};
+ghost use Rattle.ipl_meaning.specs.StandingLaws.{StandsAfterIdle, StandsAfterLogs, StandsAfterCommits, StandsAfterHeaders, StandsAfterMerges, StandsAfterRenewals, StandsAfterOverflows};
 ghost use Rattle.ipl_meaning.specs.StoryLaws.{QuietImagesAreParts, HeldStands, RestsOnce, ChipsRestOnce, ClosedRests, BarriersRest, BarriersKeepEither, ReadsKeep, SaysKeep, ErasesKeep, LogSectorsKeep, AsidesKeep, ProgramsLead, EitherIsKept};
 ghost use Rattle.ipl_meaning.specs.RecordLaws.{TheLastGivesTheValue, MergesCarryTheLast, CommitsApplyTheLast, PacksAreTheList, PacksFit, FewAreCarried};
 ghost use Rattle.ipl_meaning.specs.CounterLaws.{NewGenerationsWakeNothing, NewSerialsAreGreatest, NewNumbersWait, LogSectorsKeepTheCounter, CommitSectorsKeepTheCounter, HeadersKeepTheCounter, BarePlacesKeepTheCounter};
 ghost use Rattle.ipl_meaning.specs.TableLaws.{FreePlacesAreIdle, LogSectorsMayGoHome, LogSectorsMayGoElsewhere, CommitSectorsMayGo, HeadersMayGo, StatusHeadersMayGo, OverflowHeadersMayGo, FirstTablesMirror};
-ghost use Rattle.ipl_meaning.specs.FollowingLaws.{TablesFollowHomeLogs, TablesFollowShelfLogs, TablesFollowCommits, SparesFollow};
-ghost use Rattle.ipl_meaning.specs.MovingLaws.{TablesFollowIdlePlaces, PlacesMayBeTaken, TablesFollowMerges, TablesFollowRenewals, TablesFollowShelves, SparesFollowMerges, SparesFollowRenewals, SparesFollowShelves};
-ghost use Rattle.ipl_meaning.specs.AgreeingLaws.{SparesAreUntouched, SparesMayBeProgrammed, TidyAfterPrograms, TidyAfterMoves, TidyAfterBarriers, TidyAfterErases, ProgramsAgree, BarriersAgree, ReadsAgree, SaysAgree, ErasesAgree};
+ghost use Rattle.ipl_meaning.specs.FollowingLaws.{TablesFollowHomeLogs, TablesFollowOverflowLogs, TablesFollowCommits, CountedFollow};
+ghost use Rattle.ipl_meaning.specs.MovingLaws.{TablesFollowIdlePlaces, PlacesMayBeTaken, TablesFollowMerges, TablesFollowRenewals, TablesFollowOverflows, CountedFollowMerges, CountedFollowRenewals, CountedFollowOverflows};
+ghost use Rattle.ipl_meaning.specs.AgreeingLaws.{CountedAreUntouched, CountedMayBeProgrammed, TidyAfterPrograms, TidyAfterMoves, TidyAfterBarriers, TidyAfterErases, ProgramsAgree, BarriersAgree, ReadsAgree, SaysAgree, ErasesAgree};
 
 /// A chart is laid out in one way and stands for one map at most; what keeps its pages keeps the map; a page is rebuilt from
 /// the allowed sectors alone.
@@ -60,7 +60,7 @@ pub fn header_laws()
     ensures same_units { SameUnitsKeepPages }
     ensures renews { StatusHeadersSwitch }
     ensures kept_numbers { KeptNumbersKeepPages }
-    ensures shelves { OverflowHeadersWait }
+    ensures overflows { OverflowHeadersWait }
 {}
 
 /// What a chart stands for after each step.
@@ -71,7 +71,7 @@ pub fn standing_laws()
     ensures headers { StandsAfterHeaders }
     ensures merges { StandsAfterMerges }
     ensures renewals { StandsAfterRenewals }
-    ensures shelves { StandsAfterShelves }
+    ensures overflows { StandsAfterOverflows }
 {}
 
 /// The last record that counts gives a name's value; a merge carries it, a commit applies it. Packed, records stay what
@@ -106,7 +106,7 @@ pub fn format_laws()
 pub fn table_laws()
     ensures free_places { FreePlacesAreIdle }
     ensures home_logs { LogSectorsMayGoHome }
-    ensures shelf_logs { LogSectorsMayGoElsewhere }
+    ensures overflow_logs { LogSectorsMayGoElsewhere }
     ensures commits { CommitSectorsMayGo }
     ensures headers { HeadersMayGo }
     ensures status_headers { StatusHeadersMayGo }
@@ -116,9 +116,9 @@ pub fn table_laws()
 /// The tables follow each log sector and each commit sector.
 pub fn following_laws()
     ensures home_logs { TablesFollowHomeLogs }
-    ensures shelf_logs { TablesFollowShelfLogs }
+    ensures overflow_logs { TablesFollowOverflowLogs }
     ensures commits { TablesFollowCommits }
-    ensures spares { SparesFollow }
+    ensures counted_clean { CountedFollow }
 {}
 
 /// The tables follow places that are taken, units and the status that move, and new overflow places.
@@ -127,18 +127,18 @@ pub fn moving_laws()
     ensures taken { PlacesMayBeTaken }
     ensures merges { TablesFollowMerges }
     ensures renewals { TablesFollowRenewals }
-    ensures shelves { TablesFollowShelves }
+    ensures overflows { TablesFollowOverflows }
 
     // what is counted as clean then
-    ensures merge_spares { SparesFollowMerges }
-    ensures renewal_spares { SparesFollowRenewals }
-    ensures shelf_spares { SparesFollowShelves }
+    ensures merge_counted { CountedFollowMerges }
+    ensures renewal_counted { CountedFollowRenewals }
+    ensures overflow_counted { CountedFollowOverflows }
 {}
 
 /// What the tables count as clean may be programmed, and stays clean until it is.
 pub fn clean_laws()
-    ensures untouched { SparesAreUntouched }
-    ensures programmed { SparesMayBeProgrammed }
+    ensures untouched { CountedAreUntouched }
+    ensures programmed { CountedMayBeProgrammed }
     ensures programs { TidyAfterPrograms }
     ensures moves { TidyAfterMoves }
     ensures barriers { TidyAfterBarriers }

@@ -13,7 +13,7 @@ use Rattle.opening_rules.specs.Payloads.{is_commit_payload}
 use Rattle.opening_rules.specs.Chosen.{Head, Pick, current_at, status_at}
 use Rattle.opening_rules.specs.ChosenLaws.{IsPickOf}
 use Rattle.opening_rules.specs.Live.{sectors, commit_at}
-use Rattle.opening_rules.specs.Faults.{malformed, size_fault, not_formatted, other_geometry, missing, bad_header, header_fault, commit_test, commit_fault, first_commit_fault, first_log_fault, greatest_found, spent, spares_found, no_spare, first_fault}
+use Rattle.opening_rules.specs.Faults.{malformed, size_fault, not_formatted, other_geometry, missing, bad_header, header_fault, commit_test, commit_fault, first_commit_fault, first_log_fault, greatest_found, spent, overflows_found, no_spare, first_fault}
 use Rattle.opening_rules.specs.FaultLaws.{IsFirstBadLog}
 use Rattle.opening_rules.specs.CauseLaws.{Counts, IsCaused, FaultsAreCaused}
 use Rattle.opening_rules.proofs.FirstLemmas.{first_is_first}
@@ -181,27 +181,27 @@ module _ (c : Chart) (places : ℕ) (fault : ImageFault) where
       let parts = if_some (nat_lt (greatest_found c places) (2 ^ 63)) Spent fault e in
       subst (IsCaused c places) parts.1 (ltb-false (greatest_found c places) (2 ^ 63) parts.0)
 
-  spare_cause : no_spare (spares_found c places) ≡ Some fault → IsCaused c places fault
-  spare_cause e =
-      let parts = if_some (nat_le (spares_found c places) 2) (NoSpare (spares_found c places)) fault e in
-      subst (IsCaused c places) parts.1 (leb-false (spares_found c places) 2 parts.0, refl)
+  no_spare_cause : no_spare (overflows_found c places) ≡ Some fault → IsCaused c places fault
+  no_spare_cause e =
+      let parts = if_some (nat_le (overflows_found c places) 2) (NoSpare (overflows_found c places)) fault e in
+      subst (IsCaused c places) parts.1 (leb-false (overflows_found c places) 2 parts.0, refl)
 
   is_caused : first_fault c places ≡ Some fault → IsCaused c places fault
   is_caused e = elim (or_some (size_fault places) (option_or (header_fault c places) (option_or (first_commit_fault c places) (option_or (first_log_fault c places)
-      (option_or (spent (greatest_found c places)) (option_or (no_spare (spares_found c places)) None))))) fault e) [
+      (option_or (spent (greatest_found c places)) (option_or (no_spare (overflows_found c places)) None))))) fault e) [
         | inl here ↦ size_cause here
         | inr rest ↦ elim (or_some (header_fault c places) (option_or (first_commit_fault c places) (option_or (first_log_fault c places)
-            (option_or (spent (greatest_found c places)) (option_or (no_spare (spares_found c places)) None)))) fault rest) [
+            (option_or (spent (greatest_found c places)) (option_or (no_spare (overflows_found c places)) None)))) fault rest) [
               | inl here ↦ header_cause e here
               | inr more ↦ elim (or_some (first_commit_fault c places) (option_or (first_log_fault c places)
-                  (option_or (spent (greatest_found c places)) (option_or (no_spare (spares_found c places)) None))) fault more) [
+                  (option_or (spent (greatest_found c places)) (option_or (no_spare (overflows_found c places)) None))) fault more) [
                     | inl here ↦ commit_cause here
-                    | inr last ↦ elim (or_some (first_log_fault c places) (option_or (spent (greatest_found c places)) (option_or (no_spare (spares_found c places)) None)) fault last) [
+                    | inr last ↦ elim (or_some (first_log_fault c places) (option_or (spent (greatest_found c places)) (option_or (no_spare (overflows_found c places)) None)) fault last) [
                       | inl here ↦ log_cause here
-                      | inr numbers ↦ elim (or_some (spent (greatest_found c places)) (option_or (no_spare (spares_found c places)) None) fault numbers) [
+                      | inr numbers ↦ elim (or_some (spent (greatest_found c places)) (option_or (no_spare (overflows_found c places)) None) fault numbers) [
                         | inl here ↦ spent_cause here
-                        | inr spares ↦ elim (or_some (no_spare (spares_found c places)) None fault spares) [
-                          | inl here ↦ spare_cause here
+                        | inr few_overflows ↦ elim (or_some (no_spare (overflows_found c places)) None fault few_overflows) [
+                          | inl here ↦ no_spare_cause here
                           | inr nothing ↦ absurd (cc nothing)
                         ]
                       ]

@@ -13,12 +13,12 @@ use Rattle.opening_rules.specs.FirstLaws.{IsFirst}
 use Rattle.opening_rules.specs.Payloads.{is_commit_payload, is_log_payload}
 use Rattle.opening_rules.specs.Chosen.{Head, Pick, header_at, current_at, status_at}
 use Rattle.opening_rules.specs.Live.{sectors, commit_at, live_at, Mark, mark_of, mark_at, marks}
-use Rattle.opening_rules.specs.Faults.{malformed, size_fault, not_formatted, other_geometry, missing, bad_header, header_fault, commit_test, commit_fault, first_commit_fault, clashes, shares_spares, is_full, is_log_well, log_test, log_fault, first_log_fault, greatest_found, spent, spares_found, no_spare, first_fault}
-use Rattle.opening_rules.specs.FaultLaws.{well_at, is_spare_of, HasCause, NotFormattedIsExact, MissingIsLeast, BadLogsAreFirst}
+use Rattle.opening_rules.specs.Faults.{malformed, size_fault, not_formatted, other_geometry, missing, bad_header, header_fault, commit_test, commit_fault, first_commit_fault, clashes, shares_overflow, is_full, is_log_well, log_test, log_fault, first_log_fault, greatest_found, spent, overflows_found, no_spare, first_fault}
+use Rattle.opening_rules.specs.FaultLaws.{well_at, is_overflow_of, HasCause, NotFormattedIsExact, MissingIsLeast, BadLogsAreFirst}
 use Rattle.opening_rules.proofs.FirstLemmas.{first_is_first}
 use Rattle.opening_rules.proofs.HeaderLemmas.{currents_are_chosen, none_is_current, statuses_are_chosen, none_is_status}
 use Rattle.opening_rules.proofs.BelowLemmas.{any_there, count_all}
-use Rattle.opening_rules.proofs.LiveLemmas.{spare_from}
+use Rattle.opening_rules.proofs.LiveLemmas.{overflow_from}
 use Rattle.opening_rules.proofs.LaidLemmas.{mark_from}
 use Rattle.opening_rules.proofs.PartLemmas.{if_none}
 
@@ -73,7 +73,7 @@ if_other_too test false fault other = refl
 
 -- the tests after those of headers are of other kinds
 module _ (test : ImageFault → Bool) (geometry : test Geometry ≡ false) (chip : (p s : ℕ) → test (malformed p s) ≡ false) (used : test Spent ≡ false)
-    (spare : (n : ℕ) → test (NoSpare n) ≡ false) (c : Chart) (places : ℕ) where
+    (in_overflow : (n : ℕ) → test (NoSpare n) ≡ false) (c : Chart) (places : ℕ) where
   size_other : passes test (size_fault places) ≡ false
   size_other = if_other test (nat_le 5 places && nat_le places 1028) Geometry geometry
 
@@ -102,16 +102,16 @@ module _ (test : ImageFault → Bool) (geometry : test Geometry ≡ false) (chip
   logs_other k = log_other (header_at c places) (marks (header_at c places) (current_at c places) c k) k (live_at (header_at c places) (current_at c places) c k)
 
   abbrev last_two : Option ImageFault
-  last_two = option_or (spent (greatest_found c places)) (option_or (no_spare (spares_found c places)) None)
+  last_two = option_or (spent (greatest_found c places)) (option_or (no_spare (overflows_found c places)) None)
 
   rest_other : passes test (option_or (first_commit_fault c places) (option_or (first_log_fault c places) last_two)) ≡ false
   rest_other = or_other test (first_commit_fault c places) (option_or (first_log_fault c places) last_two)
       (below_other test (commit_fault c (status_at c places)) sectors (commits_other (status_at c places)))
       (or_other test (first_log_fault c places) last_two
       (below_other test (log_fault (header_at c places) (current_at c places) c) (places * 256) logs_other)
-      (or_other test (spent (greatest_found c places)) (option_or (no_spare (spares_found c places)) None)
+      (or_other test (spent (greatest_found c places)) (option_or (no_spare (overflows_found c places)) None)
       (if_other test (nat_lt (greatest_found c places) (2 ^ 63)) Spent used)
-      (or_other test (no_spare (spares_found c places)) None (if_other test (nat_le (spares_found c places) 2) (NoSpare (spares_found c places)) (spare (spares_found c places))) refl)))
+      (or_other test (no_spare (overflows_found c places)) None (if_other test (nat_le (overflows_found c places) 2) (NoSpare (overflows_found c places)) (in_overflow (overflows_found c places))) refl)))
 
   -- such a fault is a header's
   of_headers : (fault : ImageFault) → test fault ≡ true → first_fault c places ≡ Some fault → header_fault c places ≡ Some fault
@@ -265,12 +265,12 @@ cause_of c places k sector bad =
               serial = ap (λ (m : Mark). m.serial) from.is ∙ eqb-true there.value.serial sector.serial same.1;
             }))
         | inr full ↦ inr (inr (
-            let parts : (mark.spare ≡ true) × (nat_le 16 (count_by (shares_spares mark) earlier) ≡ true) =
-            and_parts mark.spare (nat_le 16 (count_by (shares_spares mark) earlier)) full in
-            let counted : count_by (shares_spares mark) earlier ≡ count_below (is_spare_of c places sector.unit) k =
-            count_all (mark_at (header_at c places) (current_at c places) c) (shares_spares mark) k in
-            let many : 16 ≤ count_by (shares_spares mark) earlier = leb-true 16 (count_by (shares_spares mark) earlier) parts.1 in
-            record { spare = (spare_from c places (k / 256) parts.0).1; many = subst (λ (n : ℕ). 16 ≤ n) counted many }))
+            let parts : (mark.in_overflow ≡ true) × (nat_le 16 (count_by (shares_overflow mark) earlier) ≡ true) =
+            and_parts mark.in_overflow (nat_le 16 (count_by (shares_overflow mark) earlier)) full in
+            let counted : count_by (shares_overflow mark) earlier ≡ count_below (is_overflow_of c places sector.unit) k =
+            count_all (mark_at (header_at c places) (current_at c places) c) (shares_overflow mark) k in
+            let many : 16 ≤ count_by (shares_overflow mark) earlier = leb-true 16 (count_by (shares_overflow mark) earlier) parts.1 in
+            record { in_overflow = (overflow_from c places (k / 256) parts.0).1; many = subst (λ (n : ℕ). 16 ≤ n) counted many }))
       ]
     ]
 

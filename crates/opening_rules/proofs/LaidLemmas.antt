@@ -11,18 +11,18 @@ use Rattle.ipl_format.specs.Numbers.{word_at}
 use Rattle.ipl_format.specs.Record.{SpellsLog}
 use Rattle.ipl_format.specs.Sector.{Sector}
 use Rattle.ipl_meaning.specs.Chart.{Chart, IsLive, IsOverflow}
-use Rattle.ipl_meaning.specs.Layout.{Entry, AllRise, IsEntry, IsListed, IsShelved, Layout, Laid, IsLiveIn}
+use Rattle.ipl_meaning.specs.Layout.{Entry, AllRise, IsEntry, IsListed, IsInOverflow, Layout, Laid, IsLiveIn}
 use Rattle.ipl_meaning.specs.Found.{IsAbove}
 use Rattle.opening_rules.specs.First.{passes, count_below}
 use Rattle.opening_rules.specs.Payloads.{begins_with_other_units, is_data_payload, is_status_payload, is_commit_payload, is_log_payload}
 use Rattle.opening_rules.specs.Chosen.{Head, Pick, head_of, header_at, current_at, status_at, is_head_payload}
-use Rattle.opening_rules.specs.Live.{sectors, commit_at, is_spare, live_at, Mark, mark_of, mark_at, marks}
-use Rattle.opening_rules.specs.Faults.{malformed, not_formatted, other_geometry, missing, bad_header, commit_test, commit_fault, clashes, shares_spares, is_full, is_log_well, log_test, greatest_found, is_in, holds_live, spares_found}
+use Rattle.opening_rules.specs.Live.{sectors, commit_at, is_overflow_place, live_at, Mark, mark_of, mark_at, marks}
+use Rattle.opening_rules.specs.Faults.{malformed, not_formatted, other_geometry, missing, bad_header, commit_test, commit_fault, clashes, shares_overflow, is_full, is_log_well, log_test, greatest_found, is_in, holds_live, overflows_found}
 use Rattle.opening_rules.specs.Laws.{IsByteChart, LaidHasNoFault, LaidIsFineOrSpent}
 use Rattle.opening_rules.proofs.PayloadLemmas.{spelled_data_passes, spelled_status_passes, spelled_commits_pass, spelled_logs_pass}
 use Rattle.opening_rules.proofs.HeaderLemmas.{current_low}
 use Rattle.opening_rules.proofs.BelowLemmas.{any_none, any_there, count_all, count_within}
-use Rattle.opening_rules.proofs.LiveLemmas.{sectors_are, commit_from, spare_from, home_apart, live_from}
+use Rattle.opening_rules.proofs.LiveLemmas.{sectors_are, commit_from, overflow_from, home_apart, live_from}
 use Rattle.opening_rules.proofs.NumberLemmas.{status_is, home_is, number_found}
 use Rattle.opening_rules.proofs.PartLemmas.{IsFormed, no_fault_from, spent_from}
 
@@ -144,9 +144,9 @@ module _ (c : Chart) (places : ℕ) (it : Layout) (laid : Laid places c it) wher
   listed u k sector is same = subst (λ (v : ℕ). IsListedAs v k sector) same (listed_own k sector is)
 
   -- a sector in an overflow place doesn't stand at its unit's home
-  away : (u p : ℕ) → u < places - 4 → is_spare (heads p) ≡ true → p ≢ (it.units u).home
-  away u p low spare same =
-      home_apart c places u (it.units u).home (it.units u).head (laid.each u low).chosen (subst (IsOverflow c) same (spare_from c places p spare).1)
+  away : (u p : ℕ) → u < places - 4 → is_overflow_place (heads p) ≡ true → p ≢ (it.units u).home
+  away u p low in_overflow same =
+      home_apart c places u (it.units u).home (it.units u).head (laid.each u low).chosen (subst (IsOverflow c) same (overflow_from c places p in_overflow).1)
 
   -- ---- one live log sector
 
@@ -180,33 +180,33 @@ module _ (c : Chart) (places : ℕ) (it : Layout) (laid : Laid places c it) wher
 
     -- this unit's in overflow places
     abbrev shares : ℕ → Bool
-    shares j = passes (shares_spares mark) (mark_at heads current c j)
+    shares j = passes (shares_overflow mark) (mark_at heads current c j)
 
     -- each of these is one of the unit's spots
     shares_listed : (j : ℕ) → shares j ≡ true → Contains (map number_of_spot (laid.each sector.unit mine.low).log.spots) j
     shares_listed j passes_it =
-        let (other, at, shared) = passes_from (shares_spares mark) (mark_at heads current c j) passes_it in
+        let (other, at, shared) = passes_from (shares_overflow mark) (mark_at heads current c j) passes_it in
         let from = mark_from c places j other at in
         let same = and_parts _ _ shared in
-        let spare : is_spare (heads (j / 256)) ≡ true = ap (λ (m : Mark). m.spare) from.is ∙ same.0 in
+        let in_overflow : is_overflow_place (heads (j / 256)) ≡ true = ap (λ (m : Mark). m.in_overflow) from.is ∙ same.0 in
         let unit : from.sector.unit ≡ sector.unit = ap (λ (m : Mark). m.unit) from.is ∙ eqb-true _ _ same.1 in
         let theirs = listed sector.unit j from.sector from.live unit in
         let log = (laid.each sector.unit mine.low).log in
         let spot = All-contains (IsListed log.spots (it.units sector.unit).home) (it.units sector.unit).log theirs.entry log.listed theirs.has
-        (λ at_home. away sector.unit (j / 256) mine.low spare (sym theirs.place ∙ at_home)) in
+        (λ at_home. away sector.unit (j / 256) mine.low in_overflow (sym theirs.place ∙ at_home)) in
         spot_listed log.spots theirs.entry.place theirs.entry.number j spot (omega (arith, theirs.place, theirs.number))
 
     not_full : is_full mark (marks heads current c k) ≡ false
-    not_full = elim (cases_Bool mark.spare) [
-      | inr at_home ↦ and_left mark.spare _ at_home
-      | inl spare ↦
+    not_full = elim (cases_Bool mark.in_overflow) [
+      | inr at_home ↦ and_left mark.in_overflow _ at_home
+      | inl in_overflow ↦
           let log = (laid.each sector.unit mine.low).log in
-          let here : shares k ≡ true = ap (passes (shares_spares mark)) (mark_to c places k sector is) ∙ and_from _ _ spare (eq-eqb sector.unit sector.unit refl) in
+          let here : shares k ≡ true = ap (passes (shares_overflow mark)) (mark_to c places k sector is) ∙ and_from _ _ in_overflow (eq-eqb sector.unit sector.unit refl) in
           let among : count_below shares (suc k) ≤ length (map number_of_spot log.spots) = count_within shares (suc k) (map number_of_spot log.spots) (λ j low is_one. shares_listed j is_one) in
           let one_more : count_below shares (suc k) ≡ count_below shares k + 1 = ap (λ (b : Bool). count_below shares k + cond b 1 0) here in
-          let counted : count_by (shares_spares mark) (marks heads current c k) ≡ count_below shares k = count_all (mark_at heads current c) (shares_spares mark) k in
-          let few : count_by (shares_spares mark) (marks heads current c k) < 16 = omega (arith, among, one_more, counted, log.few, length-map log.spots number_of_spot) in
-          and_right mark.spare _ (lt-leb 16 (count_by (shares_spares mark) (marks heads current c k)) few)
+          let counted : count_by (shares_overflow mark) (marks heads current c k) ≡ count_below shares k = count_all (mark_at heads current c) (shares_overflow mark) k in
+          let few : count_by (shares_overflow mark) (marks heads current c k) < 16 = omega (arith, among, one_more, counted, log.few, length-map log.spots number_of_spot) in
+          and_right mark.in_overflow _ (lt-leb 16 (count_by (shares_overflow mark) (marks heads current c k)) few)
     ]
 
     is_well : is_log_well mark (marks heads current c k) sector.payload ≡ true
@@ -215,18 +215,18 @@ module _ (c : Chart) (places : ℕ) (it : Layout) (laid : Laid places c it) wher
 
   -- ---- all of it
 
-  -- an overflow place with live sectors is one of the shelves
-  held_listed : (p : ℕ) → p < places → holds_live heads (marks heads current c (places * 256)) p ≡ true → Contains laid.shelves p
+  -- an overflow place with live sectors is one of the overflows
+  held_listed : (p : ℕ) → p < places → holds_live heads (marks heads current c (places * 256)) p ≡ true → Contains laid.overflows p
   held_listed p low holds =
       let parts = and_parts _ _ holds in
       let there = any_there (mark_at heads current c) (is_in p) (places * 256) parts.1 in
       let from = mark_from c places there.number there.value there.here in
       let at : there.number / 256 ≡ p = ap (λ (m : Mark). m.place) from.is ∙ eqb-true _ _ there.passes in
       let theirs = listed_own there.number from.sector from.live in
-      let shelf = All-contains (IsShelved laid.shelves (it.units from.sector.unit).home) (it.units from.sector.unit).log theirs.entry
-      (laid.shelved from.sector.unit theirs.low) theirs.has
+      let overflow = All-contains (IsInOverflow laid.overflows (it.units from.sector.unit).home) (it.units from.sector.unit).log theirs.entry
+      (laid.in_overflow from.sector.unit theirs.low) theirs.has
       (λ at_home. away from.sector.unit p theirs.low parts.0 (sym at ∙ (sym theirs.place ∙ at_home))) in
-      subst (Contains laid.shelves) (theirs.place ∙ at) shelf
+      subst (Contains laid.overflows) (theirs.place ∙ at) overflow
 
   abbrev status : Pick
   status = record { place = it.status; head = head_of (places - 4) it.head }
@@ -264,9 +264,9 @@ module _ (c : Chart) (places : ℕ) (it : Layout) (laid : Laid places c it) wher
     | inr found ↦ above (greatest_found c places) found
   ]
 
-  few_spares : spares_found c places ≤ 2
-  few_spares =
-      let among = count_within (holds_live heads (marks heads current c (places * 256))) places laid.shelves held_listed in
+  few_overflows : overflows_found c places ≤ 2
+  few_overflows =
+      let among = count_within (holds_live heads (marks heads current c (places * 256))) places laid.overflows held_listed in
       omega (arith, among, laid.two)
 
   pub is_formed : IsFormed c places
@@ -284,7 +284,7 @@ module _ (c : Chart) (places : ℕ) (it : Layout) (laid : Laid places c it) wher
         header = ap bad_header status_here ∙ status_good;
         commits = λ s low. ap (λ (o : Option Pick). commit_fault c o s) status_here ∙ commit_good s low;
         logs = λ k low. log_none heads (marks heads current c k) k (live k) (λ sector at. is_well k sector at);
-        spares = few_spares;
+        few_overflows = few_overflows;
       }
 
 pub laid_has_no_fault : LaidHasNoFault

@@ -5,7 +5,7 @@ use Rattle.std.proofs.lemmas.Option.{same_Some, cond_some}
 use Rattle.ipl_format.specs.Sector.{Sector}
 use Rattle.ipl_meaning.specs.Chart.{Chart, IsChosen, IsDataHeader, IsOverflow, IsLive}
 use Rattle.opening_rules.specs.Chosen.{Head, Pick, head_of, header_at, current_at}
-use Rattle.opening_rules.specs.Live.{live_at, sectors, kept, is_commit_of, is_at, is_generation, is_log_spot_of, is_log_spot, is_log, seen, seen_at, is_spare, is_place_of, is_live}
+use Rattle.opening_rules.specs.Live.{live_at, sectors, kept, is_commit_of, is_at, is_generation, is_log_spot_of, is_log_spot, is_log, seen, seen_at, is_overflow_place, is_place_of, is_live}
 use Rattle.opening_rules.specs.LiveLaws.{SectorsAre256, FoundCommitsCount, CommitsAreFound, FoundLogsAreLive, LiveLogsAreFound}
 use Rattle.opening_rules.proofs.HeaderLemmas.{header_there, header_kept, currents_are_chosen}
 
@@ -71,21 +71,21 @@ home_of c places u pick is =
     }
 
 -- an overflow place is in the table
-pub spare_head : (c : Chart) (places p : ℕ) → p < places → (over : IsOverflow c p) → header_at c places p ≡ Some (head_of (places - 4) over.0)
-spare_head c places p low (head, here, kind) =
+pub overflow_head : (c : Chart) (places p : ℕ) → p < places → (over : IsOverflow c p) → header_at c places p ≡ Some (head_of (places - 4) over.0)
+overflow_head c places p low (head, here, kind) =
     header_kept c places p head low here (and_from _ _ (le-leb 1 head.kind (omega (arith, kind))) (le-leb head.kind 3 (omega (arith, kind))))
 
-pub spare_to : (c : Chart) (places p : ℕ) → p < places → IsOverflow c p → is_spare (header_at c places p) ≡ true
-spare_to c places p low over = ap is_spare (spare_head c places p low over) ∙ eq-eqb over.0.kind 3 over.2
+pub overflow_to : (c : Chart) (places p : ℕ) → p < places → IsOverflow c p → is_overflow_place (header_at c places p) ≡ true
+overflow_to c places p low over = ap is_overflow_place (overflow_head c places p low over) ∙ eq-eqb over.0.kind 3 over.2
 
-spare_of : (c : Chart) (places p : ℕ) (o : Option Head) → header_at c places p ≡ o → is_spare o ≡ true → (p < places) × IsOverflow c p
-spare_of c places p None at is = absurd (cc is)
-spare_of c places p (Some head) at is =
+overflow_of : (c : Chart) (places p : ℕ) (o : Option Head) → header_at c places p ≡ o → is_overflow_place o ≡ true → (p < places) × IsOverflow c p
+overflow_of c places p None at is = absurd (cc is)
+overflow_of c places p (Some head) at is =
     let it = header_there c places p head at in
     (it.within, (it.sector, it.here, ap (λ (h : Head). h.kind) it.kept ∙ eqb-true head.kind 3 is))
 
-pub spare_from : (c : Chart) (places p : ℕ) → is_spare (header_at c places p) ≡ true → (p < places) × IsOverflow c p
-spare_from c places p is = spare_of c places p (header_at c places p) refl is
+pub overflow_from : (c : Chart) (places p : ℕ) → is_overflow_place (header_at c places p) ≡ true → (p < places) × IsOverflow c p
+overflow_from c places p is = overflow_of c places p (header_at c places p) refl is
 
 -- a home is no overflow place
 pub home_apart : (c : Chart) (places u p : ℕ) (sector : Sector) → IsChosen c places (IsDataHeader u) p sector → IsOverflow c p → ⊥
@@ -138,7 +138,7 @@ home_spot c places p s u pick is same high =
 pub spot_to : (c : Chart) (places p s : ℕ) → p < places → MayStand c places p s → is_log_spot (header_at c places) (current_at c places) p s ≡ true
 spot_to c places p s low may = elim may [
   | inl home ↦ home_spot c places p s home.0 home.1 home.2 home.3 home.4
-  | inr over ↦ ap (is_log_spot_of (current_at c places) p s) (spare_head c places p low over.0)
+  | inr over ↦ ap (is_log_spot_of (current_at c places) p s) (overflow_head c places p low over.0)
       ∙ or_left _ _ (and_from _ _ (eq-eqb over.0.0.kind 3 over.0.2) (le-leb 1 s over.1))
 ]
 
@@ -226,7 +226,7 @@ place_to c places p s u pick low is (inl (same, high)) =
     let it = home_of c places u pick is in
     ap (λ (o : Option Head). is_place_of o u) (ap (header_at c places) same ∙ it.head) ∙ or_right _ _ (eq-eqb it.sector.unit u it.chosen.fits.1)
 place_to c places p s u pick low is (inr (over, some)) =
-    ap (λ (o : Option Head). is_place_of o u) (spare_head c places p low over) ∙ or_left _ _ (eq-eqb over.0.kind 3 over.2)
+    ap (λ (o : Option Head). is_place_of o u) (overflow_head c places p low over) ∙ or_left _ _ (eq-eqb over.0.kind 3 over.2)
 
 may_to : (c : Chart) (places p s u : ℕ) (pick : Pick) → current_at c places u ≡ Some pick → ((p ≡ pick.place) × (241 ≤ s)) ⊎ (IsOverflow c p × (1 ≤ s))
     → MayStand c places p s
@@ -249,11 +249,11 @@ live_to c places k u pick sector is it =
     kept_to (is_live (header_at c places) (current_at c places) (k / 256)) (seen_at (header_at c places) (current_at c places) c k) sector stands (and_from _ _ place generation)
 
 -- a live log sector that doesn't stand at home stands in an overflow place, and only such a one
-pub away_is_spare : (c : Chart) (places u home generation p s : ℕ) (sector : Sector) → IsLive c places u home generation p s sector → p ≢ home
-    → is_spare (header_at c places p) ≡ true
-away_is_spare c places u home generation p s sector it away = elim it.counts [
+pub away_is_overflow : (c : Chart) (places u home generation p s : ℕ) (sector : Sector) → IsLive c places u home generation p s sector → p ≢ home
+    → is_overflow_place (header_at c places p) ≡ true
+away_is_overflow c places u home generation p s sector it away = elim it.counts [
   | inl at_home ↦ absurd (away at_home.0)
-  | inr over ↦ spare_to c places p it.within.0 over.0
+  | inr over ↦ overflow_to c places p it.within.0 over.0
 ]
 
 -- it stands where an opening reads

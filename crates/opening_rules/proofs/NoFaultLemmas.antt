@@ -12,19 +12,19 @@ use Rattle.ipl_format.specs.Sector.{Sector}
 use Rattle.log_records.specs.Reading.{records_of}
 use Rattle.ipl_meaning.specs.Chart.{Chart, IsLive}
 use Rattle.ipl_meaning.specs.Last.{is_number}
-use Rattle.ipl_meaning.specs.Layout.{Entry, Shape, IsEntry, IsListed, IsShelved, IsLog, IsUnit, IsCommitSector, IsCommitted, IsStatus, Layout, Laid}
+use Rattle.ipl_meaning.specs.Layout.{Entry, Shape, IsEntry, IsListed, IsInOverflow, IsLog, IsUnit, IsCommitSector, IsCommitted, IsStatus, Layout, Laid}
 use Rattle.opening_rules.specs.First.{passes, count_below, joined_below}
 use Rattle.opening_rules.specs.Payloads.{is_log_payload, pieces_in, numbers_in, is_data_payload, is_status_payload, is_commit_payload}
 use Rattle.opening_rules.specs.Chosen.{Head, Pick, header_at, current_at, status_at, is_head_payload}
-use Rattle.opening_rules.specs.Live.{is_at, sectors, commit_at, is_spare, live_at, Mark, mark_of, mark_at, marks}
-use Rattle.opening_rules.specs.Faults.{malformed, not_formatted, missing, bad_header, commit_test, commit_fault, clashes, shares_spares, is_full, is_log_well, log_test, is_in, holds_live}
+use Rattle.opening_rules.specs.Live.{is_at, sectors, commit_at, is_overflow_place, live_at, Mark, mark_of, mark_at, marks}
+use Rattle.opening_rules.specs.Faults.{malformed, not_formatted, missing, bad_header, commit_test, commit_fault, clashes, shares_overflow, is_full, is_log_well, log_test, is_in, holds_live}
 use Rattle.opening_rules.specs.LaidOut.{numbers_of, committed_in, entry_of, entry_at, log_in, no_sector, place_of, sector_of, shape_in, layout_in}
 use Rattle.opening_rules.specs.Laws.{IsByteChart, NoFaultIsLaid, NoFaultIsFresh}
 use Rattle.opening_rules.proofs.PayloadLemmas.{data_payloads_are_spelled, status_payloads_are_spelled, commit_payloads_are_spelled, spelled_commits_pass, log_payloads_are_spelled}
 use Rattle.opening_rules.proofs.HeaderLemmas.{statuses_are_chosen}
 use Rattle.opening_rules.proofs.BelowLemmas.{none_any, any_some, count_all, passing, passing_has, passing_count, joined_has, joined_from}
 use Rattle.opening_rules.proofs.SortLemmas.{AreApart, sorted_has, sorted_all, sorted_rises}
-use Rattle.opening_rules.proofs.LiveLemmas.{IsSeen, seen_spot, live_seen, sectors_are, commit_from, commit_to, IsHome, home_of, live_from, live_to, away_is_spare}
+use Rattle.opening_rules.proofs.LiveLemmas.{IsSeen, seen_spot, live_seen, sectors_are, commit_from, commit_to, IsHome, home_of, live_from, live_to, away_is_overflow}
 use Rattle.opening_rules.proofs.LaidLemmas.{mark_to}
 use Rattle.opening_rules.proofs.NumberLemmas.{found_below}
 use Rattle.opening_rules.proofs.PartLemmas.{HasNoFault, no_fault_parts, if_none}
@@ -176,70 +176,70 @@ module _ (c : Chart) (places : ℕ) (bytes : IsByteChart places c) (fine : HasNo
         )
 
     -- the unit's live sectors in overflow places
-    abbrev is_spare_of : Mark → Bool
-    is_spare_of mark = mark.spare && (mark.unit == u)
+    abbrev is_overflow_of : Mark → Bool
+    is_overflow_of mark = mark.in_overflow && (mark.unit == u)
 
-    abbrev spare_at : ℕ → Bool
-    spare_at k = passes is_spare_of (mark_at heads current c k)
+    abbrev overflow_at : ℕ → Bool
+    overflow_at k = passes is_overflow_of (mark_at heads current c k)
 
     -- there are at most 16, however far one counts
-    few_of : (k : ℕ) (o : Option Sector) → live k ≡ o → k < places * 256 → count_below spare_at k ≤ 16
-        → count_below spare_at k + cond (passes is_spare_of (option_map (mark_of heads k) o)) 1 0 ≤ 16
+    few_of : (k : ℕ) (o : Option Sector) → live k ≡ o → k < places * 256 → count_below overflow_at k ≤ 16
+        → count_below overflow_at k + cond (passes is_overflow_of (option_map (mark_of heads k) o)) 1 0 ≤ 16
     few_of k None at low few = omega (arith, few)
-    few_of k (Some sector) at low few = elim (cases_Bool (is_spare_of (mark_of heads k sector))) [
+    few_of k (Some sector) at low few = elim (cases_Bool (is_overflow_of (mark_of heads k sector))) [
       | inr other ↦ rw other (omega (arith, few))
-      | inl spare ↦
+      | inl in_overflow ↦
           let mark : Mark = mark_of heads k sector in
           let earlier : List Mark = marks heads current c k in
-          let parts : (mark.spare ≡ true) × ((sector.unit == u) ≡ true) = and_parts mark.spare (sector.unit == u) spare in
+          let parts : (mark.in_overflow ≡ true) × ((sector.unit == u) ≡ true) = and_parts mark.in_overflow (sector.unit == u) in_overflow in
           let tests : (is_log_payload sector.payload ≡ true) × (not (list_any (clashes mark) earlier || is_full mark earlier) ≡ true) =
           and_parts (is_log_payload sector.payload) (not (list_any (clashes mark) earlier || is_full mark earlier)) (well k sector low at) in
           let rest : (list_any (clashes mark) earlier ≡ false) × (is_full mark earlier ≡ false) =
           or_parts (list_any (clashes mark) earlier) (is_full mark earlier) (not-true (list_any (clashes mark) earlier || is_full mark earlier) tests.1) in
           let unit : sector.unit ≡ u = eqb-true sector.unit u parts.1 in
-          let counted : count_by (shares_spares mark) earlier ≡ count_below spare_at k =
-          ap (λ (v : ℕ). count_by (λ (other : Mark). other.spare && (other.unit == v)) earlier) unit ∙ count_all (mark_at heads current c) is_spare_of k in
-          let not_full : nat_le 16 (count_by (shares_spares mark) earlier) ≡ false =
-          elim (and_cases mark.spare (nat_le 16 (count_by (shares_spares mark) earlier)) rest.1) [
-            | inl at_home ↦ absurd (both_ways mark.spare at_home parts.0)
+          let counted : count_by (shares_overflow mark) earlier ≡ count_below overflow_at k =
+          ap (λ (v : ℕ). count_by (λ (other : Mark). other.in_overflow && (other.unit == v)) earlier) unit ∙ count_all (mark_at heads current c) is_overflow_of k in
+          let not_full : nat_le 16 (count_by (shares_overflow mark) earlier) ≡ false =
+          elim (and_cases mark.in_overflow (nat_le 16 (count_by (shares_overflow mark) earlier)) rest.1) [
+            | inl at_home ↦ absurd (both_ways mark.in_overflow at_home parts.0)
             | inr less ↦ less
           ] in
-          let less : count_by (shares_spares mark) earlier < 16 = leb-false 16 (count_by (shares_spares mark) earlier) not_full in
-          rw spare (omega (arith, less, counted))
+          let less : count_by (shares_overflow mark) earlier < 16 = leb-false 16 (count_by (shares_overflow mark) earlier) not_full in
+          rw in_overflow (omega (arith, less, counted))
     ]
 
-    few : (k : ℕ) → k ≤ places * 256 → count_below spare_at k ≤ 16
+    few : (k : ℕ) → k ≤ places * 256 → count_below overflow_at k ≤ 16
     few zero low = omega arith
     few (suc k) low = few_of k (live k) refl (omega arith) (few k (omega arith))
 
-    listed_at : (k : ℕ) (e : Entry) → k < places * 256 → entry_at c places u k ≡ Some e → IsListed (map spot_of (passing spare_at (places * 256))) pick.place e
+    listed_at : (k : ℕ) (e : Entry) → k < places * 256 → entry_at c places u k ≡ Some e → IsListed (map spot_of (passing overflow_at (places * 256))) pick.place e
     listed_at k e low at away =
         let of_it = entry_from u k (live k) e at in
         let live_it = (entry_is k e low at).live in
-        let spare : is_spare (heads (k / 256)) ≡ true = ap (λ (p : ℕ). is_spare (heads p)) (sym of_it.place) ∙ away_is_spare c places u pick.place pick.head.generation e.place e.number e.sector live_it away in
-        let passes_it : spare_at k ≡ true = ap (passes is_spare_of) (mark_to c places k e.sector of_it.here) ∙ and_from _ _ spare (eq-eqb e.sector.unit u of_it.unit) in
-        spot_there (passing spare_at (places * 256)) k e.place e.number (passing_has spare_at (places * 256) k low passes_it) of_it.place of_it.number
+        let in_overflow : is_overflow_place (heads (k / 256)) ≡ true = ap (λ (p : ℕ). is_overflow_place (heads p)) (sym of_it.place) ∙ away_is_overflow c places u pick.place pick.head.generation e.place e.number e.sector live_it away in
+        let passes_it : overflow_at k ≡ true = ap (passes is_overflow_of) (mark_to c places k e.sector of_it.here) ∙ and_from _ _ in_overflow (eq-eqb e.sector.unit u of_it.unit) in
+        spot_there (passing overflow_at (places * 256)) k e.place e.number (passing_has overflow_at (places * 256) k low passes_it) of_it.place of_it.number
 
     is_log : IsLog c places u pick.place pick.head.generation (log_in c places u)
     is_log = record {
       each = sorted_all (entry_at c places u) (places * 256) (IsEntry c places u pick.place pick.head.generation) entry_is;
       all = has_all;
       rising = sorted_rises (entry_at c places u) (places * 256) (entries_apart u);
-      spots = map spot_of (passing spare_at (places * 256));
+      spots = map spot_of (passing overflow_at (places * 256));
       few = let count = few (places * 256) (omega arith) in
-          omega (arith, length-map (passing spare_at (places * 256)) spot_of, passing_count spare_at (places * 256), count);
-      listed = sorted_all (entry_at c places u) (places * 256) (IsListed (map spot_of (passing spare_at (places * 256))) pick.place) listed_at;
+          omega (arith, length-map (passing overflow_at (places * 256)) spot_of, passing_count overflow_at (places * 256), count);
+      listed = sorted_all (entry_at c places u) (places * 256) (IsListed (map spot_of (passing overflow_at (places * 256))) pick.place) listed_at;
     }
 
-    -- an entry that doesn't stand at home stands on a shelf
-    shelved_at : (k : ℕ) (e : Entry) → k < places * 256 → entry_at c places u k ≡ Some e → IsShelved (passing (holds_live heads all_marks) places) pick.place e
-    shelved_at k e low at away =
+    -- an entry that doesn't stand at home stands on a overflow
+    in_overflow_at : (k : ℕ) (e : Entry) → k < places * 256 → entry_at c places u k ≡ Some e → IsInOverflow (passing (holds_live heads all_marks) places) pick.place e
+    in_overflow_at k e low at away =
         let of_it = entry_from u k (live k) e at in
         let live_it = (entry_is k e low at).live in
-        let spare = away_is_spare c places u pick.place pick.head.generation e.place e.number e.sector live_it away in
+        let in_overflow = away_is_overflow c places u pick.place pick.head.generation e.place e.number e.sector live_it away in
         let marked = any_some (mark_at heads current c) (is_in e.place) (places * 256) k (mark_of heads k e.sector) low (mark_to c places k e.sector of_it.here)
         (eq-eqb (k / 256) e.place (sym of_it.place)) in
-        passing_has (holds_live heads all_marks) places e.place live_it.within.0 (and_from _ _ spare marked)
+        passing_has (holds_live heads all_marks) places e.place live_it.within.0 (and_from _ _ in_overflow marked)
 
   -- ---- one unit
 
@@ -276,11 +276,11 @@ module _ (c : Chart) (places : ℕ) (bytes : IsByteChart places c) (fine : HasNo
         log = subst (λ (g : ℕ). IsLog c places u it.pick.place g (log_in c places u)) generation (is_log u it.pick it.is);
       })
 
-  shelved : (u : ℕ) → u < places - 4 → All (IsShelved (passing (holds_live heads all_marks) places) (shape_in c places u).home) (shape_in c places u).log
-  shelved u low =
+  in_overflow : (u : ℕ) → u < places - 4 → All (IsInOverflow (passing (holds_live heads all_marks) places) (shape_in c places u).home) (shape_in c places u).log
+  in_overflow u low =
       let it = has_home u low in
-      subst (λ (p : ℕ). All (IsShelved (passing (holds_live heads all_marks) places) p) (log_in c places u)) (sym (ap place_of it.is))
-      (sorted_all (entry_at c places u) (places * 256) (IsShelved (passing (holds_live heads all_marks) places) it.pick.place) (shelved_at u it.pick it.is))
+      subst (λ (p : ℕ). All (IsInOverflow (passing (holds_live heads all_marks) places) p) (log_in c places u)) (sym (ap place_of it.is))
+      (sorted_all (entry_at c places u) (places * 256) (IsInOverflow (passing (holds_live heads all_marks) places) it.pick.place) (in_overflow_at u it.pick it.is))
 
   -- ---- the status place
 
@@ -338,9 +338,9 @@ module _ (c : Chart) (places : ℕ) (bytes : IsByteChart places c) (fine : HasNo
           counts = status_payloads_are_spelled (places - 4) head.payload (bytes pick.place 0 head it.counts.within (omega arith) (inl refl) here) passes_it;
           commits = subst (λ (g : ℕ). IsStatus c pick.place g (committed_in c (Some pick))) generation status_is;
           each = unit_is;
-          shelves = passing (holds_live heads all_marks) places;
-          two = omega (arith, passing_count (holds_live heads all_marks) places, fine.formed.spares);
-          shelved = shelved;
+          overflows = passing (holds_live heads all_marks) places;
+          two = omega (arith, passing_count (holds_live heads all_marks) places, fine.formed.few_overflows);
+          in_overflow = in_overflow;
         })
 
   pub laid_from : Laid places c (layout_in c places)

@@ -8,7 +8,7 @@ use Rattle.ipl_meaning.specs.Chart.{Chart}
 use Rattle.opening_rules.specs.First.{first_below}
 use Rattle.opening_rules.specs.Chosen.{header_at, current_at, status_at}
 use Rattle.opening_rules.specs.Live.{sectors}
-use Rattle.opening_rules.specs.Faults.{size_fault, not_formatted, other_geometry, missing, bad_header, header_fault, commit_fault, first_commit_fault, log_fault, first_log_fault, greatest_found, spent, spares_found, no_spare, first_fault}
+use Rattle.opening_rules.specs.Faults.{size_fault, not_formatted, other_geometry, missing, bad_header, header_fault, commit_fault, first_commit_fault, log_fault, first_log_fault, greatest_found, spent, overflows_found, no_spare, first_fault}
 use Rattle.opening_rules.proofs.FirstLemmas.{or_none, first_none, none_before}
 
 -- ---- six that are not there
@@ -46,7 +46,7 @@ pub record IsFormed (c : Chart) (places : ℕ) : Type 0 where
   pub header : bad_header (status_at c places) ≡ None
   pub commits : (s : ℕ) → s < sectors → commit_fault c (status_at c places) s ≡ None
   pub logs : (k : ℕ) → k < places * 256 → log_fault (header_at c places) (current_at c places) c k ≡ None
-  pub spares : spares_found c places ≤ 2
+  pub few_overflows : overflows_found c places ≤ 2
 
 -- each test passes
 pub record HasNoFault (c : Chart) (places : ℕ) : Type 0 where
@@ -66,7 +66,7 @@ module _ (c : Chart) (places : ℕ) where
   pub no_fault_parts : first_fault c places ≡ None → HasNoFault c places
   no_fault_parts e =
       let all = six_parts (size_fault places) (header_fault c places) (first_commit_fault c places) (first_log_fault c places) (spent (greatest_found c places))
-      (no_spare (spares_found c places)) e in
+      (no_spare (overflows_found c places)) e in
       let heads = six_parts (not_formatted (status_at c places)) (other_geometry (status_at c places)) geometries_fault missing_fault headers_fault
       (bad_header (status_at c places)) all.1 in
       let bounds = and_parts (nat_le 5 places) (nat_le places 1028) (if_none (nat_le 5 places && nat_le places 1028) Geometry all.0) in
@@ -82,7 +82,7 @@ module _ (c : Chart) (places : ℕ) where
           header = heads.5;
           commits = none_before (commit_fault c (status_at c places)) sectors all.2;
           logs = none_before (log_fault (header_at c places) (current_at c places) c) (places * 256) all.3;
-          spares = leb-true (spares_found c places) 2 (if_none (nat_le (spares_found c places) 2) (NoSpare (spares_found c places)) all.5);
+          few_overflows = leb-true (overflows_found c places) 2 (if_none (nat_le (overflows_found c places) 2) (NoSpare (overflows_found c places)) all.5);
         };
         fresh = ltb-true (greatest_found c places) (2 ^ 63) (if_none (nat_lt (greatest_found c places) (2 ^ 63)) Spent all.4);
       }
@@ -112,10 +112,10 @@ module _ (c : Chart) (places : ℕ) where
 
   pub no_fault_from : HasNoFault c places → first_fault c places ≡ None
   no_fault_from all = six_none (size_fault places) (header_fault c places) (first_commit_fault c places) (first_log_fault c places) (spent (greatest_found c places))
-      (no_spare (spares_found c places))
+      (no_spare (overflows_found c places))
       (size_passes all.formed)
       (headers_pass all.formed)
       (commits_pass all.formed)
       (logs_pass all.formed)
       (cond-true (nat_lt (greatest_found c places) (2 ^ 63)) None (Some Spent) (lt-ltb (greatest_found c places) (2 ^ 63) all.fresh))
-      (cond-true (nat_le (spares_found c places) 2) None (Some (NoSpare (spares_found c places))) (le-leb (spares_found c places) 2 all.formed.spares))
+      (cond-true (nat_le (overflows_found c places) 2) None (Some (NoSpare (overflows_found c places))) (le-leb (overflows_found c places) 2 all.formed.few_overflows))

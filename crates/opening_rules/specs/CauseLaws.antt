@@ -8,7 +8,7 @@ use Rattle.ipl_meaning.specs.Chart.{Chart, IsChosen, IsDataHeader, IsStatusHeade
 use Rattle.opening_rules.specs.Payloads.{begins_with_other_units, is_commit_payload}
 use Rattle.opening_rules.specs.Chosen.{Pick, is_head_payload, status_at}
 use Rattle.opening_rules.specs.Live.{sectors, commit_at}
-use Rattle.opening_rules.specs.Faults.{malformed, greatest_found, spares_found, first_fault}
+use Rattle.opening_rules.specs.Faults.{malformed, greatest_found, overflows_found, first_fault}
 use Rattle.opening_rules.specs.FaultLaws.{IsLeastMissing, IsFirstBadLog}
 
 -- the header counts: it is the status header, or that of a unit
@@ -59,7 +59,7 @@ IsCaused c places (Chip Stopped) = ⊥
 IsCaused c places (Chip (Damaged p s stored computed)) = ⊥
 IsCaused c places (Chip (Malformed p s)) = IsBadSector c places p s
 IsCaused c places Spent = 2 ^ 63 ≤ greatest_found c places
-IsCaused c places (NoSpare k) = (2 < k) × (k ≡ spares_found c places)
+IsCaused c places (NoSpare k) = (2 < k) × (k ≡ overflows_found c places)
 
 -- each fault comes where its cause is
 abbrev pub FaultsAreCaused : Type 0

@@ -35,9 +35,9 @@ well_at c places k sector =
     is_log_well (mark_of (header_at c places) k sector) (marks_in c places k) sector.payload
 
 -- a live log sector of the unit stands at the number k, in an overflow place
-abbrev pub is_spare_of : Chart → ℕ → ℕ → ℕ → Bool
-is_spare_of c places u k =
-    passes (λ mark. mark.spare && (mark.unit == u)) (mark_at (header_at c places) (current_at c places) c k)
+abbrev pub is_overflow_of : Chart → ℕ → ℕ → ℕ → Bool
+is_overflow_of c places u k =
+    passes (λ mark. mark.in_overflow && (mark.unit == u)) (mark_at (header_at c places) (current_at c places) c k)
 
 -- an earlier live log sector of its unit has its serial
 pub record HasTwin (c : Chart) (places k : ℕ) (sector : Sector) : Type 0 where
@@ -50,8 +50,8 @@ pub record HasTwin (c : Chart) (places k : ℕ) (sector : Sector) : Type 0 where
 
 -- it stands in an overflow place, and 16 of its unit before it
 pub record IsBeyond16 (c : Chart) (places k : ℕ) (sector : Sector) : Type 0 where
-  pub spare : IsOverflow c (k / 256)
-  pub many : 16 ≤ count_below (is_spare_of c places sector.unit) k
+  pub in_overflow : IsOverflow c (k / 256)
+  pub many : 16 ≤ count_below (is_overflow_of c places sector.unit) k
 
 -- why a live log sector is at fault: it holds no list of records, has a serial again, or is the 17th in overflow places
 abbrev pub HasCause : Chart → ℕ → ℕ → Sector → Type 0

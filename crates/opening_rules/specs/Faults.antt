@@ -9,7 +9,7 @@ use Rattle.ipl_meaning.specs.Chart.{Chart}
 use Rattle.opening_rules.specs.First.{first_below, first_of, greatest_below, greatest_of, count_below}
 use Rattle.opening_rules.specs.Payloads.{is_commit_payload, is_log_payload, numbers_told, tids_told}
 use Rattle.opening_rules.specs.Chosen.{Head, Pick, header_at, current_at, status_at}
-use Rattle.opening_rules.specs.Live.{sectors, commit_at, seen_at, live_at, is_spare, Mark, mark_of, marks, marks_in}
+use Rattle.opening_rules.specs.Live.{sectors, commit_at, seen_at, live_at, is_overflow_place, Mark, mark_of, marks, marks_in}
 
 -- the sector at fault
 abbrev pub malformed : ℕ → ℕ → ImageFault
@@ -81,12 +81,12 @@ abbrev pub clashes : Mark → Mark → Bool
 clashes mark other = (other.unit == mark.unit) && (other.serial == mark.serial)
 
 -- the other is of the same unit and stands in an overflow place
-abbrev pub shares_spares : Mark → Mark → Bool
-shares_spares mark other = other.spare && (other.unit == mark.unit)
+abbrev pub shares_overflow : Mark → Mark → Bool
+shares_overflow mark other = other.in_overflow && (other.unit == mark.unit)
 
 -- it stands in an overflow place, as 16 of its unit already do
 abbrev pub is_full : Mark → List Mark → Bool
-is_full mark earlier = mark.spare && nat_le 16 (count_by (shares_spares mark) earlier)
+is_full mark earlier = mark.in_overflow && nat_le 16 (count_by (shares_overflow mark) earlier)
 
 -- a live log sector is tested for its payload, and against those before it
 abbrev pub is_log_well : Mark → List Mark → List ℕ → Bool
@@ -155,11 +155,11 @@ is_in p mark = mark.place == p
 
 -- the place is an overflow place with a live log sector
 abbrev pub holds_live : (ℕ → Option Head) → List Mark → ℕ → Bool
-holds_live heads live p = is_spare (heads p) && list_any (is_in p) live
+holds_live heads live p = is_overflow_place (heads p) && list_any (is_in p) live
 
 -- how many overflow places of a chart hold live log sectors
-abbrev pub spares_found : Chart → ℕ → ℕ
-spares_found c places =
+abbrev pub overflows_found : Chart → ℕ → ℕ
+overflows_found c places =
     count_below (holds_live (header_at c places) (marks_in c places (places * 256))) places
 
 -- more than two hold them
@@ -176,7 +176,7 @@ tests c places =
     ∷ first_commit_fault c places
     ∷ first_log_fault c places
     ∷ spent (greatest_found c places)
-    ∷ no_spare (spares_found c places)
+    ∷ no_spare (overflows_found c places)
     ∷ []
 
 -- the first fault, if there is one

@@ -63,9 +63,9 @@ abbrev pub seen_at : (ℕ → Option Head) → (ℕ → Option Pick) → Chart �
 seen_at heads current c k = seen heads current c (k / 256) (k % 256)
 
 -- the place is an overflow place
-abbrev pub is_spare : Option Head → Bool
-is_spare None = false
-is_spare (Some head) = is_overflow head
+abbrev pub is_overflow_place : Option Head → Bool
+is_overflow_place None = false
+is_overflow_place (Some head) = is_overflow head
 
 -- log sectors of the unit may stand in the place
 abbrev pub is_place_of : Option Head → ℕ → Bool
@@ -88,7 +88,7 @@ pub record Mark : Type 0 where
   pub unit : ℕ
   pub serial : ℕ
   -- it stands in an overflow place
-  pub spare : Bool
+  pub in_overflow : Bool
 
 -- what is kept of the one at the number k
 abbrev pub mark_of : (ℕ → Option Head) → ℕ → Sector → Mark
@@ -97,7 +97,7 @@ mark_of heads k sector = record {
   number = k % 256;
   unit = sector.unit;
   serial = sector.serial;
-  spare = is_spare (heads (k / 256));
+  in_overflow = is_overflow_place (heads (k / 256));
 }
 
 -- the mark of the number k

@@ -11,7 +11,7 @@ use Rattle.ipl_meaning.specs.Layout.{Laid}
 use Rattle.ipl_meaning.specs.Tables.{Places, IsFree}
 use Rattle.opening_rules.specs.First.{at, first_below, first_of, count_below}
 use Rattle.opening_rules.specs.Chosen.{Head, Pick, header_at, current_in, current_at, status_in, status_at}
-use Rattle.opening_rules.specs.Live.{sectors, is_at, is_log_spot, is_spare, Mark, marks, marks_in}
+use Rattle.opening_rules.specs.Live.{sectors, is_at, is_log_spot, is_overflow_place, Mark, marks, marks_in}
 use Rattle.opening_rules.specs.Faults.{Tells, size_fault, not_formatted, other_geometry, missing, bad_header, header_tests, header_fault, first_fault, greatest_of_heads, greatest_of_commits, greatest_of_logs, greatest_found, spent, no_spare, holds_live}
 use Rattle.opening_rules.specs.LaidOut.{place_of, layout_in}
 use Rattle.opening_rules.specs.Laws.{MayBeRead, IsWhole}
@@ -79,7 +79,7 @@ count_alike f g zero same = refl
 count_alike f g (suc n) same = rw (count_alike f g n (λ k low. same k (omega arith)), same n (omega arith)) refl
 
 pub held_is : (heads : List (Option Head)) (notes : Notes) (all : List Mark) → IsNoted notes all → (p : ℕ) → is_held heads notes p ≡ holds_live (at heads) all p
-held_is heads notes all it p = ap (λ (b : Bool). is_spare (at heads p) && b) (it.holds p)
+held_is heads notes all it p = ap (λ (b : Bool). is_overflow_place (at heads p) && b) (it.holds p)
 
 pub end_tells : {T : Type 0} (heads : List (Option Head)) (notes : Notes) (all : List Mark) (greatest number places : ℕ) (r : Result T ImageFault) → greatest ≡ number → length heads ≡ places → IsNoted notes all
     → Tells (option_or (spent greatest) (option_or (no_spare (count_below (is_held heads notes) (length heads))) None)) r

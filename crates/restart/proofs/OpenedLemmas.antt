@@ -6,7 +6,7 @@ use Rattle.std.proofs.lemmas.List.{get_or-replicate, length-replicate}
 use Rattle.ipl_meaning.specs.Chart.{Chart}
 use Rattle.ipl_meaning.specs.Layout.{Laid}
 use Rattle.ipl_meaning.specs.Found.{IsAbove}
-use Rattle.ipl_meaning.specs.Tables.{Places, IsFree, spots_of, IsSpare}
+use Rattle.ipl_meaning.specs.Tables.{Places, IsFree, spots_of, IsCountedClean}
 use Rattle.opening_rules.specs.Chosen.{head_of}
 use Rattle.opening_rules.specs.LaidOut.{layout_in}
 use Rattle.opening_rules.proofs.HeaderLemmas.{chosen_are_current, chosen_are_status}
@@ -40,10 +40,10 @@ module _ (places : ℕ) (c : Chart) (d : Places) (counter : ℕ) (it : IsOpened 
   no_spots : (u : ℕ) → u < places - 4 → spots_of (opened_tables places c d counter) u ≡ []
   no_spots u low = get_or-replicate (places - 4) u [] [] low
 
-  no_spare : (p s : ℕ) → ¬ IsSpare (opened_tables places c d counter) p s
-  no_spare p s (small, inl (u, less, is, first)) = let all = it.written u (omega (arith, less, it.units)) in omega (arith, small, first, all)
-  no_spare p s (small, inr (inl (first, is, above))) = none_listed (p, first) is
-  no_spare p s (small, inr (inr (is, above))) = omega (arith, small, above)
+  none_counted : (p s : ℕ) → ¬ IsCountedClean (opened_tables places c d counter) p s
+  none_counted p s (small, inl (u, less, is, first)) = let all = it.written u (omega (arith, less, it.units)) in omega (arith, small, first, all)
+  none_counted p s (small, inr (inl (first, is, above))) = none_listed (p, first) is
+  none_counted p s (small, inr (inr (is, above))) = omega (arith, small, above)
 
   above : IsAbove places c (layout_in c places) counter
   above n found = let less = greatest_is_above c places (layout_in c places) laid n found in omega (arith, less, it.number)
@@ -61,16 +61,16 @@ opened_tables_mirror places c d counter it laid none = record {
     current = it.current;
     not_home = not_home places c d counter it laid none;
     not_status = not_status places c d counter it laid none;
-    not_shelf = λ p free is. none_listed p is;
+    not_overflow = λ p free is. none_listed p is;
   };
-  shelf = record {
+  overflow = record {
     units = length-replicate (places - 4) [];
     listed = λ u p s sector low live apart. absurd (none.logs u p s sector low live);
     only = λ u p s low is. absurd (none_listed (p, s) (rw (no_spots places c d counter it laid none u low) at is));
     once = λ u low. rw (no_spots places c d counter it laid none u low) (λ i j e before within. absurd (omega (arith, within)));
     few = λ u low. rw (no_spots places c d counter it laid none u low) (omega arith);
-    shelved = λ u p s low is. absurd (none_listed (p, s) (rw (no_spots places c d counter it laid none u low) at is));
-    overflow = λ p is. absurd (none_listed p is);
+    in_overflow = λ u p s low is. absurd (none_listed (p, s) (rw (no_spots places c d counter it laid none u low) at is));
+    headed = λ p is. absurd (none_listed p is);
     two = omega arith;
     apart = λ i j e before within. absurd (omega (arith, within));
   };
@@ -81,5 +81,5 @@ opened_tables_mirror places c d counter it laid none = record {
     once = λ i j e before within. absurd (omega (arith, within));
     waits = λ k e within. absurd (omega (arith, within));
   };
-  spare = λ p s is. absurd (no_spare places c d counter it laid none p s is);
+  counted_clean = λ p s is. absurd (none_counted places c d counter it laid none p s is);
 }

@@ -43,7 +43,7 @@ pub record NoLog (places : ℕ) (c : Chart) : Type 0 where
 abbrev pub opened_tables : ℕ → Chart → Places → ℕ → Tables
 opened_tables places c directory counter = record {
   places = directory;
-  shelf = record { spots = replicate (places - 4) []; in_use = [] };
+  overflow = record { spots = replicate (places - 4) []; in_use = [] };
   status = record { place = (layout_in c places).status; generation = (layout_in c places).head.generation; numbers = []; first = 256 };
   next = counter;
   active = [];

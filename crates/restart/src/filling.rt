@@ -2,12 +2,12 @@
 ghost use Rattle.std.specs.Prelude.{◌≡◌, ◌<◌, ◌≤◌, ◌+◌, ◌-◌, ◌&&◌, ◌||◌, Bool, ℕ, length, Some};
 ghost use Rattle.opening_rules.specs.First.{at, count_below};
 ghost use Rattle.opening_rules.specs.Chosen.{Pick as Chosen};
-ghost use Rattle.opening_rules.specs.Live.{is_spare};
+ghost use Rattle.opening_rules.specs.Live.{is_overflow_place};
 ghost use Rattle.restart.specs.Notes.{places_of, holds_one};
 ghost use Rattle.restart.specs.Filled.{is_home, is_used, AreUsed, AreAdopted};
 
 use crate::kept::{Header, Pick};
-use crate::logs::is_spare;
+use crate::logs::is_overflow_place;
 use crate::noted::Noted;
 use unit_directory::Directory;
 
@@ -34,19 +34,19 @@ fn adopt_all(directory: &mut Directory, current: &[Option<Pick>])
 pub(crate) fn is_held(heads: &[Option<Header>], noted: &Noted, place: u32) -> bool
     requires heads { place < length heads.now }
     requires places { place < places_of noted.now }
-    ensures { result ≡ (is_spare (at heads.now place) && holds_one noted.now place) }
+    ensures { result ≡ (is_overflow_place (at heads.now place) && holds_one noted.now place) }
 {
-    is_spare(heads, place) && noted.holds(place)
+    is_overflow_place(heads, place) && noted.holds(place)
 }
 
 /// Takes the overflow places that hold live log sectors.
-fn take_spares(directory: &mut Directory, heads: &[Option<Header>], noted: &Noted)
+fn take_overflows(directory: &mut Directory, heads: &[Option<Header>], noted: &Noted)
     requires small { length heads.now ≤ 1028 }
     requires places { length heads.now ≡ length directory.old.in_use }
     requires noted { places_of noted.now ≡ length directory.old.in_use }
     ensures used { (used : ℕ → Bool) (most : ℕ) → AreUsed used (length heads.now) most directory.old.in_use
-        → AreUsed (λ p. used p || (is_spare (at heads.now p) && holds_one noted.now p)) (length heads.now)
-        (most + count_below (λ p. is_spare (at heads.now p) && holds_one noted.now p) (length heads.now)) directory.new.in_use }
+        → AreUsed (λ p. used p || (is_overflow_place (at heads.now p) && holds_one noted.now p)) (length heads.now)
+        (most + count_below (λ p. is_overflow_place (at heads.now p) && holds_one noted.now p) (length heads.now)) directory.new.in_use }
     ensures current { directory.new.current ≡ directory.old.current }
     ensures written { directory.new.written ≡ directory.old.written }
 {
@@ -76,11 +76,11 @@ pub(crate) fn fill(
     requires status { status.now.place < length directory.old.in_use }
     ensures adopted { AreAdopted (at current.now) (length current.now) (length current.now) directory.new }
     ensures used { AreUsed (is_used (at current.now) (length current.now) status.now.place
-        (λ p. is_spare (at heads.now p) && holds_one noted.now p)) (length heads.now)
-        (length current.now + 1 + count_below (λ p. is_spare (at heads.now p) && holds_one noted.now p) (length heads.now))
+        (λ p. is_overflow_place (at heads.now p) && holds_one noted.now p)) (length heads.now)
+        (length current.now + 1 + count_below (λ p. is_overflow_place (at heads.now p) && holds_one noted.now p) (length heads.now))
         directory.new.in_use }
 {
     adopt_all(directory, current);
     directory.take(status.place());
-    take_spares(directory, heads, noted);
+    take_overflows(directory, heads, noted);
 }

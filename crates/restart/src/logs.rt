@@ -8,10 +8,10 @@ ghost use Rattle.unit_io.specs.Reads.{OfContents};
 ghost use Rattle.unit_io.specs.Kinds.{sector_named};
 ghost use Rattle.opening_rules.specs.First.{at, greatest_of, first_below, with_one};
 ghost use Rattle.opening_rules.specs.Payloads.{is_log_payload, tid_of, tids_told};
-ghost use Rattle.opening_rules.specs.Live.{kept, Mark, mark_of, is_at, is_generation, is_log, is_log_spot, is_spare, is_place_of, is_live};
+ghost use Rattle.opening_rules.specs.Live.{kept, Mark, mark_of, is_at, is_generation, is_log, is_log_spot, is_overflow_place, is_place_of, is_live};
 ghost use Rattle.opening_rules.specs.Faults.{Tells, is_image, log_test, log_fault, log_number};
 ghost use Rattle.restart.specs.Looks.{OnlyReads, HasCause};
-ghost use Rattle.restart.specs.Notes.{units_of, places_of, spares_of, IsNoted, IsRoomy};
+ghost use Rattle.restart.specs.Notes.{units_of, places_of, overflow_count_of, IsNoted, IsRoomy};
 ghost use Rattle.restart.specs.Scanned.{IsScanned};
 
 use crate::kept::{Header, Pick};
@@ -26,9 +26,9 @@ use sector_format::Head;
 const FIRST_LOG: u32 = 241;
 
 /// Whether the place is an overflow place.
-pub(crate) fn is_spare(heads: &[Option<Header>], place: u32) -> bool
+pub(crate) fn is_overflow_place(heads: &[Option<Header>], place: u32) -> bool
     requires { place < length heads.now }
-    ensures { result ≡ is_spare (at heads.now place) }
+    ensures { result ≡ is_overflow_place (at heads.now place) }
 {
     match heads[place as usize] {
         Some(header) => header.is_overflow(),
@@ -147,12 +147,12 @@ fn check_log(
     requires unit { head.now.unit < units_of noted.now }
     ensures fault { (marks : List Mark) → IsNoted noted.now marks
         → Tells (log_test (at heads.now) marks (place * 256 + sector) (Some (sector_of head.now payload.now))) result }
-    ensures room { OnOk result (is_spare (at heads.now place) ≡ true → spares_of noted.now head.now.unit < 16) }
+    ensures room { OnOk result (is_overflow_place (at heads.now place) ≡ true → overflow_count_of noted.now head.now.unit < 16) }
     ensures image { IfErr result (λ e. is_image e ≡ true) }
 {
     if !is_log_payload(payload)
         || noted.has(head.unit, head.serial)
-        || (is_spare(heads, place) && noted.spares(head.unit) >= 16)
+        || (is_overflow_place(heads, place) && noted.overflow_counts(head.unit) >= 16)
     {
         return Err(ImageFault::Chip(ChipFault::Malformed { place, sector }));
     }
@@ -188,7 +188,7 @@ fn take_log(
 {
     if is_live(heads, current, place, head) {
         check_log(heads, noted, place, sector, head, payload)?;
-        noted.add(head.unit, head.serial, place, is_spare(heads, place));
+        noted.add(head.unit, head.serial, place, is_overflow_place(heads, place));
     }
     Ok(())
 }

@@ -65,7 +65,7 @@ module _ (places : ℕ) (y : Chart) (it : Layout) (t : Tables) (p next : ℕ) (f
       at_home home last =
           let many : 0 < length t.places.written = omega (arith, mirrors.directory.logs, first, length-set t.places.written 0 0) in
           let clean : slice_index (slice_set t.places.written 0 0) 0 ≡ 0 = get_or-set_same t.places.written 0 0 0 many in
-          let none : y q s ≡ None = mirrors.spare q s (live.within.1, inl (0, omega (arith, mirrors.directory.units, first), home ∙ sym (mirrors.directory.current 0 first), omega (arith, clean, last))) in
+          let none : y q s ≡ None = mirrors.counted_clean q s (live.within.1, inl (0, omega (arith, mirrors.directory.units, first), home ∙ sym (mirrors.directory.current 0 first), omega (arith, clean, last))) in
           absurd (cc (live.here, none))
 
       elsewhere : IsOverflow y q → (q ≡ fresh.home) ⊎ (q ≢ fresh.home) → ⊥
@@ -75,8 +75,8 @@ module _ (places : ℕ) (y : Chart) (it : Layout) (t : Tables) (p next : ℕ) (f
           let is : head ≡ fresh.head = cc one in
           omega (arith, kind, chosen.fits.0, ap (λ (k : Sector). k.kind) is)
       elsewhere over (inr apart) =
-          let many : 0 < length t.shelf.spots = omega (arith, mirrors.shelf.units, first, length-set t.shelf.spots 0 []) in
-          none_listed (q, s) (subst (λ (spots : List (ℕ × ℕ)). Contains spots (q, s)) (get_or-set_same t.shelf.spots 0 [] [] many) (mirrors.shelf.listed 0 q s sector first live apart))
+          let many : 0 < length t.overflow.spots = omega (arith, mirrors.overflow.units, first, length-set t.overflow.spots 0 []) in
+          none_listed (q, s) (subst (λ (spots : List (ℕ × ℕ)). Contains spots (q, s)) (get_or-set_same t.overflow.spots 0 [] [] many) (mirrors.overflow.listed 0 q s sector first live apart))
 
   fresh_bare : fresh.log ≡ []
   fresh_bare = case fresh.log refl

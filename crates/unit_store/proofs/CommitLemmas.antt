@@ -83,17 +83,17 @@ module _ (places p counter : ℕ) (values : Named) (directory : Places) (m n : M
 mirrors_drawn : (places : ℕ) (c : Chart) (it : Layout) (t : Tables) (next : ℕ) → Mirrors places c it t → t.next ≤ next → Mirrors places c it (with_next t next)
 mirrors_drawn places c it t next m more = record {
   laid = m.laid;
-  directory = record { units = m.directory.units; logs = m.directory.logs; all = m.directory.all; current = m.directory.current; not_home = m.directory.not_home; not_status = m.directory.not_status; not_shelf = m.directory.not_shelf };
-  shelf = record {
-    units = m.shelf.units;
-    listed = m.shelf.listed;
-    only = m.shelf.only;
-    once = m.shelf.once;
-    few = m.shelf.few;
-    shelved = m.shelf.shelved;
-    overflow = m.shelf.overflow;
-    two = m.shelf.two;
-    apart = m.shelf.apart;
+  directory = record { units = m.directory.units; logs = m.directory.logs; all = m.directory.all; current = m.directory.current; not_home = m.directory.not_home; not_status = m.directory.not_status; not_overflow = m.directory.not_overflow };
+  overflow = record {
+    units = m.overflow.units;
+    listed = m.overflow.listed;
+    only = m.overflow.only;
+    once = m.overflow.once;
+    few = m.overflow.few;
+    in_overflow = m.overflow.in_overflow;
+    headed = m.overflow.headed;
+    two = m.overflow.two;
+    apart = m.overflow.apart;
   };
   status = record { place = m.status.place; generation = m.status.generation; numbers = m.status.numbers };
   numbers = record {
@@ -102,7 +102,7 @@ mirrors_drawn places c it t next m more = record {
     once = m.numbers.once;
     waits = m.numbers.waits;
   };
-  spare = m.spare;
+  counted_clean = m.counted_clean;
 }
 
 pub on_drawn : (directory : Places) (counter then_counter : ℕ) → counter ≤ then_counter → (places : ℕ) (m : Map) (h : History) → OnChip places directory counter m h → OnChip places directory then_counter m h

@@ -8,7 +8,7 @@ use Rattle.ipl_meaning.specs.Chart.{Chart}
 use Rattle.ipl_meaning.specs.Stands.{Says}
 use Rattle.ipl_meaning.specs.Rests.{now, StoryRests}
 use Rattle.ipl_meaning.specs.Steps.{SameWithin}
-use Rattle.ipl_meaning.specs.Tables.{Places, Tables, IsSpare}
+use Rattle.ipl_meaning.specs.Tables.{Places, Tables, IsCountedClean}
 use Rattle.ipl_meaning.specs.Mirrors.{Mirrors}
 use Rattle.ipl_meaning.specs.Formatted.{formatted}
 use Rattle.ipl_meaning.specs.FirstTables.{first_layout, first_tables}
@@ -35,10 +35,10 @@ module _ (places : ℕ) (c : Chart) (d : Places) (first : IsFirstDirectory place
   none_listed : {X : Type 0} (x : X) → ¬ Contains [] x
   none_listed x (k, within, is) = omega (arith, within)
 
-  no_spare : (p s : ℕ) → ¬ IsSpare (with_directory places d) p s
-  no_spare p s (small, inl (u, less, is, clean)) = omega (arith, small, clean, first.written u (omega (arith, less, first.units)))
-  no_spare p s (small, inr (inl (k, is, above))) = none_listed (p, k) is
-  no_spare p s (small, inr (inr (is, above))) = omega (arith, small, above)
+  none_counted : (p s : ℕ) → ¬ IsCountedClean (with_directory places d) p s
+  none_counted p s (small, inl (u, less, is, clean)) = omega (arith, small, clean, first.written u (omega (arith, less, first.units)))
+  none_counted p s (small, inr (inl (k, is, above))) = none_listed (p, k) is
+  none_counted p s (small, inr (inr (is, above))) = omega (arith, small, above)
 
   pub first_mirrors : Mirrors places c (first_layout places) (with_directory places d)
   first_mirrors = record {
@@ -50,22 +50,22 @@ module _ (places : ℕ) (c : Chart) (d : Places) (first : IsFirstDirectory place
       current = first.current;
       not_home = λ p free u low is. let past = first.free p free in omega (arith, past, low, is);
       not_status = λ p free is. let past = first.free p free in omega (arith, past, is);
-      not_shelf = λ p free is. none_listed p is;
+      not_overflow = λ p free is. none_listed p is;
     };
-    shelf = let shelf = mirrors.shelf in record {
-      units = shelf.units;
-      listed = shelf.listed;
-      only = shelf.only;
-      once = shelf.once;
-      few = shelf.few;
-      shelved = shelf.shelved;
-      overflow = shelf.overflow;
-      two = shelf.two;
-      apart = shelf.apart;
+    overflow = let overflow = mirrors.overflow in record {
+      units = overflow.units;
+      listed = overflow.listed;
+      only = overflow.only;
+      once = overflow.once;
+      few = overflow.few;
+      in_overflow = overflow.in_overflow;
+      headed = overflow.headed;
+      two = overflow.two;
+      apart = overflow.apart;
     };
     status = record { place = mirrors.status.place; generation = mirrors.status.generation; numbers = mirrors.status.numbers };
     numbers = record { above = mirrors.numbers.above; below = mirrors.numbers.below; once = mirrors.numbers.once; waits = mirrors.numbers.waits };
-    spare = λ p s is. absurd (no_spare p s is);
+    counted_clean = λ p s is. absurd (none_counted p s is);
   }
 
 -- where the story rests on no records and the chart is fresh, the first store keeps the empty state

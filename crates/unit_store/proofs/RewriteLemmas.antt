@@ -12,7 +12,7 @@ use Rattle.ipl_meaning.specs.Layout.{Shape, Layout, Laid, base_sector}
 use Rattle.ipl_meaning.specs.Stands.{Shows, Says, Stands, page_in}
 use Rattle.ipl_meaning.specs.Steps.{SameBut, KeepsPages, with_unit, IsIdle, ComesToNothing}
 use Rattle.ipl_meaning.specs.Found.{MentionsBelow, IsPlaceBelow}
-use Rattle.ipl_meaning.specs.Tables.{IsFree, Tables, shelf_places}
+use Rattle.ipl_meaning.specs.Tables.{IsFree, Tables, overflow_places}
 use Rattle.ipl_meaning.specs.TableSteps.{IsReady, IsMoved, taken, with_next}
 use Rattle.ipl_meaning.specs.Mirrors.{Mirrors}
 use Rattle.ipl_meaning.proofs.MirrorLemmas.{free_places_are_idle, headers_may_go}
@@ -95,12 +95,12 @@ module _ (places : ℕ) (c y : Chart) (it : Layout) (t : Tables) (m n : Map) (va
   t_taken : Tables
   t_taken = with_next (taken t p) head.generation
 
-  not_shelf : ¬ Contains (shelf_places t) p
-  not_shelf = filled.mirrors.directory.not_shelf p filled.free
+  not_overflow : ¬ Contains (overflow_places t) p
+  not_overflow = filled.mirrors.directory.not_overflow p filled.free
 
   mirrors_taken : Mirrors places y it t_taken
   unfolding t_taken
-  mirrors_taken = tables_follow_idle_places places c it (taken t p) p y head.generation (places_may_be_taken places c it t p filled.mirrors filled.within) idle not_shelf same_but no_header filled.generation
+  mirrors_taken = tables_follow_idle_places places c it (taken t p) p y head.generation (places_may_be_taken places c it t p filled.mirrors filled.within) idle not_overflow same_but no_header filled.generation
 
   ready : IsReady places y t_taken 0 p fresh
   unfolding t_taken fresh
@@ -174,10 +174,10 @@ module _ (places : ℕ) (c y : Chart) (it : Layout) (t : Tables) (m n : Map) (va
         | inr other ↦ inl (sym (get_or-set_other (slice_set t.places.in_use p true) (slice_index t.places.current 0) q false true other) ∙ is)
       ];
       spots = refl;
-      some = λ k none within. (k, within, get_or_default t.shelf.in_use k _ none within);
-      two = filled.mirrors.shelf.two;
-      apart = filled.mirrors.shelf.apart;
-      named = λ v q s other there in_shelf. in_shelf;
+      some = λ k none within. (k, within, get_or_default t.overflow.in_use k _ none within);
+      two = filled.mirrors.overflow.two;
+      apart = filled.mirrors.overflow.apart;
+      named = λ v q s other there in_overflow. in_overflow;
       status = refl;
       next = omega (arith, more);
       active = refl;

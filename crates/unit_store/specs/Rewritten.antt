@@ -22,7 +22,7 @@ pub record IsRenamed (m n : Map) (values : Named) : Type 0 where
 abbrev pub after_move : Tables → ℕ → ℕ → Tables
 after_move t p next = record {
   places = after_replace (with_use t.places p true) 0 p;
-  shelf = record { spots = slice_set t.shelf.spots 0 []; in_use = t.shelf.in_use };
+  overflow = record { spots = slice_set t.overflow.spots 0 []; in_use = t.overflow.in_use };
   status = t.status;
   next = next;
   active = t.active;

@@ -1,10 +1,10 @@
-use Rattle.ipl_meaning.proofs.AgreeLemmas.{spares_are_untouched, spares_may_be_programmed, tidy_after_programs, tidy_after_moves, tidy_after_barriers, tidy_after_erases}
+use Rattle.ipl_meaning.proofs.AgreeLemmas.{counted_are_untouched, counted_may_be_programmed, tidy_after_programs, tidy_after_moves, tidy_after_barriers, tidy_after_erases}
 use Rattle.ipl_meaning.proofs.laws.clean_laws.Goals as goal
 
 pub returns : goal.returns
 returns c = record {
-  untouched = spares_are_untouched;
-  programmed = spares_may_be_programmed;
+  untouched = counted_are_untouched;
+  programmed = counted_may_be_programmed;
   programs = tidy_after_programs;
   moves = tidy_after_moves;
   barriers = tidy_after_barriers;

@@ -1,7 +1,7 @@
 use Rattle.ipl_meaning.proofs.IdleFollowLemmas.{tables_follow_idle_places, places_may_be_taken}
-use Rattle.ipl_meaning.proofs.MergeFollowLemmas.{tables_follow_merges, spares_follow_merges}
-use Rattle.ipl_meaning.proofs.RenewalFollowLemmas.{tables_follow_renewals, spares_follow_renewals}
-use Rattle.ipl_meaning.proofs.ShelfFollowLemmas.{tables_follow_shelves, spares_follow_shelves}
+use Rattle.ipl_meaning.proofs.MergeFollowLemmas.{tables_follow_merges, counted_follow_merges}
+use Rattle.ipl_meaning.proofs.RenewalFollowLemmas.{tables_follow_renewals, counted_follow_renewals}
+use Rattle.ipl_meaning.proofs.OverflowFollowLemmas.{tables_follow_overflows, counted_follow_overflows}
 use Rattle.ipl_meaning.proofs.laws.moving_laws.Goals as goal
 
 pub returns : goal.returns
@@ -10,8 +10,8 @@ returns c = record {
   taken = places_may_be_taken;
   merges = tables_follow_merges;
   renewals = tables_follow_renewals;
-  shelves = tables_follow_shelves;
-  merge_spares = spares_follow_merges;
-  renewal_spares = spares_follow_renewals;
-  shelf_spares = spares_follow_shelves;
+  overflows = tables_follow_overflows;
+  merge_counted = counted_follow_merges;
+  renewal_counted = counted_follow_renewals;
+  overflow_counted = counted_follow_overflows;
 }

@@ -5,7 +5,7 @@ pub returns : goal.returns
 returns c = record {
   free_places = free_places_are_idle;
   home_logs = log_sectors_may_go_home;
-  shelf_logs = log_sectors_may_go_elsewhere;
+  overflow_logs = log_sectors_may_go_elsewhere;
   commits = commit_sectors_may_go;
   headers = headers_may_go;
   status_headers = status_headers_may_go;

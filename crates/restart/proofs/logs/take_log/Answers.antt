@@ -44,7 +44,7 @@ returns-in_ok-check_log-clause-roomy c =
     let live : is_live heads current c.args.place sector ≡ true = sym (c.is_live.ensures c.args.payload.now) ∙ c.if-is_live.true in
     roomy_more heads current c.args.place c.args.sector c.requires.sector sector c.requires.spot live c.args.noted.now c.requires.roomy c.in_ok-check_log.ensures.room
     c.add.new.self c.args.head.now.serial c.args.place
-    (subst (λ (spare : Bool). AddsNote c.args.head.now.unit c.args.head.now.serial c.args.place spare c.args.noted.now c.add.new.self) c.is_spare.ensures c.add.ensures)
+    (subst (λ (in_overflow : Bool). AddsNote c.args.head.now.unit c.args.head.now.serial c.args.place in_overflow c.args.noted.now c.add.new.self) c.is_overflow_place.ensures c.add.ensures)
 
 pub returns-in_ok-check_log-clause-noted : goal.returns-in_ok-check_log-clause-noted
 returns-in_ok-check_log-clause-noted c = λ marks noted.
@@ -52,7 +52,7 @@ returns-in_ok-check_log-clause-noted c = λ marks noted.
     let current = at c.args.current.now in
     let sector = sector_of c.args.head.now c.args.payload.now in
     let live : is_live heads current c.args.place sector ≡ true = sym (c.is_live.ensures c.args.payload.now) ∙ c.if-is_live.true in
-    noted_live heads current c.args.place c.args.sector c.requires.sector sector c.is_spare.result c.args.noted.now c.add.new.self marks live c.is_spare.ensures c.add.ensures noted
+    noted_live heads current c.args.place c.args.sector c.requires.sector sector c.is_overflow_place.result c.args.noted.now c.add.new.self marks live c.is_overflow_place.ensures c.add.ensures noted
 
 pub returns-in_err-check_log-clause-fault : goal.returns-in_err-check_log-clause-fault
 returns-in_err-check_log-clause-fault c = λ marks noted.

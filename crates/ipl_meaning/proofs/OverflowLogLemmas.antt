@@ -13,18 +13,18 @@ use Rattle.ipl_meaning.specs.Layout.{Layout, IsLiveIn}
 use Rattle.ipl_meaning.specs.Steps.{with_log, MayLog, entry_at}
 use Rattle.ipl_meaning.specs.Found.{MentionsBelow}
 use Rattle.ipl_meaning.specs.Tables.{Tables, spots_of}
-use Rattle.ipl_meaning.specs.Mirrors.{AreApart, MirrorsPlaces, MirrorsShelf, Mirrors}
-use Rattle.ipl_meaning.specs.TableSteps.{IsFreshLog, after_shelf_log, with_next_spot}
-use Rattle.ipl_meaning.specs.FollowingLaws.{TablesFollowShelfLogs}
+use Rattle.ipl_meaning.specs.Mirrors.{AreApart, MirrorsPlaces, MirrorsOverflow, Mirrors}
+use Rattle.ipl_meaning.specs.TableSteps.{IsFreshLog, after_overflow_log, with_next_spot}
+use Rattle.ipl_meaning.specs.FollowingLaws.{TablesFollowOverflowLogs}
 use Rattle.ipl_meaning.proofs.PutLemmas.{here, kept}
 use Rattle.ipl_meaning.proofs.WaitLemmas.{log_sectors_wait}
 use Rattle.ipl_meaning.proofs.MirrorLemmas.{map_contains, log_sectors_may_go_elsewhere}
 use Rattle.ipl_meaning.proofs.ApartLemmas.{home_not_over, none_still}
-use Rattle.ipl_meaning.proofs.SpareLemmas.{same_places, shelf_spares}
+use Rattle.ipl_meaning.proofs.CountedLemmas.{same_places, overflow_counted}
 use Rattle.ipl_meaning.proofs.LogFollowLemmas.{live_then, new_or_live, numbers_then, over_then, same_head, same_home}
 
 module _ (places : ℕ) (c : Chart) (it : Layout) (t : Tables) (u p s next : ℕ) (sector : Sector) (records : List Record) (mirrors : Mirrors places c it t) (low : u < places - 4)
-    (spot : Contains t.shelf.in_use (p, s)) (some : 1 ≤ s) (small : s < 256) (room : length (spots_of t u) < 16) (fresh : IsFreshLog it t u sector records) (more : t.next ≤ next) (below : MentionsBelow next sector) where
+    (spot : Contains t.overflow.in_use (p, s)) (some : 1 ≤ s) (small : s < 256) (room : length (spots_of t u) < 16) (fresh : IsFreshLog it t u sector records) (more : t.next ≤ next) (below : MentionsBelow next sector) where
   may : MayLog places c it u p s sector records
   may = log_sectors_may_go_elsewhere places c it t u p s sector records mirrors low spot some small room fresh
 
@@ -35,10 +35,10 @@ module _ (places : ℕ) (c : Chart) (it : Layout) (t : Tables) (u p s next : ℕ
   jt = with_log it u (entry_at p s sector records)
 
   abbrev tables : Tables
-  tables = after_shelf_log t u p s next
+  tables = after_overflow_log t u p s next
 
   is_over : IsOverflow c p
-  is_over = (mirrors.shelf.overflow p (map_contains t.shelf.in_use p s spot)).1
+  is_over = (mirrors.overflow.headed p (map_contains t.overflow.in_use p s spot)).1
 
   directory : MirrorsPlaces places jt tables
   directory = let was = mirrors.directory in record {
@@ -48,14 +48,14 @@ module _ (places : ℕ) (c : Chart) (it : Layout) (t : Tables) (u p s next : ℕ
     current = λ v less. was.current v less ∙ sym (same_home places c it u p s sector records may v);
     not_home = λ q free v less is. was.not_home q free v less (sym (same_home places c it u p s sector records may v) ∙ is);
     not_status = was.not_status;
-    not_shelf = λ q free. rw (same_places p t.shelf.in_use) (was.not_shelf q free);
+    not_overflow = λ q free. rw (same_places p t.overflow.in_use) (was.not_overflow q free);
   }
 
   mine : spots_of tables u ≡ spots_of t u ++ (p, s) ∷ []
-  mine = get_or-set_same t.shelf.spots u (spots_of t u ++ (p, s) ∷ []) [] (omega (arith, low, mirrors.shelf.units))
+  mine = get_or-set_same t.overflow.spots u (spots_of t u ++ (p, s) ∷ []) [] (omega (arith, low, mirrors.overflow.units))
 
   spots_other : (v : ℕ) → v ≢ u → spots_of tables v ≡ spots_of t v
-  spots_other v apart = get_or-set_other t.shelf.spots u v (spots_of t u ++ (p, s) ∷ []) [] apart
+  spots_other v apart = get_or-set_other t.overflow.spots u v (spots_of t u ++ (p, s) ∷ []) [] apart
 
   -- a spot of before is one now
   listed_then : (v q n : ℕ) → Contains (spots_of t v) (q, n) → Contains (spots_of tables v) (q, n)
@@ -87,9 +87,9 @@ module _ (places : ℕ) (c : Chart) (it : Layout) (t : Tables) (u p s next : ℕ
   stands_away : (v : ℕ) → v < places - 4 → p ≢ (it.units v).home
   stands_away v less at = home_not_over places c it mirrors.laid v less (rw at at is_over)
 
-  shelf : MirrorsShelf places y jt tables
-  shelf = let was = mirrors.shelf in record {
-    units = length-set t.shelf.spots u (spots_of t u ++ (p, s) ∷ []) ∙ was.units;
+  overflow : MirrorsOverflow places y jt tables
+  overflow = let was = mirrors.overflow in record {
+    units = length-set t.overflow.spots u (spots_of t u ++ (p, s) ∷ []) ∙ was.units;
     listed = λ v q n x less live away. elim (new_or_live places c it u p s sector records may v q n x live) [
       | inl new ↦ rw (new.0, new.1, new.2, mine) (Contains-append_right (spots_of t u) ((p, s) ∷ []) (p, s) (0, omega arith, refl))
       | inr old ↦ listed_then v q n (was.listed v q n x less old (λ is. away (is ∙ sym (same_home places c it u p s sector records may v))))
@@ -109,24 +109,24 @@ module _ (places : ℕ) (c : Chart) (it : Layout) (t : Tables) (u p s next : ℕ
       | inl same ↦ rw (same, mine) (omega (arith, room, length-append (spots_of t u) ((p, s) ∷ [])))
       | inr apart ↦ rw (spots_other v apart) (was.few v less)
     ];
-    shelved = λ v q n less is. rw (same_places p t.shelf.in_use) (elim (new_or_listed v q n is) [
-      | inl new ↦ rw new.1 (map_contains t.shelf.in_use p s spot)
-      | inr old ↦ was.shelved v q n less old
+    in_overflow = λ v q n less is. rw (same_places p t.overflow.in_use) (elim (new_or_listed v q n is) [
+      | inl new ↦ rw new.1 (map_contains t.overflow.in_use p s spot)
+      | inr old ↦ was.in_overflow v q n less old
     ]);
-    overflow = λ q is. let (within, over) = was.overflow q (rw (same_places p t.shelf.in_use) at is) in (within, over_then places c it u p s sector records may q over);
-    two = omega (arith, was.two, length-map t.shelf.in_use (with_next_spot p));
-    apart = rw (same_places p t.shelf.in_use) was.apart;
+    headed = λ q is. let (within, over) = was.headed q (rw (same_places p t.overflow.in_use) at is) in (within, over_then places c it u p s sector records may q over);
+    two = omega (arith, was.two, length-map t.overflow.in_use (with_next_spot p));
+    apart = rw (same_places p t.overflow.in_use) was.apart;
   }
 
-  shelf_followed : Mirrors places y jt tables
-  shelf_followed = record {
+  overflow_followed : Mirrors places y jt tables
+  overflow_followed = record {
     laid = (log_sectors_wait places c it u p s sector records mirrors.laid may).0;
     directory = directory;
-    shelf = shelf;
+    overflow = overflow;
     status = let was = mirrors.status in record { place = was.place; generation = was.generation; numbers = was.numbers };
     numbers = numbers_then places c it u p s sector records may t tables next mirrors.numbers more below refl refl;
-    spare = λ q n is. let (before, apart) = shelf_spares places c it t mirrors u p s next spot q n is in none_still c p s sector q n (mirrors.spare q n before) apart;
+    counted_clean = λ q n is. let (before, apart) = overflow_counted places c it t mirrors u p s next spot q n is in none_still c p s sector q n (mirrors.counted_clean q n before) apart;
   }
 
-pub tables_follow_shelf_logs : TablesFollowShelfLogs
-tables_follow_shelf_logs places c it t u p s next sector records mirrors low spot some small room fresh more below = shelf_followed places c it t u p s next sector records mirrors low spot some small room fresh more below
+pub tables_follow_overflow_logs : TablesFollowOverflowLogs
+tables_follow_overflow_logs places c it t u p s next sector records mirrors low spot some small room fresh more below = overflow_followed places c it t u p s next sector records mirrors low spot some small room fresh more below

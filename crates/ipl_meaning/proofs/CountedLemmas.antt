@@ -8,8 +8,8 @@ use Rattle.ipl_meaning.specs.Chart.{Chart, IsOverflow}
 use Rattle.ipl_meaning.specs.Layout.{Layout}
 use Rattle.ipl_meaning.specs.Tables.{Tables, place_of, first_log}
 use Rattle.ipl_meaning.specs.Mirrors.{AreApart, Mirrors}
-use Rattle.ipl_meaning.specs.TableSteps.{after_home_log, after_shelf_log, after_commit, with_next_spot, SparesShrink}
-use Rattle.ipl_meaning.specs.FollowingLaws.{SparesFollow}
+use Rattle.ipl_meaning.specs.TableSteps.{after_home_log, after_overflow_log, after_commit, with_next_spot, CountedShrink}
+use Rattle.ipl_meaning.specs.FollowingLaws.{CountedFollow}
 use Rattle.ipl_meaning.proofs.PutLemmas.{here}
 use Rattle.ipl_meaning.proofs.MirrorLemmas.{map_contains}
 use Rattle.ipl_meaning.proofs.ApartLemmas.{home_not_over, home_not_status, homes_apart, status_not_over}
@@ -61,14 +61,14 @@ one_spot l p a b apart (i, in_i, is) (j, in_j, is_too) = elim (cases_eq i j) [
     at_p k n within is = get_or-map place_of l k (p, n) p within ∙ ap place_of is
 
 module _ (places : ℕ) (c : Chart) (it : Layout) (t : Tables) (mirrors : Mirrors places c it t) where
-  shelf_over : (q first : ℕ) → Contains t.shelf.in_use (q, first) → IsOverflow c q
-  shelf_over q first is = (mirrors.shelf.overflow q (map_contains t.shelf.in_use q first is)).1
+  overflow_headed : (q first : ℕ) → Contains t.overflow.in_use (q, first) → IsOverflow c q
+  overflow_headed q first is = (mirrors.overflow.headed q (map_contains t.overflow.in_use q first is)).1
 
   home_of : (v q : ℕ) → v < length t.places.current → q ≡ slice_index t.places.current v → (v < places - 4) × (q ≡ (it.units v).home)
   home_of v q less is = let low : v < places - 4 = omega (arith, less, mirrors.directory.units) in (low, is ∙ mirrors.directory.current v low)
 
-  pub home_spares : (u next : ℕ) → u < places - 4 → SparesShrink t (after_home_log t u next) (slice_index t.places.current u) (first_log t u)
-  home_spares u next low q n (small, inl (v, less, is, first)) = elim (cases_eq v u) [
+  pub home_counted : (u next : ℕ) → u < places - 4 → CountedShrink t (after_home_log t u next) (slice_index t.places.current u) (first_log t u)
+  home_counted u next low q n (small, inl (v, less, is, first)) = elim (cases_eq v u) [
     | inl same ↦
         let mine : slice_index (after_home_log t u next).places.written u ≡ slice_index t.places.written u + 1 = get_or-set_same t.places.written u (slice_index t.places.written u + 1) 0 (omega (arith, low, mirrors.directory.logs)) in
         let above : first_log t u + 1 ≤ n = let one = rw same at first in omega (arith, one, mine) in
@@ -78,40 +78,40 @@ module _ (places : ℕ) (c : Chart) (it : Layout) (t : Tables) (mirrors : Mirror
         let (inside, home) = home_of v q less is in
         ((small, inl (v, less, is, above)), λ same _. apart (homes_apart places c it mirrors.laid v u inside low (sym home ∙ same ∙ mirrors.directory.current u low)))
   ]
-  home_spares u next low q n (small, inr (inl (first, is, above))) = (
+  home_counted u next low q n (small, inr (inl (first, is, above))) = (
     (small, inr (inl (first, is, above))),
-    λ same _. home_not_over places c it mirrors.laid u low (let over = shelf_over q first is in rw (same ∙ mirrors.directory.current u low) at over),
+    λ same _. home_not_over places c it mirrors.laid u low (let over = overflow_headed q first is in rw (same ∙ mirrors.directory.current u low) at over),
   )
-  home_spares u next low q n (small, inr (inr (is, above))) = (
+  home_counted u next low q n (small, inr (inr (is, above))) = (
     (small, inr (inr (is, above))),
     λ same _. home_not_status places c it mirrors.laid u low (sym (mirrors.directory.current u low) ∙ sym same ∙ is ∙ mirrors.status.place),
   )
 
-  pub shelf_spares : (u p s next : ℕ) → Contains t.shelf.in_use (p, s) → SparesShrink t (after_shelf_log t u p s next) p s
-  shelf_spares u p s next spot q n (small, inl (v, less, is, first)) =
+  pub overflow_counted : (u p s next : ℕ) → Contains t.overflow.in_use (p, s) → CountedShrink t (after_overflow_log t u p s next) p s
+  overflow_counted u p s next spot q n (small, inl (v, less, is, first)) =
       let (inside, home) = home_of v q less is in
-      ((small, inl (v, less, is, first)), λ same _. home_not_over places c it mirrors.laid v inside (let over = shelf_over p s spot in rw (sym same ∙ home) at over))
-  shelf_spares u p s next spot q n (small, inr (inl (first, is, above))) =
-      let (old, listed, less, is_next) = spot_before p t.shelf.in_use q first is in (
+      ((small, inl (v, less, is, first)), λ same _. home_not_over places c it mirrors.laid v inside (let over = overflow_headed p s spot in rw (sym same ∙ home) at over))
+  overflow_counted u p s next spot q n (small, inr (inl (first, is, above))) =
+      let (old, listed, less, is_next) = spot_before p t.overflow.in_use q first is in (
         (small, inr (inl (old, listed, omega (arith, less, above)))),
         λ same there.
-            let one : old ≡ s = one_spot t.shelf.in_use p old s mirrors.shelf.apart (subst (λ (z : ℕ). Contains t.shelf.in_use (z, old)) same listed) spot in
+            let one : old ≡ s = one_spot t.overflow.in_use p old s mirrors.overflow.apart (subst (λ (z : ℕ). Contains t.overflow.in_use (z, old)) same listed) spot in
             omega (arith, one, is_next same, above, there),
       )
-  shelf_spares u p s next spot q n (small, inr (inr (is, above))) = (
+  overflow_counted u p s next spot q n (small, inr (inr (is, above))) = (
     (small, inr (inr (is, above))),
-    λ same _. status_not_over places c it mirrors.laid (let over = shelf_over p s spot in rw (sym same ∙ is ∙ mirrors.status.place) at over),
+    λ same _. status_not_over places c it mirrors.laid (let over = overflow_headed p s spot in rw (sym same ∙ is ∙ mirrors.status.place) at over),
   )
 
-  pub commit_spares : (numbers active : List ℕ) (next : ℕ) → SparesShrink t (after_commit t numbers next active) it.status t.status.first
-  commit_spares numbers active next q n (small, inl (v, less, is, first)) =
+  pub commit_counted : (numbers active : List ℕ) (next : ℕ) → CountedShrink t (after_commit t numbers next active) it.status t.status.first
+  commit_counted numbers active next q n (small, inl (v, less, is, first)) =
       let (inside, home) = home_of v q less is in
       ((small, inl (v, less, is, first)), λ same _. home_not_status places c it mirrors.laid v inside (sym home ∙ same))
-  commit_spares numbers active next q n (small, inr (inl (first, is, above))) = (
+  commit_counted numbers active next q n (small, inr (inl (first, is, above))) = (
     (small, inr (inl (first, is, above))),
-    λ same _. status_not_over places c it mirrors.laid (let over = shelf_over q first is in rw same at over),
+    λ same _. status_not_over places c it mirrors.laid (let over = overflow_headed q first is in rw same at over),
   )
-  commit_spares numbers active next q n (small, inr (inr (is, above))) = ((small, inr (inr (is, omega (arith, above)))), λ _ there. omega (arith, above, there))
+  commit_counted numbers active next q n (small, inr (inr (is, above))) = ((small, inr (inr (is, omega (arith, above)))), λ _ there. omega (arith, above, there))
 
-pub spares_follow : SparesFollow
-spares_follow places c it t mirrors = (home_spares places c it t mirrors, shelf_spares places c it t mirrors, commit_spares places c it t mirrors)
+pub counted_follow : CountedFollow
+counted_follow places c it t mirrors = (home_counted places c it t mirrors, overflow_counted places c it t mirrors, commit_counted places c it t mirrors)
