@@ -6,3 +6,4 @@ pub mod SaidLemmas
 pub mod ProgramLemmas
 pub mod EraseLemmas
 pub mod ClosedLemmas
+pub mod CountsLemmas

@@ -81,8 +81,9 @@ pub record Halts (old new : Told) : Type 0 where
 abbrev pub Rose : ℕ → ℕ → Type 0
 Rose before now = min (before + 1) (2 ^ 64 - 1) ≤ now
 
--- after a chip call: no count falls, and what stands beside the chip is as it was
+-- after a chip call: the places are as many, no count falls, and what stands beside the chip is as it was
 pub record Counts (old new : Told) : Type 0 where
+  pub places : new.places ≡ old.places
   pub reads : old.read_faults ≤ new.read_faults
   pub writes : old.write_faults ≤ new.write_faults
   pub beside : new.beside ≡ old.beside

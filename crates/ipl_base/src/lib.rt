@@ -5,6 +5,7 @@
 mod counter;
 mod fault;
 mod geometry;
+mod limits;
 mod name;
 mod spot;
 mod value;
@@ -12,6 +13,10 @@ mod value;
 pub use counter::Counter;
 pub use fault::{ChipFault, FormatFault, ImageFault, OpenFault, OutOfMemory, Refusal, StoreFault};
 pub use geometry::Geometry;
+pub use limits::{
+    COMMIT_NUMBERS, FIRST_LOG_SECTOR, KEPT_NUMBERS, LOG_SECTORS, OVERFLOW_PLACES, OVERFLOW_SECTORS,
+    PAGES, PAYLOAD_LEN, PENDING_NAMES, SECTORS, SESSION_NAMES, SLOTS, UNIT_NAMES,
+};
 pub use name::{Name, home};
 pub use spot::{Home, Spot};
 pub use value::Value;

@@ -3,6 +3,7 @@ ghost use Rattle.std.specs.Prelude.{◌≡◌, ◌+◌, ◌*◌, ◌<◌};
 ghost use Rattle.ipl_base.specs.Places.{home_of};
 
 use crate::Home;
+use crate::limits::{PAGES, SLOTS, UNIT_NAMES};
 
 /// The name of a record, a number.
 #[derive(Clone, Copy, Debug, Default, PartialEq, Eq, PartialOrd, Ord)]
@@ -15,8 +16,8 @@ pub fn home(name: Name) -> Home
     ensures exact { name.0 ≡ 960 * result.unit + 64 * result.page + result.slot }
 {
     Home {
-        unit: name.0 / 960,
-        page: name.0 / 64 % 15,
-        slot: name.0 % 64,
+        unit: name.0 / UNIT_NAMES,
+        page: name.0 / SLOTS % PAGES,
+        slot: name.0 % SLOTS,
     }
 }

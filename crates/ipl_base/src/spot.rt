@@ -9,7 +9,7 @@ pub struct Home {
 }
 
 /// A sector (0 to 255) of a place.
-#[derive(Clone, Copy, Debug, PartialEq, Eq)]
+#[derive(Clone, Copy, Debug, Default, PartialEq, Eq)]
 pub struct Spot {
     pub place: u32,
     pub sector: u32,

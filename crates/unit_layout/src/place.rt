@@ -2,6 +2,8 @@
 ghost use Rattle.std.specs.Prelude.{◌≡◌, ◌≤◌, ◌<◌};
 ghost use Rattle.ipl_format.specs.Place.{base_sector_of, log_sector_of};
 
+use ipl_base::FIRST_LOG_SECTOR;
+
 /// The sector (1 to 240) of a piece (0 to 15) of the text of a page (0 to 14).
 pub fn base_sector(page: u32, piece: u32) -> u32
     requires page { page < 15 }
@@ -18,5 +20,5 @@ pub fn log_sector(i: u32) -> u32
     ensures sector { result ≡ log_sector_of i }
     ensures in_range { (241 ≤ result) × (result ≤ 255) }
 {
-    241 + i
+    FIRST_LOG_SECTOR + i
 }

@@ -8,7 +8,7 @@ ghost use Rattle.ipl_model.specs.Plain.{state_of, limits_of, keeps_from};
 use super::PlainModel;
 use super::locks::{Lock, holder, pending_writes};
 use super::scan::{count_in_unit, count_names, newest};
-use ipl_base::{Refusal, Value};
+use ipl_base::{PENDING_NAMES, Refusal, UNIT_NAMES, Value};
 use std::alloc::AllocError;
 
 impl PlainModel {
@@ -97,7 +97,7 @@ impl PlainModel {
     fn is_bad_name(&self, name: u32) -> bool
         ensures { result ≡ nat_le (limits_of self.now).names name }
     {
-        u64::from(name) >= 960 * u64::from(self.units)
+        u64::from(name) >= u64::from(UNIT_NAMES) * u64::from(self.units)
     }
 
     /// Why a begin is refused, if it is.
@@ -161,8 +161,8 @@ impl PlainModel {
         if self.names_written(s) >= 256 {
             return Ok(Some(Refusal::WritesFull));
         }
-        if self.pending(name / 960)? >= 48 {
-            return Ok(Some(Refusal::PendingFull(name / 960)));
+        if self.pending(name / UNIT_NAMES)? >= PENDING_NAMES as usize {
+            return Ok(Some(Refusal::PendingFull(name / UNIT_NAMES)));
         }
         Ok(None)
     }

@@ -4,7 +4,7 @@ ghost use Rattle.ipl_rules.specs.State.{last_write, written_names};
 ghost use Rattle.ipl_model.specs.Plain.{newest_first};
 
 use super::log::{Write, copied};
-use ipl_base::Value;
+use ipl_base::{UNIT_NAMES, Value};
 
 /// The newest write of a name.
 pub fn newest(log: &[Write], name: u32) -> Option<Option<Value>>
@@ -48,7 +48,7 @@ pub fn count_in_unit(log: &[Write], unit: u32) -> usize
 {
     let mut count = 0;
     for (i, write) in log.iter().enumerate() {
-        if write.name / 960 == unit && !is_written(&log[..i], write.name) {
+        if write.name / UNIT_NAMES == unit && !is_written(&log[..i], write.name) {
             count += 1;
         }
     }

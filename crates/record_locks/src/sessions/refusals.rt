@@ -7,7 +7,7 @@ ghost use Rattle.record_locks.specs.Locks.{refuses_share, refuses_write};
 
 use super::Sessions;
 use crate::session::is_listed;
-use ipl_base::{Name, Refusal};
+use ipl_base::{Name, PENDING_NAMES, Refusal, UNIT_NAMES};
 
 impl Sessions {
     /// Whether a session is open.
@@ -90,8 +90,8 @@ impl Sessions {
         if self.has_full_writes(s) {
             return Some(Refusal::WritesFull);
         }
-        if self.pending(name.0 / 960) >= 48 {
-            return Some(Refusal::PendingFull(name.0 / 960));
+        if self.pending(name.0 / UNIT_NAMES) >= PENDING_NAMES {
+            return Some(Refusal::PendingFull(name.0 / UNIT_NAMES));
         }
         None
     }

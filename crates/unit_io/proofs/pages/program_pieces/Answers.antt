@@ -1,6 +1,7 @@
 use Rattle.std.proofs.Common.{◌≡◌, ◌<◌, ℕ, Ok, Err, subst, arith, refl, ◌∙◌}
 use Rattle.std.proofs.lemmas.Result.{err_from_is_err_and}
 use Rattle.unit_io.proofs.PageLemmas.{piled_none, piled_more, piled_fails, piled_all, charts_none, charts_more, IsOpenFor, PieceSays, Piled}
+use Rattle.chip_trait.proofs.CountsLemmas.{counts_none, counts_then}
 use Rattle.unit_io.proofs.PlainLemmas.{plain_none, plain_then}
 use Rattle.unit_io.proofs.pages.program_pieces.Goals as goal
 
@@ -10,7 +11,7 @@ loop-piece-init g c = record {
   tells = charts_none c.args.place c.args.head.now.unit c.args.head.now.generation c.args.page c.args.text.now (g.C.Chip.told c.args.chip.now);
   plain = plain_none (g.C.Chip.told c.args.chip.now);
   places = refl;
-  counts = record { reads = omega arith; writes = omega arith; beside = refl };
+  counts = counts_none (g.C.Chip.told c.args.chip.now);
 }
 
 pub loop-piece-preserved : goal.loop-piece-preserved
@@ -24,11 +25,7 @@ loop-piece-preserved g c =
       tells = charts_more c.args.place c.args.head.now.unit c.args.head.now.generation c.args.page c.args.text.now c.loop-piece.piece (g.C.Chip.told c.args.chip.now) (g.C.Chip.told c.loop-piece.chip) (g.C.Chip.told c.program_piece.new.chip) so_far.tells c.in_ok-program_piece.ensures.tells;
       plain = plain_then (g.C.Chip.told c.args.chip.now) (g.C.Chip.told c.loop-piece.chip) (g.C.Chip.told c.program_piece.new.chip) so_far.plain c.in_ok-program_piece.ensures.plain;
       places = c.in_ok-program_piece.ensures.places ∙ so_far.places;
-      counts = record {
-        reads = omega (arith, so_far.counts.reads, c.in_ok-program_piece.ensures.counts.reads);
-        writes = omega (arith, so_far.counts.writes, c.in_ok-program_piece.ensures.counts.writes);
-        beside = c.in_ok-program_piece.ensures.counts.beside ∙ so_far.counts.beside;
-      };
+      counts = counts_then (g.C.Chip.told c.args.chip.now) (g.C.Chip.told c.loop-piece.chip) (g.C.Chip.told c.program_piece.new.chip) so_far.counts c.in_ok-program_piece.ensures.counts;
     }
 
 pub returns-in_err-program_piece-clause-keeps : goal.returns-in_err-program_piece-clause-keeps

@@ -1,6 +1,7 @@
 use Rattle.std.proofs.Common.{◌≡◌, ◌<◌, ◌≤◌, ℕ, replicate, Ok, Err, subst, arith, refl, ◌∙◌}
 use Rattle.std.proofs.lemmas.List.{length-set}
 use Rattle.std.proofs.lemmas.Result.{err_from_is_err_and}
+use Rattle.chip_trait.proofs.CountsLemmas.{counts_none, counts_then}
 use Rattle.unit_io.proofs.PlainLemmas.{plain_none, plain_then}
 use Rattle.unit_store.specs.Pages.{page_slots}
 use Rattle.unit_store.specs.Values.{seen_in}
@@ -13,7 +14,7 @@ loop-page-init g c = record {
   keeps = λ m h steady ready. filed_none _ c.args.place c.args.head.now.unit c.args.head.now.generation (page_slots (seen_in c.args.memory.now)) m h (replicate 15 0) (g.C.Chip.told c.args.chip.now) steady ready;
   plain = plain_none (g.C.Chip.told c.args.chip.now);
   places = refl;
-  counts = record { reads = omega arith; writes = omega arith; beside = refl };
+  counts = counts_none (g.C.Chip.told c.args.chip.now);
   few = few_none 15;
   long = refl;
 }
@@ -30,11 +31,7 @@ loop-page-preserved g c =
           so_far.places says.keeps);
       plain = plain_then (g.C.Chip.told c.args.chip.now) (g.C.Chip.told c.loop-page.chip) (g.C.Chip.told c.write_page.new.chip) so_far.plain says.plain;
       places = says.places ∙ so_far.places;
-      counts = record {
-        reads = omega (arith, so_far.counts.reads, says.counts.reads);
-        writes = omega (arith, so_far.counts.writes, says.counts.writes);
-        beside = says.counts.beside ∙ so_far.counts.beside;
-      };
+      counts = counts_then (g.C.Chip.told c.args.chip.now) (g.C.Chip.told c.loop-page.chip) (g.C.Chip.told c.write_page.new.chip) so_far.counts says.counts;
       few = few_more c.loop-page.pieces c.loop-page.page c.in_ok-count.count (omega (arith, low, so_far.long)) so_far.few small;
       long = length-set c.loop-page.pieces c.loop-page.page c.in_ok-count.count ∙ so_far.long;
     }
