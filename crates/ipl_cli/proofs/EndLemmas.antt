@@ -44,7 +44,7 @@ use Rattle.unit_store.specs.Keeps.{KeepsUnit, limits_of, unit_keeping}
 use Rattle.unit_store.specs.Bare.{HasNoLog}
 use Rattle.unit_store.proofs.FirstKeeps.{first_keeps}
 use Rattle.unit_store.proofs.BareLemmas.{bare_has_none}
-use Rattle.ipl_cli.specs.Top.{Runs, RunsOpened, RunsFormatted, IsStopped, IsLaidOut, LaysOut, OnlyLooks, IsAbout, IsFound, answers, ok_line}
+use Rattle.ipl_cli.specs.Top.{Runs, RunsOpened, RunsFormatted, IsStopped, IsLaidOut, LaysOut, OnlyLooks, IsAbout, StandsAbout, answers, ok_line}
 use Rattle.ipl_cli.specs.Runs.{StartsFormatted, StartsOpened}
 
 some_one : {X : Type 0} {a b : X} → Some a ≡ Some b → a ≡ b
@@ -230,7 +230,7 @@ near_silent Q limits state (c ∷ commands) holds = rw (reply_shows limits state
 
 module _ (places : ℕ) (m : Map) (script : List ℕ) (h : History) (first : Story) (reads : only_reads first ≡ true) (rests : StoryRests places m h) (none : HasNoLog places (now h)) where
   abbrev Found : Story → Type 0
-  Found e = Leaves (says sector_in) (IsFound places m script (said e)) h e
+  Found e = Leaves (says sector_in) (StandsAbout places m script (said e)) h e
 
   silent : pieces first ≡ []
   silent = reads_say_nothing first reads
@@ -239,7 +239,7 @@ module _ (places : ℕ) (m : Map) (script : List ℕ) (h : History) (first : Sto
   near_reads : AtEachMoment Found first
   near_reads = λ later e is x image.
       let quiet : pieces e ≡ [] = silent-part later e (ap pieces is ∙ silent) in
-      subst (λ (bytes : List ℕ). IsFound places m script bytes x) (sym (ap joined quiet))
+      subst (λ (bytes : List ℕ). StandsAbout places m script bytes x) (sym (ap joined quiet))
       (near_silent (λ s. Stands places (chart_of x) s.map) (limits_of (places - 4)) (at_rest m) (commands_of script) (reads_leave places m h first reads rests later e is x image))
 
   module _ (old new : Told) (done : Bool) (r : Runs places m script h first old new done) where
@@ -253,8 +253,8 @@ module _ (places : ℕ) (m : Map) (script : List ℕ) (h : History) (first : Sto
     all_history = ap (λ (s : Story). record { start = h.start; story = s }) (sym (append_assoc r.added first h.story))
 
     later_found : AtEachMoment (λ f. Found (f ++ first)) r.added
-    later_found = at_weaker (λ e. Leaves (says sector_in) (IsFound places m script (said e)) (adds_all first h) e) (λ f. Found (f ++ first)) r.added (λ f leaves x image.
-        subst (λ (bytes : List ℕ). IsFound places m script bytes x) (sym (said-append f first ∙ ap (λ (ps : List (List ℕ)). joined ps ++ said f) silent))
+    later_found = at_weaker (λ e. Leaves (says sector_in) (StandsAbout places m script (said e)) (adds_all first h) e) (λ f. Found (f ++ first)) r.added (λ f leaves x image.
+        subst (λ (bytes : List ℕ). StandsAbout places m script bytes x) (sym (said-append f first ∙ ap (λ (ps : List (List ℕ)). joined ps ++ said f) silent))
         (leaves x (subst (λ (s : Story). IsNoChanceImage (says sector_in) h.start s x) (append_assoc f first h.story) image))) r.each_moment
 
     -- the first reads are events like all others

@@ -16,7 +16,7 @@ use Rattle.command_line.specs.declared.asked.Request.TheVariants.{Format, Run}
 use Rattle.program_end.specs.Ends.{status_of, fault_status}
 use Rattle.program_end.specs.declared.end.End.{End}
 use Rattle.program_end.specs.declared.end.End.TheVariants.{Words, Chip, OutOfMemory, Script, Output, TooLong}
-use Rattle.ipl_cli.specs.Top.{Asked, Ending, status_at, note_at, IsAtFault, OpenedCause, FormattedCause, ChipCause, IsTooLong, RequestCause, EndCause, Runs, RunsOpened, RunsFormatted, StopsEarly, IsStopped, RunsOrStops, IsLaidOut, LaysOut, OnlyLooks, but_noted, format_end, IsUntouched, FormatLeaves, FormattedLeaves, OpenedLeaves, EndLeaves, Ends, IsCalm, Suffices, EndsInTime, IsSpent, IsStray}
+use Rattle.ipl_cli.specs.Top.{AskedFor, Ending, status_at, note_at, IsAtFault, OpenedCause, FormattedCause, ChipCause, IsTooLong, RequestCause, EndCause, Runs, RunsOpened, RunsFormatted, StopsEarly, IsStopped, RunsOrStops, IsLaidOut, LaysOut, OnlyLooks, but_noted, format_end, IsUntouched, FormatLeaves, FormattedLeaves, OpenedLeaves, EndLeaves, Ends, IsCalm, Suffices, EndsInTime, IsSpent, IsStray}
 use Rattle.ipl_cli.specs.Runs.{StartsFormatted, StartsOpened, RunCause, RunsOver}
 use Rattle.ipl_cli.proofs.EndLemmas.{stopped_early, formatted_stops, opened_stops, runs_none}
 
@@ -125,7 +125,7 @@ module _ (old mid : Told) (noted : Option (List ℕ)) where
   request_cause Format TooLong c = c
   request_cause (Run formats) TooLong c = record { grew = c.grew; told = c.told }
 
-  end_cause : (asked : Asked) (ending : Ending) → EndCause asked ending old mid → EndCause asked ending old then
+  end_cause : (asked : AskedFor) (ending : Ending) → EndCause asked ending old mid → EndCause asked ending old then
   end_cause None (Ok u) c = c
   end_cause None (Err end) c = c
   end_cause (Some request) (Ok u) c = c
@@ -216,14 +216,14 @@ module _ (old mid : Told) (noted : Option (List ℕ)) where
   opened_run_left (Err Output) l = opened_noted l
   opened_run_left (Err TooLong) l = opened_noted l
 
-  end_left : (asked : Asked) (ending : Ending) → EndLeaves asked ending old mid → EndLeaves asked ending old then
+  end_left : (asked : AskedFor) (ending : Ending) → EndLeaves asked ending old mid → EndLeaves asked ending old then
   end_left None ending l = untouched_noted l
   end_left (Some Format) ending l = format_left ending l
   end_left (Some (Run true)) ending l = formatted_run_left ending l
   end_left (Some (Run false)) ending l = opened_run_left ending l
 
 -- all that is to be known of the end
-pub ends : (asked : Asked) (ending : Ending) (old mid new : Told) (status : ℕ) → EndCause asked ending old mid → EndLeaves asked ending old mid → mid.beside.noted ≡ old.beside.noted → status ≡ status_at ending
+pub ends : (asked : AskedFor) (ending : Ending) (old mid new : Told) (status : ℕ) → EndCause asked ending old mid → EndLeaves asked ending old mid → mid.beside.noted ≡ old.beside.noted → status ≡ status_at ending
     → new ≡ but_noted mid new.beside.noted → ((bytes : List ℕ) → new.beside.noted ≡ Some bytes → (before : List ℕ) × (mid.beside.noted ≡ Some before) × (bytes ≡ before ++ note_at ending)) → Ends asked old new status
 ends asked ending old mid new status cause leaves same status_is only noted = record {
   ending = ending;
@@ -352,9 +352,9 @@ module _ (old new : Told) where
 
 -- ---- by the words
 
-module _ (asked : Asked) (old new : Told) (status : ℕ) (e : Ends asked old new status) where
+module _ (asked : AskedFor) (old new : Told) (status : ℕ) (e : Ends asked old new status) where
   leaves_of : (request : Request) → asked ≡ Some request → EndLeaves (Some request) e.ending old new
-  leaves_of request is = subst (λ (a : Asked). EndLeaves a e.ending old new) is e.leaves
+  leaves_of request is = subst (λ (a : AskedFor). EndLeaves a e.ending old new) is e.leaves
 
   pub end_opened : asked ≡ Some (Run false) → RunsOpened old new (status == 0)
   end_opened is = subst (λ (n : ℕ). RunsOpened old new (n == 0)) (sym e.status_is) (opened_by old new e.ending (leaves_of (Run false) is))
@@ -374,7 +374,7 @@ module _ (asked : Asked) (old new : Told) (status : ℕ) (e : Ends asked old new
 -- ---- by the status alone
 
 module _ (old new : Told) where
-  early_by : (asked : Asked) (ending : Ending) → EndCause asked ending old new → EndLeaves asked ending old new → (status_at ending ≡ 2) ⊎ (status_at ending ≡ 5) → IsUntouched old new
+  early_by : (asked : AskedFor) (ending : Ending) → EndCause asked ending old new → EndLeaves asked ending old new → (status_at ending ≡ 2) ⊎ (status_at ending ≡ 5) → IsUntouched old new
   early_by None ending c l is = l
   early_by (Some request) (Ok u) c l is = absurd (omega (arith, is))
   early_by (Some request) (Err Words) c l is = absurd c
@@ -417,7 +417,7 @@ module _ (old new : Told) where
   chip_looks (Run true) e c l other = formatted_looks e c l other
   chip_looks (Run false) e c l other = l.1 (not_stopped e other)
 
-  looks_by : (asked : Asked) (ending : Ending) → EndCause asked ending old new → EndLeaves asked ending old new → (status_at ending ≡ 4) ⊎ (status_at ending ≡ 9) → OnlyLooks old new
+  looks_by : (asked : AskedFor) (ending : Ending) → EndCause asked ending old new → EndLeaves asked ending old new → (status_at ending ≡ 4) ⊎ (status_at ending ≡ 9) → OnlyLooks old new
   looks_by None ending c l is = untouched_looks old new l
   looks_by (Some request) (Ok u) c l is = absurd (omega (arith, is))
   looks_by (Some request) (Err Words) c l is = absurd c
@@ -433,7 +433,7 @@ module _ (old new : Told) where
   none_status (Err end) (inl is) = inl (ap status_of is)
   none_status (Err end) (inr is) = inr (ap status_of is)
 
-  words_by : (asked : Asked) (ending : Ending) → EndCause asked ending old new → status_at ending ≡ 2 → asked ≡ None
+  words_by : (asked : AskedFor) (ending : Ending) → EndCause asked ending old new → status_at ending ≡ 2 → asked ≡ None
   words_by None ending c is = refl
   words_by (Some request) (Ok u) c is = absurd (omega (arith, is))
   words_by (Some request) (Err Words) c is = absurd c
@@ -460,7 +460,7 @@ module _ (old new : Told) where
   spent_by (Run false) e c is = (refl, opened_spent old new e c is)
 
   -- a status of a fault of the chip comes with one
-  fault_by : (n : ℕ) → n ≢ 0 → n ≢ 2 → n ≢ 5 → n ≢ 6 → n ≢ 7 → n ≢ 8 → (asked : Asked) (ending : Ending) → EndCause asked ending old new → status_at ending ≡ n
+  fault_by : (n : ℕ) → n ≢ 0 → n ≢ 2 → n ≢ 5 → n ≢ 6 → n ≢ 7 → n ≢ 8 → (asked : AskedFor) (ending : Ending) → EndCause asked ending old new → status_at ending ≡ n
       → (request : Request) × (e : ImageFault) × (asked ≡ Some request) × (fault_status e ≡ n) × ChipCause request e old new
   fault_by n a b d f g h None ending c is = absurd (omega (arith, none_status ending c, is, b, d))
   fault_by n a b d f g h (Some request) (Ok u) c is = absurd (omega (arith, is, a))
@@ -471,7 +471,7 @@ module _ (old new : Told) where
   fault_by n a b d f g h (Some request) (Err Output) c is = absurd (omega (arith, is, g))
   fault_by n a b d f g h (Some request) (Err TooLong) c is = absurd (omega (arith, is, h))
 
-  script_by : (asked : Asked) (ending : Ending) → EndCause asked ending old new → status_at ending ≡ 6 → Rose old.beside.script_faults new.beside.script_faults
+  script_by : (asked : AskedFor) (ending : Ending) → EndCause asked ending old new → status_at ending ≡ 6 → Rose old.beside.script_faults new.beside.script_faults
   script_by None ending c is = absurd (omega (arith, none_status ending c, is))
   script_by (Some request) (Ok u) c is = absurd (omega (arith, is))
   script_by (Some request) (Err Words) c is = absurd c
@@ -482,7 +482,7 @@ module _ (old new : Told) where
   script_by (Some request) (Err Output) c is = absurd (omega (arith, is))
   script_by (Some request) (Err TooLong) c is = absurd (omega (arith, is))
 
-  output_by : (asked : Asked) (ending : Ending) → EndCause asked ending old new → status_at ending ≡ 7 → Rose old.beside.say_faults new.beside.say_faults
+  output_by : (asked : AskedFor) (ending : Ending) → EndCause asked ending old new → status_at ending ≡ 7 → Rose old.beside.say_faults new.beside.say_faults
   output_by None ending c is = absurd (omega (arith, none_status ending c, is))
   output_by (Some request) (Ok u) c is = absurd (omega (arith, is))
   output_by (Some request) (Err Words) c is = absurd c
@@ -492,7 +492,7 @@ module _ (old new : Told) where
   output_by (Some request) (Err Output) c is = c
   output_by (Some request) (Err TooLong) c is = absurd (omega (arith, is))
 
-  long_by : (asked : Asked) (ending : Ending) → EndCause asked ending old new → status_at ending ≡ 8 → IsTooLong old new
+  long_by : (asked : AskedFor) (ending : Ending) → EndCause asked ending old new → status_at ending ≡ 8 → IsTooLong old new
   long_by None ending c is = absurd (omega (arith, none_status ending c, is))
   long_by (Some request) (Ok u) c is = absurd (omega (arith, is))
   long_by (Some request) (Err Words) c is = absurd c
@@ -555,7 +555,7 @@ module _ (old new : Told) (calm : IsCalm old new) where
   complete_by Format holds time (Err TooLong) c = absurd c
   complete_by (Run formats) holds time (Err TooLong) c = absurd (never_long time c)
 
-module _ (asked : Asked) (old new : Told) (status : ℕ) (e : Ends asked old new status) where
+module _ (asked : AskedFor) (old new : Told) (status : ℕ) (e : Ends asked old new status) where
   pub end_early : (status ≡ 2) ⊎ (status ≡ 5) → IsUntouched old new
   end_early at = early_by old new asked e.ending e.cause e.leaves (rw e.status_is at at)
 
@@ -590,7 +590,7 @@ module _ (asked : Asked) (old new : Told) (status : ℕ) (e : Ends asked old new
   end_long at = (long_by old new asked e.ending e.cause (sym e.status_is ∙ at)).grew
 
   pub end_invalid : asked ≡ None → (status ≡ 2) ⊎ (status ≡ 5)
-  end_invalid is = rw e.status_is (none_status old new e.ending (subst (λ (a : Asked). EndCause a e.ending old new) is e.cause))
+  end_invalid is = rw e.status_is (none_status old new e.ending (subst (λ (a : AskedFor). EndCause a e.ending old new) is e.cause))
 
   pub end_completes : (request : Request) → asked ≡ Some request → Suffices request old → IsCalm old new → EndsInTime old new → (status ≡ 0) ⊎ (status ≡ 5)
-  end_completes request is holds calm time = rw e.status_is (complete_by old new calm request holds time e.ending (subst (λ (a : Asked). EndCause a e.ending old new) is e.cause))
+  end_completes request is holds calm time = rw e.status_is (complete_by old new calm request holds time e.ending (subst (λ (a : AskedFor). EndCause a e.ending old new) is e.cause))

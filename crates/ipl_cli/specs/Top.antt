@@ -30,7 +30,7 @@ use Rattle.restart.specs.Events.{format_events}
 use Rattle.restart.specs.Looks.{only_reads}
 use Rattle.unit_store.specs.Bare.{HasNoLog}
 use Rattle.unit_store.specs.Keeps.{limits_of}
-use Rattle.unit_store.specs.Opens.{opening_fault, IsSound}
+use Rattle.unit_store.specs.Opens.{opening_fault, StandsWithNumbersLeft}
 use Rattle.command_line.specs.declared.asked.Request.{Request}
 use Rattle.command_line.specs.declared.asked.Request.TheVariants.{Format, Run}
 use Rattle.program_end.specs.Ends.{status_of, note_of}
@@ -38,8 +38,8 @@ use Rattle.program_end.specs.declared.end.End.{End}
 use Rattle.program_end.specs.declared.end.End.TheVariants.{Words, Chip, OutOfMemory, Script, Output, TooLong}
 
 -- what the words ask, where they are valid
-abbrev pub Asked : Type 0
-Asked = Option Request
+abbrev pub AskedFor : Type 0
+AskedFor = Option Request
 
 -- how the program ends: its script was run to its end, or its chip was formatted; or it ends before
 abbrev pub Ending : Type 0
@@ -108,7 +108,7 @@ RequestCause Format TooLong old new = ⊥
 RequestCause (Run formats) TooLong old new = IsTooLong old new
 
 -- when the program ends so
-abbrev pub EndCause : Asked → Ending → Told → Told → Type 0
+abbrev pub EndCause : AskedFor → Ending → Told → Told → Type 0
 EndCause None (Ok u) old new = ⊥
 EndCause None (Err end) old new = (end ≡ Words) ⊎ (end ≡ OutOfMemory)
 EndCause (Some request) (Ok u) old new = Unit {0}
@@ -125,8 +125,8 @@ abbrev pub IsAbout : (State → Type 0) → ℕ → Map → List ℕ → List �
 IsAbout Q places m script bytes = IsNear Q (limits_of (places - 4)) (at_rest m) (commands_of script) bytes
 
 -- the contents stand for the records of such a state
-abbrev pub IsFound : ℕ → Map → List ℕ → List ℕ → Contents → Type 0
-IsFound places m script bytes x = IsAbout (λ s. Stands places (chart_of x) s.map) places m script bytes
+abbrev pub StandsAbout : ℕ → Map → List ℕ → List ℕ → Contents → Type 0
+StandsAbout places m script bytes x = IsAbout (λ s. Stands places (chart_of x) s.map) places m script bytes
 
 -- What a run of a script leaves, from these records on, after these first events on a chip with this history. Whatever moment
 -- the power is cut at, within a chip operation too, the chip stands for the records after the commands whose replies were
@@ -136,7 +136,7 @@ IsFound places m script bytes x = IsAbout (λ s. Stands places (chart_of x) s.ma
 pub record Runs (places : ℕ) (m : Map) (script : List ℕ) (h : History) (first : Story) (old new : Told) (done : Bool) : Type 0 where
   pub added : Story
   pub history : new.history ≡ Some (adds_all added (adds_all first h))
-  pub each_moment : AtEachMoment (λ e. Leaves (says sector_in) (IsFound places m script (said e)) (adds_all first h) e) added
+  pub each_moment : AtEachMoment (λ e. Leaves (says sector_in) (StandsAbout places m script (said e)) (adds_all first h) e) added
   pub replies : SaysLines (answers places m script) (pieces added)
   pub is_prefix : IsPrefix (said added) (joined (answers places m script))
   pub lawful : (base : Story) → IsLawful base → IsLawful (added ++ (first ++ base))
@@ -259,14 +259,14 @@ OpenedLeaves (Err Output) old new = RunsOpened old new false
 OpenedLeaves (Err TooLong) old new = RunsOpened old new false
 
 -- what the program leaves, wherever it ends
-abbrev pub EndLeaves : Asked → Ending → Told → Told → Type 0
+abbrev pub EndLeaves : AskedFor → Ending → Told → Told → Type 0
 EndLeaves None ending old new = IsUntouched old new
 EndLeaves (Some Format) ending old new = FormatLeaves ending old new
 EndLeaves (Some (Run true)) ending old new = FormattedLeaves ending old new
 EndLeaves (Some (Run false)) ending old new = OpenedLeaves ending old new
 
 -- How the program ends: with its status and its line, which is noted alone; for a cause; and what it leaves.
-pub record Ends (asked : Asked) (old new : Told) (status : ℕ) : Type 0 where
+pub record Ends (asked : AskedFor) (old new : Told) (status : ℕ) : Type 0 where
   pub ending : Ending
   pub status_is : status ≡ status_at ending
   pub noted : (bytes : List ℕ) → new.beside.noted ≡ Some bytes → (before : List ℕ) × (old.beside.noted ≡ Some before) × (bytes ≡ before ++ note_at ending)
@@ -287,7 +287,7 @@ pub record IsCalm (old new : Told) : Type 0 where
 abbrev pub Suffices : Request → Told → Type 0
 Suffices Format old = IsGeometry old.places
 Suffices (Run true) old = IsGeometry old.places
-Suffices (Run false) old = (x : Contents) × (m : Map) × (old.contents ≡ Some x) × IsSound old.places x m
+Suffices (Run false) old = (x : Contents) × (m : Map) × (old.contents ≡ Some x) × StandsWithNumbersLeft old.places x m
 
 -- the script ends in time: by the count of its bytes, or as it is told
 abbrev pub EndsInTime : Told → Told → Type 0

@@ -11,7 +11,7 @@ use Rattle.ipl_format.specs.Record.{Record}
 use Rattle.ipl_format.specs.Page.{Slots, value_in, page_text}
 use Rattle.ipl_meaning.specs.Chart.{Chart, IsChosen, IsDataHeader, IsStatusHeader}
 use Rattle.ipl_meaning.specs.Values.{Values, after_records}
-use Rattle.ipl_meaning.specs.Layout.{Shape, Entry, IsBelow, AllRise, IsEntry, IsLog, IsUnit, IsStatus, Layout, Laid, Reads, base_sector, records_of}
+use Rattle.ipl_meaning.specs.Layout.{Shape, Entry, IsBelow, AllRise, IsEntry, IsLog, IsUnit, IsStatus, Layout, Laid, ReadsWell, base_sector, records_of}
 use Rattle.ipl_meaning.specs.Stands.{Shows, Stands, page_in}
 use Rattle.ipl_meaning.specs.Laws.{StandsOnce, LaidOnce}
 use Rattle.ipl_format.proofs.RecordLemmas.{logs_spell_once}
@@ -144,7 +144,7 @@ laid_once places c it jt one other = record {
 -- ---- One map
 
 -- the base sectors of a page read as one page
-reads_once : (c : Chart) (u : ℕ) (it : Shape) (page : ℕ) (a b : Slots) → Reads c u it page a → Reads c u it page b → a ≡ b
+reads_once : (c : Chart) (u : ℕ) (it : Shape) (page : ℕ) (a b : Slots) → ReadsWell c u it page a → ReadsWell c u it page b → a ≡ b
 reads_once c u it page a b one other =
     let text : page_text a ≡ page_text b = pieces_say_once (slice_index it.pieces page) (page_text a) (page_text b) one.cut other.cut (λ i within.
     let both : Some (base_sector u it.head.generation page i (page_text a)) ≡ Some (base_sector u it.head.generation page i (page_text b)) = sym (one.here i within) ∙ other.here i within in

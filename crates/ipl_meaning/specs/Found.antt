@@ -27,8 +27,8 @@ Mentions sector n =
     ⊎ ((sector.kind ≡ 5) × (records : List Record) × SpellsLog sector.payload records × (r : Record) × Contains records r × (r.tid ≡ n))
 
 -- the numbers found
-abbrev pub IsFound : ℕ → Chart → Layout → ℕ → Type 0
-IsFound places c it n = (p s : ℕ) × (sector : Sector) × IsRead places c it p s sector × Mentions sector n
+abbrev pub IsFoundNumber : ℕ → Chart → Layout → ℕ → Type 0
+IsFoundNumber places c it n = (p s : ℕ) × (sector : Sector) × IsRead places c it p s sector × Mentions sector n
 
 -- all that the sector mentions is below this
 abbrev pub MentionsBelow : ℕ → Sector → Type 0
@@ -36,7 +36,7 @@ MentionsBelow next sector = (n : ℕ) → Mentions sector n → n < next
 
 -- the counter is above every number found
 abbrev pub IsAbove : ℕ → Chart → Layout → ℕ → Type 0
-IsAbove places c it next = (n : ℕ) → IsFound places c it n → n < next
+IsAbove places c it next = (n : ℕ) → IsFoundNumber places c it n → n < next
 
 -- the log and commit sectors of a place are below the counter
 abbrev pub IsPlaceBelow : ℕ → Chart → ℕ → Type 0

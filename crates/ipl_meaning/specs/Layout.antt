@@ -125,7 +125,7 @@ base_sector u generation page i text =
     record { kind = 4; version = 1; unit = u; generation = generation; serial = page * 16 + i; payload = piece_of text i }
 
 -- the page's base sectors read well: they hold the text of this page, cut into as many pieces as the header says
-pub record Reads (c : Chart) (u : ℕ) (it : Shape) (page : ℕ) (slots : Slots) : Type 0 where
+pub record ReadsWell (c : Chart) (u : ℕ) (it : Shape) (page : ℕ) (slots : Slots) : Type 0 where
   pub fits : IsPage slots
   pub cut : IsCutInto (page_text slots) (slice_index it.pieces page)
   pub here : (i : ℕ) → i < slice_index it.pieces page

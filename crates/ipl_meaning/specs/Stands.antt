@@ -5,7 +5,7 @@ use Rattle.ipl_rules.specs.State.{Map}
 use Rattle.ipl_format.specs.Page.{Slots, value_in}
 use Rattle.ipl_meaning.specs.Chart.{Chart}
 use Rattle.ipl_meaning.specs.Values.{Values, after_records}
-use Rattle.ipl_meaning.specs.Layout.{Shape, Layout, Laid, Reads, records_of}
+use Rattle.ipl_meaning.specs.Layout.{Shape, Layout, Laid, ReadsWell, records_of}
 
 -- the values of one page's names
 abbrev pub page_in : Map → ℕ → ℕ → Values
@@ -14,7 +14,7 @@ page_in m u page slot = get m (960 * u + 64 * page + slot)
 -- the base page reads well, and with the committed records of the unit's log it has these values
 pub record Shows (c : Chart) (committed : ℕ → Bool) (u : ℕ) (it : Shape) (page : ℕ) (now : Values) : Type 0 where
   pub base : Slots
-  pub reads : Reads c u it page base
+  pub reads : ReadsWell c u it page base
   pub says : (slot : ℕ) → slot < 64
       → now slot ≡ after_records committed page slot (records_of it.log) (value_in base slot)
 

@@ -8,7 +8,7 @@ use Rattle.ipl_format.specs.Header.{SpellsDataHeader, SpellsUnits}
 use Rattle.ipl_format.specs.Page.{Slots, value_in}
 use Rattle.ipl_meaning.specs.Chart.{Chart, Beats, IsDataHeader, IsStatusHeader, IsOverflowHeader, IsOverflow}
 use Rattle.ipl_meaning.specs.Values.{Values, after_records}
-use Rattle.ipl_meaning.specs.Layout.{Entry, Shape, Layout, IsLog, IsStatus, IsLiveIn, Reads, records_of}
+use Rattle.ipl_meaning.specs.Layout.{Entry, Shape, Layout, IsLog, IsStatus, IsLiveIn, ReadsWell, records_of}
 use Rattle.ipl_meaning.specs.Stands.{Shows}
 
 -- ---- two charts
@@ -149,8 +149,8 @@ IsApplied committed log page base new = (slot : ℕ) → slot < 64
 
 -- the new place has the committed pages, and log sectors of records that wait
 pub record IsMerged (c : Chart) (it : Layout) (u : ℕ) (fresh : Shape) : Type 0 where
-  pub pages : (page : ℕ) (base : Slots) → page < 15 → Reads c u (it.units u) page base
-      → (new : Slots) × Reads c u fresh page new × IsApplied it.committed (it.units u).log page base new
+  pub pages : (page : ℕ) (base : Slots) → page < 15 → ReadsWell c u (it.units u) page base
+      → (new : Slots) × ReadsWell c u fresh page new × IsApplied it.committed (it.units u).log page base new
   pub waits : AllWait it.committed (records_of fresh.log)
 
 -- ---- status headers

@@ -11,7 +11,7 @@ use Rattle.ipl_rules.specs.Slots.{open_from, opened}
 use Rattle.ipl_rules.specs.Refusals.{first_of, not_open, conflict, writes_full, pending_full}
 use Rattle.ipl_model.specs.declared.plain_model.PlainModel.{PlainModel}
 use Rattle.ipl_model.specs.declared.plain_model.log.Write.{Write}
-use Rattle.ipl_model.specs.declared.plain_model.log.Session.{Session}
+use Rattle.ipl_model.specs.declared.plain_model.log.LoggedSession.{LoggedSession}
 use Rattle.ipl_model.specs.declared.plain_model.locks.Lock.{Lock}
 use Rattle.ipl_model.specs.declared.plain_model.locks.Lock.TheVariants as lock
 use Rattle.ipl_model.specs.declared.command.Command.{Command}
@@ -27,11 +27,11 @@ abbrev pub newest_first : List Write → List rules.Write
 newest_first log = reverse (map write_of log)
 
 -- a session, as the rules have it
-abbrev pub session_of : Session → rules.Session
+abbrev pub session_of : LoggedSession → rules.Session
 session_of s = record { writes = newest_first s.writes.items; shared = reverse s.shared.items }
 
 -- a session or none, as the rules have it
-abbrev pub slot_of : Option Session → Option rules.Session
+abbrev pub slot_of : Option LoggedSession → Option rules.Session
 slot_of slot = option_map session_of slot
 
 -- the records of the committed writes, and the open sessions
@@ -73,11 +73,11 @@ refuses_write state s n = first_of (not_open state s ∷ conflict (rules.holder_
     ∷ writes_full state s n ∷ pending_full state s n ∷ [])
 
 -- a step of the model, or nothing where memory is wanting
-abbrev pub Answers : rules.State → Stepped → rules.State → Result (Vec Reply Global) AllocError → Type 0
-Answers old stepped new (Ok replies) = stepped ≡ (new, replies.items)
-Answers old stepped new (Err e) = new ≡ old
+abbrev pub StepsOrStays : rules.State → Stepped → rules.State → Result (Vec Reply Global) AllocError → Type 0
+StepsOrStays old stepped new (Ok replies) = stepped ≡ (new, replies.items)
+StepsOrStays old stepped new (Err e) = new ≡ old
 
 -- the model's step
 pub record IsStep (old : PlainModel) (command : Command) (new : PlainModel) (result : Result (Vec Reply Global) AllocError) : Type 0 where
-  pub answers : Answers (state_of old) (step (limits_of old) (state_of old) command) (state_of new) result
+  pub answers : StepsOrStays (state_of old) (step (limits_of old) (state_of old) command) (state_of new) result
   pub limits : limits_of new ≡ limits_of old

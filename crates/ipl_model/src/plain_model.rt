@@ -17,7 +17,7 @@ mod steps;
 
 use crate::{Command, Reply};
 use ipl_base::{Geometry, OutOfMemory};
-use log::{Session, Write};
+use log::{LoggedSession, Write};
 use std::alloc::{AllocError, Global};
 use std::array;
 
@@ -28,11 +28,11 @@ pub struct PlainModel {
     alloc: Global,
     units: u32,
     committed: Vec<Write>,
-    sessions: [Option<Session>; 32],
+    sessions: [Option<LoggedSession>; 32],
 }
 
 /// Sessions of which none is open.
-fn closed() -> [Option<Session>; 32]
+fn closed() -> [Option<LoggedSession>; 32]
     ensures none { opened (map slot_of result) ≡ empty }
     ensures len { length result ≡ 32 }
 {
@@ -64,7 +64,7 @@ impl PlainModel {
     }
 
     /// An open session.
-    fn session(&self, s: u32) -> Option<&Session>
+    fn session(&self, s: u32) -> Option<&LoggedSession>
         ensures { slot_of (option_copied result) ≡ get (state_of self.now).sessions s }
     {
         match self.sessions.get(s as usize) {

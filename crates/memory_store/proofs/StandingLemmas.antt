@@ -22,7 +22,7 @@ use Rattle.ipl_model.specs.Step.{Stepped, step, accepted, refusal_of, found_repl
 use Rattle.memory_store.specs.declared.kept.Kept.{Kept}
 use Rattle.memory_store.specs.Kept.{kept_change, record_of, seen}
 use Rattle.memory_store.specs.declared.store.MemoryStore.{MemoryStore}
-use Rattle.memory_store.specs.Fits.{unit_limits, sessions_of, AreNamed, FitsParts, Fits, IsIdle, write_refusal, write_step}
+use Rattle.memory_store.specs.Fits.{unit_limits, sessions_of, AreNamed, FitsParts, Fits, HasNoSession, write_refusal, write_step}
 
 -- ---- one session in a finite map
 
@@ -113,7 +113,7 @@ at_rest_fits records kept shares opened m none unshared closed each = record {
 }
 
 -- a store with no open session stands for a map at rest that has its records
-pub idle_fits : (store : MemoryStore) (m : Map) → IsIdle store → ((n : ℕ) → n < 960 → get m n ≡ record_of store.records.items n) → Fits store (at_rest m)
+pub idle_fits : (store : MemoryStore) (m : Map) → HasNoSession store → ((n : ℕ) → n < 960 → get m n ≡ record_of store.records.items n) → Fits store (at_rest m)
 idle_fits store m idle each = at_rest_fits _ _ _ _ m idle.kept idle.shares idle.closed each
 
 -- a new store

@@ -50,7 +50,7 @@ abbrev pub IsFresh : MemoryStore → Type 0
 IsFresh store = Fits store (at_rest empty)
 
 -- no session is open, and nothing is written or shared
-pub record IsIdle (store : MemoryStore) : Type 0 where
+pub record HasNoSession (store : MemoryStore) : Type 0 where
   pub kept : store.kept.items ≡ []
   pub shares : store.shares.items ≡ []
   pub closed : store.is_open ≡ false

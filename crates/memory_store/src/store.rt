@@ -36,14 +36,14 @@ pub struct MemoryStore {
 }
 
 impl MemoryStore {
-    ghost use Rattle.memory_store.specs.Fits.{IsFresh, IsIdle};
+    ghost use Rattle.memory_store.specs.Fits.{IsFresh, HasNoSession};
     ghost use Rattle.memory_store.specs.Kept.{record_of};
     ghost use Rattle.std.specs.Prelude.{slice_set};
 
     /// A store with no record and no open session.
     pub fn new(alloc: Global) -> Result<MemoryStore, OutOfMemory>
         ensures fresh { IfOk result IsFresh }
-        ensures idle { IfOk result IsIdle }
+        ensures idle { IfOk result HasNoSession }
     {
         let mut records = Vec::with_capacity(alloc, NAMES as usize)?;
         for _ in 0..NAMES {

@@ -10,12 +10,12 @@ use Rattle.ipl_meaning.specs.Chart.{Chart, IsDataHeader, IsStatusHeader}
 use Rattle.opening_rules.specs.First.{first_below}
 use Rattle.opening_rules.specs.FirstLaws.{IsFirst}
 use Rattle.opening_rules.specs.Payloads.{is_commit_payload}
-use Rattle.opening_rules.specs.Chosen.{Head, Pick, current_at, status_at}
-use Rattle.opening_rules.specs.ChosenLaws.{IsPickOf}
+use Rattle.opening_rules.specs.Chosen.{KeptHeader, Winner, current_at, status_at}
+use Rattle.opening_rules.specs.ChosenLaws.{IsWinnerOf}
 use Rattle.opening_rules.specs.Live.{sectors, commit_at}
 use Rattle.opening_rules.specs.Faults.{malformed, size_fault, not_formatted, other_geometry, missing, bad_header, header_fault, commit_test, commit_fault, first_commit_fault, first_log_fault, greatest_found, spent, overflows_found, no_spare, first_fault}
 use Rattle.opening_rules.specs.FaultLaws.{IsFirstBadLog}
-use Rattle.opening_rules.specs.CauseLaws.{Counts, IsCaused, FaultsAreCaused}
+use Rattle.opening_rules.specs.CauseLaws.{HeaderCounts, IsCaused, FaultsAreCaused}
 use Rattle.opening_rules.proofs.FirstLemmas.{first_is_first}
 use Rattle.opening_rules.proofs.HeaderLemmas.{currents_are_chosen, statuses_are_chosen, none_is_status}
 use Rattle.opening_rules.proofs.PartLemmas.{if_none}
@@ -34,21 +34,21 @@ if_some_too : {A : Type 0} (b : Bool) (x y : A) → cond b (Some x) None ≡ Som
 if_some_too true x y e = (refl, same_Some x y e)
 if_some_too false x y e = cc
 
-unformatted_some : (o : Option Pick) (fault : ImageFault) → not_formatted o ≡ Some fault → (o ≡ None) × (NotFormatted ≡ fault)
+unformatted_some : (o : Option Winner) (fault : ImageFault) → not_formatted o ≡ Some fault → (o ≡ None) × (NotFormatted ≡ fault)
 unformatted_some None fault e = (refl, same_Some NotFormatted fault e)
-unformatted_some (Some pick) fault e = cc
+unformatted_some (Some winner) fault e = cc
 
-geometry_some : (o : Option Pick) (fault : ImageFault) → other_geometry o ≡ Some fault → (pick : Pick) × (o ≡ Some pick) × (pick.head.foreign ≡ true) × (Geometry ≡ fault)
+geometry_some : (o : Option Winner) (fault : ImageFault) → other_geometry o ≡ Some fault → (winner : Winner) × (o ≡ Some winner) × (winner.head.foreign ≡ true) × (Geometry ≡ fault)
 geometry_some None fault e = cc
-geometry_some (Some pick) fault e = let parts = if_some_too pick.head.foreign Geometry fault e in (pick, refl, parts.0, parts.1)
+geometry_some (Some winner) fault e = let parts = if_some_too winner.head.foreign Geometry fault e in (winner, refl, parts.0, parts.1)
 
-missing_some : (u : ℕ) (o : Option Pick) (fault : ImageFault) → missing u o ≡ Some fault → Missing u ≡ fault
+missing_some : (u : ℕ) (o : Option Winner) (fault : ImageFault) → missing u o ≡ Some fault → Missing u ≡ fault
 missing_some u None fault e = same_Some (Missing u) fault e
-missing_some u (Some pick) fault e = cc
+missing_some u (Some winner) fault e = cc
 
-header_some : (o : Option Pick) (fault : ImageFault) → bad_header o ≡ Some fault → (pick : Pick) × (o ≡ Some pick) × (pick.head.well ≡ false) × (malformed pick.place 0 ≡ fault)
+header_some : (o : Option Winner) (fault : ImageFault) → bad_header o ≡ Some fault → (winner : Winner) × (o ≡ Some winner) × (winner.head.well ≡ false) × (malformed winner.place 0 ≡ fault)
 header_some None fault e = cc
-header_some (Some pick) fault e = let parts = if_some pick.head.well (malformed pick.place 0) fault e in (pick, refl, parts.0, parts.1)
+header_some (Some winner) fault e = let parts = if_some winner.head.well (malformed winner.place 0) fault e in (winner, refl, parts.0, parts.1)
 
 commit_some : (p s : ℕ) (o : Option Sector) (fault : ImageFault) → commit_test p s o ≡ Some fault
     → (sector : Sector) × (o ≡ Some sector) × (is_commit_payload sector.payload ≡ false) × (malformed p s ≡ fault)
@@ -70,40 +70,40 @@ module _ (c : Chart) (places : ℕ) (fault : ImageFault) where
 
   -- ---- headers
 
-  foreign_cause : (pick : Pick) (Fits : Sector → Type 0) → ((it : IsPickOf c places Fits pick) → Counts c places pick.place it.sector)
-      → IsPickOf c places Fits pick → pick.head.foreign ≡ true → IsCaused c places Geometry
-  foreign_cause pick Fits counts it foreign = inr (inr (record {
-    place = pick.place;
+  foreign_cause : (winner : Winner) (Fits : Sector → Type 0) → ((it : IsWinnerOf c places Fits winner) → HeaderCounts c places winner.place it.sector)
+      → IsWinnerOf c places Fits winner → winner.head.foreign ≡ true → IsCaused c places Geometry
+  foreign_cause winner Fits counts it foreign = inr (inr (record {
+    place = winner.place;
     head = it.sector;
     counts = counts it;
-    other = ap (λ (h : Head). h.foreign) (sym it.head) ∙ foreign;
+    other = ap (λ (h : KeptHeader). h.foreign) (sym it.head) ∙ foreign;
   }))
 
-  bad_cause : (pick : Pick) (Fits : Sector → Type 0) → ((it : IsPickOf c places Fits pick) → Counts c places pick.place it.sector)
-      → IsPickOf c places Fits pick → pick.head.well ≡ false → IsCaused c places (malformed pick.place 0)
-  bad_cause pick Fits counts it bad = inl (refl, record { head = it.sector; counts = counts it; bad = ap (λ (h : Head). h.well) (sym it.head) ∙ bad })
+  bad_cause : (winner : Winner) (Fits : Sector → Type 0) → ((it : IsWinnerOf c places Fits winner) → HeaderCounts c places winner.place it.sector)
+      → IsWinnerOf c places Fits winner → winner.head.well ≡ false → IsCaused c places (malformed winner.place 0)
+  bad_cause winner Fits counts it bad = inl (refl, record { head = it.sector; counts = counts it; bad = ap (λ (h : KeptHeader). h.well) (sym it.head) ∙ bad })
 
   status_geometry : other_geometry (status_at c places) ≡ Some fault → IsCaused c places fault
   status_geometry e =
-      let (pick, is, foreign, same) = geometry_some (status_at c places) fault e in
-      subst (IsCaused c places) same (foreign_cause pick IsStatusHeader (λ x. inl x.counts) (statuses_are_chosen c places pick is) foreign)
+      let (winner, is, foreign, same) = geometry_some (status_at c places) fault e in
+      subst (IsCaused c places) same (foreign_cause winner IsStatusHeader (λ x. inl x.counts) (statuses_are_chosen c places winner is) foreign)
 
   unit_geometry : (u : ℕ) → other_geometry (current_at c places u) ≡ Some fault → IsCaused c places fault
   unit_geometry u e =
-      let (pick, is, foreign, same) = geometry_some (current_at c places u) fault e in
-      let it = currents_are_chosen c places u pick is in
-      subst (IsCaused c places) same (foreign_cause pick (IsDataHeader u) (λ x. inr (u, it.0, x.counts)) it.1 foreign)
+      let (winner, is, foreign, same) = geometry_some (current_at c places u) fault e in
+      let it = currents_are_chosen c places u winner is in
+      subst (IsCaused c places) same (foreign_cause winner (IsDataHeader u) (λ x. inr (u, it.0, x.counts)) it.1 foreign)
 
   status_bad : bad_header (status_at c places) ≡ Some fault → IsCaused c places fault
   status_bad e =
-      let (pick, is, bad, same) = header_some (status_at c places) fault e in
-      subst (IsCaused c places) same (bad_cause pick IsStatusHeader (λ x. inl x.counts) (statuses_are_chosen c places pick is) bad)
+      let (winner, is, bad, same) = header_some (status_at c places) fault e in
+      subst (IsCaused c places) same (bad_cause winner IsStatusHeader (λ x. inl x.counts) (statuses_are_chosen c places winner is) bad)
 
   unit_bad : (u : ℕ) → bad_header (current_at c places u) ≡ Some fault → IsCaused c places fault
   unit_bad u e =
-      let (pick, is, bad, same) = header_some (current_at c places u) fault e in
-      let it = currents_are_chosen c places u pick is in
-      subst (IsCaused c places) same (bad_cause pick (IsDataHeader u) (λ x. inr (u, it.0, x.counts)) it.1 bad)
+      let (winner, is, bad, same) = header_some (current_at c places u) fault e in
+      let it = currents_are_chosen c places u winner is in
+      subst (IsCaused c places) same (bad_cause winner (IsDataHeader u) (λ x. inr (u, it.0, x.counts)) it.1 bad)
 
   unformatted : not_formatted (status_at c places) ≡ Some fault → IsCaused c places fault
   unformatted e =
@@ -151,19 +151,19 @@ module _ (c : Chart) (places : ℕ) (fault : ImageFault) where
 
   -- ---- sectors
 
-  commit_of : (o : Option Pick) → status_at c places ≡ o → (first : IsFirst (commit_fault c o) sectors fault) → IsCaused c places fault
+  commit_of : (o : Option Winner) → status_at c places ≡ o → (first : IsFirst (commit_fault c o) sectors fault) → IsCaused c places fault
   commit_of None is first = absurd (let none = first.here in cc none)
-  commit_of (Some pick) is first =
-      let (sector, here, bad, same) = commit_some pick.place first.number (commit_at c (Some pick) first.number) fault first.here in
+  commit_of (Some winner) is first =
+      let (sector, here, bad, same) = commit_some winner.place first.number (commit_at c (Some winner) first.number) fault first.here in
       subst (IsCaused c places) same (inr (inl (record {
-        status = pick;
+        status = winner;
         here = is;
         at = refl;
         low = first.within;
         sector = sector;
         counts = here;
         bad = bad;
-        earlier = λ t other less at. commit_well pick.place t (commit_at c (Some pick) t) other at (first.earlier t less);
+        earlier = λ t other less at. commit_well winner.place t (commit_at c (Some winner) t) other at (first.earlier t less);
       })))
 
   commit_cause : first_commit_fault c places ≡ Some fault → IsCaused c places fault

@@ -11,7 +11,7 @@ use Rattle.ipl_meaning.specs.Chart.{Chart, IsStatusHeader}
 use Rattle.opening_rules.specs.First.{passes, first_below, count_below}
 use Rattle.opening_rules.specs.FirstLaws.{IsFirst}
 use Rattle.opening_rules.specs.Payloads.{is_commit_payload, is_log_payload}
-use Rattle.opening_rules.specs.Chosen.{Head, Pick, header_at, current_at, status_at}
+use Rattle.opening_rules.specs.Chosen.{KeptHeader, Winner, header_at, current_at, status_at}
 use Rattle.opening_rules.specs.Live.{sectors, commit_at, live_at, Mark, mark_of, mark_at, marks}
 use Rattle.opening_rules.specs.Faults.{malformed, size_fault, not_formatted, other_geometry, missing, bad_header, header_fault, commit_test, commit_fault, first_commit_fault, clashes, shares_overflow, is_full, is_log_well, log_test, log_fault, first_log_fault, greatest_found, spent, overflows_found, no_spare, first_fault}
 use Rattle.opening_rules.specs.FaultLaws.{well_at, is_overflow_of, HasCause, NotFormattedIsExact, MissingIsLeast, BadLogsAreFirst}
@@ -77,23 +77,23 @@ module _ (test : ImageFault → Bool) (geometry : test Geometry ≡ false) (chip
   size_other : passes test (size_fault places) ≡ false
   size_other = if_other test (nat_le 5 places && nat_le places 1028) Geometry geometry
 
-  geometry_other : (o : Option Pick) → passes test (other_geometry o) ≡ false
+  geometry_other : (o : Option Winner) → passes test (other_geometry o) ≡ false
   geometry_other None = refl
-  geometry_other (Some pick) = if_other_too test pick.head.foreign Geometry geometry
+  geometry_other (Some winner) = if_other_too test winner.head.foreign Geometry geometry
 
-  header_other : (o : Option Pick) → passes test (bad_header o) ≡ false
+  header_other : (o : Option Winner) → passes test (bad_header o) ≡ false
   header_other None = refl
-  header_other (Some pick) = if_other test pick.head.well (malformed pick.place 0) (chip pick.place 0)
+  header_other (Some winner) = if_other test winner.head.well (malformed winner.place 0) (chip winner.place 0)
 
   commit_other : (p s : ℕ) (o : Option Sector) → passes test (commit_test p s o) ≡ false
   commit_other p s None = refl
   commit_other p s (Some sector) = if_other test (is_commit_payload sector.payload) (malformed p s) (chip p s)
 
-  commits_other : (o : Option Pick) (s : ℕ) → passes test (commit_fault c o s) ≡ false
+  commits_other : (o : Option Winner) (s : ℕ) → passes test (commit_fault c o s) ≡ false
   commits_other None s = refl
-  commits_other (Some pick) s = commit_other pick.place s (commit_at c (Some pick) s)
+  commits_other (Some winner) s = commit_other winner.place s (commit_at c (Some winner) s)
 
-  log_other : (heads : ℕ → Option Head) (earlier : List Mark) (k : ℕ) (o : Option Sector) → passes test (log_test heads earlier k o) ≡ false
+  log_other : (heads : ℕ → Option KeptHeader) (earlier : List Mark) (k : ℕ) (o : Option Sector) → passes test (log_test heads earlier k o) ≡ false
   log_other heads earlier k None = refl
   log_other heads earlier k (Some sector) =
       if_other test (is_log_well (mark_of heads k sector) earlier sector.payload) (malformed (k / 256) (k % 256)) (chip (k / 256) (k % 256))
@@ -132,16 +132,16 @@ module _ (c : Chart) (places : ℕ) where
   abbrev headers : Option ImageFault
   headers = first_below (λ u. bad_header (current_at c places u)) (places - 4)
 
-  abbrev status : Option Pick
+  abbrev status : Option Winner
   status = status_at c places
 
-  unformatted_other : (o : Option Pick) → passes is_missing (not_formatted o) ≡ false
+  unformatted_other : (o : Option Winner) → passes is_missing (not_formatted o) ≡ false
   unformatted_other None = refl
-  unformatted_other (Some pick) = refl
+  unformatted_other (Some winner) = refl
 
-  missing_other : (u : ℕ) (o : Option Pick) → passes is_unformatted (missing u o) ≡ false
+  missing_other : (u : ℕ) (o : Option Winner) → passes is_unformatted (missing u o) ≡ false
   missing_other u None = refl
-  missing_other u (Some pick) = refl
+  missing_other u (Some winner) = refl
 
   missing_found : (u : ℕ) → first_fault c places ≡ Some (Missing u) → missings ≡ Some (Missing u)
   missing_found u e =
@@ -176,17 +176,17 @@ module _ (c : Chart) (places : ℕ) where
       (or_other is_unformatted (bad_header status) None (header status) refl)))))
       refl all
 
-none_there : (o : Option Pick) → not_formatted o ≡ Some NotFormatted → o ≡ None
+none_there : (o : Option Winner) → not_formatted o ≡ Some NotFormatted → o ≡ None
 none_there None e = refl
-none_there (Some pick) e = cc
+none_there (Some winner) e = cc
 
-missing_here : (v u : ℕ) (o : Option Pick) → missing v o ≡ Some (Missing u) → (o ≡ None) × (v ≡ u)
+missing_here : (v u : ℕ) (o : Option Winner) → missing v o ≡ Some (Missing u) → (o ≡ None) × (v ≡ u)
 missing_here v u None e = (refl, cc)
-missing_here v u (Some pick) e = cc
+missing_here v u (Some winner) e = cc
 
-there_too : (v : ℕ) (o : Option Pick) → missing v o ≡ None → (pick : Pick) × (o ≡ Some pick)
+there_too : (v : ℕ) (o : Option Winner) → missing v o ≡ None → (winner : Winner) × (o ≡ Some winner)
 there_too v None e = cc
-there_too v (Some pick) e = (pick, refl)
+there_too v (Some winner) e = (winner, refl)
 
 pub missing_is_least : MissingIsLeast
 missing_is_least c places u e =
@@ -203,12 +203,12 @@ missing_is_least c places u e =
           (there.0.place, it.sector, it.counts);
     }
 
-no_status : (c : Chart) (places : ℕ) → ((p : ℕ) (head : Sector) → p < places → c p 0 ≡ Some head → IsStatusHeader head → ⊥) → (o : Option Pick) → status_at c places ≡ o
+no_status : (c : Chart) (places : ℕ) → ((p : ℕ) (head : Sector) → p < places → c p 0 ≡ Some head → IsStatusHeader head → ⊥) → (o : Option Winner) → status_at c places ≡ o
     → not_formatted o ≡ Some NotFormatted
 no_status c places none None is = refl
-no_status c places none (Some pick) is =
-    let it = statuses_are_chosen c places pick is in
-    absurd (none pick.place it.sector it.counts.within it.counts.here it.counts.fits)
+no_status c places none (Some winner) is =
+    let it = statuses_are_chosen c places winner is in
+    absurd (none winner.place it.sector it.counts.within it.counts.here it.counts.fits)
 
 pub not_formatted_is_exact : NotFormattedIsExact
 not_formatted_is_exact c places least most = (
@@ -227,7 +227,7 @@ not_formatted_is_exact c places least most = (
 
 -- ---- log sectors
 
-bad_here : (heads : ℕ → Option Head) (earlier : List Mark) (k : ℕ) (o : Option Sector) (fault : ImageFault) → log_test heads earlier k o ≡ Some fault
+bad_here : (heads : ℕ → Option KeptHeader) (earlier : List Mark) (k : ℕ) (o : Option Sector) (fault : ImageFault) → log_test heads earlier k o ≡ Some fault
     → (sector : Sector) × (o ≡ Some sector) × (is_log_well (mark_of heads k sector) earlier sector.payload ≡ false) × (fault ≡ malformed (k / 256) (k % 256))
 bad_here heads earlier k None fault e = cc
 bad_here heads earlier k (Some sector) fault e =
@@ -238,7 +238,7 @@ bad_here heads earlier k (Some sector) fault e =
     bad_parts true x y e = cc
     bad_parts false x y e = (refl, sym (same_Some x y e))
 
-well_here : (heads : ℕ → Option Head) (earlier : List Mark) (k : ℕ) (o : Option Sector) (sector : Sector) → o ≡ Some sector → log_test heads earlier k o ≡ None
+well_here : (heads : ℕ → Option KeptHeader) (earlier : List Mark) (k : ℕ) (o : Option Sector) (sector : Sector) → o ≡ Some sector → log_test heads earlier k o ≡ None
     → is_log_well (mark_of heads k sector) earlier sector.payload ≡ true
 well_here heads earlier k o sector is e =
     if_none (is_log_well (mark_of heads k sector) earlier sector.payload) (malformed (k / 256) (k % 256)) (ap (log_test heads earlier k) (sym is) ∙ e)

@@ -4,26 +4,26 @@ use Rattle.std.proofs.lemmas.Bool.{cases_Bool, ltb-true, lt-ltb, le-leb, eqb-tru
 use Rattle.std.proofs.lemmas.Option.{cond_some}
 use Rattle.ipl_format.specs.Sector.{Sector}
 use Rattle.ipl_meaning.specs.Chart.{Chart, IsChosen, IsDataHeader, IsStatusHeader}
-use Rattle.opening_rules.specs.Chosen.{Head, Pick, chosen, head_of, header_in, header_at, is_header, is_data_of, is_status, current_at}
-use Rattle.opening_rules.specs.ChosenLaws.{IsPickOf, CurrentsAreChosen, ChosenAreCurrent, NoneIsCurrent, StatusesAreChosen, ChosenAreStatus, NoneIsStatus}
+use Rattle.opening_rules.specs.Chosen.{KeptHeader, Winner, chosen, head_of, header_in, header_at, is_header, is_data_of, is_status, current_at}
+use Rattle.opening_rules.specs.ChosenLaws.{IsWinnerOf, CurrentsAreChosen, ChosenAreCurrent, NoneIsCurrent, StatusesAreChosen, ChosenAreStatus, NoneIsStatus}
 use Rattle.opening_rules.proofs.ChosenLemmas.{IsBest, chosen_is_best, best_is_chosen, none_chosen}
 
 -- where a header is kept from
-pub record IsHeaderAt (c : Chart) (places p : ℕ) (head : Head) : Type 0 where
+pub record IsHeaderAt (c : Chart) (places p : ℕ) (head : KeptHeader) : Type 0 where
   pub within : p < places
   pub sector : Sector
   pub here : c p 0 ≡ Some sector
   pub of_kind : is_header sector ≡ true
   pub kept : head_of (places - 4) sector ≡ head
 
-header_from : (c : Chart) (places p : ℕ) (head : Head) (o : Option Sector) → c p 0 ≡ o → p < places → header_in (places - 4) o ≡ Some head → IsHeaderAt c places p head
+header_from : (c : Chart) (places p : ℕ) (head : KeptHeader) (o : Option Sector) → c p 0 ≡ o → p < places → header_in (places - 4) o ≡ Some head → IsHeaderAt c places p head
 header_from c places p head None here within is = cc
 header_from c places p head (Some sector) here within is =
     let parts : (is_header sector ≡ true) × (head_of (places - 4) sector ≡ head) = cond_some (is_header sector) (head_of (places - 4) sector) head is in
     record { within = within; sector = sector; here = here; of_kind = parts.0; kept = parts.1 }
 
 -- a header in the table stands on the chart
-pub header_there : (c : Chart) (places p : ℕ) (head : Head) → header_at c places p ≡ Some head → IsHeaderAt c places p head
+pub header_there : (c : Chart) (places p : ℕ) (head : KeptHeader) → header_at c places p ≡ Some head → IsHeaderAt c places p head
 header_there c places p head is = elim (cases_Bool (nat_lt p places)) [
   | inl low ↦ header_from c places p head (c p 0) refl (ltb-true p places low) (rw low at is)
   | inr high ↦ absurd (let none : None ≡ Some head = rw high at is in cc none)
@@ -36,18 +36,18 @@ header_kept c places p sector within here kind = rw (lt-ltb p places within, her
 
 -- ---- the header that fits, as a test and as a fact
 
-module _ (c : Chart) (places : ℕ) (fits : Head → Bool) (Fits : Sector → Type 0)
+module _ (c : Chart) (places : ℕ) (fits : KeptHeader → Bool) (Fits : Sector → Type 0)
     (to : (s : Sector) → fits (head_of (places - 4) s) ≡ true → Fits s)
     (from : (s : Sector) → Fits s → (is_header s ≡ true) × (fits (head_of (places - 4) s) ≡ true)) where
   fits_too : (q : ℕ) (other : Sector) → q < places → c q 0 ≡ Some other → Fits other
       → (header_at c places q ≡ Some (head_of (places - 4) other)) × (fits (head_of (places - 4) other) ≡ true)
   fits_too q other within here is = (header_kept c places q other within here (from other is).0, (from other is).1)
 
-  pub picks_count : (pick : Pick) → chosen fits (header_at c places) places ≡ Some pick → IsPickOf c places Fits pick
-  picks_count pick is =
-      let it : IsBest fits (header_at c places) places pick = chosen_is_best fits (header_at c places) places pick is in
-      let stands : IsHeaderAt c places pick.place pick.head = header_there c places pick.place pick.head it.here in
-      let serial : stands.sector.serial ≡ pick.head.serial = ap (λ (h : Head). h.serial) stands.kept in
+  pub picks_count : (winner : Winner) → chosen fits (header_at c places) places ≡ Some winner → IsWinnerOf c places Fits winner
+  picks_count winner is =
+      let it : IsBest fits (header_at c places) places winner = chosen_is_best fits (header_at c places) places winner is in
+      let stands : IsHeaderAt c places winner.place winner.head = header_there c places winner.place winner.head it.here in
+      let serial : stands.sector.serial ≡ winner.head.serial = ap (λ (h : KeptHeader). h.serial) stands.kept in
       record {
         sector = stands.sector;
         counts = record {
@@ -56,7 +56,7 @@ module _ (c : Chart) (places : ℕ) (fits : Head → Bool) (Fits : Sector → Ty
           fits = to stands.sector (ap fits stands.kept ∙ it.of_kind);
           best = λ q other within here fit.
               let too = fits_too q other within here fit in
-              subst (λ (n : ℕ). (other.serial < n) ⊎ ((other.serial ≡ n) × (pick.place ≤ q))) (sym serial)
+              subst (λ (n : ℕ). (other.serial < n) ⊎ ((other.serial ≡ n) × (winner.place ≤ q))) (sym serial)
               (it.best q (head_of (places - 4) other) within too.0 too.1);
         };
         head = sym stands.kept;
@@ -72,7 +72,7 @@ module _ (c : Chart) (places : ℕ) (fits : Head → Bool) (Fits : Sector → Ty
         of_kind = mine.1;
         best = λ q other within here fit.
             let stands : IsHeaderAt c places q other = header_there c places q other here in
-            let serial : stands.sector.serial ≡ other.serial = ap (λ (h : Head). h.serial) stands.kept in
+            let serial : stands.sector.serial ≡ other.serial = ap (λ (h : KeptHeader). h.serial) stands.kept in
             subst (λ (n : ℕ). (n < head.serial) ⊎ ((n ≡ head.serial) × (p ≤ q))) serial
             (it.best q stands.sector within stands.here (to stands.sector (ap fits stands.kept ∙ fit)));
       })
@@ -97,16 +97,16 @@ pub current_is : (c : Chart) (places u : ℕ) → u < places - 4 → current_at 
 current_is c places u low = rw (lt-ltb u (places - 4) low) refl
 
 -- only a unit of the chip has one
-pub current_low : (c : Chart) (places u : ℕ) (pick : Pick) → current_at c places u ≡ Some pick → u < places - 4
-current_low c places u pick is = elim (cases_Bool (nat_lt u (places - 4))) [
+pub current_low : (c : Chart) (places u : ℕ) (winner : Winner) → current_at c places u ≡ Some winner → u < places - 4
+current_low c places u winner is = elim (cases_Bool (nat_lt u (places - 4))) [
   | inl low ↦ ltb-true u (places - 4) low
-  | inr high ↦ absurd (let none : None ≡ Some pick = rw high at is in cc none)
+  | inr high ↦ absurd (let none : None ≡ Some winner = rw high at is in cc none)
 ]
 
 pub currents_are_chosen : CurrentsAreChosen
-currents_are_chosen c places u pick is =
-    let low = current_low c places u pick is in
-    (low, picks_count c places (is_data_of u) (IsDataHeader u) (data_fits u (places - 4)) (data_is u (places - 4)) pick (sym (current_is c places u low) ∙ is))
+currents_are_chosen c places u winner is =
+    let low = current_low c places u winner is in
+    (low, picks_count c places (is_data_of u) (IsDataHeader u) (data_fits u (places - 4)) (data_is u (places - 4)) winner (sym (current_is c places u low) ∙ is))
 
 pub chosen_are_current : ChosenAreCurrent
 chosen_are_current c places u p head low it =
@@ -128,7 +128,7 @@ status_is units s is = (
 )
 
 pub statuses_are_chosen : StatusesAreChosen
-statuses_are_chosen c places pick is = picks_count c places is_status IsStatusHeader (status_fits (places - 4)) (status_is (places - 4)) pick is
+statuses_are_chosen c places winner is = picks_count c places is_status IsStatusHeader (status_fits (places - 4)) (status_is (places - 4)) winner is
 
 pub chosen_are_status : ChosenAreStatus
 chosen_are_status c places p head it = counts_picked c places is_status IsStatusHeader (status_fits (places - 4)) (status_is (places - 4)) p head it

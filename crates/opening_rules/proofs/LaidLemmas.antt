@@ -15,7 +15,7 @@ use Rattle.ipl_meaning.specs.Layout.{Entry, AllRise, IsEntry, IsListed, IsInOver
 use Rattle.ipl_meaning.specs.Found.{IsAbove}
 use Rattle.opening_rules.specs.First.{passes, count_below}
 use Rattle.opening_rules.specs.Payloads.{begins_with_other_units, is_data_payload, is_status_payload, is_commit_payload, is_log_payload}
-use Rattle.opening_rules.specs.Chosen.{Head, Pick, head_of, header_at, current_at, status_at, is_head_payload}
+use Rattle.opening_rules.specs.Chosen.{KeptHeader, Winner, head_of, header_at, current_at, status_at, is_head_payload}
 use Rattle.opening_rules.specs.Live.{sectors, commit_at, is_overflow_place, live_at, Mark, mark_of, mark_at, marks}
 use Rattle.opening_rules.specs.Faults.{malformed, not_formatted, other_geometry, missing, bad_header, commit_test, commit_fault, clashes, shares_overflow, is_full, is_log_well, log_test, greatest_found, is_in, holds_live, overflows_found}
 use Rattle.opening_rules.specs.Laws.{IsByteChart, LaidHasNoFault, LaidIsFineOrSpent}
@@ -78,7 +78,7 @@ commit_none : (p s : ℕ) (o : Option Sector) → ((sector : Sector) → o ≡ S
 commit_none p s None each = refl
 commit_none p s (Some sector) each = cond-true (is_commit_payload sector.payload) None (Some (malformed p s)) (each sector refl)
 
-log_none : (heads : ℕ → Option Head) (earlier : List Mark) (k : ℕ) (o : Option Sector)
+log_none : (heads : ℕ → Option KeptHeader) (earlier : List Mark) (k : ℕ) (o : Option Sector)
     → ((sector : Sector) → o ≡ Some sector → is_log_well (mark_of heads k sector) earlier sector.payload ≡ true) → log_test heads earlier k o ≡ None
 log_none heads earlier k None each = refl
 log_none heads earlier k (Some sector) each =
@@ -93,16 +93,16 @@ spot_listed spots p s k (i, low, is) same =
     (i, omega (arith, length-map spots number_of_spot, low), get_or-map number_of_spot spots i (p, s) k low ∙ (ap number_of_spot is ∙ same))
 
 module _ (c : Chart) (places : ℕ) (it : Layout) (laid : Laid places c it) where
-  abbrev heads : ℕ → Option Head
+  abbrev heads : ℕ → Option KeptHeader
   heads = header_at c places
 
-  abbrev current : ℕ → Option Pick
+  abbrev current : ℕ → Option Winner
   current = current_at c places
 
   abbrev live : ℕ → Option Sector
   live k = live_at heads current c k
 
-  abbrev own : ℕ → Pick
+  abbrev own : ℕ → Winner
   own u = record { place = (it.units u).home; head = head_of (places - 4) (it.units u).head }
 
   -- ---- live sectors and entries
@@ -120,9 +120,9 @@ module _ (c : Chart) (places : ℕ) (it : Layout) (laid : Laid places c it) wher
   live_in : (k : ℕ) (sector : Sector) → live k ≡ Some sector → (sector.unit < places - 4) × IsLiveIn c places it sector.unit (k / 256) (k % 256) sector
   live_in k sector is =
       let found = live_from c places k sector is in
-      let low = current_low c places sector.unit found.pick found.current in
-      let one : found.pick ≡ own sector.unit = same_Some found.pick (own sector.unit) (sym found.current ∙ home_is c places it laid sector.unit low) in
-      (low, subst (λ (x : Pick). IsLive c places sector.unit x.place x.head.generation (k / 256) (k % 256) sector) one found.live)
+      let low = current_low c places sector.unit found.winner found.current in
+      let one : found.winner ≡ own sector.unit = same_Some found.winner (own sector.unit) (sym found.current ∙ home_is c places it laid sector.unit low) in
+      (low, subst (λ (x : Winner). IsLive c places sector.unit x.place x.head.generation (k / 256) (k % 256) sector) one found.live)
 
   listed_own : (k : ℕ) (sector : Sector) → live k ≡ Some sector → IsListedAs sector.unit k sector
   listed_own k sector is =
@@ -228,7 +228,7 @@ module _ (c : Chart) (places : ℕ) (it : Layout) (laid : Laid places c it) wher
       (λ at_home. away from.sector.unit p theirs.low parts.0 (sym at ∙ (sym theirs.place ∙ at_home))) in
       subst (Contains laid.overflows) (theirs.place ∙ at) overflow
 
-  abbrev status : Pick
+  abbrev status : Winner
   status = record { place = it.status; head = head_of (places - 4) it.head }
 
   status_well : is_status_payload (places - 4) it.head.payload ≡ true
@@ -282,7 +282,7 @@ module _ (c : Chart) (places : ℕ) (it : Layout) (laid : Laid places c it) wher
         there = λ u low. ap (missing u) (home_here u low);
         headers = λ u low. ap bad_header (home_here u low) ∙ data_good u low;
         header = ap bad_header status_here ∙ status_good;
-        commits = λ s low. ap (λ (o : Option Pick). commit_fault c o s) status_here ∙ commit_good s low;
+        commits = λ s low. ap (λ (o : Option Winner). commit_fault c o s) status_here ∙ commit_good s low;
         logs = λ k low. log_none heads (marks heads current c k) k (live k) (λ sector at. is_well k sector at);
         few_overflows = few_overflows;
       }

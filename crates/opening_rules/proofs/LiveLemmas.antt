@@ -4,7 +4,7 @@ use Rattle.std.proofs.lemmas.Bool.{cases_Bool, eqb-true, eq-eqb, leb-true, le-le
 use Rattle.std.proofs.lemmas.Option.{same_Some, cond_some}
 use Rattle.ipl_format.specs.Sector.{Sector}
 use Rattle.ipl_meaning.specs.Chart.{Chart, IsChosen, IsDataHeader, IsOverflow, IsLive}
-use Rattle.opening_rules.specs.Chosen.{Head, Pick, head_of, header_at, current_at}
+use Rattle.opening_rules.specs.Chosen.{KeptHeader, Winner, head_of, header_at, current_at}
 use Rattle.opening_rules.specs.Live.{live_at, sectors, kept, is_commit_of, is_at, is_generation, is_log_spot_of, is_log_spot, is_log, seen, seen_at, is_overflow_place, is_place_of, is_live}
 use Rattle.opening_rules.specs.LiveLaws.{SectorsAre256, FoundCommitsCount, CommitsAreFound, FoundLogsAreLive, LiveLogsAreFound}
 use Rattle.opening_rules.proofs.HeaderLemmas.{header_there, header_kept, currents_are_chosen}
@@ -27,46 +27,46 @@ kept_to test o sector is passes = ap (kept test) is ∙ ap (λ (b : Bool). cond 
 -- ---- commit sectors
 
 pub commit_from : FoundCommitsCount
-commit_from c pick s sector low is = elim (cases_Bool (nat_le 1 s)) [
+commit_from c winner s sector low is = elim (cases_Bool (nat_le 1 s)) [
   | inl some ↦
-      let parts = kept_from (is_commit_of pick.head.generation) (c pick.place s) sector (rw some at is) in
+      let parts = kept_from (is_commit_of winner.head.generation) (c winner.place s) sector (rw some at is) in
       let of_it = and_parts _ _ parts.1 in
       record {
         here = parts.0;
         kind = eqb-true sector.kind 6 of_it.0;
-        of_generation = eqb-true sector.generation pick.head.generation of_it.1;
+        of_generation = eqb-true sector.generation winner.head.generation of_it.1;
         where_it_is = (leb-true 1 s some, low);
       }
   | inr zero_ ↦ absurd (let none : None ≡ Some sector = rw zero_ at is in cc none)
 ]
 
 pub commit_to : CommitsAreFound
-commit_to c pick s sector it =
-    let found : kept (is_commit_of pick.head.generation) (c pick.place s) ≡ Some sector =
-    kept_to (is_commit_of pick.head.generation) (c pick.place s) sector it.here
-    (and_from _ _ (eq-eqb sector.kind 6 it.kind) (eq-eqb sector.generation pick.head.generation it.of_generation)) in
+commit_to c winner s sector it =
+    let found : kept (is_commit_of winner.head.generation) (c winner.place s) ≡ Some sector =
+    kept_to (is_commit_of winner.head.generation) (c winner.place s) sector it.here
+    (and_from _ _ (eq-eqb sector.kind 6 it.kind) (eq-eqb sector.generation winner.head.generation it.of_generation)) in
     rw (le-leb 1 s it.where_it_is.0) found
 
 -- ---- current headers
 
 -- the current header of a unit stands at its place
-pub record IsHome (c : Chart) (places u : ℕ) (pick : Pick) : Type 0 where
+pub record IsHome (c : Chart) (places u : ℕ) (winner : Winner) : Type 0 where
   pub low : u < places - 4
   pub sector : Sector
-  pub chosen : IsChosen c places (IsDataHeader u) pick.place sector
-  pub kept : pick.head ≡ head_of (places - 4) sector
-  pub head : header_at c places pick.place ≡ Some (head_of (places - 4) sector)
+  pub chosen : IsChosen c places (IsDataHeader u) winner.place sector
+  pub kept : winner.head ≡ head_of (places - 4) sector
+  pub head : header_at c places winner.place ≡ Some (head_of (places - 4) sector)
 
-pub home_of : (c : Chart) (places u : ℕ) (pick : Pick) → current_at c places u ≡ Some pick → IsHome c places u pick
-home_of c places u pick is =
-    let it = currents_are_chosen c places u pick is in
+pub home_of : (c : Chart) (places u : ℕ) (winner : Winner) → current_at c places u ≡ Some winner → IsHome c places u winner
+home_of c places u winner is =
+    let it = currents_are_chosen c places u winner is in
     let of_it = it.1 in
     let kind = of_it.counts.fits.0 in record {
       low = it.0;
       sector = of_it.sector;
       chosen = of_it.counts;
       kept = of_it.head;
-      head = header_kept c places pick.place of_it.sector of_it.counts.within of_it.counts.here
+      head = header_kept c places winner.place of_it.sector of_it.counts.within of_it.counts.here
           (and_from _ _ (le-leb 1 of_it.sector.kind (omega (arith, kind))) (le-leb of_it.sector.kind 3 (omega (arith, kind))));
     }
 
@@ -78,11 +78,11 @@ overflow_head c places p low (head, here, kind) =
 pub overflow_to : (c : Chart) (places p : ℕ) → p < places → IsOverflow c p → is_overflow_place (header_at c places p) ≡ true
 overflow_to c places p low over = ap is_overflow_place (overflow_head c places p low over) ∙ eq-eqb over.0.kind 3 over.2
 
-overflow_of : (c : Chart) (places p : ℕ) (o : Option Head) → header_at c places p ≡ o → is_overflow_place o ≡ true → (p < places) × IsOverflow c p
+overflow_of : (c : Chart) (places p : ℕ) (o : Option KeptHeader) → header_at c places p ≡ o → is_overflow_place o ≡ true → (p < places) × IsOverflow c p
 overflow_of c places p None at is = absurd (cc is)
 overflow_of c places p (Some head) at is =
     let it = header_there c places p head at in
-    (it.within, (it.sector, it.here, ap (λ (h : Head). h.kind) it.kept ∙ eqb-true head.kind 3 is))
+    (it.within, (it.sector, it.here, ap (λ (h : KeptHeader). h.kind) it.kept ∙ eqb-true head.kind 3 is))
 
 pub overflow_from : (c : Chart) (places p : ℕ) → is_overflow_place (header_at c places p) ≡ true → (p < places) × IsOverflow c p
 overflow_from c places p is = overflow_of c places p (header_at c places p) refl is
@@ -98,13 +98,13 @@ home_apart c places u p sector it (head, here, kind) =
 
 abbrev pub MayStand : Chart → ℕ → ℕ → ℕ → Type 0
 MayStand c places p s =
-    ((u : ℕ) × (pick : Pick) × (current_at c places u ≡ Some pick) × (p ≡ pick.place) × (241 ≤ s)) ⊎ (IsOverflow c p × (1 ≤ s))
+    ((u : ℕ) × (winner : Winner) × (current_at c places u ≡ Some winner) × (p ≡ winner.place) × (241 ≤ s)) ⊎ (IsOverflow c p × (1 ≤ s))
 
-at_from : (o : Option Pick) (p : ℕ) → is_at o p ≡ true → (pick : Pick) × (o ≡ Some pick) × (pick.place ≡ p)
+at_from : (o : Option Winner) (p : ℕ) → is_at o p ≡ true → (winner : Winner) × (o ≡ Some winner) × (winner.place ≡ p)
 at_from None p is = absurd (cc is)
-at_from (Some pick) p is = (pick, refl, eqb-true pick.place p is)
+at_from (Some winner) p is = (winner, refl, eqb-true winner.place p is)
 
-spot_of : (c : Chart) (places p s : ℕ) (o : Option Head) → header_at c places p ≡ o → is_log_spot_of (current_at c places) p s o ≡ true
+spot_of : (c : Chart) (places p s : ℕ) (o : Option KeptHeader) → header_at c places p ≡ o → is_log_spot_of (current_at c places) p s o ≡ true
     → (p < places) × MayStand c places p s
 spot_of c places p s None at is = absurd (cc is)
 spot_of c places p s (Some head) at is =
@@ -113,7 +113,7 @@ spot_of c places p s (Some head) at is =
       elim (or_cases _ _ is) [
         | inl over ↦
             let parts = and_parts _ _ over in
-            inr ((it.sector, it.here, ap (λ (h : Head). h.kind) it.kept ∙ eqb-true head.kind 3 parts.0), leb-true 1 s parts.1)
+            inr ((it.sector, it.here, ap (λ (h : KeptHeader). h.kind) it.kept ∙ eqb-true head.kind 3 parts.0), leb-true 1 s parts.1)
         | inr home ↦
             let parts = and_parts _ _ home in
             let rest = and_parts _ _ parts.1 in
@@ -125,13 +125,13 @@ spot_of c places p s (Some head) at is =
 pub spot_from : (c : Chart) (places p s : ℕ) → is_log_spot (header_at c places) (current_at c places) p s ≡ true → (p < places) × MayStand c places p s
 spot_from c places p s is = spot_of c places p s (header_at c places p) refl is
 
-home_spot : (c : Chart) (places p s u : ℕ) (pick : Pick) → current_at c places u ≡ Some pick → p ≡ pick.place → 241 ≤ s
+home_spot : (c : Chart) (places p s u : ℕ) (winner : Winner) → current_at c places u ≡ Some winner → p ≡ winner.place → 241 ≤ s
     → is_log_spot (header_at c places) (current_at c places) p s ≡ true
-home_spot c places p s u pick is same high =
-    let it = home_of c places u pick is in
+home_spot c places p s u winner is same high =
+    let it = home_of c places u winner is in
     let fits = it.chosen.fits in
     let here : is_at (current_at c places it.sector.unit) p ≡ true =
-    ap (λ (v : ℕ). is_at (current_at c places v) p) fits.1 ∙ (ap (λ (o : Option Pick). is_at o p) is ∙ eq-eqb pick.place p (sym same)) in
+    ap (λ (v : ℕ). is_at (current_at c places v) p) fits.1 ∙ (ap (λ (o : Option Winner). is_at o p) is ∙ eq-eqb winner.place p (sym same)) in
     ap (is_log_spot_of (current_at c places) p s) (ap (header_at c places) same ∙ it.head)
     ∙ or_right _ _ (and_from _ _ (eq-eqb it.sector.kind 1 fits.0) (and_from _ _ (le-leb 241 s high) here))
 
@@ -168,11 +168,11 @@ seen_spot c places p s sector it = spot_to c places p s it.within it.may
 
 -- ---- live log sectors
 
-generation_from : (o : Option Pick) (generation : ℕ) → is_generation o generation ≡ true → (pick : Pick) × (o ≡ Some pick) × (pick.head.generation ≡ generation)
+generation_from : (o : Option Winner) (generation : ℕ) → is_generation o generation ≡ true → (winner : Winner) × (o ≡ Some winner) × (winner.head.generation ≡ generation)
 generation_from None generation is = absurd (cc is)
-generation_from (Some pick) generation is = (pick, refl, eqb-true pick.head.generation generation is)
+generation_from (Some winner) generation is = (winner, refl, eqb-true winner.head.generation generation is)
 
-place_from : (o : Option Head) (u : ℕ) → is_place_of o u ≡ true → (head : Head) × (o ≡ Some head) × ((head.kind ≡ 3) ⊎ (head.unit ≡ u))
+place_from : (o : Option KeptHeader) (u : ℕ) → is_place_of o u ≡ true → (head : KeptHeader) × (o ≡ Some head) × ((head.kind ≡ 3) ⊎ (head.unit ≡ u))
 place_from None u is = absurd (cc is)
 place_from (Some head) u is = (
   head,
@@ -184,20 +184,20 @@ place_from (Some head) u is = (
 )
 
 -- it stands at home, or in an overflow place
-live_where : (c : Chart) (places p s u : ℕ) (pick : Pick) → MayStand c places p s → is_place_of (header_at c places p) u ≡ true → current_at c places u ≡ Some pick
-    → ((p ≡ pick.place) × (241 ≤ s)) ⊎ (IsOverflow c p × (1 ≤ s))
-live_where c places p s u pick (inr over) of_unit is = inr over
-live_where c places p s u pick (inl (v, other, v_is, same, high)) of_unit is =
+live_where : (c : Chart) (places p s u : ℕ) (winner : Winner) → MayStand c places p s → is_place_of (header_at c places p) u ≡ true → current_at c places u ≡ Some winner
+    → ((p ≡ winner.place) × (241 ≤ s)) ⊎ (IsOverflow c p × (1 ≤ s))
+live_where c places p s u winner (inr over) of_unit is = inr over
+live_where c places p s u winner (inl (v, other, v_is, same, high)) of_unit is =
     let it = home_of c places v other v_is in
     let fits = it.chosen.fits in
     let place = place_from (header_at c places p) u of_unit in
     let head : head_of (places - 4) it.sector ≡ place.0 = same_Some _ _ (sym it.head ∙ (ap (header_at c places) (sym same) ∙ place.1)) in
     elim place.2 [
-      | inl over ↦ absurd (omega (arith, over, fits.0, ap (λ (h : Head). h.kind) head))
+      | inl over ↦ absurd (omega (arith, over, fits.0, ap (λ (h : KeptHeader). h.kind) head))
       | inr unit ↦
-          let u_is : v ≡ u = sym fits.1 ∙ (ap (λ (h : Head). h.unit) head ∙ unit) in
-          let one : other ≡ pick = same_Some other pick (sym v_is ∙ (ap (current_at c places) u_is ∙ is)) in
-          inl (same ∙ ap (λ (x : Pick). x.place) one, high)
+          let u_is : v ≡ u = sym fits.1 ∙ (ap (λ (h : KeptHeader). h.unit) head ∙ unit) in
+          let one : other ≡ winner = same_Some other winner (sym v_is ∙ (ap (current_at c places) u_is ∙ is)) in
+          inl (same ∙ ap (λ (x : Winner). x.place) one, high)
     ]
 
 pub live_from : FoundLogsAreLive
@@ -207,7 +207,7 @@ live_from c places k sector is =
     let tests = and_parts _ _ parts.1 in
     let of_it = generation_from (current_at c places sector.unit) sector.generation tests.1 in
     record {
-      pick = of_it.0;
+      winner = of_it.0;
       current = of_it.1;
       live = record {
         here = it.here;
@@ -220,32 +220,32 @@ live_from c places k sector is =
     }
 
 -- the place is one of its unit
-place_to : (c : Chart) (places p s u : ℕ) (pick : Pick) → p < places → current_at c places u ≡ Some pick
-    → ((p ≡ pick.place) × (241 ≤ s)) ⊎ (IsOverflow c p × (1 ≤ s)) → is_place_of (header_at c places p) u ≡ true
-place_to c places p s u pick low is (inl (same, high)) =
-    let it = home_of c places u pick is in
-    ap (λ (o : Option Head). is_place_of o u) (ap (header_at c places) same ∙ it.head) ∙ or_right _ _ (eq-eqb it.sector.unit u it.chosen.fits.1)
-place_to c places p s u pick low is (inr (over, some)) =
-    ap (λ (o : Option Head). is_place_of o u) (overflow_head c places p low over) ∙ or_left _ _ (eq-eqb over.0.kind 3 over.2)
+place_to : (c : Chart) (places p s u : ℕ) (winner : Winner) → p < places → current_at c places u ≡ Some winner
+    → ((p ≡ winner.place) × (241 ≤ s)) ⊎ (IsOverflow c p × (1 ≤ s)) → is_place_of (header_at c places p) u ≡ true
+place_to c places p s u winner low is (inl (same, high)) =
+    let it = home_of c places u winner is in
+    ap (λ (o : Option KeptHeader). is_place_of o u) (ap (header_at c places) same ∙ it.head) ∙ or_right _ _ (eq-eqb it.sector.unit u it.chosen.fits.1)
+place_to c places p s u winner low is (inr (over, some)) =
+    ap (λ (o : Option KeptHeader). is_place_of o u) (overflow_head c places p low over) ∙ or_left _ _ (eq-eqb over.0.kind 3 over.2)
 
-may_to : (c : Chart) (places p s u : ℕ) (pick : Pick) → current_at c places u ≡ Some pick → ((p ≡ pick.place) × (241 ≤ s)) ⊎ (IsOverflow c p × (1 ≤ s))
+may_to : (c : Chart) (places p s u : ℕ) (winner : Winner) → current_at c places u ≡ Some winner → ((p ≡ winner.place) × (241 ≤ s)) ⊎ (IsOverflow c p × (1 ≤ s))
     → MayStand c places p s
-may_to c places p s u pick is (inl (same, high)) = inl (u, pick, is, same, high)
-may_to c places p s u pick is (inr over) = inr over
+may_to c places p s u winner is (inl (same, high)) = inl (u, winner, is, same, high)
+may_to c places p s u winner is (inr over) = inr over
 
 pub live_to : LiveLogsAreFound
-live_to c places k u pick sector is it =
+live_to c places k u winner sector is it =
     let stands : seen_at (header_at c places) (current_at c places) c k ≡ Some sector = seen_to c places (k / 256) (k % 256) sector (record {
       within = it.within.0;
-      may = may_to c places (k / 256) (k % 256) u pick is it.counts;
+      may = may_to c places (k / 256) (k % 256) u winner is it.counts;
       here = it.here;
       kind = it.kind;
     }) in
     let place : is_place_of (header_at c places (k / 256)) sector.unit ≡ true =
-    ap (is_place_of (header_at c places (k / 256))) it.of_unit ∙ place_to c places (k / 256) (k % 256) u pick it.within.0 is it.counts in
+    ap (is_place_of (header_at c places (k / 256))) it.of_unit ∙ place_to c places (k / 256) (k % 256) u winner it.within.0 is it.counts in
     let generation : is_generation (current_at c places sector.unit) sector.generation ≡ true =
     ap (λ (v : ℕ). is_generation (current_at c places v) sector.generation) it.of_unit
-    ∙ (ap (λ (o : Option Pick). is_generation o sector.generation) is ∙ eq-eqb pick.head.generation sector.generation (sym it.of_generation)) in
+    ∙ (ap (λ (o : Option Winner). is_generation o sector.generation) is ∙ eq-eqb winner.head.generation sector.generation (sym it.of_generation)) in
     kept_to (is_live (header_at c places) (current_at c places) (k / 256)) (seen_at (header_at c places) (current_at c places) c k) sector stands (and_from _ _ place generation)
 
 -- a live log sector that doesn't stand at home stands in an overflow place, and only such a one

@@ -15,7 +15,7 @@ use Rattle.ipl_meaning.specs.Last.{is_number}
 use Rattle.ipl_meaning.specs.Layout.{Entry, Shape, IsEntry, IsListed, IsInOverflow, IsLog, IsUnit, IsCommitSector, IsCommitted, IsStatus, Layout, Laid}
 use Rattle.opening_rules.specs.First.{passes, count_below, joined_below}
 use Rattle.opening_rules.specs.Payloads.{is_log_payload, pieces_in, numbers_in, is_data_payload, is_status_payload, is_commit_payload}
-use Rattle.opening_rules.specs.Chosen.{Head, Pick, header_at, current_at, status_at, is_head_payload}
+use Rattle.opening_rules.specs.Chosen.{KeptHeader, Winner, header_at, current_at, status_at, is_head_payload}
 use Rattle.opening_rules.specs.Live.{is_at, sectors, commit_at, is_overflow_place, live_at, Mark, mark_of, mark_at, marks}
 use Rattle.opening_rules.specs.Faults.{malformed, not_formatted, missing, bad_header, commit_test, commit_fault, clashes, shares_overflow, is_full, is_log_well, log_test, is_in, holds_live}
 use Rattle.opening_rules.specs.LaidOut.{numbers_of, committed_in, entry_of, entry_at, log_in, no_sector, place_of, sector_of, shape_in, layout_in}
@@ -31,21 +31,21 @@ use Rattle.opening_rules.proofs.PartLemmas.{HasNoFault, no_fault_parts, if_none}
 
 -- ---- single tests
 
-formatted_from : (o : Option Pick) → not_formatted o ≡ None → (pick : Pick) × (o ≡ Some pick)
+formatted_from : (o : Option Winner) → not_formatted o ≡ None → (winner : Winner) × (o ≡ Some winner)
 formatted_from None e = cc
-formatted_from (Some pick) e = (pick, refl)
+formatted_from (Some winner) e = (winner, refl)
 
-there_from : (u : ℕ) (o : Option Pick) → missing u o ≡ None → (pick : Pick) × (o ≡ Some pick)
+there_from : (u : ℕ) (o : Option Winner) → missing u o ≡ None → (winner : Winner) × (o ≡ Some winner)
 there_from u None e = cc
-there_from u (Some pick) e = (pick, refl)
+there_from u (Some winner) e = (winner, refl)
 
-header_well : (o : Option Pick) (pick : Pick) → o ≡ Some pick → bad_header o ≡ None → pick.head.well ≡ true
-header_well o pick is e = if_none pick.head.well (malformed pick.place 0) (ap bad_header (sym is) ∙ e)
+header_well : (o : Option Winner) (winner : Winner) → o ≡ Some winner → bad_header o ≡ None → winner.head.well ≡ true
+header_well o winner is e = if_none winner.head.well (malformed winner.place 0) (ap bad_header (sym is) ∙ e)
 
 commit_well : (p s : ℕ) (o : Option Sector) (sector : Sector) → o ≡ Some sector → commit_test p s o ≡ None → is_commit_payload sector.payload ≡ true
 commit_well p s o sector is e = if_none (is_commit_payload sector.payload) (malformed p s) (ap (commit_test p s) (sym is) ∙ e)
 
-log_well : (heads : ℕ → Option Head) (earlier : List Mark) (k : ℕ) (o : Option Sector) (sector : Sector) → o ≡ Some sector → log_test heads earlier k o ≡ None
+log_well : (heads : ℕ → Option KeptHeader) (earlier : List Mark) (k : ℕ) (o : Option Sector) (sector : Sector) → o ≡ Some sector → log_test heads earlier k o ≡ None
     → is_log_well (mark_of heads k sector) earlier sector.payload ≡ true
 log_well heads earlier k o sector is e =
     if_none (is_log_well (mark_of heads k sector) earlier sector.payload) (malformed (k / 256) (k % 256)) (ap (log_test heads earlier k) (sym is) ∙ e)
@@ -101,10 +101,10 @@ has_number tid (n ∷ numbers) (suc i, low, at) = or_right _ _ (has_number tid n
 -- ---- a chart without a fault
 
 module _ (c : Chart) (places : ℕ) (bytes : IsByteChart places c) (fine : HasNoFault c places) where
-  abbrev heads : ℕ → Option Head
+  abbrev heads : ℕ → Option KeptHeader
   heads = header_at c places
 
-  abbrev current : ℕ → Option Pick
+  abbrev current : ℕ → Option Winner
   current = current_at c places
 
   abbrev live : ℕ → Option Sector
@@ -138,18 +138,18 @@ module _ (c : Chart) (places : ℕ) (bytes : IsByteChart places c) (fine : HasNo
 
   -- ---- the log of a unit
 
-  module _ (u : ℕ) (pick : Pick) (is : current u ≡ Some pick) where
-    entry_is : (k : ℕ) (e : Entry) → k < places * 256 → entry_at c places u k ≡ Some e → IsEntry c places u pick.place pick.head.generation e
+  module _ (u : ℕ) (winner : Winner) (is : current u ≡ Some winner) where
+    entry_is : (k : ℕ) (e : Entry) → k < places * 256 → entry_at c places u k ≡ Some e → IsEntry c places u winner.place winner.head.generation e
     entry_is k e low at =
         let of_it = entry_from u k (live k) e at in
         let found = live_from c places k e.sector of_it.here in
-        let one : found.pick ≡ pick = same_Some found.pick pick (sym found.current ∙ (ap current of_it.unit ∙ is)) in
-        let mine : IsLive c places u pick.place pick.head.generation (k / 256) (k % 256) e.sector =
-        subst (λ (x : Pick). IsLive c places u x.place x.head.generation (k / 256) (k % 256) e.sector) one
-        (subst (λ (v : ℕ). IsLive c places v found.pick.place found.pick.head.generation (k / 256) (k % 256) e.sector) of_it.unit found.live) in
-        let here : IsLive c places u pick.place pick.head.generation e.place e.number e.sector =
-        subst (λ (s : ℕ). IsLive c places u pick.place pick.head.generation e.place s e.sector) (sym of_it.number)
-        (subst (λ (p : ℕ). IsLive c places u pick.place pick.head.generation p (k % 256) e.sector) (sym of_it.place) mine) in
+        let one : found.winner ≡ winner = same_Some found.winner winner (sym found.current ∙ (ap current of_it.unit ∙ is)) in
+        let mine : IsLive c places u winner.place winner.head.generation (k / 256) (k % 256) e.sector =
+        subst (λ (x : Winner). IsLive c places u x.place x.head.generation (k / 256) (k % 256) e.sector) one
+        (subst (λ (v : ℕ). IsLive c places v found.winner.place found.winner.head.generation (k / 256) (k % 256) e.sector) of_it.unit found.live) in
+        let here : IsLive c places u winner.place winner.head.generation e.place e.number e.sector =
+        subst (λ (s : ℕ). IsLive c places u winner.place winner.head.generation e.place s e.sector) (sym of_it.number)
+        (subst (λ (p : ℕ). IsLive c places u winner.place winner.head.generation p (k % 256) e.sector) (sym of_it.place) mine) in
         let list = (and_parts _ _ (well k e.sector low of_it.here)).0 in
         let stands : IsSeen c places (k / 256) (k % 256) e.sector = live_seen c places k e.sector of_it.here in
         record {
@@ -158,17 +158,17 @@ module _ (c : Chart) (places : ℕ) (bytes : IsByteChart places c) (fine : HasNo
               (log_payloads_are_spelled e.sector.payload (bytes (k / 256) (k % 256) e.sector stands.within (omega arith) (inr (inr (seen_spot c places (k / 256) (k % 256) e.sector stands))) stands.here) list);
         }
 
-    has_all : (p s : ℕ) (sector : Sector) → IsLive c places u pick.place pick.head.generation p s sector
+    has_all : (p s : ℕ) (sector : Sector) → IsLive c places u winner.place winner.head.generation p s sector
         → (e : Entry) × Contains (log_in c places u) e × (e.place ≡ p) × (e.number ≡ s)
     has_all p s sector it =
         let k : ℕ = p * 256 + s in
         let place : k / 256 ≡ p = omega (arith, it.within) in
         let number : k % 256 ≡ s = omega (arith, it.within) in
         let low : k < places * 256 = omega (arith, it.within) in
-        let mine : IsLive c places u pick.place pick.head.generation (k / 256) (k % 256) sector =
-        subst (λ (t : ℕ). IsLive c places u pick.place pick.head.generation (k / 256) t sector) (sym number)
-        (subst (λ (q : ℕ). IsLive c places u pick.place pick.head.generation q s sector) (sym place) it) in
-        let here = live_to c places k u pick sector is mine in (
+        let mine : IsLive c places u winner.place winner.head.generation (k / 256) (k % 256) sector =
+        subst (λ (t : ℕ). IsLive c places u winner.place winner.head.generation (k / 256) t sector) (sym number)
+        (subst (λ (q : ℕ). IsLive c places u winner.place winner.head.generation q s sector) (sym place) it) in
+        let here = live_to c places k u winner sector is mine in (
           record { place = k / 256; number = k % 256; sector = sector; records = records_of sector.payload },
           sorted_has (entry_at c places u) (places * 256) k _ low (entry_to u k (live k) sector here it.of_unit),
           place,
@@ -212,31 +212,31 @@ module _ (c : Chart) (places : ℕ) (bytes : IsByteChart places c) (fine : HasNo
     few zero low = omega arith
     few (suc k) low = few_of k (live k) refl (omega arith) (few k (omega arith))
 
-    listed_at : (k : ℕ) (e : Entry) → k < places * 256 → entry_at c places u k ≡ Some e → IsListed (map spot_of (passing overflow_at (places * 256))) pick.place e
+    listed_at : (k : ℕ) (e : Entry) → k < places * 256 → entry_at c places u k ≡ Some e → IsListed (map spot_of (passing overflow_at (places * 256))) winner.place e
     listed_at k e low at away =
         let of_it = entry_from u k (live k) e at in
         let live_it = (entry_is k e low at).live in
-        let in_overflow : is_overflow_place (heads (k / 256)) ≡ true = ap (λ (p : ℕ). is_overflow_place (heads p)) (sym of_it.place) ∙ away_is_overflow c places u pick.place pick.head.generation e.place e.number e.sector live_it away in
+        let in_overflow : is_overflow_place (heads (k / 256)) ≡ true = ap (λ (p : ℕ). is_overflow_place (heads p)) (sym of_it.place) ∙ away_is_overflow c places u winner.place winner.head.generation e.place e.number e.sector live_it away in
         let passes_it : overflow_at k ≡ true = ap (passes is_overflow_of) (mark_to c places k e.sector of_it.here) ∙ and_from _ _ in_overflow (eq-eqb e.sector.unit u of_it.unit) in
         spot_there (passing overflow_at (places * 256)) k e.place e.number (passing_has overflow_at (places * 256) k low passes_it) of_it.place of_it.number
 
-    is_log : IsLog c places u pick.place pick.head.generation (log_in c places u)
+    is_log : IsLog c places u winner.place winner.head.generation (log_in c places u)
     is_log = record {
-      each = sorted_all (entry_at c places u) (places * 256) (IsEntry c places u pick.place pick.head.generation) entry_is;
+      each = sorted_all (entry_at c places u) (places * 256) (IsEntry c places u winner.place winner.head.generation) entry_is;
       all = has_all;
       rising = sorted_rises (entry_at c places u) (places * 256) (entries_apart u);
       spots = map spot_of (passing overflow_at (places * 256));
       few = let count = few (places * 256) (omega arith) in
           omega (arith, length-map (passing overflow_at (places * 256)) spot_of, passing_count overflow_at (places * 256), count);
-      listed = sorted_all (entry_at c places u) (places * 256) (IsListed (map spot_of (passing overflow_at (places * 256))) pick.place) listed_at;
+      listed = sorted_all (entry_at c places u) (places * 256) (IsListed (map spot_of (passing overflow_at (places * 256))) winner.place) listed_at;
     }
 
     -- an entry that doesn't stand at home stands on a overflow
-    in_overflow_at : (k : ℕ) (e : Entry) → k < places * 256 → entry_at c places u k ≡ Some e → IsInOverflow (passing (holds_live heads all_marks) places) pick.place e
+    in_overflow_at : (k : ℕ) (e : Entry) → k < places * 256 → entry_at c places u k ≡ Some e → IsInOverflow (passing (holds_live heads all_marks) places) winner.place e
     in_overflow_at k e low at away =
         let of_it = entry_from u k (live k) e at in
         let live_it = (entry_is k e low at).live in
-        let in_overflow = away_is_overflow c places u pick.place pick.head.generation e.place e.number e.sector live_it away in
+        let in_overflow = away_is_overflow c places u winner.place winner.head.generation e.place e.number e.sector live_it away in
         let marked = any_some (mark_at heads current c) (is_in e.place) (places * 256) k (mark_of heads k e.sector) low (mark_to c places k e.sector of_it.here)
         (eq-eqb (k / 256) e.place (sym of_it.place)) in
         passing_has (holds_live heads all_marks) places e.place live_it.within.0 (and_from _ _ in_overflow marked)
@@ -245,98 +245,98 @@ module _ (c : Chart) (places : ℕ) (bytes : IsByteChart places c) (fine : HasNo
 
   -- a unit has a current header
   record HasHome (u : ℕ) : Type 0 where
-    pick : Pick
-    is : current u ≡ Some pick
-    home : IsHome c places u pick
+    winner : Winner
+    is : current u ≡ Some winner
+    home : IsHome c places u winner
 
   has_home : (u : ℕ) → u < places - 4 → HasHome u
   has_home u low =
       let there = there_from u (current u) (fine.formed.there u low) in
-      record { pick = there.0; is = there.1; home = home_of c places u there.0 there.1 }
+      record { winner = there.0; is = there.1; home = home_of c places u there.0 there.1 }
 
-  sector_is : (o : Option Pick) (pick : Pick) (sector : Sector) → o ≡ Some pick → c pick.place 0 ≡ Some sector → sector_of c o ≡ sector
-  sector_is o pick sector is here = ap (sector_of c) is ∙ ap (λ (x : Option Sector). unwrap_or x no_sector) here
+  sector_is : (o : Option Winner) (winner : Winner) (sector : Sector) → o ≡ Some winner → c winner.place 0 ≡ Some sector → sector_of c o ≡ sector
+  sector_is o winner sector is here = ap (sector_of c) is ∙ ap (λ (x : Option Sector). unwrap_or x no_sector) here
 
   unit_is : (u : ℕ) → u < places - 4 → IsUnit c places u (shape_in c places u)
   unit_is u low =
       let it = has_home u low in
       let head : Sector = it.home.sector in
-      let here : c it.pick.place 0 ≡ Some head = it.home.chosen.here in
-      let generation : it.pick.head.generation ≡ head.generation = ap (λ (h : Head). h.generation) it.home.kept in
+      let here : c it.winner.place 0 ≡ Some head = it.home.chosen.here in
+      let generation : it.winner.head.generation ≡ head.generation = ap (λ (h : KeptHeader). h.generation) it.home.kept in
       let well_is : is_head_payload (places - 4) head.kind head.payload ≡ true =
-      ap (λ (h : Head). h.well) (sym it.home.kept) ∙ header_well (current u) it.pick it.is (fine.formed.headers u low) in
+      ap (λ (h : KeptHeader). h.well) (sym it.home.kept) ∙ header_well (current u) it.winner it.is (fine.formed.headers u low) in
       let passes_it : is_data_payload (places - 4) head.payload ≡ true =
       ap (λ (kind : ℕ). is_head_payload (places - 4) kind head.payload) (sym it.home.chosen.fits.0) ∙ well_is in
-      let shape : Shape = record { home = it.pick.place; head = head; pieces = pieces_in head.payload; log = log_in c places u } in
+      let shape : Shape = record { home = it.winner.place; head = head; pieces = pieces_in head.payload; log = log_in c places u } in
       let same : shape ≡ shape_in c places u = ap₂ (λ (p : ℕ) (s : Sector). let x : Shape = record { home = p; head = s; pieces = pieces_in s.payload; log = log_in c places u } in x)
-      (sym (ap place_of it.is)) (sym (sector_is (current u) it.pick head it.is here)) in
+      (sym (ap place_of it.is)) (sym (sector_is (current u) it.winner head it.is here)) in
       subst (IsUnit c places u) same (record {
         chosen = it.home.chosen;
-        counts = data_payloads_are_spelled (places - 4) head.payload (bytes it.pick.place 0 head it.home.chosen.within (omega arith) (inl refl) here) passes_it;
-        log = subst (λ (g : ℕ). IsLog c places u it.pick.place g (log_in c places u)) generation (is_log u it.pick it.is);
+        counts = data_payloads_are_spelled (places - 4) head.payload (bytes it.winner.place 0 head it.home.chosen.within (omega arith) (inl refl) here) passes_it;
+        log = subst (λ (g : ℕ). IsLog c places u it.winner.place g (log_in c places u)) generation (is_log u it.winner it.is);
       })
 
   in_overflow : (u : ℕ) → u < places - 4 → All (IsInOverflow (passing (holds_live heads all_marks) places) (shape_in c places u).home) (shape_in c places u).log
   in_overflow u low =
       let it = has_home u low in
       subst (λ (p : ℕ). All (IsInOverflow (passing (holds_live heads all_marks) places) p) (log_in c places u)) (sym (ap place_of it.is))
-      (sorted_all (entry_at c places u) (places * 256) (IsInOverflow (passing (holds_live heads all_marks) places) it.pick.place) (in_overflow_at u it.pick it.is))
+      (sorted_all (entry_at c places u) (places * 256) (IsInOverflow (passing (holds_live heads all_marks) places) it.winner.place) (in_overflow_at u it.winner it.is))
 
   -- ---- the status place
 
-  module _ (pick : Pick) (is : status_at c places ≡ Some pick) where
-    at_status : is_at (status_at c places) pick.place ≡ true
-    at_status = ap (λ (o : Option Pick). is_at o pick.place) is ∙ eq-eqb pick.place pick.place refl
+  module _ (winner : Winner) (is : status_at c places ≡ Some winner) where
+    at_status : is_at (status_at c places) winner.place ≡ true
+    at_status = ap (λ (o : Option Winner). is_at o winner.place) is ∙ eq-eqb winner.place winner.place refl
 
-    commit_spelled : (s : ℕ) (sector : Sector) → IsCommitSector c pick.place pick.head.generation s sector → SpellsCommit sector.payload (numbers_in sector.payload)
+    commit_spelled : (s : ℕ) (sector : Sector) → IsCommitSector c winner.place winner.head.generation s sector → SpellsCommit sector.payload (numbers_in sector.payload)
     commit_spelled s sector it =
-        let passes_it = commit_well pick.place s (commit_at c (Some pick) s) sector (commit_to c pick s sector it)
-        (ap (λ (o : Option Pick). commit_fault c o s) (sym is) ∙ fine.formed.commits s (omega (arith, it.where_it_is, sectors_are))) in
-        commit_payloads_are_spelled sector.payload (bytes pick.place s sector (statuses_are_chosen c places pick is).counts.within it.where_it_is.1 (inr (inl at_status)) it.here) passes_it
+        let passes_it = commit_well winner.place s (commit_at c (Some winner) s) sector (commit_to c winner s sector it)
+        (ap (λ (o : Option Winner). commit_fault c o s) (sym is) ∙ fine.formed.commits s (omega (arith, it.where_it_is, sectors_are))) in
+        commit_payloads_are_spelled sector.payload (bytes winner.place s sector (statuses_are_chosen c places winner is).counts.within it.where_it_is.1 (inr (inl at_status)) it.here) passes_it
 
-    told_from : (tid s : ℕ) (o : Option Sector) → s < sectors → commit_at c (Some pick) s ≡ o → Contains (numbers_of o) tid → IsCommitted c pick.place pick.head.generation tid
+    told_from : (tid s : ℕ) (o : Option Sector) → s < sectors → commit_at c (Some winner) s ≡ o → Contains (numbers_of o) tid → IsCommitted c winner.place winner.head.generation tid
     told_from tid s None low at has = absurd (let some = has.1 in omega (arith, some))
     told_from tid s (Some sector) low at has =
-        let of_it = commit_from c pick s sector (omega (arith, low, sectors_are)) at in
+        let of_it = commit_from c winner s sector (omega (arith, low, sectors_are)) at in
         record { number = s; sector = sector; is = of_it; numbers = numbers_in sector.payload; spelled = commit_spelled s sector of_it; has = has }
 
     abbrev numbers_at : ℕ → List ℕ
-    numbers_at s = numbers_of (commit_at c (Some pick) s)
+    numbers_at s = numbers_of (commit_at c (Some winner) s)
 
-    told : (tid : ℕ) → IsTrue (committed_in c (Some pick) tid) → IsCommitted c pick.place pick.head.generation tid
+    told : (tid : ℕ) → IsTrue (committed_in c (Some winner) tid) → IsCommitted c winner.place winner.head.generation tid
     told tid so =
         let (s, low, has) = joined_from numbers_at sectors tid (number_has tid (joined_below numbers_at sectors) so) in
-        told_from tid s (commit_at c (Some pick) s) low refl has
+        told_from tid s (commit_at c (Some winner) s) low refl has
 
-    all_told : (tid : ℕ) → IsCommitted c pick.place pick.head.generation tid → IsTrue (committed_in c (Some pick) tid)
+    all_told : (tid : ℕ) → IsCommitted c winner.place winner.head.generation tid → IsTrue (committed_in c (Some winner) tid)
     all_told tid it =
-        let here = commit_to c pick it.number it.sector it.is in
+        let here = commit_to c winner it.number it.sector it.is in
         let numbers : numbers_in it.sector.payload ≡ it.numbers = (spelled_commits_pass it.sector.payload it.numbers it.spelled).1 in
         let has : Contains (numbers_at it.number) tid = subst (λ (xs : List ℕ). Contains xs tid) (sym (ap numbers_of here ∙ numbers)) it.has in
         has_number tid (joined_below numbers_at sectors) (joined_has numbers_at sectors it.number tid (omega (arith, it.is.where_it_is, sectors_are)) has)
 
-    status_is : IsStatus c pick.place pick.head.generation (committed_in c (Some pick))
+    status_is : IsStatus c winner.place winner.head.generation (committed_in c (Some winner))
     status_is = record { spelled = λ s sector it. (numbers_in sector.payload, commit_spelled s sector it); told = told; all_told = all_told }
 
     laid_with : Laid places c (layout_in c places)
     laid_with =
-        let it = statuses_are_chosen c places pick is in
+        let it = statuses_are_chosen c places winner is in
         let head : Sector = it.sector in
-        let here : c pick.place 0 ≡ Some head = it.counts.here in
-        let generation : pick.head.generation ≡ head.generation = ap (λ (h : Head). h.generation) it.head in
+        let here : c winner.place 0 ≡ Some head = it.counts.here in
+        let generation : winner.head.generation ≡ head.generation = ap (λ (h : KeptHeader). h.generation) it.head in
         let well_is : is_head_payload (places - 4) head.kind head.payload ≡ true =
-        ap (λ (h : Head). h.well) (sym it.head) ∙ header_well (status_at c places) pick is fine.formed.header in
+        ap (λ (h : KeptHeader). h.well) (sym it.head) ∙ header_well (status_at c places) winner is fine.formed.header in
         let passes_it : is_status_payload (places - 4) head.payload ≡ true =
         ap (λ (kind : ℕ). is_head_payload (places - 4) kind head.payload) (sym it.counts.fits) ∙ well_is in
-        let layout : Layout = record { status = pick.place; head = head; committed = committed_in c (Some pick); units = shape_in c places } in
-        let same : layout ≡ layout_in c places = ap₂ (λ (o : Option Pick) (s : Sector). let x : Layout = record { status = place_of o; head = s; committed = committed_in c o; units = shape_in c places } in x)
-        (sym is) (sym (sector_is (status_at c places) pick head is here)) in
+        let layout : Layout = record { status = winner.place; head = head; committed = committed_in c (Some winner); units = shape_in c places } in
+        let same : layout ≡ layout_in c places = ap₂ (λ (o : Option Winner) (s : Sector). let x : Layout = record { status = place_of o; head = s; committed = committed_in c o; units = shape_in c places } in x)
+        (sym is) (sym (sector_is (status_at c places) winner head is here)) in
         subst (Laid places c) same (record {
           least = fine.formed.least;
           most = fine.formed.most;
           chosen = it.counts;
-          counts = status_payloads_are_spelled (places - 4) head.payload (bytes pick.place 0 head it.counts.within (omega arith) (inl refl) here) passes_it;
-          commits = subst (λ (g : ℕ). IsStatus c pick.place g (committed_in c (Some pick))) generation status_is;
+          counts = status_payloads_are_spelled (places - 4) head.payload (bytes winner.place 0 head it.counts.within (omega arith) (inl refl) here) passes_it;
+          commits = subst (λ (g : ℕ). IsStatus c winner.place g (committed_in c (Some winner))) generation status_is;
           each = unit_is;
           overflows = passing (holds_live heads all_marks) places;
           two = omega (arith, passing_count (holds_live heads all_marks) places, fine.formed.few_overflows);

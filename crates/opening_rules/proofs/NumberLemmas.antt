@@ -11,9 +11,9 @@ use Rattle.ipl_format.specs.Commit.{SpellsCommit}
 use Rattle.log_records.specs.Reading.{records_of}
 use Rattle.ipl_meaning.specs.Chart.{Chart, IsHeader}
 use Rattle.ipl_meaning.specs.Layout.{Layout, Laid, IsCommitSector}
-use Rattle.ipl_meaning.specs.Found.{IsLogSpot, IsRead, Mentions, IsFound}
+use Rattle.ipl_meaning.specs.Found.{IsLogSpot, IsRead, Mentions, IsFoundNumber}
 use Rattle.opening_rules.specs.Payloads.{numbers_in, is_commit_payload, is_log_payload, numbers_told, tid_of, tids_told}
-use Rattle.opening_rules.specs.Chosen.{Head, Pick, head_of, header_at, current_at, status_at}
+use Rattle.opening_rules.specs.Chosen.{KeptHeader, Winner, head_of, header_at, current_at, status_at}
 use Rattle.opening_rules.specs.Live.{sectors, commit_at, seen, seen_at}
 use Rattle.opening_rules.specs.Faults.{head_number, commit_number, log_number, greatest_of_heads, greatest_of_commits, greatest_found}
 use Rattle.opening_rules.specs.Laws.{IsByteChart, GreatestIsAbove, GreatestIsFound}
@@ -94,13 +94,13 @@ log-le sector n kind mentions =
 -- ---- on a chart that is laid out
 
 module _ (c : Chart) (places : ℕ) (it : Layout) (laid : Laid places c it) where
-  abbrev status : Pick
+  abbrev status : Winner
   status = record { place = it.status; head = head_of (places - 4) it.head }
 
   pub status_is : status_at c places ≡ Some status
   status_is = chosen_are_status c places it.status it.head laid.chosen
 
-  abbrev home : ℕ → Pick
+  abbrev home : ℕ → Winner
   home u = record { place = (it.units u).home; head = head_of (places - 4) (it.units u).head }
 
   pub home_is : (u : ℕ) → u < places - 4 → current_at c places u ≡ Some (home u)
@@ -129,7 +129,7 @@ module _ (c : Chart) (places : ℕ) (it : Layout) (laid : Laid places c it) wher
 
   commit_below : (s : ℕ) (sector : Sector) (n : ℕ) → IsCommitSector c it.status it.head.generation s sector → Mentions sector n → n ≤ greatest_found c places
   commit_below s sector n is mentions =
-      let kept : commit_at c (status_at c places) s ≡ Some sector = ap (λ (o : Option Pick). commit_at c o s) status_is ∙ commit_to c status s sector is in
+      let kept : commit_at c (status_at c places) s ≡ Some sector = ap (λ (o : Option Winner). commit_at c o s) status_is ∙ commit_to c status s sector is in
       let own = commit-le sector n is.kind mentions in
       let same : commit_number (commit_at c (status_at c places) s) ≡ commit_number (Some sector) = ap commit_number kept in
       let among : commit_number (commit_at c (status_at c places) s) ≤ commits_greatest =
@@ -155,7 +155,7 @@ module _ (c : Chart) (places : ℕ) (it : Layout) (laid : Laid places c it) wher
       each-le commits_greatest (λ j. log_number (seen_at (header_at c places) (current_at c places) c j)) (places * 256) k (omega (arith, low, within)) in
       omega (arith, own, same, among)
 
-  pub found_below : (n : ℕ) → IsFound places c it n → n ≤ greatest_found c places
+  pub found_below : (n : ℕ) → IsFoundNumber places c it n → n ≤ greatest_found c places
   found_below n (p, s, sector, read, mentions) = elim read [
     | inl header ↦ header_below p sector n header.1 header.2 header.3 mentions
     | inr other ↦ elim other [
@@ -167,22 +167,22 @@ module _ (c : Chart) (places : ℕ) (it : Layout) (laid : Laid places c it) wher
   -- ---- and it is one of them
 
   abbrev IsNumber : ℕ → Type 0
-  IsNumber n = (n ≡ 0) ⊎ IsFound places c it n
+  IsNumber n = (n ≡ 0) ⊎ IsFoundNumber places c it n
 
   -- a sector's own numbers
-  own_found : (p s : ℕ) (sector : Sector) → IsRead places c it p s sector → IsFound places c it (max sector.generation sector.serial)
+  own_found : (p s : ℕ) (sector : Sector) → IsRead places c it p s sector → IsFoundNumber places c it (max sector.generation sector.serial)
   own_found p s sector read = elim (max_cases sector.generation sector.serial) [
     | inl generation ↦ (p, s, sector, read, inl generation)
     | inr serial ↦ (p, s, sector, read, inr (inl serial))
   ]
 
-  head_found : (p : ℕ) (o : Option Head) → header_at c places p ≡ o → IsNumber (head_number o)
+  head_found : (p : ℕ) (o : Option KeptHeader) → header_at c places p ≡ o → IsNumber (head_number o)
   head_found p None is = inl refl
   head_found p (Some head) is =
       let there = header_there c places p head is in
       let kinds = and_parts _ _ there.of_kind in
       let read : IsRead places c it p 0 there.sector = inl (refl, there.within, there.here, (leb-true 1 there.sector.kind kinds.0, leb-true there.sector.kind 3 kinds.1)) in
-      inr (subst (λ (h : Head). IsFound places c it (max h.generation h.serial)) there.kept (own_found p 0 there.sector read))
+      inr (subst (λ (h : KeptHeader). IsFoundNumber places c it (max h.generation h.serial)) there.kept (own_found p 0 there.sector read))
 
   commit_found : (s : ℕ) (o : Option Sector) → s < 256 → commit_at c (Some status) s ≡ o → IsNumber (commit_number o)
   commit_found s None low is = inl refl
@@ -190,7 +190,7 @@ module _ (c : Chart) (places : ℕ) (it : Layout) (laid : Laid places c it) wher
       let of_it = commit_from c status s sector low is in
       let read : IsRead places c it it.status s sector = inr (inl (refl, of_it)) in
       elim (greatest_of_from (max sector.generation sector.serial) (numbers_told sector.payload)) [
-        | inl own ↦ inr (subst (IsFound places c it) (sym own) (own_found it.status s sector read))
+        | inl own ↦ inr (subst (IsFoundNumber places c it) (sym own) (own_found it.status s sector read))
         | inr told ↦
             let spelled = laid.commits.spelled s sector of_it in
             inr (
@@ -208,10 +208,10 @@ module _ (c : Chart) (places : ℕ) (it : Layout) (laid : Laid places c it) wher
       ]
 
   spot_back : (p s : ℕ) → MayStand c places p s → IsLogSpot places c it p s
-  spot_back p s (inl (u, pick, is, same, high)) =
-      let low = current_low c places u pick is in
-      let one : pick ≡ home u = same_Some pick (home u) (sym is ∙ home_is u low) in
-      inl (u, low, same ∙ ap (λ (x : Pick). x.place) one, high)
+  spot_back p s (inl (u, winner, is, same, high)) =
+      let low = current_low c places u winner is in
+      let one : winner ≡ home u = same_Some winner (home u) (sym is ∙ home_is u low) in
+      inl (u, low, same ∙ ap (λ (x : Winner). x.place) one, high)
   spot_back p s (inr over) = inr over
 
   log_found : IsByteChart places c → (k : ℕ) (o : Option Sector) → seen_at (header_at c places) (current_at c places) c k ≡ o → IsNumber (log_number o)
@@ -221,7 +221,7 @@ module _ (c : Chart) (places : ℕ) (it : Layout) (laid : Laid places c it) wher
       let read : IsRead places c it (k / 256) (k % 256) sector =
       inr (inr (stands.within, omega arith, stands.here, stands.kind, spot_back (k / 256) (k % 256) stands.may)) in
       elim (greatest_of_from (max sector.generation sector.serial) (tids_told sector.payload)) [
-        | inl own ↦ inr (subst (IsFound places c it) (sym own) (own_found (k / 256) (k % 256) sector read))
+        | inl own ↦ inr (subst (IsFoundNumber places c it) (sym own) (own_found (k / 256) (k % 256) sector read))
         | inr told ↦ elim (cases_Bool (is_log_payload sector.payload)) [
           | inl list ↦
               let spelled = log_payloads_are_spelled sector.payload (bytes (k / 256) (k % 256) sector stands.within (omega arith) (inr (inr (seen_spot c places (k / 256) (k % 256) sector stands))) stands.here) list in
@@ -240,7 +240,7 @@ module _ (c : Chart) (places : ℕ) (it : Layout) (laid : Laid places c it) wher
     | inr log ↦ subst IsNumber (sym log.2) (log_found bytes log.0 (seen_at (header_at c places) (current_at c places) c log.0) refl)
     | inl earlier ↦ elim (greatest_from heads_greatest (λ s. commit_number (commit_at c (status_at c places) s)) sectors) [
       | inr commit ↦
-          let kept : commit_at c (Some status) commit.0 ≡ commit_at c (status_at c places) commit.0 = ap (λ (o : Option Pick). commit_at c o commit.0) (sym status_is) in
+          let kept : commit_at c (Some status) commit.0 ≡ commit_at c (status_at c places) commit.0 = ap (λ (o : Option Winner). commit_at c o commit.0) (sym status_is) in
           subst IsNumber (sym (earlier ∙ commit.2)) (commit_found commit.0 (commit_at c (status_at c places) commit.0) (omega (arith, commit.1, sectors_are)) kept)
       | inl before ↦ elim (greatest_from 0 (λ p. head_number (header_at c places p)) places) [
         | inr header ↦ subst IsNumber (sym (earlier ∙ (before ∙ header.2))) (head_found header.0 (header_at c places header.0) refl)

@@ -4,7 +4,7 @@ use Rattle.std.specs.Option.{option_map}
 use Rattle.ipl_format.specs.Sector.{Sector}
 use Rattle.ipl_meaning.specs.Chart.{Chart}
 use Rattle.opening_rules.specs.First.{with_one}
-use Rattle.opening_rules.specs.Chosen.{Head, Pick}
+use Rattle.opening_rules.specs.Chosen.{KeptHeader, Winner}
 use Rattle.opening_rules.specs.Live.{kept, seen, seen_at, is_live, live_at, mark_of, mark_at, marks}
 use Rattle.opening_rules.specs.Faults.{log_test, log_fault, log_number, greatest_of_logs}
 use Rattle.opening_rules.proofs.FirstLemmas.{all_step, greatest_step}
@@ -15,7 +15,7 @@ place_is p s below = omega arith
 pub number_is : (p s : ℕ) → s < 256 → (p * 256 + s) % 256 ≡ s
 number_is p s below = omega arith
 
-module _ (heads : ℕ → Option Head) (current : ℕ → Option Pick) (c : Chart) (p s : ℕ) (below : s < 256) (o : Option Sector) (is : o ≡ seen heads current c p s) where
+module _ (heads : ℕ → Option KeptHeader) (current : ℕ → Option Winner) (c : Chart) (p s : ℕ) (below : s < 256) (o : Option Sector) (is : o ≡ seen heads current c p s) where
   -- the log sector that stands there
   pub seen_here : seen_at heads current c (p * 256 + s) ≡ o
   seen_here = ap₂ (λ (q t : ℕ). seen heads current c q t) (place_is p s below) (number_is p s below) ∙ sym is

@@ -6,14 +6,14 @@ use Rattle.ipl_base.specs.declared.fault.ImageFault.TheVariants.{Geometry, NotFo
 use Rattle.ipl_format.specs.Sector.{Sector}
 use Rattle.ipl_meaning.specs.Chart.{Chart, IsChosen, IsDataHeader, IsStatusHeader}
 use Rattle.opening_rules.specs.Payloads.{begins_with_other_units, is_commit_payload}
-use Rattle.opening_rules.specs.Chosen.{Pick, is_head_payload, status_at}
+use Rattle.opening_rules.specs.Chosen.{Winner, is_head_payload, status_at}
 use Rattle.opening_rules.specs.Live.{sectors, commit_at}
 use Rattle.opening_rules.specs.Faults.{malformed, greatest_found, overflows_found, first_fault}
 use Rattle.opening_rules.specs.FaultLaws.{IsLeastMissing, IsFirstBadLog}
 
 -- the header counts: it is the status header, or that of a unit
-abbrev pub Counts : Chart → ℕ → ℕ → Sector → Type 0
-Counts c places p head =
+abbrev pub HeaderCounts : Chart → ℕ → ℕ → Sector → Type 0
+HeaderCounts c places p head =
     IsChosen c places IsStatusHeader p head
     ⊎ ((u : ℕ) × (u < places - 4) × IsChosen c places (IsDataHeader u) p head)
 
@@ -21,18 +21,18 @@ Counts c places p head =
 pub record HasOtherUnits (c : Chart) (places : ℕ) : Type 0 where
   pub place : ℕ
   pub head : Sector
-  pub counts : Counts c places place head
+  pub counts : HeaderCounts c places place head
   pub other : begins_with_other_units (places - 4) head.payload ≡ true
 
 -- the header at this place counts, and its payload is not in the grammar of its kind
 pub record HasBadHeader (c : Chart) (places p : ℕ) : Type 0 where
   pub head : Sector
-  pub counts : Counts c places p head
+  pub counts : HeaderCounts c places p head
   pub bad : is_head_payload (places - 4) head.kind head.payload ≡ false
 
 -- this commit sector is the first of the status place whose payload is not in its grammar
 pub record IsFirstBadCommit (c : Chart) (places p s : ℕ) : Type 0 where
-  pub status : Pick
+  pub status : Winner
   pub here : status_at c places ≡ Some status
   pub at : status.place ≡ p
   pub low : s < sectors

@@ -5,7 +5,7 @@ use Rattle.ipl_meaning.specs.Chart.{Chart}
 use Rattle.opening_rules.specs.Payloads.{begins_with_other_units, is_data_payload, is_status_payload}
 
 -- what a table keeps of a header
-pub record Head : Type 0 where
+pub record KeptHeader : Type 0 where
   pub kind : ℕ
   pub unit : ℕ
   pub generation : ℕ
@@ -16,9 +16,9 @@ pub record Head : Type 0 where
   pub well : Bool
 
 -- a header, and its place
-pub record Pick : Type 0 where
+pub record Winner : Type 0 where
   pub place : ℕ
-  pub head : Head
+  pub head : KeptHeader
 
 -- a header's payload is in the grammar of its kind; that of an overflow header isn't tested
 abbrev pub is_head_payload : ℕ → ℕ → List ℕ → Bool
@@ -26,7 +26,7 @@ is_head_payload units kind payload =
     if kind == 1 then is_data_payload units payload else if kind == 2 then is_status_payload units payload else true
 
 -- what is kept of this one, on a chip of so many units
-abbrev pub head_of : ℕ → Sector → Head
+abbrev pub head_of : ℕ → Sector → KeptHeader
 head_of units sector = record {
   kind = sector.kind;
   unit = sector.unit;
@@ -41,50 +41,50 @@ abbrev pub is_header : Sector → Bool
 is_header sector = nat_le 1 sector.kind && nat_le sector.kind 3
 
 -- the header in a sector 0, if it is one
-abbrev pub header_in : ℕ → Option Sector → Option Head
+abbrev pub header_in : ℕ → Option Sector → Option KeptHeader
 header_in units None = None
 header_in units (Some sector) = if is_header sector then Some (head_of units sector) else None
 
 -- the header of each place
-abbrev pub header_at : Chart → ℕ → ℕ → Option Head
+abbrev pub header_at : Chart → ℕ → ℕ → Option KeptHeader
 header_at c places p = if nat_lt p places then header_in (places - 4) (c p 0) else None
 
 -- it is a data header of the unit
-abbrev pub is_data_of : ℕ → Head → Bool
+abbrev pub is_data_of : ℕ → KeptHeader → Bool
 is_data_of u head = (head.kind == 1) && (head.unit == u)
 
 -- a status header
-abbrev pub is_status : Head → Bool
+abbrev pub is_status : KeptHeader → Bool
 is_status head = head.kind == 2
 
 -- an overflow header
-abbrev pub is_overflow : Head → Bool
+abbrev pub is_overflow : KeptHeader → Bool
 is_overflow head = head.kind == 3
 
 -- of the one before and the header of a later place, the one with the greater serial
-abbrev pub picked : (Head → Bool) → Option Pick → ℕ → Option Head → Option Pick
+abbrev pub picked : (KeptHeader → Bool) → Option Winner → ℕ → Option KeptHeader → Option Winner
 picked fits before place None = before
 picked fits None place (Some head) = if fits head then Some (record { place = place; head = head }) else None
 picked fits (Some best) place (Some head) =
     if fits head && nat_lt best.head.serial head.serial then Some (record { place = place; head = head }) else Some best
 
 -- of the headers below place n that fit, the one that counts
-abbrev pub chosen : (Head → Bool) → (ℕ → Option Head) → ℕ → Option Pick
+abbrev pub chosen : (KeptHeader → Bool) → (ℕ → Option KeptHeader) → ℕ → Option Winner
 chosen fits heads zero = None
 chosen fits heads (suc n) = picked fits (chosen fits heads n) n (heads n)
 
 -- the current header of each unit
-abbrev pub current_in : (ℕ → Option Head) → ℕ → ℕ → Option Pick
+abbrev pub current_in : (ℕ → Option KeptHeader) → ℕ → ℕ → Option Winner
 current_in heads places u = if nat_lt u (places - 4) then chosen (is_data_of u) heads places else None
 
 -- the status header
-abbrev pub status_in : (ℕ → Option Head) → ℕ → Option Pick
+abbrev pub status_in : (ℕ → Option KeptHeader) → ℕ → Option Winner
 status_in heads places = chosen is_status heads places
 
 -- the current header of each unit of a chart
-abbrev pub current_at : Chart → ℕ → ℕ → Option Pick
+abbrev pub current_at : Chart → ℕ → ℕ → Option Winner
 current_at c places = current_in (header_at c places) places
 
 -- the status header of a chart
-abbrev pub status_at : Chart → ℕ → Option Pick
+abbrev pub status_at : Chart → ℕ → Option Winner
 status_at c places = status_in (header_at c places) places

@@ -2,19 +2,19 @@
 use Rattle.std.specs.Prelude.{ℕ, ◌≡◌, ◌<◌, ◌-◌, Some, None}
 use Rattle.ipl_format.specs.Sector.{Sector}
 use Rattle.ipl_meaning.specs.Chart.{Chart, IsChosen, IsDataHeader, IsStatusHeader}
-use Rattle.opening_rules.specs.Chosen.{Pick, head_of, current_at, status_at}
+use Rattle.opening_rules.specs.Chosen.{Winner, head_of, current_at, status_at}
 
--- the pick is this sector, the header that counts at its place
-pub record IsPickOf (c : Chart) (places : ℕ) (Fits : Sector → Type 0) (pick : Pick) : Type 0 where
+-- the winner is this sector, the header that counts at its place
+pub record IsWinnerOf (c : Chart) (places : ℕ) (Fits : Sector → Type 0) (winner : Winner) : Type 0 where
   pub sector : Sector
-  pub counts : IsChosen c places Fits pick.place sector
-  pub head : pick.head ≡ head_of (places - 4) sector
+  pub counts : IsChosen c places Fits winner.place sector
+  pub head : winner.head ≡ head_of (places - 4) sector
 
 -- a current header is the one that counts for its unit
 abbrev pub CurrentsAreChosen : Type 0
 CurrentsAreChosen =
-    (c : Chart) (places u : ℕ) (pick : Pick) → current_at c places u ≡ Some pick
-    → (u < places - 4) × IsPickOf c places (IsDataHeader u) pick
+    (c : Chart) (places u : ℕ) (winner : Winner) → current_at c places u ≡ Some winner
+    → (u < places - 4) × IsWinnerOf c places (IsDataHeader u) winner
 
 -- the one that counts is current
 abbrev pub ChosenAreCurrent : Type 0
@@ -31,7 +31,7 @@ NoneIsCurrent =
 -- the status header is the one that counts
 abbrev pub StatusesAreChosen : Type 0
 StatusesAreChosen =
-    (c : Chart) (places : ℕ) (pick : Pick) → status_at c places ≡ Some pick → IsPickOf c places IsStatusHeader pick
+    (c : Chart) (places : ℕ) (winner : Winner) → status_at c places ≡ Some winner → IsWinnerOf c places IsStatusHeader winner
 
 -- the one that counts is the status header
 abbrev pub ChosenAreStatus : Type 0

@@ -8,7 +8,7 @@ use Rattle.ipl_format.specs.Sector.{Sector}
 use Rattle.ipl_meaning.specs.Chart.{Chart}
 use Rattle.opening_rules.specs.First.{first_below, first_of, greatest_below, greatest_of, count_below}
 use Rattle.opening_rules.specs.Payloads.{is_commit_payload, is_log_payload, numbers_told, tids_told}
-use Rattle.opening_rules.specs.Chosen.{Head, Pick, header_at, current_at, status_at}
+use Rattle.opening_rules.specs.Chosen.{KeptHeader, Winner, header_at, current_at, status_at}
 use Rattle.opening_rules.specs.Live.{sectors, commit_at, seen_at, live_at, is_overflow_place, Mark, mark_of, marks, marks_in}
 
 -- the sector at fault
@@ -24,27 +24,27 @@ size_fault places = if nat_le 5 places && nat_le places 1028 then None else Some
 -- ---- headers
 
 -- there is no status header
-abbrev pub not_formatted : Option Pick → Option ImageFault
+abbrev pub not_formatted : Option Winner → Option ImageFault
 not_formatted None = Some NotFormatted
-not_formatted (Some pick) = None
+not_formatted (Some winner) = None
 
 -- the header was written for another number of units
-abbrev pub other_geometry : Option Pick → Option ImageFault
+abbrev pub other_geometry : Option Winner → Option ImageFault
 other_geometry None = None
-other_geometry (Some pick) = if pick.head.foreign then Some Geometry else None
+other_geometry (Some winner) = if winner.head.foreign then Some Geometry else None
 
 -- the unit has no current header
-abbrev pub missing : ℕ → Option Pick → Option ImageFault
+abbrev pub missing : ℕ → Option Winner → Option ImageFault
 missing u None = Some (Missing u)
-missing u (Some pick) = None
+missing u (Some winner) = None
 
 -- the header's payload is not in its grammar
-abbrev pub bad_header : Option Pick → Option ImageFault
+abbrev pub bad_header : Option Winner → Option ImageFault
 bad_header None = None
-bad_header (Some pick) = if pick.head.well then None else Some (malformed pick.place 0)
+bad_header (Some winner) = if winner.head.well then None else Some (malformed winner.place 0)
 
 -- what the headers are tested for
-abbrev pub header_tests : ℕ → Option Pick → (ℕ → Option Pick) → List (Option ImageFault)
+abbrev pub header_tests : ℕ → Option Winner → (ℕ → Option Winner) → List (Option ImageFault)
 header_tests units status current =
     not_formatted status
     ∷ other_geometry status
@@ -66,9 +66,9 @@ commit_test p s None = None
 commit_test p s (Some sector) = if is_commit_payload sector.payload then None else Some (malformed p s)
 
 -- the fault of the commit sector at this number of the status place
-abbrev pub commit_fault : Chart → Option Pick → ℕ → Option ImageFault
+abbrev pub commit_fault : Chart → Option Winner → ℕ → Option ImageFault
 commit_fault c None s = None
-commit_fault c (Some pick) s = commit_test pick.place s (commit_at c (Some pick) s)
+commit_fault c (Some winner) s = commit_test winner.place s (commit_at c (Some winner) s)
 
 -- the first commit sector at fault
 abbrev pub first_commit_fault : Chart → ℕ → Option ImageFault
@@ -94,13 +94,13 @@ is_log_well mark earlier payload =
     is_log_payload payload && not (list_any (clashes mark) earlier || is_full mark earlier)
 
 -- the fault of the one at the number k, after those with these marks
-abbrev pub log_test : (ℕ → Option Head) → List Mark → ℕ → Option Sector → Option ImageFault
+abbrev pub log_test : (ℕ → Option KeptHeader) → List Mark → ℕ → Option Sector → Option ImageFault
 log_test heads earlier k None = None
 log_test heads earlier k (Some sector) =
     if is_log_well (mark_of heads k sector) earlier sector.payload then None else Some (malformed (k / 256) (k % 256))
 
 -- the same, after all those before it
-abbrev pub log_fault : (ℕ → Option Head) → (ℕ → Option Pick) → Chart → ℕ → Option ImageFault
+abbrev pub log_fault : (ℕ → Option KeptHeader) → (ℕ → Option Winner) → Chart → ℕ → Option ImageFault
 log_fault heads current c k = log_test heads (marks heads current c k) k (live_at heads current c k)
 
 -- the first log sector at fault
@@ -110,7 +110,7 @@ first_log_fault c places = first_below (log_fault (header_at c places) (current_
 -- ---- numbers found
 
 -- the greater number of a header
-abbrev pub head_number : Option Head → ℕ
+abbrev pub head_number : Option KeptHeader → ℕ
 head_number None = 0
 head_number (Some head) = max head.generation head.serial
 
@@ -125,15 +125,15 @@ log_number None = 0
 log_number (Some sector) = greatest_of (max sector.generation sector.serial) (tids_told sector.payload)
 
 -- in the headers
-abbrev pub greatest_of_heads : (ℕ → Option Head) → ℕ → ℕ
+abbrev pub greatest_of_heads : (ℕ → Option KeptHeader) → ℕ → ℕ
 greatest_of_heads heads places = greatest_below 0 (λ p. head_number (heads p)) places
 
 -- and in the commit sectors of the status place, below this number
-abbrev pub greatest_of_commits : ℕ → Chart → Option Pick → ℕ → ℕ
+abbrev pub greatest_of_commits : ℕ → Chart → Option Winner → ℕ → ℕ
 greatest_of_commits least c status n = greatest_below least (λ s. commit_number (commit_at c status s)) n
 
 -- and in the log sectors below the number k
-abbrev pub greatest_of_logs : ℕ → (ℕ → Option Head) → (ℕ → Option Pick) → Chart → ℕ → ℕ
+abbrev pub greatest_of_logs : ℕ → (ℕ → Option KeptHeader) → (ℕ → Option Winner) → Chart → ℕ → ℕ
 greatest_of_logs least heads current c k = greatest_below least (λ j. log_number (seen_at heads current c j)) k
 
 -- the greatest number found on a chart
@@ -154,7 +154,7 @@ abbrev pub is_in : ℕ → Mark → Bool
 is_in p mark = mark.place == p
 
 -- the place is an overflow place with a live log sector
-abbrev pub holds_live : (ℕ → Option Head) → List Mark → ℕ → Bool
+abbrev pub holds_live : (ℕ → Option KeptHeader) → List Mark → ℕ → Bool
 holds_live heads live p = is_overflow_place (heads p) && list_any (is_in p) live
 
 -- how many overflow places of a chart hold live log sectors
@@ -198,5 +198,5 @@ is_image Spent = true
 is_image (NoSpare n) = true
 
 -- Ok exactly where there is no fault, and else this one, unless a call failed
-abbrev pub Tells : {T : Type 0} → Option ImageFault → Result T ImageFault → Type 0
-Tells fault result = MatchResult result (λ done. fault ≡ None) (λ e. is_image e ≡ true → fault ≡ Some e)
+abbrev pub TellsImageFault : {T : Type 0} → Option ImageFault → Result T ImageFault → Type 0
+TellsImageFault fault result = MatchResult result (λ done. fault ≡ None) (λ e. is_image e ≡ true → fault ≡ Some e)

@@ -8,7 +8,7 @@ use Rattle.ipl_meaning.specs.Layout.{Entry, Shape, Layout}
 use Rattle.ipl_meaning.specs.Last.{is_number}
 use Rattle.opening_rules.specs.First.{joined_below}
 use Rattle.opening_rules.specs.Payloads.{pieces_in, numbers_in}
-use Rattle.opening_rules.specs.Chosen.{Pick, current_at, status_at}
+use Rattle.opening_rules.specs.Chosen.{Winner, current_at, status_at}
 use Rattle.opening_rules.specs.Live.{sectors, commit_at, live_in}
 
 -- ---- committed numbers
@@ -19,11 +19,11 @@ numbers_of None = []
 numbers_of (Some sector) = numbers_in sector.payload
 
 -- those of the status place, in order
-abbrev pub committed_numbers : Chart → Option Pick → List ℕ
+abbrev pub committed_numbers : Chart → Option Winner → List ℕ
 committed_numbers c status = joined_below (λ s. numbers_of (commit_at c status s)) sectors
 
 -- a number is one of them
-abbrev pub committed_in : Chart → Option Pick → ℕ → Bool
+abbrev pub committed_in : Chart → Option Winner → ℕ → Bool
 committed_in c status tid = list_any (is_number tid) (committed_numbers c status)
 
 -- ---- the log of a unit
@@ -66,13 +66,13 @@ abbrev pub no_sector : Sector
 no_sector = record { kind = 0; version = 0; unit = 0; generation = 0; serial = 0; payload = [] }
 
 -- the place of a header, where there is one
-abbrev pub place_of : Option Pick → ℕ
+abbrev pub place_of : Option Winner → ℕ
 place_of None = 0
-place_of (Some pick) = pick.place
+place_of (Some winner) = winner.place
 
 -- the sector 0 of its place
-abbrev pub sector_of : Chart → Option Pick → Sector
-sector_of c pick = unwrap_or (c (place_of pick) 0) no_sector
+abbrev pub sector_of : Chart → Option Winner → Sector
+sector_of c winner = unwrap_or (c (place_of winner) 0) no_sector
 
 -- the shape of a unit
 abbrev pub shape_in : Chart → ℕ → ℕ → Shape

@@ -7,7 +7,7 @@ use Rattle.ipl_format.specs.Sector.{Sector}
 use Rattle.ipl_meaning.specs.Chart.{Chart, chart_of}
 use Rattle.ipl_meaning.specs.Formatted.{formatted}
 use Rattle.ipl_meaning.specs.Layout.{Layout, Laid}
-use Rattle.ipl_meaning.specs.Found.{IsFound, IsAbove}
+use Rattle.ipl_meaning.specs.Found.{IsFoundNumber, IsAbove}
 use Rattle.opening_rules.specs.Chosen.{header_at, current_at, status_at}
 use Rattle.opening_rules.specs.Live.{is_at, is_log_spot}
 use Rattle.opening_rules.specs.Faults.{first_fault, greatest_found}
@@ -72,4 +72,4 @@ GreatestIsAbove =
 abbrev pub GreatestIsFound : Type 0
 GreatestIsFound =
     (c : Chart) (places : ℕ) (it : Layout) → IsByteChart places c → Laid places c it
-    → (greatest_found c places ≡ 0) ⊎ IsFound places c it (greatest_found c places)
+    → (greatest_found c places ≡ 0) ⊎ IsFoundNumber places c it (greatest_found c places)

@@ -3,7 +3,7 @@ use Rattle.std.specs.Prelude.{ℕ, ◌≡◌, ◌<◌, ◌/◌, ◌%◌, Some}
 use Rattle.ipl_format.specs.Sector.{Sector}
 use Rattle.ipl_meaning.specs.Chart.{Chart, IsLive}
 use Rattle.ipl_meaning.specs.Layout.{IsCommitSector}
-use Rattle.opening_rules.specs.Chosen.{Pick, current_at}
+use Rattle.opening_rules.specs.Chosen.{Winner, current_at}
 use Rattle.opening_rules.specs.Live.{sectors, commit_at, live_in}
 
 -- a place has 256 sectors
@@ -13,20 +13,20 @@ SectorsAre256 = sectors ≡ 256
 -- what is found is a commit sector of the status place, and of its header's generation
 abbrev pub FoundCommitsCount : Type 0
 FoundCommitsCount =
-    (c : Chart) (status : Pick) (s : ℕ) (sector : Sector) → s < 256 → commit_at c (Some status) s ≡ Some sector
+    (c : Chart) (status : Winner) (s : ℕ) (sector : Sector) → s < 256 → commit_at c (Some status) s ≡ Some sector
     → IsCommitSector c status.place status.head.generation s sector
 
 -- each of these is found
 abbrev pub CommitsAreFound : Type 0
 CommitsAreFound =
-    (c : Chart) (status : Pick) (s : ℕ) (sector : Sector)
+    (c : Chart) (status : Winner) (s : ℕ) (sector : Sector)
     → IsCommitSector c status.place status.head.generation s sector → commit_at c (Some status) s ≡ Some sector
 
 -- the log sector is live for its unit
 pub record IsLiveAt (c : Chart) (places p s : ℕ) (sector : Sector) : Type 0 where
-  pub pick : Pick
-  pub current : current_at c places sector.unit ≡ Some pick
-  pub live : IsLive c places sector.unit pick.place pick.head.generation p s sector
+  pub winner : Winner
+  pub current : current_at c places sector.unit ≡ Some winner
+  pub live : IsLive c places sector.unit winner.place winner.head.generation p s sector
 
 -- what is found is live
 abbrev pub FoundLogsAreLive : Type 0
@@ -37,6 +37,6 @@ FoundLogsAreLive =
 -- what is live is found
 abbrev pub LiveLogsAreFound : Type 0
 LiveLogsAreFound =
-    (c : Chart) (places k u : ℕ) (pick : Pick) (sector : Sector) → current_at c places u ≡ Some pick
-    → IsLive c places u pick.place pick.head.generation (k / 256) (k % 256) sector
+    (c : Chart) (places k u : ℕ) (winner : Winner) (sector : Sector) → current_at c places u ≡ Some winner
+    → IsLive c places u winner.place winner.head.generation (k / 256) (k % 256) sector
     → live_in c places k ≡ Some sector

@@ -10,7 +10,7 @@ use Rattle.ipl_rules.specs.Refusals as tests
 use Rattle.record_locks.specs.Held.{Held, Slots, held_at, written_of, is_among, with_written, with_shared}
 use Rattle.ipl_rules.specs.Slots.{open_from}
 use Rattle.record_locks.specs.Standing.{state_of, slot_of, keeps_from}
-use Rattle.record_locks.specs.Locks.{IsSound, total, written_in, refuses_share, refuses_write, holder_of}
+use Rattle.record_locks.specs.Locks.{AreSoundSlots, total, written_in, refuses_share, refuses_write, holder_of}
 use Rattle.ipl_rules.proofs.SlotLemmas.{entries-opened}
 use Rattle.record_locks.proofs.StandingLemmas.{new_write_at, new_share_at, shares_counted}
 use Rattle.record_locks.proofs.TotalLemmas.{sound_less, sound_more, names_counted, nobody_wrote, pending_at}
@@ -66,7 +66,7 @@ pub record MayWrite (slots : Slots) (s n : ℕ) (h : Held) : Type 0 where
   pub new : total (λ k. k == n) slots ≡ 0
   pub room : total (λ k. k / 960 == n / 960) slots < 48
 
-pub write_room : (slots : Slots) (s n : ℕ) (h : Held) → IsSound slots → refuses_write slots s n ≡ None → held_at slots s ≡ Some h → is_among n h.written ≡ false → MayWrite slots s n h
+pub write_room : (slots : Slots) (s n : ℕ) (h : Held) → AreSoundSlots slots → refuses_write slots s n ≡ None → held_at slots s ≡ Some h → is_among n h.written ≡ false → MayWrite slots s n h
 write_room slots s n h sound none is new_write =
     let state = state_of slots in
     let conflict = tests.conflict (rules.holder_for_write state s n) in
@@ -90,22 +90,22 @@ write_room slots s n h sound none is new_write =
     }
 
 -- what a write needs of the slot
-pub write_may : (slots : Slots) (s n : ℕ) (o : Option Held) → IsSound slots → refuses_write slots s n ≡ None → held_at slots s ≡ o
+pub write_may : (slots : Slots) (s n : ℕ) (o : Option Held) → AreSoundSlots slots → refuses_write slots s n ≡ None → held_at slots s ≡ o
     → IfSome o (λ h. is_among n h.written ≡ false → length h.written < 256)
 write_may slots s n None sound none is = tt
 write_may slots s n (Some h) sound none is = λ new. (write_room slots s n h sound none is new).few
 
-pub sound_written : (slots : Slots) (s n : ℕ) (o : Option Held) → IsSound slots → s < length slots → refuses_write slots s n ≡ None → get_or slots s None ≡ o → IsSound (set slots s (option_map (with_written n) o))
+pub sound_written : (slots : Slots) (s n : ℕ) (o : Option Held) → AreSoundSlots slots → s < length slots → refuses_write slots s n ≡ None → get_or slots s None ≡ o → AreSoundSlots (set slots s (option_map (with_written n) o))
 sound_written slots s n None sound within none is = sound_less slots s None sound within (λ p. omega arith)
 sound_written slots s n (Some h) sound within none is = by_test (is_among n h.written) refl
   where
-    by_test : (b : Bool) → is_among n h.written ≡ b → IsSound (set slots s (Some (cond b h (record h { written = h.written ++ n ∷ [] }))))
+    by_test : (b : Bool) → is_among n h.written ≡ b → AreSoundSlots (set slots s (Some (cond b h (record h { written = h.written ++ n ∷ [] }))))
     by_test true among = sound_less slots s (Some h) sound within (λ p. omega (arith, ap (written_in p) is))
     by_test false new =
         let may = write_room slots s n h sound none is new in
         sound_more slots s n h sound within is may.new may.room
 
-pub sound_shared : (slots : Slots) (s n : ℕ) (o : Option Held) → IsSound slots → s < length slots → get_or slots s None ≡ o → IsSound (set slots s (option_map (with_shared n) o))
+pub sound_shared : (slots : Slots) (s n : ℕ) (o : Option Held) → AreSoundSlots slots → s < length slots → get_or slots s None ≡ o → AreSoundSlots (set slots s (option_map (with_shared n) o))
 sound_shared slots s n None sound within is = sound_less slots s None sound within (λ p. omega arith)
 sound_shared slots s n (Some h) sound within is = sound_less slots s (Some (with_shared n h)) sound within (λ p. omega (arith, ap (written_in p) is, same p (is_among n h.written) (is_among n h.shared)))
   where

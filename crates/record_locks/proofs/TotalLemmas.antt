@@ -12,7 +12,7 @@ use Rattle.ipl_rules.specs.State as rules
 use Rattle.record_locks.specs.Held.{Held, Slots, held_at, written_of, is_among}
 use Rattle.ipl_rules.specs.Slots.{open_from}
 use Rattle.record_locks.specs.Standing.{state_of, slot_of, session_of, write_of}
-use Rattle.record_locks.specs.Locks.{IsSound, OneWriter, FewPending, total, written_in}
+use Rattle.record_locks.specs.Locks.{AreSoundSlots, OneWriter, FewPending, total, written_in}
 use Rattle.record_locks.proofs.NameLemmas.{count_of_reversed, written_once, counted_once, not_counted, among_reversed}
 use Rattle.ipl_rules.proofs.SlotLemmas.{entries-opened}
 use Rattle.record_locks.proofs.StandingLemmas.{writes_at}
@@ -21,7 +21,7 @@ pub total_set : (p : ℕ → Bool) (slots : Slots) (s : ℕ) (o : Option Held) �
 total_set p slots s o within = sum_by-set (written_in p) slots s o None within
 
 -- a slot in which no more names pass keeps all sound
-pub sound_less : (slots : Slots) (s : ℕ) (o : Option Held) → IsSound slots → s < length slots → ((p : ℕ → Bool) → written_in p o ≤ written_in p (get_or slots s None)) → IsSound (set slots s o)
+pub sound_less : (slots : Slots) (s : ℕ) (o : Option Held) → AreSoundSlots slots → s < length slots → ((p : ℕ → Bool) → written_in p o ≤ written_in p (get_or slots s None)) → AreSoundSlots (set slots s o)
 sound_less slots s o sound within less = record {
   all = length-set slots s o ∙ sound.all;
   once = λ n. omega (arith, total_set (λ k. k == n) slots s o within, less (λ k. k == n), sound.once n);
@@ -36,8 +36,8 @@ one_more p names n =
     sum_by-append (λ y. cond (p y) 1 0) names (n ∷ []) ∙ omega (arith, one)
 
 -- a name that nobody wrote, of a unit with room
-pub sound_more : (slots : Slots) (s n : ℕ) (h : Held) → IsSound slots → s < length slots → get_or slots s None ≡ Some h
-    → total (λ k. k == n) slots ≡ 0 → total (λ k. k / 960 == n / 960) slots < 48 → IsSound (set slots s (Some (record h { written = h.written ++ n ∷ [] })))
+pub sound_more : (slots : Slots) (s n : ℕ) (h : Held) → AreSoundSlots slots → s < length slots → get_or slots s None ≡ Some h
+    → total (λ k. k == n) slots ≡ 0 → total (λ k. k / 960 == n / 960) slots < 48 → AreSoundSlots (set slots s (Some (record h { written = h.written ++ n ∷ [] })))
 sound_more slots s n h sound within is new room = record {
   all = length-set slots s later ∙ sound.all;
   once = λ k. by_name k (cases_eq k n);
@@ -103,7 +103,7 @@ count_all p (o ∷ slots) =
     sum_by-append (λ y. cond (p y) 1 0) (reverse names) (all_names slots) ∙ (λ i. count_of_reversed p names i + count_all p slots i)
     ∙ sym (total_cons p o slots)
 
-pub pending_at : (slots : Slots) (unit : ℕ) → IsSound slots → rules.pending (state_of slots) unit ≡ total (λ k. k / 960 == unit) slots
+pub pending_at : (slots : Slots) (unit : ℕ) → AreSoundSlots slots → rules.pending (state_of slots) unit ≡ total (λ k. k / 960 == unit) slots
 unfolding state_of
 pending_at slots unit sound =
     ap (λ (es : List (ℕ × rules.Session)). length (filter (λ n. n / 960 == unit) (rules.written_names (flat_map (λ e. e.1.writes) es)))) (entries-opened (map slot_of slots))
@@ -121,7 +121,7 @@ part_of_total p slots s = elim (cases_lt s (length slots)) [
 ]
 
 -- how many names a session wrote
-pub names_counted : (slots : Slots) (s : ℕ) → IsSound slots → length (rules.written_names (rules.writes_of (state_of slots) s)) ≡ length (written_of slots s)
+pub names_counted : (slots : Slots) (s : ℕ) → AreSoundSlots slots → length (rules.written_names (rules.writes_of (state_of slots) s)) ≡ length (written_of slots s)
 names_counted slots s sound =
     ap (λ (ws : List rules.Write). length (rules.written_names ws)) (writes_at slots s)
     ∙ ap length (written_once (reverse (written_of slots s)) once)
@@ -174,10 +174,10 @@ nobody_wrote slots s n none new =
 
 -- ---- what callers may know
 
-pub few_pending : (slots : Slots) → IsSound slots → FewPending slots
+pub few_pending : (slots : Slots) → AreSoundSlots slots → FewPending slots
 few_pending slots sound unit = subst (λ (k : ℕ). k ≤ 48) (sym (pending_at slots unit sound)) (sound.few unit)
 
-pub one_writer : (slots : Slots) → IsSound slots → OneWriter slots
+pub one_writer : (slots : Slots) → AreSoundSlots slots → OneWriter slots
 one_writer slots sound s t n by_s by_t = by_order (cases_eq s t)
   where
     counted_s : 1 ≤ written_in (λ k. k == n) (held_at slots s)

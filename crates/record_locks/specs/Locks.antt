@@ -49,7 +49,7 @@ abbrev pub total : (ℕ → Bool) → Slots → ℕ
 total test slots = sum_by (written_in test) slots
 
 -- there are 32 slots, no name is written twice, and at most 48 names of each unit are written
-pub record IsSound (slots : Slots) : Type 0 where
+pub record AreSoundSlots (slots : Slots) : Type 0 where
   pub all : length slots ≡ 32
   pub once : (n : ℕ) → total (λ k. k == n) slots ≤ 1
   pub few : (unit : ℕ) → total (λ k. k / 960 == unit) slots ≤ 48

@@ -4,11 +4,11 @@ ghost use Rattle.std.specs.Option.{option_map_or};
 ghost use Rattle.record_locks.specs.Standing.{slot_of, session_of, keeps_from, least_holder};
 ghost use Rattle.record_locks.specs.Locks.{written_in, total};
 
-use crate::session::Session;
+use crate::session::OpenSession;
 use ipl_base::Name;
 
 /// How many names of a unit the session in a slot wrote, if there is one.
-fn count_in_slot(slot: &Option<Session>, unit: u32) -> u32
+fn count_in_slot(slot: &Option<OpenSession>, unit: u32) -> u32
     ensures count { result ≡ written_in (λ n. n / 960 == unit) slot.now }
     ensures fits { result ≤ 256 }
 {
@@ -19,7 +19,7 @@ fn count_in_slot(slot: &Option<Session>, unit: u32) -> u32
 }
 
 /// How many names of a unit sessions wrote.
-pub fn count_pending(slots: &[Option<Session>], unit: u32) -> u32
+pub fn count_pending(slots: &[Option<OpenSession>], unit: u32) -> u32
     requires { length slots.now ≤ 32 }
     ensures { result ≡ total (λ n. n / 960 == unit) slots.now }
 {
@@ -32,14 +32,14 @@ pub fn count_pending(slots: &[Option<Session>], unit: u32) -> u32
 
 /// Whether a session keeps others from writing a name, or from sharing it.
 #[tactic(auto, using(crate::proofs::StandingLemmas::keeps_is))]
-fn keeps_from(session: &Session, name: Name, for_write: bool) -> bool
+fn keeps_from(session: &OpenSession, name: Name, for_write: bool) -> bool
     ensures { result ≡ keeps_from for_write name.0 (session_of session.now) }
 {
     session.has_written(name) || (for_write && session.has_shared(name))
 }
 
 /// Whether the session in a slot is another one than `s`, and keeps it from a name.
-fn is_holder(other: u32, slot: &Option<Session>, s: u32, name: Name, for_write: bool) -> bool
+fn is_holder(other: u32, slot: &Option<OpenSession>, s: u32, name: Name, for_write: bool) -> bool
     ensures { result ≡ (not (other == s)
         && option_map_or (keeps_from for_write name.0) (slot_of slot.now) false) }
 {
@@ -50,7 +50,12 @@ fn is_holder(other: u32, slot: &Option<Session>, s: u32, name: Name, for_write: 
 }
 
 /// The least session other than `s` that keeps it from a name.
-pub fn find_holder(slots: &[Option<Session>], s: u32, name: Name, for_write: bool) -> Option<u32>
+pub fn find_holder(
+    slots: &[Option<OpenSession>],
+    s: u32,
+    name: Name,
+    for_write: bool,
+) -> Option<u32>
     requires { length slots.now < 2 ^ 32 }
     ensures { result ≡ least_holder (map slot_of slots.now) s name.0 for_write }
 {
@@ -63,7 +68,7 @@ pub fn find_holder(slots: &[Option<Session>], s: u32, name: Name, for_write: boo
 }
 
 /// Fills an empty list with 32 slots without a session.
-pub fn fill(slots: &mut Vec<Option<Session>>)
+pub fn fill(slots: &mut Vec<Option<OpenSession>>)
     requires empty { slots.old.items ≡ [] }
     requires room { 32 ≤ vec_capacity slots.old }
     ensures { slots.new.items ≡ replicate 32 None }

@@ -5,19 +5,19 @@ ghost use Rattle.std.specs.Option.{option_map};
 ghost use Rattle.record_locks.specs.Held.{is_among, new_held, with_written, with_shared};
 
 use arrayvec::ArrayVec;
-use ipl_base::Name;
+use ipl_base::{Name, UNIT_NAMES};
 use std::marker::Model;
 
 /// An open session: its transaction number, the names that it wrote and those that it shares, at
 /// most 256 of each.
 #[derive(Drop)]
-pub struct Session {
+pub struct OpenSession {
     number: u64,
     written: ArrayVec<Name, 256>,
     shared: ArrayVec<Name, 256>,
 }
 
-impl Model for Session {
+impl Model for OpenSession {
     ghost use Rattle.std.specs.Prelude.{map, length, ◌≤◌};
     ghost use Rattle.record_locks.specs.Held.{Held};
 
@@ -32,12 +32,12 @@ impl Model for Session {
     ghost invariant = { λ s. (length s.written.items ≤ 256) × (length s.shared.items ≤ 256) };
 }
 
-impl Session {
+impl OpenSession {
     /// A session that has done nothing yet.
-    pub fn new(number: u64) -> Session
+    pub fn new(number: u64) -> OpenSession
         ensures { result ≡ new_held number }
     {
-        Session {
+        OpenSession {
             number,
             written: ArrayVec::new(),
             shared: ArrayVec::new(),
@@ -107,7 +107,7 @@ impl Session {
 }
 
 /// The session in a slot, if there is one, shares a name, unless it wrote or shares it already.
-pub fn share_in(slot: &mut Option<Session>, name: Name)
+pub fn share_in(slot: &mut Option<OpenSession>, name: Name)
     requires { IfSome slot.old (λ h. is_among name.0 h.written ≡ false
         → is_among name.0 h.shared ≡ false → length h.shared < 256) }
     ensures { slot.new ≡ option_map (with_shared name.0) slot.old }
@@ -121,7 +121,7 @@ pub fn share_in(slot: &mut Option<Session>, name: Name)
 }
 
 /// The session in a slot, if there is one, writes a name, unless it wrote it already.
-pub fn write_in(slot: &mut Option<Session>, name: Name)
+pub fn write_in(slot: &mut Option<OpenSession>, name: Name)
     requires { IfSome slot.old (λ h. is_among name.0 h.written ≡ false
         → length h.written < 256) }
     ensures { slot.new ≡ option_map (with_written name.0) slot.old }
@@ -153,7 +153,7 @@ fn count_listed(names: &[Name], unit: u32) -> u32
 {
     let mut count = 0;
     for listed in names {
-        if listed.0 / 960 == unit {
+        if listed.0 / UNIT_NAMES == unit {
             count += 1;
         }
     }

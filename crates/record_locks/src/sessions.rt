@@ -9,7 +9,7 @@ ghost use Rattle.record_locks.specs.Locks.{refuses_begin, refuses_share, refuses
 mod refusals;
 
 use crate::scan::{count_pending, fill, find_holder};
-use crate::session::{Session, share_in, write_in};
+use crate::session::{OpenSession, share_in, write_in};
 use ipl_base::{Name, OutOfMemory, Refusal};
 use std::alloc::Global;
 use std::marker::Model;
@@ -19,19 +19,19 @@ use std::marker::Model;
 /// pending.
 #[derive(Drop)]
 pub struct Sessions {
-    slots: Vec<Option<Session>>,
+    slots: Vec<Option<OpenSession>>,
 }
 
 impl Model for Sessions {
     ghost use Rattle.std.specs.Prelude.{List, Option};
     ghost use Rattle.record_locks.specs.Held.{Held};
-    ghost use Rattle.record_locks.specs.Locks.{IsSound};
+    ghost use Rattle.record_locks.specs.Locks.{AreSoundSlots};
 
     ghost Value = { List (Option Held) };
 
     ghost view = { λ s. s.slots.items };
 
-    ghost invariant = { λ s. IsSound s.slots.items };
+    ghost invariant = { λ s. AreSoundSlots s.slots.items };
 }
 
 impl Sessions {
@@ -54,7 +54,7 @@ impl Sessions {
         if self.is_open(s) {
             return Err(Refusal::AlreadyOpen);
         }
-        self.slots[s as usize] = Some(Session::new(number));
+        self.slots[s as usize] = Some(OpenSession::new(number));
         Ok(())
     }
 

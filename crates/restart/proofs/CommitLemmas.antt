@@ -8,7 +8,7 @@ use Rattle.chip_trait.specs.Story.{Contents}
 use Rattle.ipl_meaning.specs.Chart.{Chart}
 use Rattle.opening_rules.specs.First.{greatest_of}
 use Rattle.opening_rules.specs.Payloads.{numbers_within}
-use Rattle.opening_rules.specs.Chosen.{Pick}
+use Rattle.opening_rules.specs.Chosen.{Winner}
 use Rattle.opening_rules.specs.Live.{kept, is_commit_of, commit_at}
 use Rattle.opening_rules.specs.Faults.{commit_test, commit_fault, commit_number, greatest_of_commits}
 use Rattle.opening_rules.specs.Laws.{IsWhole}
@@ -26,19 +26,19 @@ pub greatest_more : (least n greatest next : ℕ) (bytes : List ℕ) → greates
     → max greatest next ≡ greatest_of least (numbers_within (n + 1) bytes)
 greatest_more least n greatest next bytes so_far is = rw (add-one n, numbers_push n bytes, greatest_of-push, so_far, is) refl
 
-module _ (c : Chart) (pick : Pick) (p s : ℕ) (o : Option Sector) (some : 1 ≤ s) (at : p ≡ pick.place) (is : o ≡ c p s) where
-  commit_here : commit_at c (Some pick) s ≡ kept (is_commit_of pick.head.generation) o
+module _ (c : Chart) (winner : Winner) (p s : ℕ) (o : Option Sector) (some : 1 ≤ s) (at : p ≡ winner.place) (is : o ≡ c p s) where
+  commit_here : commit_at c (Some winner) s ≡ kept (is_commit_of winner.head.generation) o
   commit_here = rw (le-leb 1 s some, is, at) refl
 
-  pub commit_fault_here : commit_fault c (Some pick) s ≡ commit_test pick.place s (kept (is_commit_of pick.head.generation) o)
-  commit_fault_here = ap (commit_test pick.place s) commit_here
+  pub commit_fault_here : commit_fault c (Some winner) s ≡ commit_test winner.place s (kept (is_commit_of winner.head.generation) o)
+  commit_fault_here = ap (commit_test winner.place s) commit_here
 
-  pub commit_number_more : (least greatest next : ℕ) → greatest ≡ greatest_of_commits least c (Some pick) s → next ≡ max greatest (commit_number (kept (is_commit_of pick.head.generation) o))
-      → next ≡ greatest_of_commits least c (Some pick) (s + 1)
+  pub commit_number_more : (least greatest next : ℕ) → greatest ≡ greatest_of_commits least c (Some winner) s → next ≡ max greatest (commit_number (kept (is_commit_of winner.head.generation) o))
+      → next ≡ greatest_of_commits least c (Some winner) (s + 1)
   commit_number_more least greatest next so_far number =
-      number ∙ ap (λ (n : ℕ). max n (commit_number (kept (is_commit_of pick.head.generation) o))) so_far
-      ∙ ap (λ (x : Option Sector). max (greatest_of_commits least c (Some pick) s) (commit_number x)) (sym commit_here)
-      ∙ sym (greatest_step least (λ j. commit_number (commit_at c (Some pick) j)) s)
+      number ∙ ap (λ (n : ℕ). max n (commit_number (kept (is_commit_of winner.head.generation) o))) so_far
+      ∙ ap (λ (x : Option Sector). max (greatest_of_commits least c (Some winner) s) (commit_number x)) (sym commit_here)
+      ∙ sym (greatest_step least (λ j. commit_number (commit_at c (Some winner) j)) s)
 
 -- the sectors that were read are whole
 pub whole_more : (x : Contents) (p q n : ℕ) → q ≡ p → ((s : ℕ) → 1 ≤ s → s < n → IsWhole (x p s)) → IsWhole (x q n) → (s : ℕ) → 1 ≤ s → s < n + 1 → IsWhole (x p s)

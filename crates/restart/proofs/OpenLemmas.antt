@@ -10,9 +10,9 @@ use Rattle.ipl_meaning.specs.Chart.{Chart, chart_of}
 use Rattle.ipl_meaning.specs.Layout.{Laid}
 use Rattle.ipl_meaning.specs.Tables.{Places, IsFree}
 use Rattle.opening_rules.specs.First.{at, first_below, first_of, count_below}
-use Rattle.opening_rules.specs.Chosen.{Head, Pick, header_at, current_in, current_at, status_in, status_at}
+use Rattle.opening_rules.specs.Chosen.{KeptHeader, Winner, header_at, current_in, current_at, status_in, status_at}
 use Rattle.opening_rules.specs.Live.{sectors, is_at, is_log_spot, is_overflow_place, Mark, marks, marks_in}
-use Rattle.opening_rules.specs.Faults.{Tells, size_fault, not_formatted, other_geometry, missing, bad_header, header_tests, header_fault, first_fault, greatest_of_heads, greatest_of_commits, greatest_of_logs, greatest_found, spent, no_spare, holds_live}
+use Rattle.opening_rules.specs.Faults.{TellsImageFault, size_fault, not_formatted, other_geometry, missing, bad_header, header_tests, header_fault, first_fault, greatest_of_heads, greatest_of_commits, greatest_of_logs, greatest_found, spent, no_spare, holds_live}
 use Rattle.opening_rules.specs.LaidOut.{place_of, layout_in}
 use Rattle.opening_rules.specs.Laws.{MayBeRead, IsWhole}
 use Rattle.opening_rules.proofs.FirstLemmas.{none_before}
@@ -29,42 +29,42 @@ use Rattle.restart.specs.Opened.{IsUnused, IsOpened, HasFree}
 use Rattle.restart.proofs.LookLemmas.{missed_not_image}
 
 -- a read that failed tells nothing
-pub missed_tells : {T : Type 0} {old new : Told} (r : Result T ImageFault) (fault : Option ImageFault) (e : ImageFault) → IsErrAnd r (λ y. y ≡ e) → IsMissed e old new → Tells fault r
+pub missed_tells : {T : Type 0} {old new : Told} (r : Result T ImageFault) (fault : Option ImageFault) (e : ImageFault) → IsErrAnd r (λ y. y ≡ e) → IsMissed e old new → TellsImageFault fault r
 missed_tells r fault e exit missed = tells_exit r fault e exit (λ image. let no = sym image ∙ missed_not_image missed in cc)
 
 -- ---- headers
 
-pub shows_from : (c : Chart) (places : ℕ) (heads : List (Option Head)) (current : List (Option Pick)) (status : Option Pick) (pick : Pick)
-    → at heads ≡ header_at c places → length heads ≡ places → at current ≡ current_in (at heads) (length heads) → status ≡ status_in (at heads) (length heads) → status ≡ Some pick
-    → ShowsHeaders c places heads current pick
-shows_from c places heads current status pick shown size currents its is = record {
+pub shows_from : (c : Chart) (places : ℕ) (heads : List (Option KeptHeader)) (current : List (Option Winner)) (status : Option Winner) (winner : Winner)
+    → at heads ≡ header_at c places → length heads ≡ places → at current ≡ current_in (at heads) (length heads) → status ≡ status_in (at heads) (length heads) → status ≡ Some winner
+    → ShowsHeaders c places heads current winner
+shows_from c places heads current status winner shown size currents its is = record {
   heads_are = shown;
-  current_are = currents ∙ ap (current_in (at heads)) size ∙ ap (λ (h : ℕ → Option Head). current_in h places) shown;
-  status_is = sym is ∙ its ∙ ap (status_in (at heads)) size ∙ ap (λ (h : ℕ → Option Head). status_in h places) shown;
+  current_are = currents ∙ ap (current_in (at heads)) size ∙ ap (λ (h : ℕ → Option KeptHeader). current_in h places) shown;
+  status_is = sym is ∙ its ∙ ap (status_in (at heads)) size ∙ ap (λ (h : ℕ → Option KeptHeader). status_in h places) shown;
 }
 
-pub headers_tell : {T : Type 0} (c : Chart) (places units : ℕ) (heads : List (Option Head)) (current : List (Option Pick)) (status : Option Pick) (r : Result T ImageFault)
+pub headers_tell : {T : Type 0} (c : Chart) (places units : ℕ) (heads : List (Option KeptHeader)) (current : List (Option Winner)) (status : Option Winner) (r : Result T ImageFault)
     → at heads ≡ header_at c places → length heads ≡ places → at current ≡ current_in (at heads) (length heads) → status ≡ status_in (at heads) (length heads) → units ≡ places - 4
-    → Tells (first_of (header_tests units status (at current))) r → Tells (header_fault c places) r
+    → TellsImageFault (first_of (header_tests units status (at current))) r → TellsImageFault (header_fault c places) r
 headers_tell c places units heads current status r shown size currents its four tells =
-    let current_is : at current ≡ current_at c places = currents ∙ ap (current_in (at heads)) size ∙ ap (λ (h : ℕ → Option Head). current_in h places) shown in
-    let status_is : status ≡ status_at c places = its ∙ ap (status_in (at heads)) size ∙ ap (λ (h : ℕ → Option Head). status_in h places) shown in
-    subst (λ (n : ℕ). Tells (first_of (header_tests n (status_at c places) (current_at c places))) r) four
-    (subst (λ (cur : ℕ → Option Pick). Tells (first_of (header_tests units (status_at c places) cur)) r) current_is
-    (subst (λ (st : Option Pick). Tells (first_of (header_tests units st (at current))) r) status_is tells))
+    let current_is : at current ≡ current_at c places = currents ∙ ap (current_in (at heads)) size ∙ ap (λ (h : ℕ → Option KeptHeader). current_in h places) shown in
+    let status_is : status ≡ status_at c places = its ∙ ap (status_in (at heads)) size ∙ ap (λ (h : ℕ → Option KeptHeader). status_in h places) shown in
+    subst (λ (n : ℕ). TellsImageFault (first_of (header_tests n (status_at c places) (current_at c places))) r) four
+    (subst (λ (cur : ℕ → Option Winner). TellsImageFault (first_of (header_tests units (status_at c places) cur)) r) current_is
+    (subst (λ (st : Option Winner). TellsImageFault (first_of (header_tests units st (at current))) r) status_is tells))
 
-pub status_low : (heads : ℕ → Option Head) (n : ℕ) (status : Option Pick) (pick : Pick) → status ≡ status_in heads n → status ≡ Some pick → pick.place < n
-status_low heads n status pick is some = (chosen_is_best _ heads n pick (sym is ∙ some)).within
+pub status_low : (heads : ℕ → Option KeptHeader) (n : ℕ) (status : Option Winner) (winner : Winner) → status ≡ status_in heads n → status ≡ Some winner → winner.place < n
+status_low heads n status winner is some = (chosen_is_best _ heads n winner (sym is ∙ some)).within
 
-pub current_low : (heads : ℕ → Option Head) (n u : ℕ) (pick : Pick) → current_in heads n u ≡ Some pick → pick.place < n
-current_low heads n u pick is = elim (cases_Bool (nat_lt u (n - 4))) [
-  | inl low ↦ (chosen_is_best _ heads n pick (rw low at is)).within
-  | inr past ↦ let no = rw past at is in absurd (none_some pick no)
+pub current_low : (heads : ℕ → Option KeptHeader) (n u : ℕ) (winner : Winner) → current_in heads n u ≡ Some winner → winner.place < n
+current_low heads n u winner is = elim (cases_Bool (nat_lt u (n - 4))) [
+  | inl low ↦ (chosen_is_best _ heads n winner (rw low at is)).within
+  | inr past ↦ let no = rw past at is in absurd (none_some winner no)
 ] where
-  none_some : (pick : Pick) → None ≡ Some pick → ⊥
-  none_some pick e = cc
+  none_some : (winner : Winner) → None ≡ Some winner → ⊥
+  none_some winner e = cc
 
-pub units_there : (n : ℕ) (status : Option Pick) (current : ℕ → Option Pick) → first_of (header_tests n status current) ≡ None → (u : ℕ) → u < n → current u ≡ None → ⊥
+pub units_there : (n : ℕ) (status : Option Winner) (current : ℕ → Option Winner) → first_of (header_tests n status current) ≡ None → (u : ℕ) → u < n → current u ≡ None → ⊥
 units_there n status current none u low missing_u =
     let (there, own, others, units, payloads, status_payload) =
     six_parts (not_formatted status) (other_geometry status) (first_below (λ v. other_geometry (current v)) n) (first_below (λ v. missing v (current v)) n)
@@ -78,19 +78,19 @@ count_alike : (f g : ℕ → Bool) (n : ℕ) → ((k : ℕ) → k < n → f k �
 count_alike f g zero same = refl
 count_alike f g (suc n) same = rw (count_alike f g n (λ k low. same k (omega arith)), same n (omega arith)) refl
 
-pub held_is : (heads : List (Option Head)) (notes : Notes) (all : List Mark) → IsNoted notes all → (p : ℕ) → is_held heads notes p ≡ holds_live (at heads) all p
+pub held_is : (heads : List (Option KeptHeader)) (notes : Notes) (all : List Mark) → IsNoted notes all → (p : ℕ) → is_held heads notes p ≡ holds_live (at heads) all p
 held_is heads notes all it p = ap (λ (b : Bool). is_overflow_place (at heads p) && b) (it.holds p)
 
-pub end_tells : {T : Type 0} (heads : List (Option Head)) (notes : Notes) (all : List Mark) (greatest number places : ℕ) (r : Result T ImageFault) → greatest ≡ number → length heads ≡ places → IsNoted notes all
-    → Tells (option_or (spent greatest) (option_or (no_spare (count_below (is_held heads notes) (length heads))) None)) r
-    → Tells (option_or (spent number) (option_or (no_spare (count_below (holds_live (at heads) all) places)) None)) r
+pub end_tells : {T : Type 0} (heads : List (Option KeptHeader)) (notes : Notes) (all : List Mark) (greatest number places : ℕ) (r : Result T ImageFault) → greatest ≡ number → length heads ≡ places → IsNoted notes all
+    → TellsImageFault (option_or (spent greatest) (option_or (no_spare (count_below (is_held heads notes) (length heads))) None)) r
+    → TellsImageFault (option_or (spent number) (option_or (no_spare (count_below (holds_live (at heads) all) places)) None)) r
 end_tells heads notes all greatest number places r is size it tells =
     let count : count_below (is_held heads notes) (length heads) ≡ count_below (holds_live (at heads) all) places =
     count_alike (is_held heads notes) (holds_live (at heads) all) (length heads) (λ p low. held_is heads notes all it p) ∙ ap (count_below (holds_live (at heads) all)) size in
-    subst (λ (n : ℕ). Tells (option_or (spent number) (option_or (no_spare n) None)) r) count
-    (subst (λ (n : ℕ). Tells (option_or (spent n) (option_or (no_spare (count_below (is_held heads notes) (length heads))) None)) r) is tells)
+    subst (λ (n : ℕ). TellsImageFault (option_or (spent number) (option_or (no_spare n) None)) r) count
+    (subst (λ (n : ℕ). TellsImageFault (option_or (spent n) (option_or (no_spare (count_below (is_held heads notes) (length heads))) None)) r) is tells)
 
-pub number_is : (c : Chart) (heads : ℕ → Option Head) (current : ℕ → Option Pick) (status : Option Pick) (size places first least greatest : ℕ) → size ≡ places → first ≡ greatest_of_heads heads size
+pub number_is : (c : Chart) (heads : ℕ → Option KeptHeader) (current : ℕ → Option Winner) (status : Option Winner) (size places first least greatest : ℕ) → size ≡ places → first ≡ greatest_of_heads heads size
     → least ≡ greatest_of_commits first c status sectors → greatest ≡ greatest_of_logs least heads current c (places * 256) → greatest ≡ number_by c heads current status places
 number_is c heads current status size places first least greatest same one two three =
     three ∙ ap (λ (n : ℕ). greatest_of_logs n heads current c (places * 256))
@@ -108,34 +108,34 @@ or_parts false b is = (refl, is)
 or_both : (a b : Bool) → a ≡ false → b ≡ false → (a || b) ≡ false
 or_both a b one two = rw (one, two) refl
 
-home_from : (current : ℕ → Option Pick) (n p u : ℕ) → is_home current n p ≡ false → u < n → is_at (current u) p ≡ false
+home_from : (current : ℕ → Option Winner) (n p u : ℕ) → is_home current n p ≡ false → u < n → is_at (current u) p ≡ false
 home_from current zero p u is low = absurd (omega arith)
 home_from current (suc n) p u is low = elim (cases_eq u n) [
   | inl same ↦ ap (λ (v : ℕ). is_at (current v) p) same ∙ (or_parts _ _ is).1
   | inr other ↦ home_from current n p u (or_parts _ _ is).0 (omega arith)
 ]
 
-home_none : (current : ℕ → Option Pick) (n p : ℕ) → ((u : ℕ) → u < n → is_at (current u) p ≡ false) → is_home current n p ≡ false
+home_none : (current : ℕ → Option Winner) (n p : ℕ) → ((u : ℕ) → u < n → is_at (current u) p ≡ false) → is_home current n p ≡ false
 home_none current zero p each = refl
 home_none current (suc n) p each = or_both _ _ (home_none current n p (λ u low. each u (omega arith))) (each n (omega arith))
 
-at_none : (o : Option Pick) (p : ℕ) → ((pick : Pick) → o ≡ Some pick → pick.place ≢ p) → is_at o p ≡ false
+at_none : (o : Option Winner) (p : ℕ) → ((winner : Winner) → o ≡ Some winner → winner.place ≢ p) → is_at o p ≡ false
 at_none None p apart = refl
-at_none (Some pick) p apart = ne_eqb pick.place p (apart pick refl)
+at_none (Some winner) p apart = ne_eqb winner.place p (apart winner refl)
 
-not_at : (o : Option Pick) (pick : Pick) (p : ℕ) → is_at o p ≡ false → o ≡ Some pick → pick.place ≡ p → ⊥
-not_at o pick p none is same = let here : is_at (Some pick) p ≡ true = eq-eqb pick.place p same in let no = sym here ∙ ap (λ (q : Option Pick). is_at q p) (sym is) ∙ none in cc
+not_at : (o : Option Winner) (winner : Winner) (p : ℕ) → is_at o p ≡ false → o ≡ Some winner → winner.place ≡ p → ⊥
+not_at o winner p none is same = let here : is_at (Some winner) p ≡ true = eq-eqb winner.place p same in let no = sym here ∙ ap (λ (q : Option Winner). is_at q p) (sym is) ∙ none in cc
 
-module _ (c : Chart) (places : ℕ) (heads : List (Option Head)) (current : List (Option Pick)) (status : Pick) (shows : ShowsHeaders c places heads current status) where
-  pub to_chart : (P : (ℕ → Option Head) → (ℕ → Option Pick) → Option Pick → Type 0) → P (at heads) (at current) (Some status) → P (header_at c places) (current_at c places) (status_at c places)
+module _ (c : Chart) (places : ℕ) (heads : List (Option KeptHeader)) (current : List (Option Winner)) (status : Winner) (shows : ShowsHeaders c places heads current status) where
+  pub to_chart : (P : (ℕ → Option KeptHeader) → (ℕ → Option Winner) → Option Winner → Type 0) → P (at heads) (at current) (Some status) → P (header_at c places) (current_at c places) (status_at c places)
   to_chart P it =
-      subst (λ (h : ℕ → Option Head). P h (current_at c places) (status_at c places)) shows.heads_are
-      (subst (λ (cur : ℕ → Option Pick). P (at heads) cur (status_at c places)) shows.current_are
-      (subst (λ (st : Option Pick). P (at heads) (at current) st) shows.status_is it))
+      subst (λ (h : ℕ → Option KeptHeader). P h (current_at c places) (status_at c places)) shows.heads_are
+      (subst (λ (cur : ℕ → Option Winner). P (at heads) cur (status_at c places)) shows.current_are
+      (subst (λ (st : Option Winner). P (at heads) (at current) st) shows.status_is it))
 
-  pub rest_tells : {T : Type 0} (r : Result T ImageFault) → Tells (fault_by c (at heads) (at current) (Some status) places) r
-      → Tells (fault_by c (header_at c places) (current_at c places) (status_at c places) places) r
-  rest_tells r tells = to_chart (λ h cur st. Tells (fault_by c h cur st places) r) tells
+  pub rest_tells : {T : Type 0} (r : Result T ImageFault) → TellsImageFault (fault_by c (at heads) (at current) (Some status) places) r
+      → TellsImageFault (fault_by c (header_at c places) (current_at c places) (status_at c places) places) r
+  rest_tells r tells = to_chart (λ h cur st. TellsImageFault (fault_by c h cur st places) r) tells
 
   pub number_found : (n : ℕ) → n ≡ number_by c (at heads) (at current) (Some status) places → n ≡ greatest_found c places
   number_found n is = to_chart (λ h cur st. n ≡ number_by c h cur st places) is
@@ -147,17 +147,17 @@ module _ (c : Chart) (places : ℕ) (heads : List (Option Head)) (current : List
   module _ (notes : Notes) (noted : IsNoted notes (marks (at heads) (at current) c (places * 256))) (d : Places) (units most : ℕ) (four : units + 4 ≡ places) (used : AreUsed (is_used (at current) units status.place (is_held heads notes)) places most d.in_use) (p : ℕ) (low : p < places) where
     held_found : is_held heads notes p ≡ holds_live (header_at c places) (marks_in c places (places * 256)) p
     held_found = held_is heads notes (marks_in c places (places * 256)) (noted_found notes noted) p
-        ∙ ap (λ (h : ℕ → Option Head). holds_live h (marks_in c places (places * 256)) p) shows.heads_are
+        ∙ ap (λ (h : ℕ → Option KeptHeader). holds_live h (marks_in c places (places * 256)) p) shows.heads_are
 
     unused_from : IsFree d p → IsUnused places c p
     unused_from free =
         let none : is_used (at current) units status.place (is_held heads notes) p ≡ false = sym (used.used_are p low) ∙ free in
         let parts = or_parts _ _ none in
         let first = or_parts _ _ parts.0 in record {
-          not_home = λ u pick small is same.
+          not_home = λ u winner small is same.
               let within : u < units = omega (arith, small, four) in
-              not_at (at current u) pick p (home_from (at current) units p u first.0 within) (ap (λ (cur : ℕ → Option Pick). cur u) shows.current_are ∙ is) same;
-          not_status = λ pick is same. not_at (Some status) pick p first.1 (shows.status_is ∙ is) same;
+              not_at (at current u) winner p (home_from (at current) units p u first.0 within) (ap (λ (cur : ℕ → Option Winner). cur u) shows.current_are ∙ is) same;
+          not_status = λ winner is same. not_at (Some status) winner p first.1 (shows.status_is ∙ is) same;
           not_held = sym held_found ∙ parts.1;
         }
 
@@ -165,8 +165,8 @@ module _ (c : Chart) (places : ℕ) (heads : List (Option Head)) (current : List
     unused_to it =
         used.used_are p low ∙ or_both _ _
         (or_both _ _
-        (home_none (at current) units p (λ u within. at_none (at current u) p (λ pick is. it.not_home u pick (omega (arith, within, four)) (ap (λ (cur : ℕ → Option Pick). cur u) (sym shows.current_are) ∙ is))))
-        (at_none (Some status) p (λ pick is. it.not_status pick (sym shows.status_is ∙ is))))
+        (home_none (at current) units p (λ u within. at_none (at current u) p (λ winner is. it.not_home u winner (omega (arith, within, four)) (ap (λ (cur : ℕ → Option Winner). cur u) (sym shows.current_are) ∙ is))))
+        (at_none (Some status) p (λ winner is. it.not_status winner (sym shows.status_is ∙ is))))
         (held_found ∙ it.not_held)
 
   pub opened : (notes : Notes) → IsNoted notes (marks (at heads) (at current) c (places * 256)) → (d : Places) (units most counter greatest : ℕ) → units + 4 ≡ places
@@ -176,31 +176,31 @@ module _ (c : Chart) (places : ℕ) (heads : List (Option Head)) (current : List
     units = omega (arith, adopted.units_are, four);
     logs = omega (arith, adopted.logs_are, four);
     all = used.all;
-    current = λ u low. adopted.current_is u (omega (arith, low, four)) ∙ ap (λ (cur : ℕ → Option Pick). place_of (cur u)) shows.current_are;
+    current = λ u low. adopted.current_is u (omega (arith, low, four)) ∙ ap (λ (cur : ℕ → Option Winner). place_of (cur u)) shows.current_are;
     written = λ u low. adopted.written_is u (omega (arith, low, four));
     free = λ p low. (unused_from notes noted d units most four used p low, unused_to notes noted d units most four used p low);
     number = next ∙ ap (λ (n : ℕ). n + 1) (number_found greatest number);
   }
 
 -- whether told or not, a place is free, and it is not that of the first unit
-pub has_free : (heads : List (Option Head)) (current : List (Option Pick)) (status : Pick) (notes : Notes) (d : Places) (units places count : ℕ) → units + 4 ≡ places → 1 ≤ units → count ≤ 2
-    → ((u : ℕ) (pick : Pick) → at current u ≡ Some pick → pick.place < places) → (at current 0 ≡ None → ⊥)
+pub has_free : (heads : List (Option KeptHeader)) (current : List (Option Winner)) (status : Winner) (notes : Notes) (d : Places) (units places count : ℕ) → units + 4 ≡ places → 1 ≤ units → count ≤ 2
+    → ((u : ℕ) (winner : Winner) → at current u ≡ Some winner → winner.place < places) → (at current 0 ≡ None → ⊥)
     → AreUsed (is_used (at current) units status.place (is_held heads notes)) places (units + 1 + count) d.in_use → AreAdopted (at current) units units d → HasFree d
 has_free heads current status notes d units places count four some two within there used adopted = record {
   some = omega (arith, used.most_are, four, two);
   first = λ free. first_used (at current 0) refl free;
 } where
-  first_used : (o : Option Pick) → at current 0 ≡ o → IsFree d (get_or d.current 0 0) → ⊥
+  first_used : (o : Option Winner) → at current 0 ≡ o → IsFree d (get_or d.current 0 0) → ⊥
   first_used None is free = there is
-  first_used (Some pick) is free =
-      let place : get_or d.current 0 0 ≡ pick.place = adopted.current_is 0 (omega arith) ∙ ap place_of is in
-      let low = within 0 pick is in
-      let here : IsFree d pick.place = subst (λ (p : ℕ). IsFree d p) place free in
-      let none : is_used (at current) units status.place (is_held heads notes) pick.place ≡ false = sym (used.used_are pick.place low) ∙ here in
-      not_at (at current 0) pick pick.place (home_from (at current) units pick.place 0 (or_parts _ _ (or_parts _ _ none).0).0 (omega arith)) is refl
+  first_used (Some winner) is free =
+      let place : get_or d.current 0 0 ≡ winner.place = adopted.current_is 0 (omega arith) ∙ ap place_of is in
+      let low = within 0 winner is in
+      let here : IsFree d winner.place = subst (λ (p : ℕ). IsFree d p) place free in
+      let none : is_used (at current) units status.place (is_held heads notes) winner.place ≡ false = sym (used.used_are winner.place low) ∙ here in
+      not_at (at current 0) winner winner.place (home_from (at current) units winner.place 0 (or_parts _ _ (or_parts _ _ none).0).0 (omega arith)) is refl
 
 -- where there is no fault, the contents are laid out
-pub laid : (x : Contents) (places : ℕ) (heads : List (Option Head)) (current : List (Option Pick)) (status : Pick) → ShowsHeaders (chart_of x) places heads current status
+pub laid : (x : Contents) (places : ℕ) (heads : List (Option KeptHeader)) (current : List (Option Winner)) (status : Winner) → ShowsHeaders (chart_of x) places heads current status
     → ((p : ℕ) → p < places → IsWhole (x p 0))
     → ((p s : ℕ) → p < places → 1 ≤ s → s < 256 → (p ≡ status.place) ⊎ (is_log_spot (at heads) (at current) p s ≡ true) → IsWhole (x p s))
     → first_fault (chart_of x) places ≡ None → Laid places (chart_of x) (layout_in (chart_of x) places)
@@ -213,7 +213,7 @@ laid x places heads current status shows first rest none =
     of_tables : (p s : ℕ) → s ≢ 0 → MayBeRead places (chart_of x) p s → (p ≡ status.place) ⊎ (is_log_spot (at heads) (at current) p s ≡ true)
     of_tables p s some (inl zero_s) = absurd (some zero_s)
     of_tables p s some (inr (inl here)) =
-        let at_status : is_at (Some status) p ≡ true = ap (λ (o : Option Pick). is_at o p) shows.status_is ∙ here in inl (sym (eqb-true status.place p at_status))
+        let at_status : is_at (Some status) p ≡ true = ap (λ (o : Option Winner). is_at o p) shows.status_is ∙ here in inl (sym (eqb-true status.place p at_status))
     of_tables p s some (inr (inr spot)) =
-        inr (subst (λ (h : ℕ → Option Head). is_log_spot h (at current) p s ≡ true) (sym shows.heads_are)
-        (subst (λ (cur : ℕ → Option Pick). is_log_spot (header_at (chart_of x) places) cur p s ≡ true) (sym shows.current_are) spot))
+        inr (subst (λ (h : ℕ → Option KeptHeader). is_log_spot h (at current) p s ≡ true) (sym shows.heads_are)
+        (subst (λ (cur : ℕ → Option Winner). is_log_spot (header_at (chart_of x) places) cur p s ≡ true) (sym shows.current_are) spot))

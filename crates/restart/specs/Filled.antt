@@ -1,18 +1,18 @@
 -- A directory as an opening fills it, by the headers that count and the places that hold live log sectors.
 use Rattle.std.specs.Prelude.{ℕ, zero, suc, ◌≡◌, ◌<◌, ◌≤◌, ◌+◌, ◌==◌, ◌||◌, Bool, true, false, List, length, slice_index, slice_index_or, Option}
 use Rattle.ipl_meaning.specs.Tables.{Places}
-use Rattle.opening_rules.specs.Chosen.{Pick}
+use Rattle.opening_rules.specs.Chosen.{Winner}
 use Rattle.opening_rules.specs.Live.{is_at}
 use Rattle.opening_rules.specs.LaidOut.{place_of}
 use Rattle.unit_directory.specs.Free.{free_count}
 
 -- one of the first n units has its header at the place
-abbrev pub is_home : (ℕ → Option Pick) → ℕ → ℕ → Bool
+abbrev pub is_home : (ℕ → Option Winner) → ℕ → ℕ → Bool
 is_home current zero p = false
 is_home current (suc u) p = is_home current u p || is_at (current u) p
 
 -- the place is that of a unit, the status place, or one that holds live log sectors
-abbrev pub is_used : (ℕ → Option Pick) → ℕ → ℕ → (ℕ → Bool) → ℕ → Bool
+abbrev pub is_used : (ℕ → Option Winner) → ℕ → ℕ → (ℕ → Bool) → ℕ → Bool
 is_used current units status holds p = (is_home current units p || (status == p)) || holds p
 
 -- exactly these places are in use, and no more than `most` of them
@@ -22,7 +22,7 @@ pub record AreUsed (used : ℕ → Bool) (places most : ℕ) (in_use : List Bool
   pub most_are : places ≤ free_count in_use + most
 
 -- the first n units have the places of their headers, and no log sector of a unit is known clean
-pub record AreAdopted (current : ℕ → Option Pick) (n units : ℕ) (it : Places) : Type 0 where
+pub record AreAdopted (current : ℕ → Option Winner) (n units : ℕ) (it : Places) : Type 0 where
   pub units_are : length it.current ≡ units
   pub logs_are : length it.written ≡ units
   pub current_is : (u : ℕ) → u < n → slice_index it.current u ≡ place_of (current u)

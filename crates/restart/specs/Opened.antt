@@ -5,7 +5,7 @@ use Rattle.ipl_meaning.specs.Chart.{Chart}
 use Rattle.ipl_meaning.specs.Layout.{Laid, IsLiveIn, IsCommitSector}
 use Rattle.ipl_meaning.specs.Tables.{Places, IsFree, Tables}
 use Rattle.ipl_meaning.specs.Mirrors.{Mirrors}
-use Rattle.opening_rules.specs.Chosen.{Pick, header_at, current_at, status_at}
+use Rattle.opening_rules.specs.Chosen.{Winner, header_at, current_at, status_at}
 use Rattle.opening_rules.specs.Live.{marks_in}
 use Rattle.opening_rules.specs.Faults.{holds_live, greatest_found}
 use Rattle.opening_rules.specs.LaidOut.{place_of, layout_in}
@@ -13,8 +13,8 @@ use Rattle.unit_directory.specs.Free.{free_count}
 
 -- the place is neither that of a unit, nor the status place, nor an overflow place that holds live log sectors
 pub record IsUnused (places : ℕ) (c : Chart) (p : ℕ) : Type 0 where
-  pub not_home : (u : ℕ) (pick : Pick) → u < places - 4 → current_at c places u ≡ Some pick → pick.place ≢ p
-  pub not_status : (pick : Pick) → status_at c places ≡ Some pick → pick.place ≢ p
+  pub not_home : (u : ℕ) (winner : Winner) → u < places - 4 → current_at c places u ≡ Some winner → winner.place ≢ p
+  pub not_status : (winner : Winner) → status_at c places ≡ Some winner → winner.place ≢ p
   pub not_held : holds_live (header_at c places) (marks_in c places (places * 256)) p ≡ false
 
 -- the directory has each unit's place, no log sector counts as clean, exactly the unused places are free, and the counter

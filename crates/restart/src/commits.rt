@@ -8,11 +8,11 @@ ghost use Rattle.unit_io.specs.Kinds.{sector_named};
 ghost use Rattle.opening_rules.specs.First.{first_below, greatest_of};
 ghost use Rattle.opening_rules.specs.Payloads.{is_commit_payload, numbers_in};
 ghost use Rattle.opening_rules.specs.Live.{sectors, kept, is_commit_of};
-ghost use Rattle.opening_rules.specs.Faults.{Tells, is_image, commit_test, commit_fault, commit_number, greatest_of_commits};
+ghost use Rattle.opening_rules.specs.Faults.{TellsImageFault, is_image, commit_test, commit_fault, commit_number, greatest_of_commits};
 ghost use Rattle.opening_rules.specs.Laws.{IsWhole};
 ghost use Rattle.restart.specs.Looks.{OnlyReads, HasCause};
 
-use crate::kept::Pick;
+use crate::kept::Winner;
 use crate::looking::{look, payload_in};
 use chip_trait::Chip;
 use ipl_base::{ChipFault, ImageFault};
@@ -48,24 +48,24 @@ fn greatest_number(payload: &[u8], least: u64) -> u64
 
 /// The greatest number found, after the one at this number of the status place that has this header.
 fn take_sector(
-    pick: &Pick,
+    winner: &Winner,
     sector: u32,
     head: &Head,
     payload: &[u8],
     greatest: u64,
 ) -> Result<u64, ImageFault>
-    ensures fault { Tells (commit_test pick.now.place sector
-        (kept (is_commit_of pick.now.head.generation) (Some (sector_of head.now payload.now)))) result }
+    ensures fault { TellsImageFault (commit_test winner.now.place sector
+        (kept (is_commit_of winner.now.head.generation) (Some (sector_of head.now payload.now)))) result }
     ensures number { IfOk result (λ n. n ≡ max greatest (commit_number
-        (kept (is_commit_of pick.now.head.generation) (Some (sector_of head.now payload.now))))) }
+        (kept (is_commit_of winner.now.head.generation) (Some (sector_of head.now payload.now))))) }
     ensures image { IfErr result (λ e. is_image e ≡ true) }
 {
-    if head.kind != Head::COMMIT || head.generation != pick.header().generation() {
+    if head.kind != Head::COMMIT || head.generation != winner.header().generation() {
         return Ok(greatest);
     }
     if !is_commit(payload) {
         return Err(ImageFault::Chip(ChipFault::Malformed {
-            place: pick.place(),
+            place: winner.place(),
             sector,
         }));
     }
@@ -73,46 +73,46 @@ fn take_sector(
 }
 
 fn take_commit(
-    pick: &Pick,
+    winner: &Winner,
     sector: u32,
     found: Option<(Head, usize)>,
     bytes: &[u8; 512],
     greatest: u64,
 ) -> Result<u64, ImageFault>
     requires { IfSome found (λ it. it.1 ≤ 480) }
-    ensures fault { Tells (commit_test pick.now.place sector
-        (kept (is_commit_of pick.now.head.generation) (sector_named bytes.now found))) result }
+    ensures fault { TellsImageFault (commit_test winner.now.place sector
+        (kept (is_commit_of winner.now.head.generation) (sector_named bytes.now found))) result }
     ensures number { IfOk result (λ n. n ≡ max greatest (commit_number
-        (kept (is_commit_of pick.now.head.generation) (sector_named bytes.now found)))) }
+        (kept (is_commit_of winner.now.head.generation) (sector_named bytes.now found)))) }
     ensures image { IfErr result (λ e. is_image e ≡ true) }
 {
     match found {
         None => Ok(greatest),
-        Some((head, used)) => take_sector(pick, sector, &head, payload_in(bytes, used), greatest),
+        Some((head, used)) => take_sector(winner, sector, &head, payload_in(bytes, used), greatest),
     }
 }
 
 /// Reads the sectors of the status place that has this header, and answers the greatest number found, at least this.
 pub(crate) fn read_commits<C: Chip>(
     chip: &mut C,
-    pick: &Pick,
+    winner: &Winner,
     least: u64,
 ) -> Result<u64, ImageFault>
-    requires { pick.now.place < (C.told chip.old).places }
+    requires { winner.now.place < (C.told chip.old).places }
     ensures number { IfOk result (λ n. OfContents (C.told chip.old) (λ x.
-        n ≡ greatest_of_commits least (chart_of x) (Some pick.now) sectors)) }
+        n ≡ greatest_of_commits least (chart_of x) (Some winner.now) sectors)) }
     ensures fault { OfContents (C.told chip.old) (λ x.
-        Tells (first_below (commit_fault (chart_of x) (Some pick.now)) sectors) result) }
+        TellsImageFault (first_below (commit_fault (chart_of x) (Some winner.now)) sectors) result) }
     ensures whole { OnOk result (OfContents (C.told chip.old) (λ x.
-        (s : ℕ) → 1 ≤ s → s < 256 → IsWhole (x pick.now.place s))) }
+        (s : ℕ) → 1 ≤ s → s < 256 → IsWhole (x winner.now.place s))) }
     ensures reads { OnlyReads (C.told chip.old) (C.told chip.new) }
     ensures cause { IfErr result (λ e. HasCause e (C.told chip.old) (C.told chip.new)) }
 {
     let mut greatest = least;
     for sector in 1..256 {
         let mut bytes = [0; 512];
-        let found = look(chip, pick.place(), sector, &mut bytes)?;
-        greatest = take_commit(pick, sector, found, &bytes, greatest)?;
+        let found = look(chip, winner.place(), sector, &mut bytes)?;
+        greatest = take_commit(winner, sector, found, &bytes, greatest)?;
     }
     Ok(greatest)
 }

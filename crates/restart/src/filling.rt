@@ -1,22 +1,22 @@
 //! The directory is filled.
 ghost use Rattle.std.specs.Prelude.{◌≡◌, ◌<◌, ◌≤◌, ◌+◌, ◌-◌, ◌&&◌, ◌||◌, Bool, ℕ, length, Some};
 ghost use Rattle.opening_rules.specs.First.{at, count_below};
-ghost use Rattle.opening_rules.specs.Chosen.{Pick as Chosen};
+ghost use Rattle.opening_rules.specs.Chosen.{Winner as Chosen};
 ghost use Rattle.opening_rules.specs.Live.{is_overflow_place};
 ghost use Rattle.restart.specs.Notes.{places_of, holds_one};
 ghost use Rattle.restart.specs.Filled.{is_home, is_used, AreUsed, AreAdopted};
 
-use crate::kept::{Header, Pick};
+use crate::kept::{Header, Winner};
 use crate::logs::is_overflow_place;
 use crate::noted::Noted;
 use unit_directory::Directory;
 
 /// Gives each unit the place of its header, and nothing else is in use then.
-fn adopt_all(directory: &mut Directory, current: &[Option<Pick>])
+fn adopt_all(directory: &mut Directory, current: &[Option<Winner>])
     requires units { length current.now + 4 ≡ length directory.old.in_use }
     requires places { length directory.old.in_use ≤ 1028 }
-    requires within { (u : ℕ) (pick : Chosen) → at current.now u ≡ Some pick
-        → pick.place < length directory.old.in_use }
+    requires within { (u : ℕ) (winner : Chosen) → at current.now u ≡ Some winner
+        → winner.place < length directory.old.in_use }
     ensures adopted { AreAdopted (at current.now) (length current.now) (length current.now) directory.new }
     ensures used { AreUsed (is_home (at current.now) (length current.now)) (length directory.old.in_use)
         (length current.now) directory.new.in_use }
@@ -24,7 +24,7 @@ fn adopt_all(directory: &mut Directory, current: &[Option<Pick>])
     directory.reset();
     for unit in 0..current.len() {
         match current[unit] {
-            Some(pick) => directory.adopt(unit as u32, pick.place()),
+            Some(winner) => directory.adopt(unit as u32, winner.place()),
             None => {}
         }
     }
@@ -63,16 +63,16 @@ fn take_overflows(directory: &mut Directory, heads: &[Option<Header>], noted: &N
 pub(crate) fn fill(
     directory: &mut Directory,
     heads: &[Option<Header>],
-    current: &[Option<Pick>],
-    status: &Pick,
+    current: &[Option<Winner>],
+    status: &Winner,
     noted: &Noted,
 )
     requires units { length current.now + 4 ≡ length directory.old.in_use }
     requires small { length directory.old.in_use ≤ 1028 }
     requires places { length heads.now ≡ length directory.old.in_use }
     requires noted { places_of noted.now ≡ length directory.old.in_use }
-    requires within { (u : ℕ) (pick : Chosen) → at current.now u ≡ Some pick
-        → pick.place < length directory.old.in_use }
+    requires within { (u : ℕ) (winner : Chosen) → at current.now u ≡ Some winner
+        → winner.place < length directory.old.in_use }
     requires status { status.now.place < length directory.old.in_use }
     ensures adopted { AreAdopted (at current.now) (length current.now) (length current.now) directory.new }
     ensures used { AreUsed (is_used (at current.now) (length current.now) status.now.place

@@ -9,21 +9,18 @@ ghost use Rattle.unit_io.specs.Kinds.{sector_named};
 ghost use Rattle.opening_rules.specs.First.{at, greatest_of, first_below, with_one};
 ghost use Rattle.opening_rules.specs.Payloads.{is_log_payload, tid_of, tids_told};
 ghost use Rattle.opening_rules.specs.Live.{kept, Mark, mark_of, is_at, is_generation, is_log, is_log_spot, is_overflow_place, is_place_of, is_live};
-ghost use Rattle.opening_rules.specs.Faults.{Tells, is_image, log_test, log_fault, log_number};
+ghost use Rattle.opening_rules.specs.Faults.{TellsImageFault, is_image, log_test, log_fault, log_number};
 ghost use Rattle.restart.specs.Looks.{OnlyReads, HasCause};
 ghost use Rattle.restart.specs.Notes.{units_of, places_of, overflow_count_of, IsNoted, IsRoomy};
 ghost use Rattle.restart.specs.Scanned.{IsScanned};
 
-use crate::kept::{Header, Pick};
+use crate::kept::{Header, Winner};
 use crate::looking::{look, payload_in};
 use crate::noted::Noted;
 use chip_trait::Chip;
-use ipl_base::{ChipFault, Geometry, ImageFault};
+use ipl_base::{ChipFault, FIRST_LOG_SECTOR, Geometry, ImageFault};
 use log_records::{Payload, is_list, records};
 use sector_format::Head;
-
-/// The first log sector of a unit's place.
-const FIRST_LOG: u32 = 241;
 
 /// Whether the place is an overflow place.
 pub(crate) fn is_overflow_place(heads: &[Option<Header>], place: u32) -> bool
@@ -36,7 +33,7 @@ pub(crate) fn is_overflow_place(heads: &[Option<Header>], place: u32) -> bool
     }
 }
 
-fn current_of(current: &[Option<Pick>], unit: u32) -> Option<Pick>
+fn current_of(current: &[Option<Winner>], unit: u32) -> Option<Winner>
     ensures { result ≡ at current.now unit }
 {
     if (unit as usize) < current.len() {
@@ -46,26 +43,31 @@ fn current_of(current: &[Option<Pick>], unit: u32) -> Option<Pick>
     }
 }
 
-fn is_at(pick: Option<Pick>, place: u32) -> bool
-    ensures { result ≡ is_at pick place }
+fn is_at(winner: Option<Winner>, place: u32) -> bool
+    ensures { result ≡ is_at winner place }
 {
-    match pick {
-        Some(pick) => pick.place() == place,
+    match winner {
+        Some(winner) => winner.place() == place,
         None => false,
     }
 }
 
-fn is_generation(pick: Option<Pick>, generation: u64) -> bool
-    ensures { result ≡ is_generation pick generation }
+fn is_generation(winner: Option<Winner>, generation: u64) -> bool
+    ensures { result ≡ is_generation winner generation }
 {
-    match pick {
-        Some(pick) => pick.header().generation() == generation,
+    match winner {
+        Some(winner) => winner.header().generation() == generation,
         None => false,
     }
 }
 
 /// Whether log sectors may stand at this number of a place.
-fn may_hold_log(heads: &[Option<Header>], current: &[Option<Pick>], place: u32, sector: u32) -> bool
+fn may_hold_log(
+    heads: &[Option<Header>],
+    current: &[Option<Winner>],
+    place: u32,
+    sector: u32,
+) -> bool
     requires { place < length heads.now }
     ensures { result ≡ is_log_spot (at heads.now) (at current.now) place sector }
 {
@@ -73,7 +75,7 @@ fn may_hold_log(heads: &[Option<Header>], current: &[Option<Pick>], place: u32, 
         Some(header) => {
             (header.is_overflow() && 1 <= sector)
                 || (header.is_data()
-                    && FIRST_LOG <= sector
+                    && FIRST_LOG_SECTOR <= sector
                     && is_at(current_of(current, header.unit()), place))
         }
         None => false,
@@ -92,7 +94,7 @@ fn is_place_of(heads: &[Option<Header>], place: u32, unit: u32) -> bool
 }
 
 /// Whether a log sector with this head, in this place, is live.
-fn is_live(heads: &[Option<Header>], current: &[Option<Pick>], place: u32, head: &Head) -> bool
+fn is_live(heads: &[Option<Header>], current: &[Option<Winner>], place: u32, head: &Head) -> bool
     requires { place < length heads.now }
     ensures { (payload : List ℕ) → result ≡ is_live (at heads.now) (at current.now) place (sector_of head.now payload) }
 {
@@ -146,7 +148,7 @@ fn check_log(
     requires sector { sector < 256 }
     requires unit { head.now.unit < units_of noted.now }
     ensures fault { (marks : List Mark) → IsNoted noted.now marks
-        → Tells (log_test (at heads.now) marks (place * 256 + sector) (Some (sector_of head.now payload.now))) result }
+        → TellsImageFault (log_test (at heads.now) marks (place * 256 + sector) (Some (sector_of head.now payload.now))) result }
     ensures room { OnOk result (is_overflow_place (at heads.now place) ≡ true → overflow_count_of noted.now head.now.unit < 16) }
     ensures image { IfErr result (λ e. is_image e ≡ true) }
 {
@@ -162,7 +164,7 @@ fn check_log(
 /// Notes a log sector, if it is live.
 fn take_log(
     heads: &[Option<Header>],
-    current: &[Option<Pick>],
+    current: &[Option<Winner>],
     noted: &mut Noted,
     place: u32,
     sector: u32,
@@ -176,7 +178,7 @@ fn take_log(
     requires spot { is_log_spot (at heads.now) (at current.now) place sector ≡ true }
     requires roomy { IsRoomy (at current.now) (place * 256 + sector) noted.old }
     ensures fault { (marks : List Mark) → IsNoted noted.old marks
-        → Tells (log_test (at heads.now) marks (place * 256 + sector)
+        → TellsImageFault (log_test (at heads.now) marks (place * 256 + sector)
         (kept (is_live (at heads.now) (at current.now) place) (Some (sector_of head.now payload.now)))) result }
     ensures noted { OnOk result ((marks : List Mark) → IsNoted noted.old marks
         → IsNoted noted.new (with_one marks (option_map (mark_of (at heads.now) (place * 256 + sector))
@@ -188,7 +190,12 @@ fn take_log(
 {
     if is_live(heads, current, place, head) {
         check_log(heads, noted, place, sector, head, payload)?;
-        noted.add(head.unit, head.serial, place, is_overflow_place(heads, place));
+        noted.add(
+            head.unit,
+            head.serial,
+            place,
+            is_overflow_place(heads, place),
+        );
     }
     Ok(())
 }
@@ -196,7 +203,7 @@ fn take_log(
 /// Takes what was found where log sectors may stand, and answers the greatest number found so far.
 fn take_found(
     heads: &[Option<Header>],
-    current: &[Option<Pick>],
+    current: &[Option<Winner>],
     noted: &mut Noted,
     place: u32,
     sector: u32,
@@ -212,7 +219,7 @@ fn take_found(
     requires roomy { IsRoomy (at current.now) (place * 256 + sector) noted.old }
     requires fits { IfSome found (λ it. it.1 ≤ 480) }
     ensures fault { (marks : List Mark) → IsNoted noted.old marks
-        → Tells (log_test (at heads.now) marks (place * 256 + sector)
+        → TellsImageFault (log_test (at heads.now) marks (place * 256 + sector)
         (kept (is_live (at heads.now) (at current.now) place) (kept is_log (sector_named bytes.now found)))) result }
     ensures noted { OnOk result ((marks : List Mark) → IsNoted noted.old marks
         → IsNoted noted.new (with_one marks (option_map (mark_of (at heads.now) (place * 256 + sector))
@@ -240,7 +247,7 @@ fn take_found(
 fn scan_sector<C: Chip>(
     chip: &mut C,
     heads: &[Option<Header>],
-    current: &[Option<Pick>],
+    current: &[Option<Winner>],
     noted: &mut Noted,
     place: u32,
     sector: u32,
@@ -280,7 +287,7 @@ fn scan_sector<C: Chip>(
 fn scan_place<C: Chip>(
     chip: &mut C,
     heads: &[Option<Header>],
-    current: &[Option<Pick>],
+    current: &[Option<Winner>],
     noted: &mut Noted,
     place: u32,
     least: u64,
@@ -315,7 +322,7 @@ pub(crate) fn scan<C: Chip>(
     chip: &mut C,
     geometry: Geometry,
     heads: &[Option<Header>],
-    current: &[Option<Pick>],
+    current: &[Option<Winner>],
     noted: &mut Noted,
     least: u64,
 ) -> Result<u64, ImageFault>

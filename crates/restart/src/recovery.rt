@@ -5,9 +5,9 @@ ghost use Rattle.ipl_meaning.specs.Chart.{chart_of};
 ghost use Rattle.ipl_meaning.specs.Layout.{Laid};
 ghost use Rattle.unit_io.specs.Reads.{OfContents};
 ghost use Rattle.opening_rules.specs.First.{at, count_below};
-ghost use Rattle.opening_rules.specs.Chosen.{Pick as Chosen};
+ghost use Rattle.opening_rules.specs.Chosen.{Winner as Chosen};
 ghost use Rattle.opening_rules.specs.Live.{is_log_spot, marks};
-ghost use Rattle.opening_rules.specs.Faults.{Tells, header_fault, first_fault};
+ghost use Rattle.opening_rules.specs.Faults.{TellsImageFault, header_fault, first_fault};
 ghost use Rattle.opening_rules.specs.LaidOut.{layout_in};
 ghost use Rattle.opening_rules.specs.Laws.{IsWhole};
 ghost use Rattle.restart.specs.Looks.{OnlyReads, HasCause};
@@ -19,7 +19,7 @@ use crate::choosing::choose;
 use crate::commits::read_commits;
 use crate::filling::fill;
 use crate::headers::check_headers;
-use crate::kept::{Header, Pick};
+use crate::kept::{Header, Winner};
 use crate::logs::scan;
 use crate::looking::read_heads;
 use crate::noted::Noted;
@@ -35,18 +35,18 @@ fn read_headers<C: Chip>(
     chip: &mut C,
     geometry: Geometry,
     heads: &mut [Option<Header>],
-    current: &mut [Option<Pick>],
-) -> Result<Pick, ImageFault>
+    current: &mut [Option<Winner>],
+) -> Result<Winner, ImageFault>
     requires size { geometry ≡ (C.told chip.old).places }
     requires heads { length heads.old ≡ geometry }
     requires current { length current.old + 4 ≡ geometry }
     ensures shown { IfOk result (λ status. OfContents (C.told chip.old) (λ x.
         ShowsHeaders (chart_of x) geometry heads.new current.new status)) }
-    ensures fault { OfContents (C.told chip.old) (λ x. Tells (header_fault (chart_of x) geometry) result) }
+    ensures fault { OfContents (C.told chip.old) (λ x. TellsImageFault (header_fault (chart_of x) geometry) result) }
     ensures whole { OnOk result (OfContents (C.told chip.old) (λ x.
         (p : ℕ) → p < geometry → IsWhole (x p 0))) }
     ensures status { IfOk result (λ status. status.place < geometry) }
-    ensures within { OnOk result ((u : ℕ) (pick : Chosen) → at current.new u ≡ Some pick → pick.place < geometry) }
+    ensures within { OnOk result ((u : ℕ) (winner : Chosen) → at current.new u ≡ Some winner → winner.place < geometry) }
     ensures there { OnOk result ((u : ℕ) → u < length current.new → at current.new u ≢ None) }
     ensures reads { OnlyReads (C.told chip.old) (C.told chip.new) }
     ensures cause { IfErr result (λ e. HasCause e (C.told chip.old) (C.told chip.new)) }
@@ -62,8 +62,8 @@ fn read_rest<C: Chip>(
     chip: &mut C,
     geometry: Geometry,
     heads: &[Option<Header>],
-    current: &[Option<Pick>],
-    status: &Pick,
+    current: &[Option<Winner>],
+    status: &Winner,
     noted: &mut Noted,
 ) -> Result<u64, ImageFault>
     requires size { geometry ≡ (C.told chip.old).places }
@@ -72,7 +72,7 @@ fn read_rest<C: Chip>(
     requires places { places_of noted.old ≡ geometry }
     requires status { status.now.place < geometry }
     ensures fault { OfContents (C.told chip.old) (λ x.
-        Tells (fault_by (chart_of x) (at heads.now) (at current.now) (Some status.now) geometry) result) }
+        TellsImageFault (fault_by (chart_of x) (at heads.now) (at current.now) (Some status.now) geometry) result) }
     ensures number { IfOk result (λ n. OfContents (C.told chip.old) (λ x.
         n ≡ number_by (chart_of x) (at heads.now) (at current.now) (Some status.now) geometry)) }
     ensures noted { OnOk result (OfContents (C.told chip.old) (λ x.
@@ -98,7 +98,7 @@ fn open<C: Chip>(
     chip: &mut C,
     geometry: Geometry,
     heads: &mut [Option<Header>],
-    current: &mut [Option<Pick>],
+    current: &mut [Option<Winner>],
     noted: &mut Noted,
     directory: &mut Directory,
     counter: &mut Counter,
@@ -109,7 +109,7 @@ fn open<C: Chip>(
     requires units { units_of noted.old + 4 ≡ geometry }
     requires places { places_of noted.old ≡ geometry }
     requires directory { length directory.old.in_use ≡ geometry }
-    ensures fault { OfContents (C.told chip.old) (λ x. Tells (first_fault (chart_of x) geometry) result) }
+    ensures fault { OfContents (C.told chip.old) (λ x. TellsImageFault (first_fault (chart_of x) geometry) result) }
     ensures opened { OnOk result (OfContents (C.told chip.old) (λ x.
         IsOpened geometry (chart_of x) directory.new counter.new)) }
     ensures laid { OnOk result (OfContents (C.told chip.old) (λ x.
@@ -135,7 +135,7 @@ fn open<C: Chip>(
 pub struct Scratch {
     geometry: Geometry,
     heads: Vec<Option<Header>>,
-    current: Vec<Option<Pick>>,
+    current: Vec<Option<Winner>>,
     noted: Noted,
 }
 
@@ -187,7 +187,7 @@ pub fn recover<C: Chip>(
 
     // It fails exactly with the first fault of the chip's contents, unless a read failed.
     ensures fault { OfContents (C.told chip.old) (λ x.
-        Tells (first_fault (chart_of x) (C.told chip.old).places) result) }
+        TellsImageFault (first_fault (chart_of x) (C.told chip.old).places) result) }
     ensures cause { IfErr result (λ e. HasCause e (C.told chip.old) (C.told chip.new)) }
 
     // Else the contents are laid out rightly, and the tables say so.

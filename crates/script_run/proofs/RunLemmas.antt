@@ -17,7 +17,7 @@ use Rattle.chip_trait.proofs.LawfulLemmas.{lawful_none, clean_none, lawful_then,
 use Rattle.chip_trait.proofs.MomentLemmas.{at_start, at_next, at_both}
 use Rattle.chip_trait.proofs.SaidLemmas.{joined-append, pieces-append, said-append, silent-part}
 use Rattle.script_run.specs.Keeping.{Keeping, AllOf, WorkLeaves}
-use Rattle.script_run.specs.Run.{IsCut, SaysLines, IsSaidOr, IsFound, RunLeaves, SayingLeaves}
+use Rattle.script_run.specs.Run.{IsCut, SaysLines, IsSaidOr, StandsNear, RunLeaves, SayingLeaves}
 
 -- ---- lines
 
@@ -182,7 +182,7 @@ module _ {S : Type 0} (k : Keeping S) where
   -- ---- commands
 
   abbrev Moment : Limits → State → List Command → History → Story → Type 0
-  Moment limits state cs h e = Leaves k.checks (IsFound k limits state cs (said e)) h e
+  Moment limits state cs h e = Leaves k.checks (StandsNear k limits state cs (said e)) h e
 
   -- before any command
   pub run_none : (limits : Limits) (state : State) (store : S) (h : History) (R : State → Type 0) (t : Told) (done : Bool) → k.holds limits store t state → t.history ≡ Some h → R state → RunLeaves k limits state [] store h R store t done
@@ -250,7 +250,7 @@ module _ {S : Type 0} (k : Keeping S) where
     history = two.history ∙ ap Some (twice_added two.added first.added h);
     each_moment = at_both (Moment limits state (cs ++ ds) h) two.added first.added
         (λ later e split x is. found_longer limits state cs ds (said e) (λ s. k.stands limits x s.map) (said_so_far limits state cs before mid h Q between true first later e split) (first.each_moment later e split x is))
-        (λ later f split x is. subst (λ (bytes : List ℕ). IsFound k limits state (cs ++ ds) bytes x) (sym (both_said f))
+        (λ later f split x is. subst (λ (bytes : List ℕ). StandsNear k limits state (cs ++ ds) bytes x) (sym (both_said f))
         (found_after limits state cs ds (said f) (λ s. k.stands limits x s.map) (two.each_moment later f split x (regrouped k.checks h f first.added x is))));
     replies = subst (λ (l : List (List ℕ)). SaysLines l (pieces (two.added ++ first.added))) (sym (lines-append limits state cs ds))
         (subst (SaysLines (lines limits state cs ++ lines limits (after_all limits state cs) ds)) (sym both_pieces) (says_behind (lines limits state cs) (lines limits (after_all limits state cs) ds) (pieces two.added) two.replies));

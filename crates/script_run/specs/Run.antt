@@ -37,8 +37,8 @@ IsSaidOr P (Said piece) = Unit {0}
 
 module _ {S : Type 0} (k : Keeping S) where
   -- the contents stand for the records after the commands that were answered, or after one more
-  abbrev pub IsFound : Limits → State → List Command → List ℕ → Contents → Type 0
-  IsFound limits state commands bytes x = IsNear (λ s. k.stands limits x s.map) limits state commands bytes
+  abbrev pub StandsNear : Limits → State → List Command → List ℕ → Contents → Type 0
+  StandsNear limits state commands bytes x = IsNear (λ s. k.stands limits x s.map) limits state commands bytes
 
   -- Whatever moment the power is cut at, the chip stands for the records after the commands that were answered, or after one
   -- more. What was said is a beginning of the replies, line by line, and all of them where the commands are done. No sector
@@ -46,7 +46,7 @@ module _ {S : Type 0} (k : Keeping S) where
   pub record RunLeaves (limits : Limits) (state : State) (commands : List Command) (before : S) (h : History) (R : State → Type 0) (then : S) (new : Told) (done : Bool) : Type 0 where
     pub added : Story
     pub history : new.history ≡ Some (adds_all added h)
-    pub each_moment : AtEachMoment (λ e. Leaves k.checks (IsFound limits state commands (said e)) h e) added
+    pub each_moment : AtEachMoment (λ e. Leaves k.checks (StandsNear limits state commands (said e)) h e) added
     pub replies : SaysLines (lines limits state commands) (pieces added)
     pub all : done ≡ true → pieces added ≡ lines limits state commands
     pub only : AllOf (IsSaidOr k.does) added

@@ -28,7 +28,7 @@ next_log it u = if nat_lt (slice_index it.written u) 15 then Some (241 + slice_i
 
 -- what always holds: the chip can be used and holds as many units as have a place, these are places of the chip, and a
 -- place has 15 log sectors
-pub record IsSound (it : Places) : Type 0 where
+pub record IsSoundDirectory (it : Places) : Type 0 where
   pub places : IsGeometry (length it.in_use)
   pub units : length it.current + 4 ≡ length it.in_use
   pub logs : length it.written ≡ length it.current

@@ -2,17 +2,11 @@
 ghost use Rattle.std.specs.Prelude.{◌≡◌, ◌≢◌, ◌+◌, ◌<◌, ◌≤◌, ℕ, Some, length, slice_index, IfOk, IfSome, IfNone, true, false};
 ghost use Rattle.ipl_meaning.specs.Tables.{IsFree, with_use, with_written};
 ghost use Rattle.unit_directory.specs.Free.{first_free, free_count};
-ghost use Rattle.unit_directory.specs.Directory.{empty_places, after_adopt, after_replace, next_log, IsSound};
+ghost use Rattle.unit_directory.specs.Directory.{empty_places, after_adopt, after_replace, next_log, IsSoundDirectory};
 
-use ipl_base::{Geometry, OutOfMemory};
+use ipl_base::{FIRST_LOG_SECTOR, Geometry, LOG_SECTORS, OutOfMemory};
 use std::alloc::Global;
 use std::marker::Model;
-
-/// The log sectors of a place, its last ones.
-const LOG_SECTORS: u32 = 15;
-
-/// The first log sector of a place.
-const FIRST_LOG: u32 = 241;
 
 /// Which place is current for each unit, which places are in use, and how many of the 15 log sectors
 /// of each unit's place, from the first on, count as written: the others are known clean. A contract
@@ -27,7 +21,7 @@ pub struct Directory {
 
 impl Model for Directory {
     ghost use Rattle.ipl_meaning.specs.Tables.{Places};
-    ghost use Rattle.unit_directory.specs.Directory.{IsSound};
+    ghost use Rattle.unit_directory.specs.Directory.{IsSoundDirectory};
 
     ghost Value = { Places };
 
@@ -37,7 +31,7 @@ impl Model for Directory {
       written = d.written.items;
     } };
 
-    ghost invariant = { λ d. IsSound (record {
+    ghost invariant = { λ d. IsSoundDirectory (record {
       current = d.current.items;
       in_use = d.in_use.items;
       written = d.written.items;
@@ -73,7 +67,7 @@ impl Directory {
     /// What always holds: the chip has 5 to 1028 places, all but four have a unit, each unit has a
     /// place of the chip, and at most 15 log sectors count as written.
     pub fn facts(&self)
-        ensures { IsSound self.now }
+        ensures { IsSoundDirectory self.now }
     {
         let _ = &self.current;
     }
@@ -173,7 +167,7 @@ impl Directory {
         if written == LOG_SECTORS {
             return None;
         }
-        Some(FIRST_LOG + written)
+        Some(FIRST_LOG_SECTOR + written)
     }
 
     /// Counts the sector that `next_log` names as written. That there is one is a condition.

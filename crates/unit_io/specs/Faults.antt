@@ -89,8 +89,8 @@ page_fault x place u generation page pieces =
     (text_fault place page (text_below (chart_of x) place page pieces))
 
 -- the answer tells this fault, or that there is none; unless a read failed
-abbrev pub Tells : {T : Type 0} → Option ChipFault → Result T ChipFault → Type 0
-Tells fault result = MatchResult result (λ _. fault ≡ None) (λ e. e ≢ ReadFault → fault ≡ Some e)
+abbrev pub TellsChipFault : {T : Type 0} → Option ChipFault → Result T ChipFault → Type 0
+TellsChipFault fault result = MatchResult result (λ _. fault ≡ None) (λ e. e ≢ ReadFault → fault ≡ Some e)
 
 -- why a page isn't read, whatever the chip tells: a read failed and its count rose; or a base sector of the page is at fault,
 -- and where it is damaged its sums differ

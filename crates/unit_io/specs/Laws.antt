@@ -3,7 +3,7 @@ use Rattle.std.specs.Prelude.{ℕ, ◌≡◌, ◌↔◌, slice_index, None, All}
 use Rattle.chip_trait.specs.Story.{Contents}
 use Rattle.ipl_format.specs.Page.{Slots}
 use Rattle.ipl_meaning.specs.Chart.{Chart, chart_of}
-use Rattle.ipl_meaning.specs.Layout.{Shape, Reads as ReadsWell}
+use Rattle.ipl_meaning.specs.Layout.{Shape, ReadsWell}
 use Rattle.unit_io.specs.Reads.{page_reads, IsPageRead}
 use Rattle.unit_io.specs.Faults.{HoldsPage, page_fault}
 

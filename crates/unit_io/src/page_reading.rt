@@ -9,7 +9,7 @@ ghost use Rattle.ipl_format.specs.Place.{base_sector_of};
 ghost use Rattle.sector_format.specs.Decode.{IsDecoded, sector_of, sector_read};
 ghost use Rattle.ipl_meaning.specs.Chart.{chart_of};
 ghost use Rattle.unit_io.specs.Reads.{Asked, OfContents, PageAsked};
-ghost use Rattle.unit_io.specs.Faults.{is_filled, is_piece, piece_fault, piece_fault_at, payload_of, text_below, first_below, page_fault, Tells, IsPageCause, HoldsPage};
+ghost use Rattle.unit_io.specs.Faults.{is_filled, is_piece, piece_fault, piece_fault_at, payload_of, text_below, first_below, page_fault, TellsChipFault, IsPageCause, HoldsPage};
 
 use crate::pages::PIECE;
 use crate::reading::read_sector;
@@ -53,7 +53,7 @@ fn check_piece(
     requires page { page < 15 }
     requires piece { piece < 16 }
     ensures exact { (bytes : List ℕ) → length bytes ≡ 512 → sector_in bytes ≡ sector_read bytes answer
-        → IsDecoded bytes answer → Tells (piece_fault place (base_sector_of page piece) head.now.unit
+        → IsDecoded bytes answer → TellsChipFault (piece_fault place (base_sector_of page piece) head.now.unit
         head.now.generation (page * 16 + piece) is_last bytes) result }
     ensures payload { IfOk result (λ used. (bytes : List ℕ)
         → payload_of (sector_read bytes answer) ≡ take used (drop 32 bytes)) }
@@ -104,7 +104,7 @@ fn read_piece<C: Chip>(
     requires place { place < (C.told chip.old).places }
     requires page { page < 15 }
     requires piece { piece < 16 }
-    ensures exact { OfContents (C.told chip.old) (λ x. Tells (piece_fault place (base_sector_of page piece)
+    ensures exact { OfContents (C.told chip.old) (λ x. TellsChipFault (piece_fault place (base_sector_of page piece)
         head.now.unit head.now.generation (page * 16 + piece) is_last (x place (base_sector_of page piece))) result) }
     ensures text { IfOk result (λ end. OfContents (C.told chip.old) (λ x.
         take end text.new ≡ take (480 * piece) text.old ++ payload_of (chart_of x place (base_sector_of page piece)))) }
@@ -135,7 +135,7 @@ fn read_pieces<C: Chip>(
     requires place { place < (C.told chip.old).places }
     requires page { page < 15 }
     requires pieces { pieces ≤ 16 }
-    ensures exact { OfContents (C.told chip.old) (λ x. Tells (first_below
+    ensures exact { OfContents (C.told chip.old) (λ x. TellsChipFault (first_below
         (piece_fault_at x place head.now.unit head.now.generation page pieces) pieces) result) }
     ensures text { IfOk result (λ end. OfContents (C.told chip.old) (λ x.
         take end text.new ≡ text_below (chart_of x) place page pieces)) }
@@ -168,7 +168,7 @@ pub fn read_page<C: Chip>(
     requires page { page < 15 }
     requires pieces { pieces ≤ 16 }
     ensures exact { OfContents (C.told chip.old) (λ x.
-        Tells (page_fault x place head.now.unit head.now.generation page pieces) result) }
+        TellsChipFault (page_fault x place head.now.unit head.now.generation page pieces) result) }
     ensures page { OnOk result (OfContents (C.told chip.old) (λ x.
         HoldsPage (chart_of x) place head.now.unit head.now.generation page pieces into.new)) }
     ensures empty { OnErr result (into.new ≡ empty_page) }

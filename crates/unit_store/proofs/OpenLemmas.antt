@@ -18,7 +18,7 @@ use Rattle.ipl_format.specs.Sector.{Sector}
 use Rattle.ipl_format.specs.Page.{Slots, page_text, value_in}
 use Rattle.ipl_format.proofs.PageLemmas.{pages_spell_once, pieces_say_once}
 use Rattle.ipl_meaning.specs.Chart.{Chart, chart_of}
-use Rattle.ipl_meaning.specs.Layout.{Shape, Layout, Laid, Reads, base_sector}
+use Rattle.ipl_meaning.specs.Layout.{Shape, Layout, Laid, ReadsWell, base_sector}
 use Rattle.ipl_meaning.specs.Stands.{Shows, Says, Stands, page_in}
 use Rattle.ipl_meaning.specs.Rests.{now}
 use Rattle.ipl_meaning.specs.Tables.{Places}
@@ -42,13 +42,13 @@ use Rattle.restart.proofs.OpenedLemmas.{opened_tables_mirror}
 use Rattle.restart.proofs.ReadingLemmas.{reads_rest, reads_hold}
 use Rattle.memory_store.specs.declared.store.MemoryStore.{MemoryStore}
 use Rattle.memory_store.specs.Kept.{record_of}
-use Rattle.memory_store.specs.Fits.{IsIdle}
+use Rattle.memory_store.specs.Fits.{HasNoSession}
 use Rattle.memory_store.proofs.StandingLemmas.{idle_fits}
 use Rattle.unit_store.specs.declared.store.UnitStore.{UnitStore}
 use Rattle.unit_store.specs.OnChip.{OnChip}
 use Rattle.unit_store.specs.Keeps.{limits_of}
 use Rattle.unit_store.specs.Loads.{HasHead, unit_fault, page_fault_at, ShowsPages}
-use Rattle.unit_store.specs.Opens.{opening_fault, ImageCause, IsFoundOut, IsSound, HoldsMap, KeepsFound}
+use Rattle.unit_store.specs.Opens.{opening_fault, ImageCause, IsFoundOut, StandsWithNumbersLeft, HoldsMap, KeepsFound}
 
 -- ---- one map
 
@@ -76,7 +76,7 @@ module _ (places : ℕ) (c : Chart) (m : Map) (laid : Laid places c (layout_in c
           absurd (none.logs u e.place e.number e.sector low (rw is at entry.live))
 
   -- the pages that the map's layout shows are those of this one
-  shown : (u page : ℕ) → u < places - 4 → page < 15 → (base : Slots) × Reads c u (it.units u) page base × ((slot : ℕ) → slot < 64 → page_in m u page slot ≡ value_in base slot)
+  shown : (u page : ℕ) → u < places - 4 → page < 15 → (base : Slots) × ReadsWell c u (it.units u) page base × ((slot : ℕ) → slot < 64 → page_in m u page slot ≡ value_in base slot)
   shown u page low few =
       let one = laid_once places c stands.layout it stands.laid laid in
       let shows : Shows c stands.layout.committed u (it.units u) page (page_in m u page) = subst (λ (shape : Shape). Shows c stands.layout.committed u shape page (page_in m u page)) (one.units u low) (stands.says.pages u page low few) in
@@ -113,7 +113,7 @@ module _ (places : ℕ) (c : Chart) (m : Map) (laid : Laid places c (layout_in c
       ∙ ap (λ (k : ℕ). record_of records k) (omega arith)
 
 -- the memory stands for the map that the contents stand for
-pub holds_map : (places : ℕ) (x : Contents) (directory : Places) (counter : ℕ) (memory : MemoryStore) → IsFoundOut places x directory counter memory → IsIdle memory → HoldsMap places x memory
+pub holds_map : (places : ℕ) (x : Contents) (directory : Places) (counter : ℕ) (memory : MemoryStore) → IsFoundOut places x directory counter memory → HasNoSession memory → HoldsMap places x memory
 holds_map places x directory counter memory found idle m stands none = idle_fits memory m idle (value_found places (chart_of x) m found.laid (none_in places (chart_of x) found.laid none) stands memory.records.items found.shows)
 
 -- a history that was told is told with its reads
@@ -124,7 +124,7 @@ some_one : {X : Type 0} {a b : X} → Some a ≡ Some b → a ≡ b
 some_one e = cc
 
 -- the store keeps what it found on a chip whose story rests
-pub keeps_found : (old new : Told) (store : UnitStore) → IsConsistent old → OnlyReads old new → store.units + 4 ≡ old.places → IsIdle store.memory
+pub keeps_found : (old new : Told) (store : UnitStore) → IsConsistent old → OnlyReads old new → store.units + 4 ≡ old.places → HasNoSession store.memory
     → OfContents old (λ x. IsFoundOut old.places x store.directory store.counter store.memory) → KeepsFound old store new
 keeps_found old new store consistent reads sized idle found m h settled told rests none =
     let x = held h.start h.story in
@@ -259,14 +259,14 @@ spent_is_found x places is = case (first_fault (chart_of x) places) refl (unit_f
     case (Some e) first page told = faults_are_caused (chart_of x) places Spent (first ∙ told)
 
 -- sound contents have no fault
-pub sound_is_opened : (places : ℕ) (x : Contents) (m : Map) → IsSound places x m → opening_fault x places ≡ None
+pub sound_is_opened : (places : ℕ) (x : Contents) (m : Map) → StandsWithNumbersLeft places x m → opening_fault x places ≡ None
 sound_is_opened places x m sound = elim (fine_or_spent places x m sound.stands) [
   | inl none ↦ none
   | inr spent ↦ let many = spent_is_found x places spent in absurd (omega (arith, many, sound.left))
 ]
 
 -- so only a read that failed keeps them from being opened
-pub sound_cause : (places : ℕ) (x : Contents) (m : Map) (old new : Told) → IsSound places x m → (e : ImageFault) → (e ≢ Chip ReadFault → opening_fault x places ≡ Some e) → ImageCause e old new → Rose old.read_faults new.read_faults
+pub sound_cause : (places : ℕ) (x : Contents) (m : Map) (old new : Told) → StandsWithNumbersLeft places x m → (e : ImageFault) → (e ≢ Chip ReadFault → opening_fault x places ≡ Some e) → ImageCause e old new → Rose old.read_faults new.read_faults
 sound_cause places x m old new sound e told cause = by e told cause
   where
     never : (e : ImageFault) → opening_fault x places ≡ Some e → ⊥

@@ -35,7 +35,7 @@ use Rattle.unit_store.specs.Rewritten.{IsRenamed}
 use Rattle.unit_store.specs.Values.{seen_in}
 use Rattle.unit_store.specs.OnChip.{OnChip}
 use Rattle.unit_store.specs.Keeps.{limits_of, Stood, KeepsUnit, FaultCause, unit_keeping, each_stands}
-use Rattle.unit_store.specs.Steps.{IsPlain, Answers, IsWork}
+use Rattle.unit_store.specs.Steps.{IsInMemory, AnswersInMemory, IsWork}
 
 -- ---- records
 
@@ -60,7 +60,7 @@ write_map state s n change = by_cases (get state.sessions s)
     by_cases (Some session) = refl
 
 -- a command that is answered in memory leaves the records
-pub plain_map : (limits : Limits) (state : State) (c : Command) → IsPlain c → (step limits state c).0.map ≡ state.map
+pub plain_map : (limits : Limits) (state : State) (c : Command) → IsInMemory c → (step limits state c).0.map ≡ state.map
 plain_map limits state (command.Begin s) plain = either_map state.map state (accepted state (command.Begin s)).0 (λ r. reply.Refused r ∷ []) _ (refusal_of limits state (command.Begin s)) refl refl
 plain_map limits state (command.Get s n) plain = either_map state.map state state (λ r. reply.Refused r ∷ []) _ (refusal_of limits state (command.Get s n)) refl refl
 plain_map limits state (command.Share s n) plain = either_map state.map state (after_share state s n) (λ r. reply.Refused r ∷ []) _ (refusal_of limits state (command.Share s n)) refl (share_map state s n)
@@ -134,7 +134,7 @@ kept_on units before then t state next keeps same directory drawn fits map = rec
 }
 
 -- a command with one line as its reply, but a commit
-pub plain_of : (c : Command) → IsSingle c → ((s : ℕ) → c ≡ command.Commit s → ⊥) → IsPlain c
+pub plain_of : (c : Command) → IsSingle c → ((s : ℕ) → c ≡ command.Commit s → ⊥) → IsInMemory c
 plain_of (command.Begin s) single other = tt
 plain_of (command.Get s n) single other = tt
 plain_of (command.Share s n) single other = tt
@@ -148,7 +148,7 @@ plain_of command.Restart single other = tt
 plain_of command.Syntax single other = tt
 
 -- a command that is answered in memory, while at most numbers are drawn
-pub plain_works : (c : Command) (before then : UnitStore) (t : Told) (reply : Reply) → IsPlain c → Answers before.units before.memory then.memory c reply → then.units ≡ before.units → then.directory ≡ before.directory
+pub plain_works : (c : Command) (before then : UnitStore) (t : Told) (reply : Reply) → IsInMemory c → AnswersInMemory before.units before.memory then.memory c reply → then.units ≡ before.units → then.directory ≡ before.directory
     → ((places : ℕ) (m : Map) (h : History) → OnChip places before.directory before.counter m h → OnChip places before.directory then.counter m h) → Works unit_keeping c before t (Ok reply) then t
 plain_works c before then t reply plain answers same directory drawn limits state h keeps told =
     under_limits (λ l. WorksFor unit_keeping l state c before h (Ok reply) then t t) limits before t state keeps
@@ -159,7 +159,7 @@ plain_works c before then t reply plain answers same directory drawn limits stat
     })
 
 -- a commit that makes no record of a write
-pub nothing_works : (s : ℕ) (before then : UnitStore) (t : Told) (reply : Reply) → is_writing before.memory s ≡ false → Answers before.units before.memory then.memory (command.Commit s) reply → then.units ≡ before.units → then.directory ≡ before.directory
+pub nothing_works : (s : ℕ) (before then : UnitStore) (t : Told) (reply : Reply) → is_writing before.memory s ≡ false → AnswersInMemory before.units before.memory then.memory (command.Commit s) reply → then.units ≡ before.units → then.directory ≡ before.directory
     → ((places : ℕ) (m : Map) (h : History) → OnChip places before.directory before.counter m h → OnChip places before.directory then.counter m h) → Works unit_keeping (command.Commit s) before t (Ok reply) then t
 nothing_works s before then t reply idle answers same directory drawn limits state h keeps told =
     under_limits (λ l. WorksFor unit_keeping l state (command.Commit s) before h (Ok reply) then t t) limits before t state keeps
@@ -211,7 +211,7 @@ written_leaves before then old new state n h result done did = record {
 
 -- a commit that is written
 pub commit_works : (s : ℕ) (before mid then : UnitStore) (old new : Told) (reply : Reply) → is_writing before.memory s ≡ true → CommitWrites before mid old (Ok tt) new → mid.memory ≡ before.memory → mid.units ≡ before.units
-    → Answers before.units mid.memory then.memory (command.Commit s) reply → then.units ≡ mid.units → then.directory ≡ mid.directory → then.counter ≡ mid.counter → Works unit_keeping (command.Commit s) before old (Ok reply) then new
+    → AnswersInMemory before.units mid.memory then.memory (command.Commit s) reply → then.units ≡ mid.units → then.directory ≡ mid.directory → then.counter ≡ mid.counter → Works unit_keeping (command.Commit s) before old (Ok reply) then new
 commit_works s before mid then old new reply writing writes memory units answers same directory counter limits state h keeps told =
     under_limits (λ l. WorksFor unit_keeping l state (command.Commit s) before h (Ok reply) then old new) limits before old state keeps
     (let n : Map = (step (limits_of before.units) state (command.Commit s)).0.map in

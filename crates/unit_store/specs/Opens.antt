@@ -71,6 +71,6 @@ KeepsFound old store new = (m : Map) (h : History) → old.settled ≡ true → 
     → KeepsUnit (limits_of (old.places - 4)) store new (at_rest m)
 
 -- the contents stand for the map, and no number that is found is 2^63 or more
-pub record IsSound (places : ℕ) (x : Contents) (m : Map) : Type 0 where
+pub record StandsWithNumbersLeft (places : ℕ) (x : Contents) (m : Map) : Type 0 where
   pub stands : Stands places (chart_of x) m
   pub left : greatest_found (chart_of x) places < 2 ^ 63

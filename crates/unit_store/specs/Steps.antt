@@ -13,22 +13,22 @@ use Rattle.memory_store.specs.Fits.{Fits}
 use Rattle.unit_store.specs.Keeps.{limits_of}
 
 -- a command that is answered in memory: one with one line as its reply, but a commit
-abbrev pub IsPlain : Command → Type 0
-IsPlain (command.Begin s) = Unit {0}
-IsPlain (command.Get s n) = Unit {0}
-IsPlain (command.Share s n) = Unit {0}
-IsPlain (command.Put s n bytes) = Unit {0}
-IsPlain (command.Del s n) = Unit {0}
-IsPlain (command.Commit s) = ⊥
-IsPlain (command.Abort s) = Unit {0}
-IsPlain (command.List a b) = ⊥
-IsPlain (command.Merge u) = Unit {0}
-IsPlain command.Restart = Unit {0}
-IsPlain command.Syntax = Unit {0}
+abbrev pub IsInMemory : Command → Type 0
+IsInMemory (command.Begin s) = Unit {0}
+IsInMemory (command.Get s n) = Unit {0}
+IsInMemory (command.Share s n) = Unit {0}
+IsInMemory (command.Put s n bytes) = Unit {0}
+IsInMemory (command.Del s n) = Unit {0}
+IsInMemory (command.Commit s) = ⊥
+IsInMemory (command.Abort s) = Unit {0}
+IsInMemory (command.List a b) = ⊥
+IsInMemory (command.Merge u) = Unit {0}
+IsInMemory command.Restart = Unit {0}
+IsInMemory command.Syntax = Unit {0}
 
 -- with so many units, the reply is the model's, and so is the state that the memory stands for then
-abbrev pub Answers : ℕ → MemoryStore → MemoryStore → Command → Reply → Type 0
-Answers units old new c reply = (state : State) → Fits old state → ((step (limits_of units) state c).1 ≡ reply ∷ []) × Fits new (step (limits_of units) state c).0
+abbrev pub AnswersInMemory : ℕ → MemoryStore → MemoryStore → Command → Reply → Type 0
+AnswersInMemory units old new c reply = (state : State) → Fits old state → ((step (limits_of units) state c).1 ≡ reply ∷ []) × Fits new (step (limits_of units) state c).0
 
 -- the events say nothing, program no log sector and no commit sector, and are lawful after any lawful events
 pub record IsWork (done : Bool) (added : Story) : Type 0 where

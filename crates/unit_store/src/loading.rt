@@ -5,11 +5,11 @@ ghost use Rattle.ipl_format.specs.Header.{SpellsDataHeader};
 ghost use Rattle.ipl_format.specs.Page.{value_in};
 ghost use Rattle.ipl_meaning.specs.Chart.{chart_of};
 ghost use Rattle.ipl_meaning.specs.Layout.{Shape};
-ghost use Rattle.unit_io.specs.Faults.{Tells, page_fault};
+ghost use Rattle.unit_io.specs.Faults.{TellsChipFault, page_fault};
 ghost use Rattle.unit_io.specs.Kinds.{sector_named};
 ghost use Rattle.unit_io.specs.Reads.{OfContents};
 ghost use Rattle.restart.specs.Looks.{OnlyReads};
-ghost use Rattle.memory_store.specs.Fits.{IsIdle};
+ghost use Rattle.memory_store.specs.Fits.{HasNoSession};
 ghost use Rattle.unit_store.specs.Pages.{IsFew};
 ghost use Rattle.unit_store.specs.Loads.{HasHead, IsHeadOf, IsLoaded, LoadCause, LoadsPage, ShowsPages, unit_fault};
 
@@ -37,7 +37,7 @@ fn value_of(map: &PageMap, slot: u32) -> Option<Value>
 fn load_slots(map: &PageMap, page: u32, memory: &mut MemoryStore)
     requires { page < 15 }
     ensures loaded { IsLoaded page map.now memory.old.records.items memory.new.records.items }
-    ensures idle { IsIdle memory.old → IsIdle memory.new }
+    ensures idle { HasNoSession memory.old → HasNoSession memory.new }
 {
     for slot in 0..SLOTS {
         memory.load(page * SLOTS + slot, value_of(map, slot));
@@ -58,10 +58,10 @@ fn load_page<C: Chip>(
     requires page { page < 15 }
     requires pieces { pieces ≤ 16 }
     ensures exact { OfContents (C.told chip.old) (λ x.
-        Tells (page_fault x place head.now.unit head.now.generation page pieces) result) }
+        TellsChipFault (page_fault x place head.now.unit head.now.generation page pieces) result) }
     ensures loads { OnOk result (OfContents (C.told chip.old) (λ x. LoadsPage (chart_of x) place head.now.unit
         head.now.generation page pieces memory.old.records.items memory.new.records.items)) }
-    ensures idle { IsIdle memory.old → IsIdle memory.new }
+    ensures idle { HasNoSession memory.old → HasNoSession memory.new }
     ensures reads { OnlyReads (C.told chip.old) (C.told chip.new) }
     ensures cause { IfErr result (λ fault. LoadCause place fault (C.told chip.old) (C.told chip.new)) }
 {
@@ -82,10 +82,10 @@ fn load_pages<C: Chip>(
     requires place { place < (C.told chip.old).places }
     requires few { IsFew pieces.now }
     ensures exact { OfContents (C.told chip.old) (λ x. (it : Shape) → it.home ≡ place
-        → IsHeadOf it head.now pieces.now → Tells (unit_fault x it) result) }
+        → IsHeadOf it head.now pieces.now → TellsChipFault (unit_fault x it) result) }
     ensures shows { OnOk result (OfContents (C.told chip.old) (λ x. (it : Shape) → it.home ≡ place
         → IsHeadOf it head.now pieces.now → ShowsPages (chart_of x) it memory.new.records.items)) }
-    ensures idle { IsIdle memory.old → IsIdle memory.new }
+    ensures idle { HasNoSession memory.old → HasNoSession memory.new }
     ensures reads { OnlyReads (C.told chip.old) (C.told chip.new) }
     ensures cause { IfErr result (λ fault. LoadCause place fault (C.told chip.old) (C.told chip.new)) }
 {
@@ -136,10 +136,10 @@ pub(crate) fn load_unit<C: Chip>(
 ) -> Result<(), ChipFault>
     requires { place < (C.told chip.old).places }
     ensures exact { OfContents (C.told chip.old) (λ x. (it : Shape) → it.home ≡ place → HasHead (chart_of x) it
-        → Tells (unit_fault x it) result) }
+        → TellsChipFault (unit_fault x it) result) }
     ensures shows { OnOk result (OfContents (C.told chip.old) (λ x. (it : Shape) → it.home ≡ place
         → HasHead (chart_of x) it → ShowsPages (chart_of x) it memory.new.records.items)) }
-    ensures idle { IsIdle memory.old → IsIdle memory.new }
+    ensures idle { HasNoSession memory.old → HasNoSession memory.new }
     ensures reads { OnlyReads (C.told chip.old) (C.told chip.new) }
     ensures cause { IfErr result (λ fault. LoadCause place fault (C.told chip.old) (C.told chip.new)) }
 {

@@ -3,7 +3,7 @@ ghost use Rattle.std.specs.Prelude.{◌≡◌, ◌≤◌, ◌^◌, length, IfErr
 ghost use Rattle.unit_io.specs.Reads.{OfContents};
 ghost use Rattle.restart.specs.Looks.{OnlyReads};
 ghost use Rattle.restart.specs.Opened.{HasFree};
-ghost use Rattle.memory_store.specs.Fits.{IsIdle};
+ghost use Rattle.memory_store.specs.Fits.{HasNoSession};
 ghost use Rattle.unit_store.specs.Opens.{opening_fault, TellsImage, ImageCause, IsFoundOut};
 
 use crate::loading::load_unit;
@@ -21,7 +21,7 @@ pub(crate) fn tables(
 ) -> Result<(Scratch, Directory, MemoryStore), OutOfMemory>
     ensures scratch { IfOk result (λ made. made.0 ≡ geometry) }
     ensures directory { IfOk result (λ made. length made.1.in_use ≡ geometry) }
-    ensures memory { IfOk result (λ made. IsIdle made.2) }
+    ensures memory { IfOk result (λ made. HasNoSession made.2) }
 {
     let scratch = Scratch::new(alloc, geometry)?;
     let directory = Directory::new(alloc, geometry)?;
@@ -43,7 +43,7 @@ pub(crate) fn find_out<C: Chip>(
     ensures fault { OfContents (C.told chip.old) (λ x. TellsImage (opening_fault x (C.told chip.old).places) result) }
     ensures found { OnOk result (OfContents (C.told chip.old) (λ x.
         IsFoundOut (C.told chip.old).places x directory.new counter.new memory.new)) }
-    ensures idle { IsIdle memory.old → IsIdle memory.new }
+    ensures idle { HasNoSession memory.old → HasNoSession memory.new }
     ensures size { OnOk result (length directory.new.in_use ≡ (C.told chip.old).places) }
     ensures free { OnOk result (HasFree directory.new) }
     ensures left { OnOk result (counter.new ≤ 2 ^ 63) }

@@ -61,7 +61,7 @@ impl UnitStore {
     ghost use Rattle.ipl_base.specs.Places.{IsGeometry};
     ghost use Rattle.restart.specs.Looks.{OnlyReads};
     ghost use Rattle.unit_store.specs.Keeps.{Suits};
-    ghost use Rattle.unit_store.specs.Opens.{opening_fault, TellsOpening, OpenCause, IsSound, HoldsMap, KeepsFound};
+    ghost use Rattle.unit_store.specs.Opens.{opening_fault, TellsOpening, OpenCause, StandsWithNumbersLeft, HoldsMap, KeepsFound};
     ghost use Rattle.std.specs.Prelude.{◌≢◌, Some};
     ghost use Rattle.chip_trait.specs.Story.{Contents};
     ghost use Rattle.chip_trait.specs.Told.{Rose};
@@ -78,7 +78,7 @@ impl UnitStore {
         // It fails exactly with the first fault of the chip's contents, unless a read failed or memory is wanting.
         ensures fault { OfContents (C.told chip.old) (λ x. TellsOpening (opening_fault x (C.told chip.old).places) result) }
         ensures cause { IfErr result (λ fault. OpenCause fault (C.told chip.old) (C.told chip.new)) }
-        ensures opens { (x : Contents) (m : Map) → (C.told chip.old).contents ≡ Some x → IsSound (C.told chip.old).places x m
+        ensures opens { (x : Contents) (m : Map) → (C.told chip.old).contents ≡ Some x → StandsWithNumbersLeft (C.told chip.old).places x m
             → IfErr result (λ fault. fault ≢ OpenFault.OutOfMemory → Rose (C.told chip.old).read_faults (C.told chip.new).read_faults) }
 
         // Else the store has the records of the map for which the contents stand, and keeps them where the story rests. The
@@ -126,7 +126,7 @@ impl UnitStore {
     ghost use Rattle.unit_store.specs.Rewritten.{IsRenamed};
     ghost use Rattle.unit_store.specs.OnChip.{OnChip};
     ghost use Rattle.unit_store.specs.Keeps.{Stood, FaultCause, Suits};
-    ghost use Rattle.unit_store.specs.Steps.{Answers, IsPlain, IsWork};
+    ghost use Rattle.unit_store.specs.Steps.{AnswersInMemory, IsInMemory, IsWork};
     ghost use Rattle.ipl_model.specs.declared.command.Command.TheVariants as command;
 
     /// Whether no number may be drawn any more.
@@ -168,7 +168,7 @@ impl UnitStore {
     /// Opens a session, and draws its number.
     fn begin(&mut self, session: u32) -> Reply
         requires { self.old.counter ≤ LAST_NUMBER }
-        ensures answers { Answers self.old.units self.old.memory self.new.memory (command.Begin session) result }
+        ensures answers { AnswersInMemory self.old.units self.old.memory self.new.memory (command.Begin session) result }
         ensures directory { self.new.directory ≡ self.old.directory }
         ensures units { self.new.units ≡ self.old.units }
         ensures least { self.old.counter ≤ self.new.counter }
@@ -181,10 +181,10 @@ impl UnitStore {
         reply
     }
 
-    /// Answers a command in memory that draws no number.
+    /// AnswersInMemory a command in memory that draws no number.
     fn answer(&mut self, command: &Command) -> Reply
-        requires { IsPlain command.now }
-        ensures answers { Answers self.old.units self.old.memory self.new.memory command.now result }
+        requires { IsInMemory command.now }
+        ensures answers { AnswersInMemory self.old.units self.old.memory self.new.memory command.now result }
         ensures directory { self.new.directory ≡ self.old.directory }
         ensures units { self.new.units ≡ self.old.units }
         ensures counter { self.new.counter ≡ self.old.counter }

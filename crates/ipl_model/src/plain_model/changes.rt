@@ -3,13 +3,16 @@ ghost use Rattle.std.specs.Prelude.{◌≡◌, ◌<◌, ◌++◌, [], OnOk, OnEr
 ghost use Rattle.ipl_rules.specs.Operations.{after_begin, after_share, after_write, after_commit, after_abort, after_restart};
 ghost use Rattle.ipl_model.specs.Plain.{state_of, newest_first, slot_of, writes_in, with_share};
 
-use super::log::{Session, Write};
+use super::log::{LoggedSession, Write};
 use super::{PlainModel, closed};
 use ipl_base::Value;
 use std::alloc::AllocError;
 
 /// Appends the writes of the session in a slot, if there is one, and closes it.
-fn move_writes(committed: &mut Vec<Write>, slot: &mut Option<Session>) -> Result<(), AllocError>
+fn move_writes(
+    committed: &mut Vec<Write>,
+    slot: &mut Option<LoggedSession>,
+) -> Result<(), AllocError>
     ensures moved { OnOk result (newest_first committed.new.items
         ≡ writes_in (slot_of slot.old) ++ newest_first committed.old.items) }
     ensures closed { OnOk result (slot.new ≡ None) }
@@ -30,7 +33,7 @@ impl PlainModel {
         ensures state { state_of self.new ≡ after_begin (state_of self.old) s }
         ensures units { self.new.units ≡ self.old.units }
     {
-        self.sessions[s as usize] = Some(Session {
+        self.sessions[s as usize] = Some(LoggedSession {
             writes: Vec::new(self.alloc),
             shared: Vec::new(self.alloc),
         });

@@ -4,7 +4,7 @@ ghost use Rattle.std.specs.Option.{option_map_or};
 ghost use Rattle.ipl_rules.specs.State.{has_written, has_shared};
 ghost use Rattle.ipl_model.specs.Plain.{newest_first, session_of, slot_of, keeps_from, least_holder, writes_in, all_writes};
 
-use super::log::{Session, Write};
+use super::log::{LoggedSession, Write};
 use super::scan::is_written;
 use std::alloc::{AllocError, Global};
 
@@ -15,7 +15,7 @@ pub enum Lock {
     Write,
 }
 
-impl Session {
+impl LoggedSession {
     /// Whether the session wrote a name.
     pub fn has_written(&self, name: u32) -> bool
         ensures { result ≡ has_written (session_of self.now) name }
@@ -43,7 +43,7 @@ impl Session {
 }
 
 /// Whether the session in a slot is another one than `s`, and keeps it from a name.
-fn is_holder(other: u32, slot: &Option<Session>, s: u32, lock: Lock, name: u32) -> bool
+fn is_holder(other: u32, slot: &Option<LoggedSession>, s: u32, lock: Lock, name: u32) -> bool
     ensures { result ≡ (not (other == s)
         && option_map_or (keeps_from lock name) (slot_of slot.now) false) }
 {
@@ -54,7 +54,7 @@ fn is_holder(other: u32, slot: &Option<Session>, s: u32, lock: Lock, name: u32) 
 }
 
 /// The least session other than `s` that keeps it from a name.
-pub fn holder(sessions: &[Option<Session>], s: u32, lock: Lock, name: u32) -> Option<u32>
+pub fn holder(sessions: &[Option<LoggedSession>], s: u32, lock: Lock, name: u32) -> Option<u32>
     requires { length sessions.now < 2 ^ 32 }
     ensures { result ≡ least_holder (map slot_of sessions.now) s lock name }
 {
@@ -77,7 +77,7 @@ fn append_copies(all: &mut Vec<Write>, log: &[Write]) -> Result<(), AllocError>
 }
 
 /// Appends copies of the writes of the session in a slot, if there is one.
-fn append_slot(all: &mut Vec<Write>, slot: &Option<Session>) -> Result<(), AllocError>
+fn append_slot(all: &mut Vec<Write>, slot: &Option<LoggedSession>) -> Result<(), AllocError>
     ensures { OnOk result (newest_first all.new.items
         ≡ writes_in (slot_of slot.now) ++ newest_first all.old.items) }
 {
@@ -88,7 +88,10 @@ fn append_slot(all: &mut Vec<Write>, slot: &Option<Session>) -> Result<(), Alloc
 }
 
 /// All writes of open sessions, those of the last session first.
-pub fn pending_writes(alloc: Global, sessions: &[Option<Session>]) -> Result<Vec<Write>, AllocError>
+pub fn pending_writes(
+    alloc: Global,
+    sessions: &[Option<LoggedSession>],
+) -> Result<Vec<Write>, AllocError>
     ensures { IfOk result (λ all. newest_first all.items ≡ all_writes (map slot_of sessions.now)) }
 {
     let mut all = Vec::new(alloc);

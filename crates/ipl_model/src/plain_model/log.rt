@@ -24,7 +24,7 @@ impl Write {
 
 /// An open session: its writes and the names that it shares, the oldest first.
 #[derive(Drop)]
-pub struct Session {
+pub struct LoggedSession {
     pub writes: Vec<Write>,
     pub shared: Vec<u32>,
 }

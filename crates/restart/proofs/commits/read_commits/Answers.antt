@@ -19,33 +19,33 @@ returns-in_err-greatest-clause-reads g c = reads_then c.loop-sector.invariant.re
 pub returns-in_err-greatest-clause-fault : goal.returns-in_err-greatest-clause-fault
 returns-in_err-greatest-clause-fault g c = λ x told.
     let same = c.loop-sector.invariant.reads in
-    let pick = c.args.pick.now in
+    let winner = c.args.winner.now in
     let s = c.loop-sector.sector in
     let is = c.in_ok-found.ensures.exact x (same.contents ∙ told) in
-    tells_found c.from_residual-in_err-greatest.result (commit_fault (chart_of x) (Some pick)) s sectors c.in_err-greatest.field-0.0 c.from_residual-in_err-greatest.ensures.1
+    tells_found c.from_residual-in_err-greatest.result (commit_fault (chart_of x) (Some winner)) s sectors c.in_err-greatest.field-0.0 c.from_residual-in_err-greatest.ensures.1
     (omega (arith, sectors_are)) (c.loop-sector.invariant.fine x told)
-    (λ image. commit_fault_here (chart_of x) pick c.place.result s _ (omega arith) c.place.ensures is ∙ c.in_err-greatest.ensures.fault image)
+    (λ image. commit_fault_here (chart_of x) winner c.place.result s _ (omega arith) c.place.ensures is ∙ c.in_err-greatest.ensures.fault image)
 
 pub loop-sector-preserved : goal.loop-sector-preserved
 loop-sector-preserved g c =
     let same = c.loop-sector.invariant.reads in
-    let pick = c.args.pick.now in
+    let winner = c.args.winner.now in
     let s = c.loop-sector.sector in
     record {
       reads = reads_then same c.look.ensures.reads;
-      number = λ x told. commit_number_more (chart_of x) pick c.place.result s _ (omega arith) c.place.ensures (c.in_ok-found.ensures.exact x (same.contents ∙ told)) c.args.least c.loop-sector.greatest c.in_ok-greatest.greatest
+      number = λ x told. commit_number_more (chart_of x) winner c.place.result s _ (omega arith) c.place.ensures (c.in_ok-found.ensures.exact x (same.contents ∙ told)) c.args.least c.loop-sector.greatest c.in_ok-greatest.greatest
           (c.loop-sector.invariant.number x told) c.in_ok-greatest.ensures.number;
-      fine = λ x told. first_more (commit_fault (chart_of x) (Some pick)) s (c.loop-sector.invariant.fine x told)
-          (commit_fault_here (chart_of x) pick c.place.result s _ (omega arith) c.place.ensures (c.in_ok-found.ensures.exact x (same.contents ∙ told)) ∙ c.in_ok-greatest.ensures.fault);
-      whole = λ x told. whole_more x pick.place c.place.result s c.place.ensures (c.loop-sector.invariant.whole x told) (c.in_ok-found.ensures.whole x (same.contents ∙ told));
+      fine = λ x told. first_more (commit_fault (chart_of x) (Some winner)) s (c.loop-sector.invariant.fine x told)
+          (commit_fault_here (chart_of x) winner c.place.result s _ (omega arith) c.place.ensures (c.in_ok-found.ensures.exact x (same.contents ∙ told)) ∙ c.in_ok-greatest.ensures.fault);
+      whole = λ x told. whole_more x winner.place c.place.result s c.place.ensures (c.loop-sector.invariant.whole x told) (c.in_ok-found.ensures.whole x (same.contents ∙ told));
     }
 
 pub returns-clause-number : goal.returns-clause-number
 returns-clause-number g c = λ x told.
     let all : c.loop-sector.sector ≡ sectors = omega (arith, sectors_are) in
-    c.loop-sector.invariant.number x told ∙ ap (greatest_of_commits c.args.least (chart_of x) (Some c.args.pick.now)) all
+    c.loop-sector.invariant.number x told ∙ ap (greatest_of_commits c.args.least (chart_of x) (Some c.args.winner.now)) all
 
 pub returns-clause-fault : goal.returns-clause-fault
 returns-clause-fault g c = λ x told.
     let all : c.loop-sector.sector ≡ sectors = omega (arith, sectors_are) in
-    subst (λ (n : ℕ). first_below (commit_fault (chart_of x) (Some c.args.pick.now)) n ≡ None) all (c.loop-sector.invariant.fine x told)
+    subst (λ (n : ℕ). first_below (commit_fault (chart_of x) (Some c.args.winner.now)) n ≡ None) all (c.loop-sector.invariant.fine x told)

@@ -11,7 +11,7 @@ abbrev pub invariant-loop-sector : goal.invariant-loop-sector
 invariant-loop-sector g l =
     let told = g.C.Chip.told in record {
       reads : OnlyReads (told l.fn.chip) (told l.chip);
-      number : OfContents (told l.fn.chip) (λ x. l.greatest ≡ greatest_of_commits l.least (chart_of x) (Some l.pick) l.sector);
-      fine : OfContents (told l.fn.chip) (λ x. first_below (commit_fault (chart_of x) (Some l.pick)) l.sector ≡ None);
-      whole : OfContents (told l.fn.chip) (λ x. (s : ℕ) → 1 ≤ s → s < l.sector → IsWhole (x l.pick.place s));
+      number : OfContents (told l.fn.chip) (λ x. l.greatest ≡ greatest_of_commits l.least (chart_of x) (Some l.winner) l.sector);
+      fine : OfContents (told l.fn.chip) (λ x. first_below (commit_fault (chart_of x) (Some l.winner)) l.sector ≡ None);
+      whole : OfContents (told l.fn.chip) (λ x. (s : ℕ) → 1 ≤ s → s < l.sector → IsWhole (x l.winner.place s));
     }

@@ -4,7 +4,7 @@ use Rattle.sector_format.specs.Decode.{sector_of}
 use Rattle.std.specs.Option.{option_map}
 use Rattle.opening_rules.specs.First.{at, with_one}
 use Rattle.opening_rules.specs.Live.{mark_of, is_live}
-use Rattle.opening_rules.specs.Faults.{Tells, log_test}
+use Rattle.opening_rules.specs.Faults.{TellsImageFault, log_test}
 use Rattle.opening_rules.proofs.TellsLemmas.{tells_exit}
 use Rattle.restart.specs.Notes.{AddsNote, IsNoted}
 use Rattle.restart.proofs.LogLemmas.{at_low, live_unit, serial_fits, roomy_more, noted_live, none_live, some_live}
@@ -60,7 +60,7 @@ returns-in_err-check_log-clause-fault c = λ marks noted.
     let current = at c.args.current.now in
     let sector = sector_of c.args.head.now c.args.payload.now in
     let live : is_live heads current c.args.place sector ≡ true = sym (c.is_live.ensures c.args.payload.now) ∙ c.if-is_live.true in
-    subst (λ (o : Option Sector). Tells (log_test heads marks (c.args.place * 256 + c.args.sector) o) c.from_residual.result) (sym (some_live heads current c.args.place sector live))
+    subst (λ (o : Option Sector). TellsImageFault (log_test heads marks (c.args.place * 256 + c.args.sector) o) c.from_residual.result) (sym (some_live heads current c.args.place sector live))
     (tells_exit c.from_residual.result _ c.in_err-check_log.field-0.0 c.from_residual.ensures.1 (c.in_err-check_log.ensures.fault marks noted))
 
 pub returns-in_ok-check_log-clause-fault : goal.returns-in_ok-check_log-clause-fault

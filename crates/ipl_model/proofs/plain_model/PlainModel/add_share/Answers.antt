@@ -2,7 +2,7 @@ use Rattle.std.proofs.Common.{◌≡◌, ◌<◌, ◌∷◌, [], List, ℕ, leng
 use Rattle.std.specs.FinMap.{empty}
 use Rattle.std.proofs.lemmas.List.{reverse-append}
 use Rattle.ipl_rules.specs.State.{with_writes}
-use Rattle.ipl_model.specs.declared.plain_model.log.Session as plain
+use Rattle.ipl_model.specs.declared.plain_model.log.LoggedSession as plain
 use Rattle.ipl_model.specs.Plain.{state_of, newest_first, slot_of}
 use Rattle.ipl_model.proofs.ChangeLemmas.{standing, on_err, keeps, changes, changes_nothing}
 use Rattle.ipl_model.proofs.plain_model.PlainModel.add_share.Goals as goal
@@ -13,7 +13,7 @@ returns-in_err-push-clause-err c =
     let within : c.args.s < length c.args.self.now.sessions = omega arith in
     let m = with_writes (newest_first c.args.self.now.committed.items) empty in
     let x = c.in-Some.session in
-    let y : Option plain.Session = Some (record { writes = x.writes; shared = c.push.new.self }) in
+    let y : Option plain.LoggedSession = Some (record { writes = x.writes; shared = c.push.new.self }) in
     let same : standing m (set c.args.self.now.sessions c.args.s y) ≡ standing m c.args.self.now.sessions =
     keeps m c.args.self.now.sessions c.args.s within c.index-self-s.result y c.index-self-s.is
     (ap (λ (names : List ℕ). Some (record { writes = newest_first x.writes.items; shared = reverse names })) c.in_err-push.ensures.items ∙ ap slot_of (sym (c.index-self-s.is ∙ c.in-Some.is))) in

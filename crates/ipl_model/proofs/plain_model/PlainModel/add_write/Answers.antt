@@ -2,7 +2,7 @@ use Rattle.std.proofs.Common.{◌≡◌, ◌<◌, ◌∷◌, [], List, length, r
 use Rattle.std.specs.FinMap.{empty}
 use Rattle.ipl_rules.specs.State.{Write, with_writes}
 use Rattle.ipl_model.specs.declared.plain_model.log.Write as plain
-use Rattle.ipl_model.specs.declared.plain_model.log.Session.{Session}
+use Rattle.ipl_model.specs.declared.plain_model.log.LoggedSession.{LoggedSession}
 use Rattle.ipl_model.specs.Plain.{state_of, newest_first, slot_of}
 use Rattle.ipl_model.proofs.LogLemmas.{newest_first-append}
 use Rattle.ipl_model.proofs.ChangeLemmas.{standing, on_err, keeps, changes, changes_nothing}
@@ -14,7 +14,7 @@ returns-in_err-push-clause-err c =
     let within : c.args.s < length c.args.self.now.sessions = omega arith in
     let m = with_writes (newest_first c.args.self.now.committed.items) empty in
     let x = c.in-Some.session in
-    let y : Option Session = Some (record { writes = c.push.new.self; shared = x.shared }) in
+    let y : Option LoggedSession = Some (record { writes = c.push.new.self; shared = x.shared }) in
     let same : standing m (set c.args.self.now.sessions c.args.s y) ≡ standing m c.args.self.now.sessions =
     keeps m c.args.self.now.sessions c.args.s within c.index-self-s.result y c.index-self-s.is
     (ap (λ (log : List plain.Write). Some (record { writes = newest_first log; shared = reverse x.shared.items })) c.in_err-push.ensures.items ∙ ap slot_of (sym (c.index-self-s.is ∙ c.in-Some.is))) in

@@ -1,6 +1,6 @@
 use Rattle.std.proofs.Common.{◌≡◌, ◌<◌, Option, None, length, sym, ◌∙◌, ap, subst, arith, set}
 use Rattle.record_locks.specs.Held.{Held, Slots, held_at}
-use Rattle.record_locks.specs.Locks.{IsSound, refuses_share}
+use Rattle.record_locks.specs.Locks.{AreSoundSlots, refuses_share}
 use Rattle.record_locks.proofs.CallLemmas.{share_may, sound_shared, slot_held}
 use Rattle.record_locks.proofs.sessions.Sessions.share.Goals as goal
 
@@ -18,5 +18,5 @@ invariant_of-self c =
     let slots = c.self.inside.slots.items in
     let within : c.args.s < length slots = omega arith in
     let held : held_at slots c.args.s ≡ c.index_mut.result.now = slot_held slots c.args.s c.index_mut.result.now within c.index_mut.ensures.value in
-    subst (λ (o : Option Held). IsSound (set slots c.args.s o)) (sym c.share_in.ensures)
+    subst (λ (o : Option Held). AreSoundSlots (set slots c.args.s o)) (sym c.share_in.ensures)
     (sound_shared slots c.args.s c.args.name.0 c.index_mut.result.now c.self.invariant within held)
