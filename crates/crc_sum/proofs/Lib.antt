@@ -1,2 +1,5 @@
+pub mod ChunkLemmas
+pub mod ShiftLemmas
 pub mod SumLemmas
+pub mod TableLemmas
 pub mod Vectors

@@ -1,0 +1,39 @@
+-- Each entry of the tables is what its byte comes to, by computation.
+use Rattle.std.proofs.Common.{◌≡◌, ℕ, zero, suc, ◌+◌, ◌<◌, List, [], ◌∷◌, map, get_or, length, refl, ap, ◌∙◌, arith}
+use Rattle.std.proofs.lemmas.List.{get_or-map, length-map}
+use Rattle.std.proofs.lemmas.List.FromFn.{get_or-range_with_len}
+use Rattle.std.specs.List.{range_with_len}
+use Rattle.crc_sum.specs.Crc.{shifted, shifted_8}
+use Rattle.crc_sum.specs.Tables.{shifted_bytes}
+use Rattle.crc_sum.specs.declared.tables.TheConstants.{TABLES}
+
+-- so many tables, each of them the numbers before it, shifted by a byte
+tables_from : ℕ → List ℕ → List (List ℕ)
+tables_from zero xs = []
+tables_from (suc n) xs = map shifted_8 xs ∷ tables_from n (map shifted_8 xs)
+
+-- all entries, computed by the definition of the register
+computed : TABLES ≡ tables_from 8 (range_with_len 0 256)
+unfolding tables_from shifted_8 shifted
+computed = refl
+
+-- a table holds each number, shifted by a byte, and by one more for each table before it
+held : (n k i d : ℕ) (xs none : List ℕ) → k < n → i < length xs
+    → get_or (get_or (tables_from n xs) k none) i d ≡ shifted_bytes (suc k) (get_or xs i d)
+unfolding tables_from shifted_bytes
+held zero k i d xs none h l = absurd (omega (arith, h))
+held (suc n) zero i d xs none h l = get_or-map shifted_8 xs i d d l
+held (suc n) (suc k) i d xs none h l =
+    held n k i d (map shifted_8 xs) none (omega (arith, h)) (omega (arith, length-map xs shifted_8, l))
+    ∙ ap (shifted_bytes (suc k)) (get_or-map shifted_8 xs i d d l)
+
+-- what is looked up
+pub looked_up : (k i d : ℕ) (none : List ℕ) → k < 8 → i < 256
+    → get_or (get_or TABLES k none) i d ≡ shifted_bytes (k + 1) i
+looked_up k i d none h l =
+    let byte : get_or (range_with_len 0 256) i d ≡ i = omega (arith, get_or-range_with_len 0 256 i d l) in
+    let count : suc k ≡ k + 1 = omega arith in
+    ap (λ (tables : List (List ℕ)). get_or (get_or tables k none) i d) computed
+    ∙ held 8 k i d (range_with_len 0 256) none h l
+    ∙ ap (shifted_bytes (suc k)) byte
+    ∙ ap (λ (n : ℕ). shifted_bytes n i) count
