@@ -1,14 +1,14 @@
 //! A chip that is kept in a file.
 ghost use Rattle.std.specs.Prelude.{◌≡◌, IfOk};
 
+use crate::chip_file::open_or_make;
 use crate::faults::Faults;
-use crate::file_place::{PLACE, blank_bytes, length_of, read_sector, write_sectors};
+use crate::file_place::{PLACE, blank_bytes, read_sector, write_sectors};
 use chip_trait::{Chip, Failed};
 use std::alloc::{AllocError, Global};
 use std::fs::File;
-use std::io::{ErrorKind, Write};
+use std::io;
 use std::rt::Files;
-use std::{fs, io};
 use thiserror::Error;
 
 /// Why no chip can be had.
@@ -52,23 +52,30 @@ pub struct FileChip {
 
 impl FileChip {
     ghost use Rattle.chip_image.specs.Tells.{file_told_of, telling_faults, none_yet};
+    ghost use Rattle.chip_image.specs.Descriptors.{HasFileApart};
 
-    /// The chip of so many places in the file at this path, which has 131,072 bytes for each of them. A file that isn't there
-    /// is made, filled with bytes FF and synced.
+    /// The chip of so many places in the file at this path, which has 131,072 bytes for each of
+    /// them. It is locked while the chip is there, and synced before it is read. A file that isn't
+    /// there is made: filled with bytes FF under the path with `.ipl-new` behind it, synced and
+    /// renamed, and its folder is synced. A leftover of that name is replaced.
     ///
-    /// `NoFile`: the file can't be opened for reading and writing, it has another length, or it can't be made and filled. A
-    /// file that couldn't be filled is removed again; one that a power cut left half filled has another length from then on.
-    /// `OutOfMemory`: the bytes of an erased place can't be had.
+    /// `NoFile`: another run has the file or is making it; it can't be opened for reading and
+    /// writing, has another length, or can't be synced; it can't be made, or the path is a link
+    /// that leads nowhere. A file that was there isn't written, and of one that can't be filled
+    /// nothing is left.
+    /// `OutOfMemory`: the bytes of an erased place or of the other name can't be had.
     pub fn attach<R: Files<File = File>>(
         files: &R,
         alloc: Global,
         path: &str,
         units: u32,
     ) -> Result<FileChip, AttachFault>
-        ensures { IfOk result (λ chip. file_told_of chip ≡ telling_faults units none_yet) }
+        ensures tells { IfOk result (λ chip. file_told_of chip ≡ telling_faults units none_yet) }
+        // Its file is none of the standard streams.
+        ensures apart { IfOk result HasFileApart }
     {
         let blank = blank_bytes(alloc, PLACE)?;
-        let file = open_or_make(files, path, units, &blank)?;
+        let file = open_or_make(files, alloc, path, units, &blank)?;
         Ok(FileChip {
             units,
             file,
@@ -76,50 +83,6 @@ impl FileChip {
             faults: Faults::new(),
         })
     }
-}
-
-/// Opens the file, or makes it where it isn't there.
-fn open_or_make<R: Files<File = File>>(
-    files: &R,
-    path: &str,
-    units: u32,
-    blank: &[u8],
-) -> Result<File, AttachFault> {
-    match File::options().read(true).write(true).open(files, path) {
-        Ok(file) => {
-            if file.metadata()?.len() == length_of(units) {
-                Ok(file)
-            } else {
-                Err(AttachFault::NoFile)
-            }
-        }
-        Err(fault) if fault.kind() == ErrorKind::NotFound => Ok(make(files, path, units, blank)?),
-        Err(_) => Err(AttachFault::NoFile),
-    }
-}
-
-/// Makes the file of an erased chip.
-fn make<R: Files<File = File>>(
-    files: &R,
-    path: &str,
-    units: u32,
-    blank: &[u8],
-) -> io::Result<File> {
-    let mut file = File::create_new(files, path)?;
-    if let Err(fault) = fill(&mut file, units, blank) {
-        // Half filled it would be no chip; that it can't be removed changes nothing.
-        let _ = fs::remove_file(files, path);
-        return Err(fault);
-    }
-    Ok(file)
-}
-
-/// Writes the erased places, and waits until they are sure to last.
-fn fill(file: &mut File, units: u32, blank: &[u8]) -> io::Result<()> {
-    for _ in 0..units {
-        file.write_all(blank)?;
-    }
-    file.sync_all()
 }
 
 impl Chip for FileChip {

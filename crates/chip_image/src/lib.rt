@@ -1,6 +1,7 @@
 //! Chips beside memory: one kept in a file, and one that isn't there. They tell nothing of what they hold.
 #![tactic(auto)]
 
+mod chip_file;
 mod faults;
 mod file_chip;
 mod file_place;
