@@ -1,9 +1,12 @@
 //! A desk over the real streams of the process.
-ghost use Rattle.std.specs.Prelude.{◌≡◌};
+ghost use Rattle.std.specs.Prelude.{◌≡◌, ◌≢◌, IfErr};
+ghost use Rattle.std.specs.Io.{ReadsAtMost};
+ghost use Rattle.std.specs.IoError.{error_kind};
 ghost use Rattle.ipl_cli.specs.RealDesk.{real_told, real_consistently};
 
 use chip_trait::{Chip, Desk, Failed};
-use std::io::{Read, Write};
+use std::io;
+use std::io::{ErrorKind, Read, Write};
 use std::rt::{Stderr, Stdin, Stdout};
 
 /// A chip with the streams of the process. Of what they hold it tells nothing.
@@ -63,7 +66,7 @@ impl<C: Chip + Drop> Chip for RealDesk<C> {
 
 impl<C: Chip + Drop> Desk for RealDesk<C> {
     fn read_script(&mut self, buf: &mut [u8]) -> Result<usize, Failed> {
-        match self.input.read(buf) {
+        match read_uninterrupted(&mut self.input, buf) {
             Ok(count) => {
                 self.script_bytes = self.script_bytes.saturating_add(count as u64);
                 Ok(count)
@@ -89,4 +92,18 @@ impl<C: Chip + Drop> Desk for RealDesk<C> {
         // There is nobody left to tell that it failed.
         let _ = self.error.write_all(piece);
     }
+}
+
+/// Reads from the input, and again where a signal came before any byte.
+fn read_uninterrupted<R: Read>(input: &mut R, buf: &mut [u8]) -> io::Result<usize>
+    ensures bound { ReadsAtMost result buf.new }
+    ensures cause { IfErr result (λ fault. error_kind fault ≢ ErrorKind.Interrupted) }
+{
+    for _ in 0..u64::MAX {
+        match input.read(buf) {
+            Err(fault) if fault.kind() == ErrorKind::Interrupted => {}
+            read => return read,
+        }
+    }
+    Err(io::Error::from(ErrorKind::TimedOut))
 }
