@@ -1,4 +1,6 @@
-//! Chips beside memory: one kept in a file, and one that isn't there. They tell nothing of what they hold.
+//! Chips beside memory, over the trait of `chip_trait`: one kept in a file, which one run has at a
+//! time, and one of which no call succeeds. A contract sees their numbers of places and exact
+//! counts of what failed; of what they hold they tell nothing.
 #![tactic(auto)]
 
 mod chip_file;

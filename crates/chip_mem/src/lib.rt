@@ -1,5 +1,6 @@
-//! Chips in memory: one that keeps its story, fails where it is told to and makes images of a power cut, and one that just
-//! holds what was written.
+//! Chips in memory, over the trait of `chip_trait`. `MemChip` tells its story, fails where it is
+//! told to and makes images of a power cut; `PlainChip` just holds what was written, and tells
+//! that. A contract sees exactly which calls fail, and that each image is one that a cut may leave.
 #![tactic(auto)]
 
 mod image;

@@ -1,5 +1,7 @@
-//! A NAND chip of erase units, and a desk: a chip with a script to read and somebody to talk to. One story orders what is
-//! said and what is written, and this crate says what a power cut may leave of it.
+//! A raw NAND chip as code sees it (`Chip`), and a desk (`Desk`): a chip with a script to read and
+//! somebody to talk to. One story orders what is said and what is written, and this crate says what
+//! a power cut may leave of it. It stands on no crate here. A contract sees all that a chip tells
+//! as one record, `Told`; its laws are on what it holds, images, lawful events and what was said.
 #![tactic(auto)]
 
 mod chip;

@@ -1,5 +1,7 @@
-//! The words that all crates share: the size of a chip, names of records and where they live, values,
-//! the counter of numbers, and the faults.
+//! The words that all crates share: the size of a chip, its limits, names of records and where they
+//! live, values, the counter of numbers, and the faults. It stands on no crate here. A contract
+//! sees a `Geometry` as its number of places, a `Name` and a `Counter` as their numbers, and a
+//! `Value` as its bytes.
 #![tactic(auto)]
 
 mod counter;

@@ -1,6 +1,7 @@
-//! The formats of all that stands on the chip, as definitions: what bytes a value is written as, and what a sector's bytes
-//! say. The crates that write and read them cite these, and so does what a chip stands for. There is no code here but the
-//! laws: bodies that do nothing, with a contract that is the law.
+//! The formats of all that stands on the chip, as definitions: what bytes a value is written as,
+//! and what a sector's bytes say. The crates that write and read them cite these, and so does what
+//! a chip stands for. There is no code here but the laws: bodies that do nothing, with a contract
+//! that is the law. It stands on the definition of the sum (`crc_sum`).
 #![tactic(auto)]
 
 mod laws;

@@ -1,5 +1,7 @@
-//! What the sectors of a chip mean, and which steps keep it: when a chart stands for a map, when a story rests on one, and
-//! the laws of both. There is no code here but the laws: bodies that do nothing, with a contract that is the law.
+//! What the sectors of a chip mean, and which steps keep it: when a chart stands for a map, when a
+//! story rests on one, when tables mirror it, and the laws of all three. It stands on the chip's
+//! stories (`chip_trait`), the formats (`ipl_format`) and the model's map (`ipl_rules`). There is
+//! no code here but the laws: bodies that do nothing, with a contract that is the law.
 #![tactic(auto)]
 
 mod laws;

@@ -1,5 +1,7 @@
 //! The model as commands and replies: the line grammar of scripts, the text of replies, what a run
-//! over a script says and leaves, and the model as a program.
+//! over a script says and leaves, and the model as a program. It stands on the rules of
+//! `ipl_rules`. A contract sees commands and replies as they are, and a script as the list of its
+//! commands.
 #![tactic(auto)]
 
 mod command;

@@ -1,5 +1,6 @@
-//! The rules of the store by operation: the state that it stands for, when each operation is refused, and what it does. No
-//! page, place, log sector, merge or status occurs in them. Definitions and laws alone.
+//! The rules of the store by operation: the state that it stands for, when each operation is
+//! refused, and what it does. No page, place, log sector, merge or status occurs in them.
+//! Definitions and laws alone, over the words of `ipl_base`.
 #![tactic(auto)]
 
 ghost use Rattle.ipl_rules.specs.Laws.{RefusalsLookAtSessions, SeesItsOwnWrites, CommitsWhatIsSeen};

@@ -1,4 +1,6 @@
-//! Log records as bytes, the payload of a log sector.
+//! Log records as bytes, the payload of a log sector of at most 480 bytes. It stands on the formats
+//! of `ipl_format`, and knows no sector. A contract sees a `Payload` as its bytes, which spell a
+//! list of records.
 #![tactic(auto)]
 
 mod iterator;

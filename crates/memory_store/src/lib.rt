@@ -1,4 +1,6 @@
-//! The records of one unit and the writes of one session, in memory: each operation follows the model. It makes no chip call.
+//! The records of one unit and the writes of one session, in memory. It makes no chip call. A
+//! contract sees that it stands for a state of the model, and that each operation answers and
+//! changes it as the model does.
 #![tactic(auto)]
 
 mod kept;

@@ -1,4 +1,6 @@
-//! Pages of 64 slots, and their text.
+//! Pages of 64 slots, and their text, as docs/FORMAT.md has it. It stands on the formats of
+//! `ipl_format`, and knows no sector. A contract sees a `PageMap` as the list of its slots, and a
+//! text as that list's one spelling.
 #![tactic(auto)]
 
 mod map;

@@ -1,4 +1,7 @@
-//! Sectors of 512 bytes: a head of 32 bytes with a sum, and a payload.
+//! Sectors of 512 bytes: a head of 32 bytes with a sum, and a payload of at most 480. It stands on
+//! the formats of `ipl_format`, and takes the sum from `crc_sum`. A contract sees the bytes of a
+//! sector as the spelling of what it says, and any 512 bytes as what they say, or why they say
+//! nothing.
 #![tactic(auto)]
 
 mod decoding;

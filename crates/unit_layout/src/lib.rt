@@ -1,4 +1,6 @@
-//! Where sectors stand in the place of a unit, and the payloads of the three kinds of header.
+//! Where sectors stand in the place of a unit, and the payloads of the three kinds of header. It
+//! stands on the formats of `ipl_format`. A contract sees each number and payload as the definition
+//! there has it; a payload is read exactly where it is in its grammar.
 #![tactic(auto)]
 
 mod header;

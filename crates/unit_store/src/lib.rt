@@ -1,5 +1,7 @@
-//! A store of the records of unit 0 on a chip: what a commit changes it writes as a whole unit at a place that was free. The
-//! values stand in memory besides.
+//! The store of today: the records of unit 0 on a chip, which it formats or opens. What a commit
+//! changes it writes as a whole unit at a place that was free, through `unit_io`; the values stand
+//! in memory besides (`memory_store`). A contract sees that it keeps the model's state on the chip
+//! (`unit_keeping`), so that a power cut leaves the records before a command or after it.
 #![tactic(auto)]
 
 mod first;
