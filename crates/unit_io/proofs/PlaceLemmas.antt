@@ -14,7 +14,7 @@ use Rattle.ipl_meaning.specs.Layout.{Layout, Laid}
 use Rattle.ipl_meaning.specs.Rests.{now, EachStands, StoryRests}
 use Rattle.ipl_meaning.specs.Steps.{IsIdle}
 use Rattle.ipl_meaning.proofs.StoryLemmas.{held_stands, barriers_rest, erases_keep}
-use Rattle.unit_io.specs.Leads.{IsSteady, Leads, Did, Waited}
+use Rattle.unit_io.specs.Leads.{IsSteady, Leads, RestsWith, KeepsMap, Did, Waited}
 use Rattle.unit_io.specs.Spots.{Clears}
 use Rattle.unit_io.specs.Charts.{Charts, IsCleared}
 use Rattle.unit_io.proofs.LeadsLemmas.{leads_did, leads_waited, leads_then, leads_failed, steady_after}
@@ -41,7 +41,7 @@ module _ (places : ℕ) (m : Map) (it : Layout) (h : History) (p : ℕ) (rests :
 
   -- both
   pub begin_leads : (old mid new : Told) (result : Result (Unit {0}) ChipFault) → IsSteady h old → Did (Erase p) (Ok tt) old mid → Waited result mid new
-      → Leads (EachStands places m) (Clears p) (λ done then. StoryRests places m then × IsCleared p (now h) (now then)) h result new
+      → KeepsMap places m (Clears p) (λ done. IsCleared p) h result new
   unfolding Erased
   begin_leads old mid new result steady erase wait =
       let first = erase_leads old mid (Ok tt) steady erase in
@@ -52,7 +52,7 @@ module _ (places : ℕ) (m : Map) (it : Layout) (h : History) (p : ℕ) (rests :
       leads_waited (EachStands places m) (λ done b. Clears p done (b ++ Erase p ∷ [])) (adds (Erase p) h) mid new here (λ done then. then ≡ adds Barrier (adds (Erase p) h)) result wait
       after (barriers_rest places m (adds (Erase p) h) (held_stands places m (adds (Erase p) h) after)).each (clears_all p) (clears_erase p) refl in
       leads_then (EachStands places m) Erased (λ done b. Clears p done (b ++ Erase p ∷ [])) (Clears p) (λ done then. then ≡ adds (Erase p) h)
-      (λ done then. then ≡ adds Barrier (adds (Erase p) h)) (λ done then. StoryRests places m then × IsCleared p (now h) (now then)) h tt mid new result first
+      (λ done then. then ≡ adds Barrier (adds (Erase p) h)) (RestsWith places m (λ done. IsCleared p) h) h tt mid new result first
       (subst (λ (k : History). Leads (EachStands places m) (λ done b. Clears p done (b ++ Erase p ∷ [])) (λ done then. then ≡ adds Barrier (adds (Erase p) h)) k result new) (sym at) second)
       (λ a b one two. subst (λ (l : Story). Clears p (is_ok result) (b ++ l)) (sym (one.1 refl)) two)
       (λ w k is. subst (λ (j : History). StoryRests places m j × IsCleared p (now h) (now j)) (sym is)
@@ -60,10 +60,10 @@ module _ (places : ℕ) (m : Map) (it : Layout) (h : History) (p : ℕ) (rests :
 
   -- the erase failed
   pub begin_fails : {F : Type 0} (old new : Told) (f : F) → IsSteady h old → Breaks (Erase p) old new
-      → Leads {T = Unit {0}} {E = F} (EachStands places m) (Clears p) (λ done then. StoryRests places m then × IsCleared p (now h) (now then)) h (Err f) new
+      → KeepsMap {T = Unit {0}} {E = F} places m (Clears p) (λ done. IsCleared p) h (Err f) new
   unfolding Erased
   begin_fails old new f steady erase =
-      leads_failed (EachStands places m) Erased (Clears p) (λ done then. then ≡ adds (Erase p) h) (λ done then. StoryRests places m then × IsCleared p (now h) (now then))
+      leads_failed (EachStands places m) Erased (Clears p) (λ done then. then ≡ adds (Erase p) h) (RestsWith places m (λ done. IsCleared p) h)
       h Stopped f new (erase_leads old new (Err Stopped) steady erase) (λ a one. one.0)
 
 -- what is told of the contents

@@ -15,7 +15,7 @@ use Rattle.ipl_format.specs.Sector.{Sector, sector_in}
 use Rattle.ipl_meaning.specs.Stands.{Stands}
 use Rattle.ipl_meaning.specs.Rests.{now, EachStandsEither, StoryRests}
 use Rattle.ipl_meaning.proofs.StoryLemmas.{held_stands, barriers_rest, barriers_keep_either, programs_lead}
-use Rattle.unit_io.specs.Leads.{IsSteady, Leads, Did, Waited}
+use Rattle.unit_io.specs.Leads.{IsSteady, Leads, RestsWith, SwitchesMap, Did, Waited}
 use Rattle.unit_io.specs.Spots.{Programs, IsSpot}
 use Rattle.unit_io.specs.Charts.{Charts, Gains}
 use Rattle.unit_io.proofs.LeadsLemmas.{leads_did, leads_waited, leads_then, leads_failed, steady_after}
@@ -44,7 +44,7 @@ module _ (places : ℕ) (m n : Map) (h : History) (p : ℕ) (bytes : List ℕ) (
 
     -- the header and the barrier behind it
     pub added_leads : (old mid new : Told) (result : Result (Unit {0}) ChipFault) → IsSteady h old → Did (Program p 0 bytes) (Ok tt) old mid → Waited result mid new
-        → Leads (EachStandsEither places m n) (Programs p (IsSpot 0)) (λ done then. StoryRests places n then × Gains p 0 head (now h) (now then)) h result new
+        → SwitchesMap places m n (Programs p (IsSpot 0)) (λ done. Gains p 0 head) h result new
     added_leads old mid new result steady program wait =
         let k : History = adds (Program p 0 bytes) h in
         let first = header_leads old mid (Ok tt) steady program in
@@ -55,7 +55,7 @@ module _ (places : ℕ) (m n : Map) (h : History) (p : ℕ) (bytes : List ℕ) (
         leads_waited (EachStandsEither places m n) (Programs p (λ s. ⊥)) k mid new here (λ done then. then ≡ adds Barrier k) result wait
         either (barriers_keep_either places m n k either) (programs_barrier p (λ s. ⊥) true) (programs_none p (λ s. ⊥) false) refl in
         leads_then (EachStandsEither places m n) (Programs p (IsSpot 0)) (Programs p (λ s. ⊥)) (Programs p (IsSpot 0)) (λ done then. then ≡ adds (Program p 0 bytes) h)
-        (λ done then. then ≡ adds Barrier k) (λ done then. StoryRests places n then × Gains p 0 head (now h) (now then)) h tt mid new result first
+        (λ done then. then ≡ adds Barrier k) (RestsWith places n (λ done. Gains p 0 head) h) h tt mid new result first
         (subst (λ (j : History). Leads (EachStandsEither places m n) (Programs p (λ s. ⊥)) (λ done then. then ≡ adds Barrier k) j result new) (sym at) second)
         (λ a b one two. programs_before p (IsSpot 0) true (is_ok result) b a one two)
         (λ w j is. subst (λ (i : History). StoryRests places n i × Gains p 0 head (now h) (now i)) (sym is)
@@ -63,10 +63,10 @@ module _ (places : ℕ) (m n : Map) (h : History) (p : ℕ) (bytes : List ℕ) (
 
     -- the header failed
     pub added_fails : {F : Type 0} (old new : Told) (f : F) → IsSteady h old → Breaks (Program p 0 bytes) old new
-        → Leads {T = Unit {0}} {E = F} (EachStandsEither places m n) (Programs p (IsSpot 0)) (λ done then. StoryRests places n then × Gains p 0 head (now h) (now then)) h (Err f) new
+        → SwitchesMap {T = Unit {0}} {E = F} places m n (Programs p (IsSpot 0)) (λ done. Gains p 0 head) h (Err f) new
     added_fails old new f steady broke =
         leads_failed (EachStandsEither places m n) (Programs p (IsSpot 0)) (Programs p (IsSpot 0)) (λ done then. then ≡ adds (Program p 0 bytes) h)
-        (λ done then. StoryRests places n then × Gains p 0 head (now h) (now then)) h Stopped f new (header_leads old new (Err Stopped) steady broke) (λ a one. one)
+        (RestsWith places n (λ done. Gains p 0 head) h) h Stopped f new (header_leads old new (Err Stopped) steady broke) (λ a one. one)
 
 -- the barrier before the header, and what is known of the story behind it
 pub settled_rests : (places : ℕ) (m : Map) (h : History) → StoryRests places m h → StoryRests places m (adds Barrier h)
@@ -82,21 +82,21 @@ module _ (places : ℕ) (m n : Map) (h : History) (p : ℕ) (head : Sector) (res
       (λ x is. inl (rests.each x is)) (λ x is. inl ((settled_rests places m h rests).each x is)) (programs_barrier p (λ s. ⊥) true) (programs_none p (λ s. ⊥) false) refl
 
   pub seal_leads : (new : Told) (result : Result (Unit {0}) ChipFault) → Waited (Ok tt) old mid
-      → Leads (EachStandsEither places m n) (Programs p (IsSpot 0)) (λ done then. StoryRests places n then × Gains p 0 head (now h) (now then)) (adds Barrier h) result new
-      → Leads (EachStandsEither places m n) (Programs p (IsSpot 0)) (λ done then. StoryRests places n then × Gains p 0 head (now h) (now then)) h result new
+      → SwitchesMap places m n (Programs p (IsSpot 0)) (λ done. Gains p 0 head) (adds Barrier h) result new
+      → SwitchesMap places m n (Programs p (IsSpot 0)) (λ done. Gains p 0 head) h result new
   seal_leads new result wait second =
       let first = waits (Ok tt) wait in
       leads_then (EachStandsEither places m n) (Programs p (λ s. ⊥)) (Programs p (IsSpot 0)) (Programs p (IsSpot 0)) (λ done then. then ≡ adds Barrier h)
-      (λ done then. StoryRests places n then × Gains p 0 head (now h) (now then)) (λ done then. StoryRests places n then × Gains p 0 head (now h) (now then)) h tt mid new result first
-      (subst (λ (j : History). Leads (EachStandsEither places m n) (Programs p (IsSpot 0)) (λ done then. StoryRests places n then × Gains p 0 head (now h) (now then)) j result new) (sym first.ends.1) second)
+      (RestsWith places n (λ done. Gains p 0 head) h) (RestsWith places n (λ done. Gains p 0 head) h) h tt mid new result first
+      (subst (λ (j : History). Leads (EachStandsEither places m n) (Programs p (IsSpot 0)) (RestsWith places n (λ done. Gains p 0 head) h) j result new) (sym first.ends.1) second)
       (λ a b one two. programs_after p (IsSpot 0) true (is_ok result) b a one two)
       (λ w k is. is)
 
   pub seal_fails : {F : Type 0} (f : F) → Halts old mid
-      → Leads {T = Unit {0}} {E = F} (EachStandsEither places m n) (Programs p (IsSpot 0)) (λ done then. StoryRests places n then × Gains p 0 head (now h) (now then)) h (Err f) mid
+      → SwitchesMap {T = Unit {0}} {E = F} places m n (Programs p (IsSpot 0)) (λ done. Gains p 0 head) h (Err f) mid
   seal_fails f halted =
       leads_failed (EachStandsEither places m n) (Programs p (λ s. ⊥)) (Programs p (IsSpot 0)) (λ done then. then ≡ adds Barrier h)
-      (λ done then. StoryRests places n then × Gains p 0 head (now h) (now then)) h Stopped f mid (waits (Err Stopped) halted)
+      (RestsWith places n (λ done. Gains p 0 head) h) h Stopped f mid (waits (Err Stopped) halted)
       (λ a one. programs_wider p (λ s. ⊥) (IsSpot 0) false false a (λ s none. absurd none) one)
 
 -- what is told of the contents

@@ -17,7 +17,7 @@ use Rattle.ipl_meaning.specs.Rests.{now, EachStands, StoryRests}
 use Rattle.ipl_meaning.specs.Steps.{MayLog}
 use Rattle.ipl_meaning.specs.StoryLaws.{IsUntouched}
 use Rattle.ipl_meaning.proofs.StoryLemmas.{asides_keep, log_sectors_keep}
-use Rattle.unit_io.specs.Leads.{IsSteady, Leads, Did}
+use Rattle.unit_io.specs.Leads.{IsSteady, RestsWith, KeepsMap, Did}
 use Rattle.unit_io.specs.Spots.{Programs, IsSpot}
 use Rattle.unit_io.specs.Charts.{Charts, Gains}
 use Rattle.unit_io.proofs.LeadsLemmas.{leads_did}
@@ -35,19 +35,19 @@ module _ (places p s : ℕ) (bytes : List ℕ) (sector : Sector) (says : sector_
     (steady : IsSteady h old) (did : Did (Program p s bytes) result old new) (rests : StoryRests places m h) (clean : age h.story p s ≡ Clean) where
   -- where the story rests on the map after it too
   kept : StoryRests places m (adds (Program p s bytes) h)
-      → Leads (EachStands places m) (Programs p (IsSpot s)) (λ done then. StoryRests places m then × Gains p s sector (now h) (now then)) h result new
-  kept after_it = leads_did (EachStands places m) (Programs p (IsSpot s)) h old new steady (λ done then. StoryRests places m then × Gains p s sector (now h) (now then))
+      → KeepsMap places m (Programs p (IsSpot s)) (λ done. Gains p s sector) h result new
+  kept after_it = leads_did (EachStands places m) (Programs p (IsSpot s)) h old new steady (RestsWith places m (λ done. Gains p s sector) h)
       (Program p s bytes) result did rests.each after_it.each (programs_one p s bytes) (programs_none p (IsSpot s) false)
       (after_it, held_program sector_in h.start h.story p s bytes sector says)
 
   -- in a place without a header
   pub aside_leads : now h p 0 ≡ None → s ≢ 0
-      → Leads (EachStands places m) (Programs p (IsSpot s)) (λ done then. StoryRests places m then × Gains p s sector (now h) (now then)) h result new
+      → KeepsMap places m (Programs p (IsSpot s)) (λ done. Gains p s sector) h result new
   aside_leads bare other = kept (asides_keep places m h p s bytes sector rests (untouched h p s clean) says bare other)
 
   -- among the live sectors of its unit
   pub log_leads : (it : Layout) (u : ℕ) (records : List Record) → Laid places (now h) it → MayLog places (now h) it u p s sector records
-      → Leads (EachStands places m) (Programs p (IsSpot s)) (λ done then. StoryRests places m then × Gains p s sector (now h) (now then)) h result new
+      → KeepsMap places m (Programs p (IsSpot s)) (λ done. Gains p s sector) h result new
   log_leads it u records laid may = kept (log_sectors_keep places m h it u p s bytes sector records rests (untouched h p s clean) says laid may)
 
 -- what is told of the contents
@@ -59,6 +59,6 @@ program_tells p s bytes sector old new (Err e) says did = tt
 
 -- the same call, its spot and its sector named otherwise
 pub aside_renamed : (places p s t : ℕ) (sector other : Sector) (m : Map) (h : History) (new : Told) (result : Result (Unit {0}) ChipFault) → s ≡ t → sector ≡ other
-    → Leads (EachStands places m) (Programs p (IsSpot s)) (λ done then. StoryRests places m then × Gains p s sector (now h) (now then)) h result new
-    → Leads (EachStands places m) (Programs p (IsSpot t)) (λ done then. StoryRests places m then × Gains p t other (now h) (now then)) h result new
+    → KeepsMap places m (Programs p (IsSpot s)) (λ done. Gains p s sector) h result new
+    → KeepsMap places m (Programs p (IsSpot t)) (λ done. Gains p t other) h result new
 aside_renamed places p s t sector other m h new result at is did = rw (← at, ← is) did

@@ -1,5 +1,5 @@
 -- What a call leaves that writes to a chip.
-use Rattle.std.specs.Prelude.{◌≡◌, Bool, true, Result, MatchResult, IfOk, is_ok, Some}
+use Rattle.std.specs.Prelude.{ℕ, ◌≡◌, Bool, true, Result, MatchResult, IfOk, is_ok, Some}
 use Rattle.chip_trait.specs.declared.event.Event.{Event}
 use Rattle.chip_trait.specs.declared.event.Event.TheVariants.{Barrier}
 use Rattle.chip_trait.specs.Story.{Story}
@@ -7,6 +7,9 @@ use Rattle.chip_trait.specs.Moment.{AtEachMoment}
 use Rattle.chip_trait.specs.Told.{History, Told, Appends, Breaks, Halts, Rose, adds_all}
 use Rattle.ipl_base.specs.declared.fault.ChipFault.{ChipFault}
 use Rattle.ipl_base.specs.declared.fault.ChipFault.TheVariants.{Stopped}
+use Rattle.ipl_rules.specs.State.{Map}
+use Rattle.ipl_meaning.specs.Chart.{Chart}
+use Rattle.ipl_meaning.specs.Rests.{now, EachStands, EachStandsEither, StoryRests}
 
 -- the chip tells this history, and no write has failed
 pub record IsSteady (h : History) (t : Told) : Type 0 where
@@ -21,6 +24,23 @@ pub record Leads {T E : Type 0} (Each : History → Type 0) (Does : Bool → Sto
   pub each_moment : AtEachMoment (λ e. Each (adds_all e h)) added
   pub does : Does (is_ok result) added
   pub ends : IfOk result (λ v. (new.settled ≡ true) × Then v (adds_all added h))
+
+-- The story rests on the map, and F holds of the answer, of the chart at the history before and of the chart then.
+abbrev pub RestsWith : {T : Type 0} → ℕ → Map → (T → Chart → Chart → Type 0) → History → T → History → Type 0
+RestsWith places m F h v then = StoryRests places m then × F v (now h) (now then)
+
+-- What a call leaves that keeps the map. Whatever a power cut leaves at any moment of it stands for the map; and done, the
+-- story rests on it, with F of the answer and of the charts before and after.
+abbrev pub KeepsMap : {T E : Type 0} → ℕ → Map → (Bool → Story → Type 0) → (T → Chart → Chart → Type 0)
+    → History → Result T E → Told → Type 0
+KeepsMap places m Does F h result new = Leads (EachStands places m) Does (RestsWith places m F h) h result new
+
+-- What a call leaves that switches the map. Whatever a power cut leaves at any moment of it stands for the old map or for the
+-- new one; and done, the story rests on the new one, with F of the answer and of the charts before and after.
+abbrev pub SwitchesMap : {T E : Type 0} → ℕ → Map → Map → (Bool → Story → Type 0) → (T → Chart → Chart → Type 0)
+    → History → Result T E → Told → Type 0
+SwitchesMap places m n Does F h result new =
+    Leads (EachStandsEither places m n) Does (RestsWith places n F h) h result new
 
 -- a program or an erase was done, or it broke
 abbrev pub Did : Event → Result (Unit {0}) ChipFault → Told → Told → Type 0

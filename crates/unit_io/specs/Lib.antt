@@ -1,3 +1,4 @@
+pub mod Accounts
 pub mod Leads
 pub mod Spots
 pub mod Charts

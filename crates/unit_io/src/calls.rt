@@ -1,7 +1,8 @@
 //! The calls of a chip, with the faults of this crate.
-ghost use Rattle.std.specs.Prelude.{◌≡◌, ◌<◌, IfErr, OnOk};
+ghost use Rattle.std.specs.Prelude.{◌≡◌, ◌<◌, OnOk};
 ghost use Rattle.chip_trait.specs.declared.event.Event.TheVariants.{Read, Program, Erase};
-ghost use Rattle.chip_trait.specs.Told.{Told, Counts};
+ghost use Rattle.chip_trait.specs.Told.{Told};
+ghost use Rattle.unit_io.specs.Accounts.{Accounts};
 ghost use Rattle.unit_io.specs.Leads.{Did, Waited, IsStopped};
 ghost use Rattle.unit_io.specs.Reads.{Asked, OfContents, IsReadFault};
 
@@ -12,9 +13,7 @@ use ipl_base::ChipFault;
 pub(crate) fn erase<C: Chip>(chip: &mut C, place: u32) -> Result<(), ChipFault>
     requires { place < (C.told chip.old).places }
     ensures did { Did (Erase place) result (C.told chip.old) (C.told chip.new) }
-    ensures places { (C.told chip.new).places ≡ (C.told chip.old).places }
-    ensures counts { Counts (C.told chip.old) (C.told chip.new) }
-    ensures cause { IfErr result (λ fault. IsStopped fault (C.told chip.old) (C.told chip.new)) }
+    ensures accounts { Accounts IsStopped result (C.told chip.old) (C.told chip.new) }
 {
     match chip.erase(place) {
         Ok(()) => Ok(()),
@@ -32,9 +31,7 @@ pub(crate) fn program<C: Chip>(
     requires place { place < (C.told chip.old).places }
     requires sector { sector < 256 }
     ensures did { Did (Program place sector bytes.now) result (C.told chip.old) (C.told chip.new) }
-    ensures places { (C.told chip.new).places ≡ (C.told chip.old).places }
-    ensures counts { Counts (C.told chip.old) (C.told chip.new) }
-    ensures cause { IfErr result (λ fault. IsStopped fault (C.told chip.old) (C.told chip.new)) }
+    ensures accounts { Accounts IsStopped result (C.told chip.old) (C.told chip.new) }
 {
     match chip.program(place, sector, bytes) {
         Ok(()) => Ok(()),
@@ -45,9 +42,7 @@ pub(crate) fn program<C: Chip>(
 /// Waits until all that was written is sure to last.
 pub(crate) fn barrier<C: Chip>(chip: &mut C) -> Result<(), ChipFault>
     ensures did { Waited result (C.told chip.old) (C.told chip.new) }
-    ensures places { (C.told chip.new).places ≡ (C.told chip.old).places }
-    ensures counts { Counts (C.told chip.old) (C.told chip.new) }
-    ensures cause { IfErr result (λ fault. IsStopped fault (C.told chip.old) (C.told chip.new)) }
+    ensures accounts { Accounts IsStopped result (C.told chip.old) (C.told chip.new) }
 {
     match chip.barrier() {
         Ok(()) => Ok(()),
@@ -66,9 +61,7 @@ pub(crate) fn read<C: Chip>(
     requires sector { sector < 256 }
     ensures asks { Asked (Read place sector) result (C.told chip.old) (C.told chip.new) }
     ensures bytes { OnOk result (OfContents (C.told chip.old) (λ x. into.new ≡ x place sector)) }
-    ensures places { (C.told chip.new).places ≡ (C.told chip.old).places }
-    ensures counts { Counts (C.told chip.old) (C.told chip.new) }
-    ensures cause { IfErr result (λ fault. IsReadFault fault (C.told chip.old) (C.told chip.new)) }
+    ensures accounts { Accounts IsReadFault result (C.told chip.old) (C.told chip.new) }
 {
     match chip.read(place, sector, into) {
         Ok(()) => Ok(()),

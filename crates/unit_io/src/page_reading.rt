@@ -2,12 +2,13 @@
 ghost use Rattle.std.specs.Prelude.{◌≡◌, ◌<◌, ◌≤◌, ◌+◌, ◌*◌, ◌++◌, ℕ, List, length, take, drop, true, false, Some, IfErr, IfOk, OnOk, OnErr};
 ghost use Rattle.std.specs.Bool.{OnTrue};
 ghost use Rattle.chip_trait.specs.declared.event.Event.TheVariants.{Read};
-ghost use Rattle.chip_trait.specs.Told.{Told, Counts};
+ghost use Rattle.chip_trait.specs.Told.{Told};
 ghost use Rattle.ipl_format.specs.Sector.{sector_in};
 ghost use Rattle.ipl_format.specs.Page.{empty_page};
 ghost use Rattle.ipl_format.specs.Place.{base_sector_of};
 ghost use Rattle.sector_format.specs.Decode.{IsDecoded, sector_of, sector_read};
 ghost use Rattle.ipl_meaning.specs.Chart.{chart_of};
+ghost use Rattle.unit_io.specs.Accounts.{Accounts};
 ghost use Rattle.unit_io.specs.Reads.{Asked, OfContents, PageAsked};
 ghost use Rattle.unit_io.specs.Faults.{is_filled, is_piece, piece_fault, piece_fault_at, payload_of, text_below, first_below, page_fault, TellsChipFault, IsPageCause, HoldsPage};
 
@@ -111,9 +112,7 @@ fn read_piece<C: Chip>(
     ensures within { IfOk result (λ end. end ≤ 480 * piece + 480) }
     ensures whole { is_last ≡ false → IfOk result (λ end. end ≡ 480 * piece + 480) }
     ensures asks { Asked (Read place (base_sector_of page piece)) result (C.told chip.old) (C.told chip.new) }
-    ensures places { (C.told chip.new).places ≡ (C.told chip.old).places }
-    ensures counts { Counts (C.told chip.old) (C.told chip.new) }
-    ensures cause { IfErr result (λ fault. IsPageCause place page fault (C.told chip.old) (C.told chip.new)) }
+    ensures accounts { Accounts (IsPageCause place page) result (C.told chip.old) (C.told chip.new) }
 {
     let mut bytes = [0; 512];
     let answer = read_sector(chip, place, base_sector(page, piece), &mut bytes)?;
@@ -141,9 +140,7 @@ fn read_pieces<C: Chip>(
         take end text.new ≡ text_below (chart_of x) place page pieces)) }
     ensures within { IfOk result (λ end. end ≤ 7680) }
     ensures asks { PageAsked place page pieces result (C.told chip.old) (C.told chip.new) }
-    ensures places { (C.told chip.new).places ≡ (C.told chip.old).places }
-    ensures counts { Counts (C.told chip.old) (C.told chip.new) }
-    ensures cause { IfErr result (λ fault. IsPageCause place page fault (C.told chip.old) (C.told chip.new)) }
+    ensures accounts { Accounts (IsPageCause place page) result (C.told chip.old) (C.told chip.new) }
 {
     let mut end = 0;
     for piece in 0..pieces {
@@ -173,9 +170,7 @@ pub fn read_page<C: Chip>(
         HoldsPage (chart_of x) place head.now.unit head.now.generation page pieces into.new)) }
     ensures empty { OnErr result (into.new ≡ empty_page) }
     ensures asks { PageAsked place page pieces result (C.told chip.old) (C.told chip.new) }
-    ensures places { (C.told chip.new).places ≡ (C.told chip.old).places }
-    ensures counts { Counts (C.told chip.old) (C.told chip.new) }
-    ensures cause { IfErr result (λ fault. IsPageCause place page fault (C.told chip.old) (C.told chip.new)) }
+    ensures accounts { Accounts (IsPageCause place page) result (C.told chip.old) (C.told chip.new) }
 {
     *into = PageMap::empty();
     let mut text = [0; 7680];

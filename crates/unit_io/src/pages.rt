@@ -1,13 +1,14 @@
 //! The base sectors of a page.
-ghost use Rattle.std.specs.Prelude.{◌≡◌, ◌<◌, ◌≤◌, ◌+◌, ◌*◌, ℕ, length, None, IfErr, IfOk, OnOk};
+ghost use Rattle.std.specs.Prelude.{◌≡◌, ◌<◌, ◌≤◌, ◌+◌, ◌*◌, ℕ, length, None, IfOk, OnOk};
 ghost use Rattle.chip_trait.specs.Lawful.{Clean, age};
-ghost use Rattle.chip_trait.specs.Told.{Told, History, Counts};
+ghost use Rattle.chip_trait.specs.Told.{Told, History};
 ghost use Rattle.ipl_rules.specs.State.{Map};
 ghost use Rattle.ipl_format.specs.Page.{IsCutInto, piece_of};
 ghost use Rattle.ipl_format.specs.Place.{base_sector_of};
 ghost use Rattle.ipl_meaning.specs.Layout.{base_sector};
-ghost use Rattle.ipl_meaning.specs.Rests.{now, EachStands, StoryRests};
-ghost use Rattle.unit_io.specs.Leads.{IsSteady, Leads, IsStopped};
+ghost use Rattle.ipl_meaning.specs.Rests.{now, StoryRests};
+ghost use Rattle.unit_io.specs.Accounts.{Accounts};
+ghost use Rattle.unit_io.specs.Leads.{IsSteady, KeepsMap, IsStopped};
 ghost use Rattle.unit_io.specs.Spots.{Programs, IsSpot, IsPieceSpot};
 ghost use Rattle.unit_io.specs.Charts.{Charts, Gains, HasPieces, HasPage};
 ghost use Rattle.unit_io.specs.Plain.{AddsPlain};
@@ -48,15 +49,12 @@ fn program_piece<C: Chip>(
     requires within { 480 * piece ≤ length text.now }
     ensures aside { (m : Map) (h : History) → IsSteady h (C.told chip.old) → StoryRests (C.told chip.old).places m h
         → now h place 0 ≡ None → age h.story place (base_sector_of page piece) ≡ Clean
-        → Leads (EachStands (C.told chip.old).places m) (Programs place (IsSpot (base_sector_of page piece)))
-        (λ done then. StoryRests (C.told chip.old).places m then
-        × Gains place (base_sector_of page piece) (base_sector head.now.unit head.now.generation page piece text.now) (now h) (now then))
+        → KeepsMap (C.told chip.old).places m (Programs place (IsSpot (base_sector_of page piece)))
+        (λ done. Gains place (base_sector_of page piece) (base_sector head.now.unit head.now.generation page piece text.now))
         h result (C.told chip.new) }
     ensures tells { OnOk result (Charts (Gains place (base_sector_of page piece) (base_sector head.now.unit head.now.generation page piece text.now)) (C.told chip.old) (C.told chip.new)) }
     ensures plain { AddsPlain (C.told chip.old) (C.told chip.new) }
-    ensures places { (C.told chip.new).places ≡ (C.told chip.old).places }
-    ensures counts { Counts (C.told chip.old) (C.told chip.new) }
-    ensures cause { IfErr result (λ fault. IsStopped fault (C.told chip.old) (C.told chip.new)) }
+    ensures accounts { Accounts IsStopped result (C.told chip.old) (C.told chip.new) }
 {
     let base = Head {
         kind: Head::BASE,
@@ -91,17 +89,13 @@ fn program_pieces<C: Chip>(
     requires fits { length text.now ≤ 7680 }
     ensures keeps { (m : Map) (h : History) → IsSteady h (C.told chip.old) → StoryRests (C.told chip.old).places m h
         → now h place 0 ≡ None → ((s : ℕ) → IsPieceSpot page 16 s → age h.story place s ≡ Clean)
-        → Leads (EachStands (C.told chip.old).places m) (Programs place (IsPieceSpot page 16))
-        (λ n then. StoryRests (C.told chip.old).places m then
-        × HasPieces place head.now.unit head.now.generation page text.now n (now h) (now then))
-        h result (C.told chip.new) }
+        → KeepsMap (C.told chip.old).places m (Programs place (IsPieceSpot page 16))
+        (λ n. HasPieces place head.now.unit head.now.generation page text.now n) h result (C.told chip.new) }
     ensures tells { IfOk result (λ n. Charts (HasPieces place head.now.unit head.now.generation page text.now n) (C.told chip.old) (C.told chip.new)) }
     ensures plain { AddsPlain (C.told chip.old) (C.told chip.new) }
     ensures cut { IfOk result (λ n. IsCutInto text.now n) }
     ensures few { IfOk result (λ n. n ≤ 16) }
-    ensures places { (C.told chip.new).places ≡ (C.told chip.old).places }
-    ensures counts { Counts (C.told chip.old) (C.told chip.new) }
-    ensures cause { IfErr result (λ fault. IsStopped fault (C.told chip.old) (C.told chip.new)) }
+    ensures accounts { Accounts IsStopped result (C.told chip.old) (C.told chip.new) }
 {
     let count = piece_count(text);
     for piece in 0..count {
@@ -126,16 +120,12 @@ pub fn program_page<C: Chip>(
     requires page { page < 15 }
     ensures keeps { (m : Map) (h : History) → IsSteady h (C.told chip.old) → StoryRests (C.told chip.old).places m h
         → now h place 0 ≡ None → ((s : ℕ) → IsPieceSpot page 16 s → age h.story place s ≡ Clean)
-        → Leads (EachStands (C.told chip.old).places m) (Programs place (IsPieceSpot page 16))
-        (λ n then. StoryRests (C.told chip.old).places m then
-        × HasPage place head.now.unit head.now.generation page map.now n (now h) (now then))
-        h result (C.told chip.new) }
+        → KeepsMap (C.told chip.old).places m (Programs place (IsPieceSpot page 16))
+        (λ n. HasPage place head.now.unit head.now.generation page map.now n) h result (C.told chip.new) }
     ensures tells { IfOk result (λ n. Charts (HasPage place head.now.unit head.now.generation page map.now n) (C.told chip.old) (C.told chip.new)) }
     ensures plain { AddsPlain (C.told chip.old) (C.told chip.new) }
     ensures few { IfOk result (λ n. n ≤ 16) }
-    ensures places { (C.told chip.new).places ≡ (C.told chip.old).places }
-    ensures counts { Counts (C.told chip.old) (C.told chip.new) }
-    ensures cause { IfErr result (λ fault. IsStopped fault (C.told chip.old) (C.told chip.new)) }
+    ensures accounts { Accounts IsStopped result (C.told chip.old) (C.told chip.new) }
 {
     let mut text = [0; 7680];
     let length = write(map, &mut text);

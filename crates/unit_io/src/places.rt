@@ -1,17 +1,18 @@
 //! A place taken, and sealed with a header.
-ghost use Rattle.std.specs.Prelude.{◌≡◌, ◌<◌, ◌≤◌, ℕ, length, IfErr, OnOk, Some};
+ghost use Rattle.std.specs.Prelude.{◌≡◌, ◌<◌, ◌≤◌, ℕ, length, OnOk, Some};
 ghost use Rattle.chip_trait.specs.Image.{IsClosed};
 ghost use Rattle.chip_trait.specs.Lawful.{Clean, age};
 ghost use Rattle.chip_trait.specs.Chart.{with_sector};
-ghost use Rattle.chip_trait.specs.Told.{Told, History, Counts};
+ghost use Rattle.chip_trait.specs.Told.{Told, History};
 ghost use Rattle.ipl_rules.specs.State.{Map};
 ghost use Rattle.ipl_format.specs.Sector.{Sector, IsKind, sector_in};
 ghost use Rattle.sector_format.specs.Decode.{sector_of};
 ghost use Rattle.ipl_meaning.specs.Stands.{Stands};
 ghost use Rattle.ipl_meaning.specs.Layout.{Layout, Laid};
-ghost use Rattle.ipl_meaning.specs.Rests.{now, EachStands, EachStandsEither, StoryRests};
+ghost use Rattle.ipl_meaning.specs.Rests.{now, StoryRests};
 ghost use Rattle.ipl_meaning.specs.Steps.{IsIdle};
-ghost use Rattle.unit_io.specs.Leads.{IsSteady, Leads, IsStopped};
+ghost use Rattle.unit_io.specs.Accounts.{Accounts};
+ghost use Rattle.unit_io.specs.Leads.{IsSteady, KeepsMap, SwitchesMap, IsStopped};
 ghost use Rattle.unit_io.specs.Spots.{Clears, Programs, IsSpot};
 ghost use Rattle.unit_io.specs.Charts.{Charts, IsCleared, Gains};
 ghost use Rattle.unit_io.specs.Plain.{AddsPlain, IsPlain, IsPlainSector};
@@ -28,14 +29,11 @@ pub fn begin_unit<C: Chip>(chip: &mut C, place: u32) -> Result<(), ChipFault>
     requires { place < (C.told chip.old).places }
     ensures keeps { (m : Map) (it : Layout) (h : History) → IsSteady h (C.told chip.old) → StoryRests (C.told chip.old).places m h
         → Laid (C.told chip.old).places (now h) it → IsIdle (C.told chip.old).places (now h) it place
-        → Leads (EachStands (C.told chip.old).places m) (Clears place)
-        (λ done then. StoryRests (C.told chip.old).places m then × IsCleared place (now h) (now then))
+        → KeepsMap (C.told chip.old).places m (Clears place) (λ done. IsCleared place)
         h result (C.told chip.new) }
     ensures tells { OnOk result (Charts (IsCleared place) (C.told chip.old) (C.told chip.new)) }
     ensures plain { AddsPlain (C.told chip.old) (C.told chip.new) }
-    ensures places { (C.told chip.new).places ≡ (C.told chip.old).places }
-    ensures counts { Counts (C.told chip.old) (C.told chip.new) }
-    ensures cause { IfErr result (λ fault. IsStopped fault (C.told chip.old) (C.told chip.new)) }
+    ensures accounts { Accounts IsStopped result (C.told chip.old) (C.told chip.new) }
 {
     erase(chip, place)?;
     // The erase has to last before the first program: else a sector could hold both.
@@ -48,13 +46,11 @@ fn add_header<C: Chip>(chip: &mut C, place: u32, bytes: &[u8; 512]) -> Result<()
     ensures leads { (m n : Map) (h : History) (said : Sector) → sector_in bytes.now ≡ Some said → IsSteady h (C.told chip.old)
         → StoryRests (C.told chip.old).places m h → IsClosed h.story → age h.story place 0 ≡ Clean
         → Stands (C.told chip.old).places (with_sector (now h) place 0 said) n
-        → Leads (EachStandsEither (C.told chip.old).places m n) (Programs place (IsSpot 0))
-        (λ done then. StoryRests (C.told chip.old).places n then × Gains place 0 said (now h) (now then)) h result (C.told chip.new) }
+        → SwitchesMap (C.told chip.old).places m n (Programs place (IsSpot 0))
+        (λ done. Gains place 0 said) h result (C.told chip.new) }
     ensures tells { (said : Sector) → sector_in bytes.now ≡ Some said → OnOk result (Charts (Gains place 0 said) (C.told chip.old) (C.told chip.new)) }
     ensures plain { IsPlain bytes.now → AddsPlain (C.told chip.old) (C.told chip.new) }
-    ensures places { (C.told chip.new).places ≡ (C.told chip.old).places }
-    ensures counts { Counts (C.told chip.old) (C.told chip.new) }
-    ensures cause { IfErr result (λ fault. IsStopped fault (C.told chip.old) (C.told chip.new)) }
+    ensures accounts { Accounts IsStopped result (C.told chip.old) (C.told chip.new) }
 {
     program(chip, place, 0, bytes)?;
     // The header has to last before anybody is told of what it makes count.
@@ -72,14 +68,11 @@ pub fn seal<C: Chip>(chip: &mut C, place: u32, head: &Head, payload: &[u8]) -> R
     ensures leads { (m n : Map) (h : History) → IsSteady h (C.told chip.old)
         → StoryRests (C.told chip.old).places m h → age h.story place 0 ≡ Clean
         → Stands (C.told chip.old).places (with_sector (now h) place 0 (sector_of head.now payload.now)) n
-        → Leads (EachStandsEither (C.told chip.old).places m n) (Programs place (IsSpot 0))
-        (λ done then. StoryRests (C.told chip.old).places n then × Gains place 0 (sector_of head.now payload.now) (now h) (now then))
-        h result (C.told chip.new) }
+        → SwitchesMap (C.told chip.old).places m n (Programs place (IsSpot 0))
+        (λ done. Gains place 0 (sector_of head.now payload.now)) h result (C.told chip.new) }
     ensures tells { OnOk result (Charts (Gains place 0 (sector_of head.now payload.now)) (C.told chip.old) (C.told chip.new)) }
     ensures plain { IsPlainSector (sector_of head.now payload.now) → AddsPlain (C.told chip.old) (C.told chip.new) }
-    ensures places { (C.told chip.new).places ≡ (C.told chip.old).places }
-    ensures counts { Counts (C.told chip.old) (C.told chip.new) }
-    ensures cause { IfErr result (λ fault. IsStopped fault (C.told chip.old) (C.told chip.new)) }
+    ensures accounts { Accounts IsStopped result (C.told chip.old) (C.told chip.new) }
 {
     let mut bytes = [0; 512];
     encode(head, payload, &mut bytes);

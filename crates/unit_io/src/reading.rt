@@ -1,10 +1,11 @@
 //! One sector read, and taken where it is of the kind wanted.
-ghost use Rattle.std.specs.Prelude.{◌≡◌, ◌<◌, ◌≤◌, ℕ, List, IfErr, IfOk, IfSome, OnOk};
+ghost use Rattle.std.specs.Prelude.{◌≡◌, ◌<◌, ◌≤◌, ℕ, List, IfOk, IfSome, OnOk};
 ghost use Rattle.chip_trait.specs.declared.event.Event.TheVariants.{Read};
-ghost use Rattle.chip_trait.specs.Told.{Told, Counts};
+ghost use Rattle.chip_trait.specs.Told.{Told};
 ghost use Rattle.ipl_format.specs.Sector.{sector_in};
 ghost use Rattle.sector_format.specs.Decode.{IsDecoded, sector_read};
 ghost use Rattle.ipl_meaning.specs.Chart.{chart_of};
+ghost use Rattle.unit_io.specs.Accounts.{Accounts};
 ghost use Rattle.unit_io.specs.Reads.{Asked, OfContents, IsReadFault};
 ghost use Rattle.unit_io.specs.Kinds.{of_kinds, header_only, log_only, commit_only, sector_named};
 
@@ -26,9 +27,7 @@ pub(crate) fn read_sector<C: Chip>(
     ensures decoded { IfOk result (λ answer. IsDecoded into.new answer) }
     ensures asks { Asked (Read place sector) result (C.told chip.old) (C.told chip.new) }
     ensures bytes { OnOk result (OfContents (C.told chip.old) (λ x. into.new ≡ x place sector)) }
-    ensures places { (C.told chip.new).places ≡ (C.told chip.old).places }
-    ensures counts { Counts (C.told chip.old) (C.told chip.new) }
-    ensures cause { IfErr result (λ fault. IsReadFault fault (C.told chip.old) (C.told chip.new)) }
+    ensures accounts { Accounts IsReadFault result (C.told chip.old) (C.told chip.new) }
 {
     read(chip, place, sector, into)?;
     Ok(decode(into))
@@ -68,9 +67,7 @@ fn read_of_kinds<C: Chip>(
     ensures kind { IfOk result (λ o. IfSome o (λ found. (first ≤ found.0.kind) × (found.0.kind ≤ last))) }
     ensures fits { IfOk result (λ o. IfSome o (λ found. found.1 ≤ 480)) }
     ensures asks { Asked (Read spot.place spot.sector) result (C.told chip.old) (C.told chip.new) }
-    ensures places { (C.told chip.new).places ≡ (C.told chip.old).places }
-    ensures counts { Counts (C.told chip.old) (C.told chip.new) }
-    ensures cause { IfErr result (λ fault. IsReadFault fault (C.told chip.old) (C.told chip.new)) }
+    ensures accounts { Accounts IsReadFault result (C.told chip.old) (C.told chip.new) }
 {
     let answer = read_sector(chip, spot.place, spot.sector, into)?;
     Ok(of_kinds(answer, first, last))
@@ -89,9 +86,7 @@ pub fn read_head<C: Chip>(
     ensures kind { IfOk result (λ o. IfSome o (λ found. (1 ≤ found.0.kind) × (found.0.kind ≤ 3))) }
     ensures fits { IfOk result (λ o. IfSome o (λ found. found.1 ≤ 480)) }
     ensures asks { Asked (Read place 0) result (C.told chip.old) (C.told chip.new) }
-    ensures places { (C.told chip.new).places ≡ (C.told chip.old).places }
-    ensures counts { Counts (C.told chip.old) (C.told chip.new) }
-    ensures cause { IfErr result (λ fault. IsReadFault fault (C.told chip.old) (C.told chip.new)) }
+    ensures accounts { Accounts IsReadFault result (C.told chip.old) (C.told chip.new) }
 {
     read_of_kinds(
         chip,
@@ -116,9 +111,7 @@ pub fn read_log<C: Chip>(
     ensures kind { IfOk result (λ o. IfSome o (λ found. found.0.kind ≡ 5)) }
     ensures fits { IfOk result (λ o. IfSome o (λ found. found.1 ≤ 480)) }
     ensures asks { Asked (Read spot.place spot.sector) result (C.told chip.old) (C.told chip.new) }
-    ensures places { (C.told chip.new).places ≡ (C.told chip.old).places }
-    ensures counts { Counts (C.told chip.old) (C.told chip.new) }
-    ensures cause { IfErr result (λ fault. IsReadFault fault (C.told chip.old) (C.told chip.new)) }
+    ensures accounts { Accounts IsReadFault result (C.told chip.old) (C.told chip.new) }
 {
     read_of_kinds(chip, spot, Head::LOG, Head::LOG, into)
 }
@@ -137,9 +130,7 @@ pub fn read_commit<C: Chip>(
     ensures kind { IfOk result (λ o. IfSome o (λ found. found.0.kind ≡ 6)) }
     ensures fits { IfOk result (λ o. IfSome o (λ found. found.1 ≤ 480)) }
     ensures asks { Asked (Read spot.place spot.sector) result (C.told chip.old) (C.told chip.new) }
-    ensures places { (C.told chip.new).places ≡ (C.told chip.old).places }
-    ensures counts { Counts (C.told chip.old) (C.told chip.new) }
-    ensures cause { IfErr result (λ fault. IsReadFault fault (C.told chip.old) (C.told chip.new)) }
+    ensures accounts { Accounts IsReadFault result (C.told chip.old) (C.told chip.new) }
 {
     read_of_kinds(chip, spot, Head::COMMIT, Head::COMMIT, into)
 }

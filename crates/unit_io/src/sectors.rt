@@ -1,15 +1,16 @@
 //! One sector of a place, programmed.
-ghost use Rattle.std.specs.Prelude.{◌≡◌, ◌≢◌, ◌<◌, ◌≤◌, ℕ, List, Some, None, IfErr, OnOk};
+ghost use Rattle.std.specs.Prelude.{◌≡◌, ◌≢◌, ◌<◌, ℕ, List, Some, None, OnOk};
 ghost use Rattle.chip_trait.specs.Lawful.{Clean, age};
-ghost use Rattle.chip_trait.specs.Told.{Told, History, Counts};
+ghost use Rattle.chip_trait.specs.Told.{Told, History};
 ghost use Rattle.ipl_rules.specs.State.{Map};
 ghost use Rattle.ipl_format.specs.Sector.{Sector, sector_in};
 ghost use Rattle.ipl_format.specs.Record.{Record};
 ghost use Rattle.sector_format.specs.Decode.{sector_of};
 ghost use Rattle.ipl_meaning.specs.Layout.{Layout, Laid};
-ghost use Rattle.ipl_meaning.specs.Rests.{now, EachStands, StoryRests};
+ghost use Rattle.ipl_meaning.specs.Rests.{now, StoryRests};
 ghost use Rattle.ipl_meaning.specs.Steps.{MayLog};
-ghost use Rattle.unit_io.specs.Leads.{IsSteady, Leads, IsStopped};
+ghost use Rattle.unit_io.specs.Accounts.{Accounts};
+ghost use Rattle.unit_io.specs.Leads.{IsSteady, KeepsMap, IsStopped};
 ghost use Rattle.unit_io.specs.Spots.{Programs, IsSpot};
 ghost use Rattle.unit_io.specs.Charts.{Charts, Gains};
 ghost use Rattle.unit_io.specs.Plain.{AddsPlain, IsPlain};
@@ -31,13 +32,11 @@ pub(crate) fn program_aside<C: Chip>(
     requires sector { sector < 256 }
     ensures aside { (m : Map) (h : History) (said : Sector) → sector_in bytes.now ≡ Some said → IsSteady h (C.told chip.old)
         → StoryRests (C.told chip.old).places m h → now h place 0 ≡ None → sector ≢ 0 → age h.story place sector ≡ Clean
-        → Leads (EachStands (C.told chip.old).places m) (Programs place (IsSpot sector))
-        (λ done then. StoryRests (C.told chip.old).places m then × Gains place sector said (now h) (now then)) h result (C.told chip.new) }
+        → KeepsMap (C.told chip.old).places m (Programs place (IsSpot sector))
+        (λ done. Gains place sector said) h result (C.told chip.new) }
     ensures tells { (said : Sector) → sector_in bytes.now ≡ Some said → OnOk result (Charts (Gains place sector said) (C.told chip.old) (C.told chip.new)) }
     ensures plain { IsPlain bytes.now → AddsPlain (C.told chip.old) (C.told chip.new) }
-    ensures places { (C.told chip.new).places ≡ (C.told chip.old).places }
-    ensures counts { Counts (C.told chip.old) (C.told chip.new) }
-    ensures cause { IfErr result (λ fault. IsStopped fault (C.told chip.old) (C.told chip.new)) }
+    ensures accounts { Accounts IsStopped result (C.told chip.old) (C.told chip.new) }
 {
     program(chip, place, sector, bytes)
 }
@@ -59,18 +58,14 @@ pub fn program_log<C: Chip>(
         → StoryRests (C.told chip.old).places m h → Laid (C.told chip.old).places (now h) it
         → MayLog (C.told chip.old).places (now h) it u spot.place spot.sector (sector_of head.now payload.now) records
         → age h.story spot.place spot.sector ≡ Clean
-        → Leads (EachStands (C.told chip.old).places m) (Programs spot.place (IsSpot spot.sector))
-        (λ done then. StoryRests (C.told chip.old).places m then × Gains spot.place spot.sector (sector_of head.now payload.now) (now h) (now then))
-        h result (C.told chip.new) }
+        → KeepsMap (C.told chip.old).places m (Programs spot.place (IsSpot spot.sector))
+        (λ done. Gains spot.place spot.sector (sector_of head.now payload.now)) h result (C.told chip.new) }
     ensures aside { (m : Map) (h : History) → IsSteady h (C.told chip.old) → StoryRests (C.told chip.old).places m h
         → now h spot.place 0 ≡ None → spot.sector ≢ 0 → age h.story spot.place spot.sector ≡ Clean
-        → Leads (EachStands (C.told chip.old).places m) (Programs spot.place (IsSpot spot.sector))
-        (λ done then. StoryRests (C.told chip.old).places m then × Gains spot.place spot.sector (sector_of head.now payload.now) (now h) (now then))
-        h result (C.told chip.new) }
+        → KeepsMap (C.told chip.old).places m (Programs spot.place (IsSpot spot.sector))
+        (λ done. Gains spot.place spot.sector (sector_of head.now payload.now)) h result (C.told chip.new) }
     ensures tells { OnOk result (Charts (Gains spot.place spot.sector (sector_of head.now payload.now)) (C.told chip.old) (C.told chip.new)) }
-    ensures places { (C.told chip.new).places ≡ (C.told chip.old).places }
-    ensures counts { Counts (C.told chip.old) (C.told chip.new) }
-    ensures cause { IfErr result (λ fault. IsStopped fault (C.told chip.old) (C.told chip.new)) }
+    ensures accounts { Accounts IsStopped result (C.told chip.old) (C.told chip.new) }
 {
     let mut bytes = [0; 512];
     encode(head, payload.bytes(), &mut bytes);

@@ -3,11 +3,13 @@ use Rattle.std.proofs.lemmas.Result.{err_from_is_err_and}
 use Rattle.unit_io.proofs.FaultLemmas.{used_is, payload_is, text_put}
 use Rattle.unit_io.proofs.page_reading.read_piece.Goals as goal
 
-pub returns-in_err-used-clause-cause : goal.returns-in_err-used-clause-cause
-returns-in_err-used-clause-cause g c =
-    let e = err_from_is_err_and c.from_residual-in_err-used.result c.from_residual-in_err-used.ensures.1 in
-    rw (e.1, e.2)
-    (c.in_err-used.ensures.cause c.read_sector.new.into (g.C.Chip.told c.args.chip.now) (g.C.Chip.told c.read_sector.new.chip) c.in_ok-answer.ensures.decoded)
+pub returns-in_err-used-clause-accounts : goal.returns-in_err-used-clause-accounts
+returns-in_err-used-clause-accounts g c =
+    let e = err_from_is_err_and c.from_residual-in_err-used.result c.from_residual-in_err-used.ensures.1 in record {
+      counts = c.in_ok-answer.ensures.accounts.counts;
+      cause = rw (e.1, e.2)
+          (c.in_err-used.ensures.cause c.read_sector.new.into (g.C.Chip.told c.args.chip.now) (g.C.Chip.told c.read_sector.new.chip) c.in_ok-answer.ensures.decoded);
+    }
 
 pub put_piece-requires-clause-used : goal.put_piece-requires-clause-used
 put_piece-requires-clause-used g c = c.in_ok-used.ensures.fits c.read_sector.new.into c.in_ok-answer.ensures.decoded

@@ -1,4 +1,4 @@
-use Rattle.std.proofs.Common.{◌≡◌, ◌<◌, ℕ, Ok, Err, subst, arith, refl, ◌∙◌}
+use Rattle.std.proofs.Common.{◌≡◌, ◌<◌, ℕ, Ok, Err, subst, arith}
 use Rattle.std.proofs.lemmas.Result.{err_from_is_err_and}
 use Rattle.unit_io.proofs.PageLemmas.{piled_none, piled_more, piled_fails, piled_all, charts_none, charts_more, IsOpenFor, PieceSays, Piled}
 use Rattle.chip_trait.proofs.CountsLemmas.{counts_none, counts_then}
@@ -10,7 +10,6 @@ loop-piece-init g c = record {
   keeps = λ m h steady ready. piled_none _ c.args.place c.args.head.now.unit c.args.head.now.generation c.args.page c.args.text.now m h (g.C.Chip.told c.args.chip.now) steady ready;
   tells = charts_none c.args.place c.args.head.now.unit c.args.head.now.generation c.args.page c.args.text.now (g.C.Chip.told c.args.chip.now);
   plain = plain_none (g.C.Chip.told c.args.chip.now);
-  places = refl;
   counts = counts_none (g.C.Chip.told c.args.chip.now);
 }
 
@@ -21,11 +20,10 @@ loop-piece-preserved g c =
       keeps = λ m h steady ready. piled_more _ c.args.place c.args.head.now.unit c.args.head.now.generation c.args.page c.args.text.now m h ready c.loop-piece.piece few (g.C.Chip.told c.loop-piece.chip) _
           (so_far.keeps m h steady ready)
           (subst (λ (q : ℕ). PieceSays q c.args.place c.args.head.now.unit c.args.head.now.generation c.args.page c.args.text.now c.loop-piece.piece (g.C.Chip.told c.loop-piece.chip) (Ok tt) (g.C.Chip.told c.program_piece.new.chip))
-          so_far.places c.in_ok-program_piece.ensures.aside);
+          so_far.counts.places c.in_ok-program_piece.ensures.aside);
       tells = charts_more c.args.place c.args.head.now.unit c.args.head.now.generation c.args.page c.args.text.now c.loop-piece.piece (g.C.Chip.told c.args.chip.now) (g.C.Chip.told c.loop-piece.chip) (g.C.Chip.told c.program_piece.new.chip) so_far.tells c.in_ok-program_piece.ensures.tells;
       plain = plain_then (g.C.Chip.told c.args.chip.now) (g.C.Chip.told c.loop-piece.chip) (g.C.Chip.told c.program_piece.new.chip) so_far.plain c.in_ok-program_piece.ensures.plain;
-      places = c.in_ok-program_piece.ensures.places ∙ so_far.places;
-      counts = counts_then (g.C.Chip.told c.args.chip.now) (g.C.Chip.told c.loop-piece.chip) (g.C.Chip.told c.program_piece.new.chip) so_far.counts c.in_ok-program_piece.ensures.counts;
+      counts = counts_then (g.C.Chip.told c.args.chip.now) (g.C.Chip.told c.loop-piece.chip) (g.C.Chip.told c.program_piece.new.chip) so_far.counts c.in_ok-program_piece.ensures.accounts.counts;
     }
 
 pub returns-in_err-program_piece-clause-keeps : goal.returns-in_err-program_piece-clause-keeps
@@ -37,7 +35,7 @@ returns-in_err-program_piece-clause-keeps g c = λ m h steady rests bare clean.
     rw e.1 (piled_fails _ c.args.place c.args.head.now.unit c.args.head.now.generation c.args.page c.args.text.now m h ready c.loop-piece.piece few (g.C.Chip.told c.loop-piece.chip) _ c.in_err-program_piece.field-0.0 e.0 _
     (so_far.keeps m h steady ready)
     (subst (λ (q : ℕ). PieceSays q c.args.place c.args.head.now.unit c.args.head.now.generation c.args.page c.args.text.now c.loop-piece.piece (g.C.Chip.told c.loop-piece.chip) (Err c.in_err-program_piece.field-0.0) (g.C.Chip.told c.program_piece.new.chip))
-    so_far.places c.in_err-program_piece.ensures.aside))
+    so_far.counts.places c.in_err-program_piece.ensures.aside))
 
 pub returns-clause-keeps : goal.returns-clause-keeps
 returns-clause-keeps g c = λ m h steady rests bare clean.

@@ -1,4 +1,4 @@
-use Rattle.std.proofs.Common.{◌≡◌, ℕ, List}
+use Rattle.std.proofs.Common.{ℕ, List}
 use Rattle.chip_trait.specs.Told.{Told, History, Counts}
 use Rattle.ipl_rules.specs.State.{Map}
 use Rattle.unit_io.specs.Leads.{IsSteady}
@@ -12,7 +12,6 @@ pub record IsPiled (first t : Told) (place unit generation page : ℕ) (text : L
   pub keeps : (m : Map) (h : History) → IsSteady h first → IsOpenFor first.places place page m h → Piled first.places place unit generation page text m h n t
   pub tells : Charts (HasPieces place unit generation page text n) first t
   pub plain : AddsPlain first t
-  pub places : t.places ≡ first.places
   pub counts : Counts first t
 
 abbrev pub invariant-loop-piece : goal.invariant-loop-piece
