@@ -7,3 +7,4 @@ pub mod ProgramLemmas
 pub mod EraseLemmas
 pub mod ClosedLemmas
 pub mod CountsLemmas
+pub mod HistoryLemmas

@@ -31,19 +31,19 @@ chosen_once c places Fits p q head other a b =
 
 -- ---- Two lists of entries by rising serial, of the same entries
 
-rise_tail : (e : Entry) (log : List Entry) → AllRise (e ∷ log) → AllRise log
+pub rise_tail : (e : Entry) (log : List Entry) → AllRise (e ∷ log) → AllRise log
 rise_tail e log rise = λ i j d less within. rise (suc i) (suc j) d (omega (arith, less)) (omega (arith, within))
 
-rise_head : (e : Entry) (log : List Entry) → AllRise (e ∷ log) → All (IsBelow e) log
+pub rise_head : (e : Entry) (log : List Entry) → AllRise (e ∷ log) → All (IsBelow e) log
 rise_head e log rise = λ k d within. rise 0 (suc k) d (omega arith) (omega (arith, within))
 
-first_is : (e : Entry) (log : List Entry) → Contains (e ∷ log) e
+pub first_is : (e : Entry) (log : List Entry) → Contains (e ∷ log) e
 first_is e log = (0, omega arith, refl)
 
-later_is : (e f : Entry) (log : List Entry) → Contains log f → Contains (e ∷ log) f
+pub later_is : (e f : Entry) (log : List Entry) → Contains log f → Contains (e ∷ log) f
 later_is e f log (k, within, is) = (suc k, omega (arith, within), is)
 
-first_or_later : (e f : Entry) (log : List Entry) → Contains (e ∷ log) f → (e ≡ f) ⊎ Contains log f
+pub first_or_later : (e f : Entry) (log : List Entry) → Contains (e ∷ log) f → (e ≡ f) ⊎ Contains log f
 first_or_later e f log (zero, within, is) = inl is
 first_or_later e f log (suc k, within, is) = inr (k, omega (arith, within), is)
 

@@ -1,12 +1,12 @@
 //! Log records, read from bytes.
 ghost use Rattle.std.specs.Prelude.{◌≡◌, ◌≤◌, ◌+◌, ◌↔◌, IsTrue, drop, length, option_map, slice_index, true};
-ghost use Rattle.ipl_format.specs.Numbers.{long_at};
 ghost use Rattle.ipl_format.specs.Record.{IsLogPayload};
 ghost use Rattle.log_records.specs.Reading.{change_at, first_record, has_record, is_change, record_at};
 ghost use Rattle.log_records.specs.View.{change_of, record_of};
 
 use crate::{Change, Record};
 use ipl_base::Value;
+use ipl_format::long_at;
 
 fn is_change(kind: u8, len: u8) -> bool
     ensures { result ≡ is_change kind len }
@@ -23,17 +23,6 @@ fn has_record(bytes: &[u8]) -> bool
         && bytes[2] < 64
         && is_change(bytes[1], bytes[3])
         && 12 + usize::from(bytes[3]) <= bytes.len()
-}
-
-// The transaction number of the first record.
-#[tactic(auto, unfolding(ipl_format::specs::Numbers::long_at))]
-fn first_tid(bytes: &[u8]) -> u64
-    requires { 12 ≤ length bytes.now }
-    ensures { result ≡ long_at 4 bytes.now }
-{
-    u64::from_be_bytes([
-        bytes[4], bytes[5], bytes[6], bytes[7], bytes[8], bytes[9], bytes[10], bytes[11],
-    ])
 }
 
 fn change_at(bytes: &[u8]) -> Change
@@ -57,7 +46,7 @@ fn first_record(bytes: &[u8]) -> Record
     Record {
         page: u32::from(bytes[0]),
         slot: u32::from(bytes[2]),
-        tid: first_tid(bytes),
+        tid: long_at(bytes, 4),
         change: change_at(bytes),
     }
 }

@@ -5,11 +5,11 @@ use Rattle.std.proofs.lemmas.Bool.{leb-true, ltb-true, le-leb, lt-ltb, le-ltb, a
 use Rattle.ipl_base.specs.declared.fault.ImageFault.{ImageFault}
 use Rattle.ipl_base.specs.declared.fault.ImageFault.TheVariants.{Geometry, Spent, NoSpare}
 use Rattle.ipl_meaning.specs.Chart.{Chart}
-use Rattle.opening_rules.specs.First.{first_below}
+use Rattle.ipl_base.specs.First.{first_below}
 use Rattle.opening_rules.specs.Chosen.{header_at, current_at, status_at}
 use Rattle.opening_rules.specs.Live.{sectors}
 use Rattle.opening_rules.specs.Faults.{size_fault, not_formatted, other_geometry, missing, bad_header, header_fault, commit_fault, first_commit_fault, log_fault, first_log_fault, greatest_found, spent, overflows_found, no_spare, first_fault}
-use Rattle.opening_rules.proofs.FirstLemmas.{or_none, first_none, none_before}
+use Rattle.ipl_base.proofs.FirstLemmas.{or_none, first_none, none_before}
 
 -- ---- six that are not there
 

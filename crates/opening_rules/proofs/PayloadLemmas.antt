@@ -9,6 +9,7 @@ use Rattle.ipl_format.specs.Numbers.{IsBytes, word, long, word_at, long_at}
 use Rattle.ipl_format.specs.Record.{Record, IsRecord, SpellsLog, record_bytes, log_bytes}
 use Rattle.ipl_format.specs.Commit.{IsLong}
 use Rattle.ipl_format.specs.Header.{IsCount, data_header_bytes}
+use Rattle.ipl_format.proofs.HeaderLemmas.{header_rebuilt, header_parts}
 use Rattle.ipl_format.proofs.ListLemmas.{bytes-drop}
 use Rattle.ipl_format.proofs.NumberLemmas.{length-long, word_rebuilt, long_rebuilt, word_at-lt, long_at-lt, word_again, long_again}
 use Rattle.ipl_format.proofs.PayloadLemmas.{commits_have_sizes, data_headers_have_sizes, units_have_sizes}
@@ -28,24 +29,6 @@ counts_pass : (xs : List ℕ) → All IsCount xs → list_all is_count xs ≡ tr
 counts_pass [] each = refl
 counts_pass (x ∷ xs) each = and_from _ _ (le-leb x 16 (All-head IsCount x xs each)) (counts_pass xs (All-tail IsCount x xs each))
 
-one_left : (xs : List ℕ) → length xs ≡ 1 → xs ≡ get_or xs 0 0 ∷ []
-one_left [] one = absurd (omega (arith, one))
-one_left (x ∷ []) one = refl
-one_left (x ∷ y ∷ xs) one = absurd (omega (arith, one))
-
--- twenty bytes are a number, fifteen counts and one more
-twenty : (payload : List ℕ) → length payload ≡ 20 → IsBytes payload
-    → payload ≡ data_header_bytes (word_at 0 payload) (pieces_in payload) (get_or payload 19 0)
-unfolding data_header_bytes
-twenty payload size all =
-    let number : take 4 payload ≡ word (word_at 0 payload) = word_rebuilt 0 payload (omega (arith, size)) all in
-    let tail : drop 15 (drop 4 payload) ≡ get_or payload 19 0 ∷ [] =
-    drop-drop 15 4 payload ∙ (one_left (drop 19 payload) (omega (arith, length-drop 19 payload, size))
-    ∙ ap (λ (n : ℕ). n ∷ []) (get_or-drop 19 payload 0 0)) in
-    sym (take-append-drop 4 payload) ∙ ap₂ (λ (x y : List ℕ). x ++ y) number
-    (sym (take-append-drop 15 (drop 4 payload)) ∙ ap (λ (x : List ℕ). take 15 (drop 4 payload) ++ x) tail)
-    ∙ sym (append_assoc (word (word_at 0 payload)) (take 15 (drop 4 payload)) (get_or payload 19 0 ∷ []))
-
 pub data_payloads_are_spelled : DataPayloadsAreSpelled
 data_payloads_are_spelled units payload all is =
     let a = and_parts _ _ is in
@@ -55,37 +38,25 @@ data_payloads_are_spelled units payload all is =
     let same : word_at 0 payload ≡ units = eqb-true (word_at 0 payload) units b.0 in
     record {
       carried = get_or payload 19 0;
-      bytes = twenty payload size all ∙ ap (λ (n : ℕ). data_header_bytes n (pieces_in payload) (get_or payload 19 0)) same;
+      bytes = header_rebuilt payload size all ∙ ap (λ (n : ℕ). data_header_bytes n (pieces_in payload) (get_or payload 19 0)) same;
       fits = let low = word_at-lt 0 payload all in omega (arith, low, same);
       fifteen = length-take-le 15 (drop 4 payload) (omega (arith, length-drop 4 payload, size));
       each = counts_are (pieces_in payload) d.0;
       few = leb-true (get_or payload 19 0) 12 d.1;
     }
 
--- what was written is read
-parts : (units carried : ℕ) (pieces : List ℕ) → length pieces ≡ 15 → units < 2 ^ 32
-    → (word_at 0 (data_header_bytes units pieces carried) ≡ units) × (pieces_in (data_header_bytes units pieces carried) ≡ pieces)
-    × (get_or (data_header_bytes units pieces carried) 19 0 ≡ carried)
-unfolding data_header_bytes word
-parts units carried pieces fifteen low =
-    let rest : drop 4 ((word units ++ pieces) ++ carried ∷ []) ≡ pieces ++ carried ∷ [] = dropped units pieces (carried ∷ []) in (
-      ap (word_at 0) (append_assoc (word units) pieces (carried ∷ [])) ∙ word_again units (pieces ++ carried ∷ []) low,
-      ap (take 15) rest ∙ take_at pieces (carried ∷ []) 15 fifteen,
-      sym (get_or-drop 19 ((word units ++ pieces) ++ carried ∷ []) 0 0)
-          ∙ ap (λ (l : List ℕ). get_or l 0 0) (sym (drop-drop 15 4 ((word units ++ pieces) ++ carried ∷ []))
-          ∙ (ap (drop 15) rest ∙ drop_at pieces (carried ∷ []) 15 fifteen)),
-    )
-  where
-    dropped : (n : ℕ) (xs ys : List ℕ) → drop 4 ((word n ++ xs) ++ ys) ≡ xs ++ ys
-    dropped n xs ys = refl
+-- the number that was written is read
+number_again : (units carried : ℕ) (pieces : List ℕ) → units < 2 ^ 32 → word_at 0 (data_header_bytes units pieces carried) ≡ units
+unfolding data_header_bytes
+number_again units carried pieces low = ap (word_at 0) (append_assoc (word units) pieces (carried ∷ [])) ∙ word_again units (pieces ++ carried ∷ []) low
 
 pub spelled_data_passes : SpelledDataPasses
 spelled_data_passes units pieces payload it =
     let size = data_headers_have_sizes payload units pieces it in
-    let p = parts units it.carried pieces it.fifteen it.fits in
-    let number : word_at 0 payload ≡ units = ap (word_at 0) it.bytes ∙ p.0 in
-    let same : pieces_in payload ≡ pieces = ap pieces_in it.bytes ∙ p.1 in
-    let last : get_or payload 19 0 ≡ it.carried = ap (λ (l : List ℕ). get_or l 19 0) it.bytes ∙ p.2 in (
+    let p = header_parts units it.carried pieces it.fifteen in
+    let number : word_at 0 payload ≡ units = ap (word_at 0) it.bytes ∙ number_again units it.carried pieces it.fits in
+    let same : pieces_in payload ≡ pieces = ap pieces_in it.bytes ∙ p.0 in
+    let last : get_or payload 19 0 ≡ it.carried = ap (λ (l : List ℕ). get_or l 19 0) it.bytes ∙ p.1 in (
       and_from _ _ (eq-eqb (length payload) 20 size) (and_from _ _ (eq-eqb (word_at 0 payload) units number)
           (and_from _ _ (ap (list_all is_count) same ∙ counts_pass pieces it.each) (le-leb (get_or payload 19 0) 12 (let few = it.few in omega (arith, few, last))))),
       same,

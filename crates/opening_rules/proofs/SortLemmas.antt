@@ -5,6 +5,7 @@ use Rattle.std.proofs.lemmas.Bool.{cases_eq, cases_Bool, ltb-true, ltb-false}
 use Rattle.std.proofs.lemmas.List.Elements.{All-nil, All-cons, All-head, All-tail, All-weaker, All-contains, All-contains_itself}
 use Rattle.std.proofs.lemmas.List.Kept.{AllPairs-cons}
 use Rattle.ipl_meaning.specs.Layout.{Entry, IsBelow, AllRise}
+use Rattle.ipl_meaning.proofs.OnceLemmas.{rise_tail, rise_head, first_is, later_is, first_or_later}
 use Rattle.opening_rules.specs.LaidOut.{inserted, with_inserted, sorted_below}
 
 inserted_before : (e f : Entry) (log : List Entry) → nat_lt e.sector.serial f.sector.serial ≡ true → inserted e (f ∷ log) ≡ e ∷ f ∷ log
@@ -12,16 +13,6 @@ inserted_before e f log less = rw less refl
 
 inserted_after : (e f : Entry) (log : List Entry) → nat_lt e.sector.serial f.sector.serial ≡ false → inserted e (f ∷ log) ≡ f ∷ inserted e log
 inserted_after e f log more = rw more refl
-
-first_is : (e : Entry) (log : List Entry) → Contains (e ∷ log) e
-first_is e log = (0, omega arith, refl)
-
-later_is : (e f : Entry) (log : List Entry) → Contains log f → Contains (e ∷ log) f
-later_is e f log (k, within, is) = (suc k, omega (arith, within), is)
-
-first_or_later : (e f : Entry) (log : List Entry) → Contains (e ∷ log) f → (e ≡ f) ⊎ Contains log f
-first_or_later e f log (zero, within, is) = inl is
-first_or_later e f log (suc k, within, is) = inr (k, omega (arith, within), is)
 
 -- ---- what it has
 
@@ -56,12 +47,6 @@ inserted_from e x (f ∷ log) has = elim (cases_Bool (nat_lt e.sector.serial f.s
 ]
 
 -- ---- its order
-
-rise_tail : (e : Entry) (log : List Entry) → AllRise (e ∷ log) → AllRise log
-rise_tail e log rise = λ i j d less within. rise (suc i) (suc j) d (omega (arith, less)) (omega (arith, within))
-
-rise_head : (e : Entry) (log : List Entry) → AllRise (e ∷ log) → All (IsBelow e) log
-rise_head e log rise = λ k d within. rise 0 (suc k) d (omega arith) (omega (arith, within))
 
 no_pairs : AllRise []
 no_pairs = λ i j d less within. absurd (omega (arith, within))

@@ -4,9 +4,9 @@ use Rattle.std.specs.Result.{IsErrAnd}
 use Rattle.std.specs.Option.{option_or}
 use Rattle.std.proofs.lemmas.Bool.{cases_Bool}
 use Rattle.ipl_base.specs.declared.fault.ImageFault.{ImageFault}
-use Rattle.opening_rules.specs.First.{first_below}
+use Rattle.ipl_base.specs.First.{first_below}
 use Rattle.opening_rules.specs.Faults.{TellsImageFault, is_image}
-use Rattle.opening_rules.proofs.FirstLemmas.{first_found}
+use Rattle.ipl_base.proofs.FirstLemmas.{first_found}
 
 -- what a callee said of its fault, at the exit of a `?`
 pub tells_exit : {T : Type 0} (r : Result T ImageFault) (fault : Option ImageFault) (e : ImageFault) → IsErrAnd r (λ y. y ≡ e)

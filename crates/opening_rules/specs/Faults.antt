@@ -6,7 +6,8 @@ use Rattle.ipl_base.specs.declared.fault.ImageFault.{ImageFault}
 use Rattle.ipl_base.specs.declared.fault.ImageFault.TheVariants.{Geometry, NotFormatted, Missing, Chip, Spent, NoSpare}
 use Rattle.ipl_format.specs.Sector.{Sector}
 use Rattle.ipl_meaning.specs.Chart.{Chart}
-use Rattle.opening_rules.specs.First.{first_below, first_of, greatest_below, greatest_of, count_below}
+use Rattle.ipl_base.specs.First.{first_below}
+use Rattle.opening_rules.specs.First.{first_of, greatest_below, greatest_of, count_below}
 use Rattle.opening_rules.specs.Payloads.{is_commit_payload, is_log_payload, numbers_told, tids_told}
 use Rattle.opening_rules.specs.Chosen.{KeptHeader, Winner, header_at, current_at, status_at}
 use Rattle.opening_rules.specs.Live.{sectors, commit_at, seen_at, live_at, is_overflow_place, Mark, mark_of, marks, marks_in}

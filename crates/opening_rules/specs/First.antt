@@ -1,11 +1,6 @@
--- The first, all, the greatest and how many, of several by rising number.
+-- The first of a list, and all, the greatest and how many, of several by rising number.
 use Rattle.std.specs.Prelude.{ℕ, zero, suc, List, [], ◌∷◌, ◌++◌, Option, Some, None, Bool, false, ◌+◌, if◌then◌else◌, max, slice_index_or}
 use Rattle.std.specs.Option.{option_or}
-
--- the first that is there, of f 0, f 1, .. below n
-abbrev pub first_below : {A : Type 0} → (ℕ → Option A) → ℕ → Option A
-first_below f zero = None
-first_below f (suc n) = option_or (first_below f n) (f n)
 
 -- the first that is there
 abbrev pub first_of : {A : Type 0} → List (Option A) → Option A

@@ -1,7 +1,7 @@
 -- What it means to be the first fault of several.
 use Rattle.std.specs.Prelude.{ℕ, ◌≡◌, ◌<◌, Option, Some, None}
 use Rattle.ipl_base.specs.declared.fault.ImageFault.{ImageFault}
-use Rattle.opening_rules.specs.First.{first_below}
+use Rattle.ipl_base.specs.First.{first_below}
 
 -- it is at a number below n, and at no lower one is any
 pub record IsFirst (f : ℕ → Option ImageFault) (n : ℕ) (fault : ImageFault) : Type 0 where

@@ -1,9 +1,10 @@
 -- The laws of an opening: no fault is a chart that is laid out rightly, with numbers that are not used up.
-use Rattle.std.specs.Prelude.{ℕ, ◌≡◌, ◌<◌, ◌≤◌, ◌⊎◌, ◌+◌, ◌^◌, true, List, length, Some, None}
+use Rattle.std.specs.Prelude.{ℕ, ◌≡◌, ◌<◌, ◌≤◌, ◌⊎◌, ◌+◌, ◌^◌, true, Some, None}
 use Rattle.chip_trait.specs.Story.{Contents}
 use Rattle.ipl_base.specs.declared.fault.ImageFault.TheVariants.{Spent}
 use Rattle.ipl_format.specs.Numbers.{IsBytes}
 use Rattle.ipl_format.specs.Sector.{Sector}
+use Rattle.ipl_format.specs.Whole.{IsWhole}
 use Rattle.ipl_meaning.specs.Chart.{Chart, chart_of}
 use Rattle.ipl_meaning.specs.Formatted.{formatted}
 use Rattle.ipl_meaning.specs.Layout.{Layout, Laid}
@@ -23,11 +24,6 @@ abbrev pub IsByteChart : ℕ → Chart → Type 0
 IsByteChart places c =
     (p s : ℕ) (sector : Sector) → p < places → s < 256 → MayBeRead places c p s → c p s ≡ Some sector
     → IsBytes sector.payload
-
--- a sector has 512 bytes
-pub record IsWhole (sector : List ℕ) : Type 0 where
-  pub size : length sector ≡ 512
-  pub bytes : IsBytes sector
 
 -- where the sectors that it reads are so, they are
 abbrev pub WholeSectorsMakeByteCharts : Type 0

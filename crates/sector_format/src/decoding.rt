@@ -4,7 +4,8 @@ ghost use Rattle.ipl_format.specs.Sector.{sector_in};
 ghost use Rattle.sector_format.specs.Decode.{IsDecoded, sector_read};
 
 use crate::Decoded;
-use crate::reading::{head_in, is_erased, is_formed, sum_of, u32_at, used_length};
+use crate::reading::{head_in, is_erased, is_formed, sum_of, used_length};
+use ipl_format::word_at;
 
 /// What a sector's bytes are: erased, where all of them are FF; else bad, where the sums differ; else strange, where
 /// another rule of the format is broken; else a sector.
@@ -15,7 +16,7 @@ pub fn decode(bytes: &[u8; 512]) -> Decoded
     if is_erased(bytes) {
         return Decoded::Erased;
     }
-    let stored = u32_at(bytes, 28);
+    let stored = word_at(bytes, 28);
     let computed = sum_of(bytes);
     if stored != computed {
         return Decoded::Bad { stored, computed };

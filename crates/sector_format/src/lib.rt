@@ -13,6 +13,7 @@ mod sector;
 pub use decoding::decode;
 pub use encoding::encode;
 pub use laws::decode_laws;
+pub use reading::payload_in;
 pub use sector::{Decoded, Head};
 
 #[cfg(test)]

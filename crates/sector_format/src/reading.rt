@@ -1,37 +1,21 @@
 //! The parts of a sector, as its bytes have them.
-ghost use Rattle.std.specs.Prelude.{◌≡◌, ◌≤◌, ◌+◌, ◌↔◌, IsTrue, drop, length, replicate};
+ghost use Rattle.std.specs.Prelude.{◌≡◌, ◌≤◌, ◌+◌, ◌↔◌, IsTrue, drop, length, replicate, take};
 ghost use Rattle.std.specs.List.{list_all};
 ghost use Rattle.chip_trait.specs.Story.{blank};
-ghost use Rattle.ipl_format.specs.Numbers.{half_at, word_at, long_at};
 ghost use Rattle.ipl_format.specs.Sector.{computed_sum, is_formed, is_marked, is_zero, used_length};
 ghost use Rattle.sector_format.specs.Decode.{head_in};
 
 use crate::Head;
-use byteorder::{BigEndian, ByteOrder};
 use crc_sum::crc32_parts;
+use ipl_format::{half_at, long_at, word_at};
 
-#[tactic(auto, unfolding(ipl_format::specs::Numbers::half_at))]
-fn u16_at(bytes: &[u8; 512], place: usize) -> u16
-    requires { place + 2 ≤ 512 }
-    ensures { result ≡ half_at place bytes.now }
+/// The payload of a sector that uses so many bytes of it, 0 to 480.
+pub fn payload_in(bytes: &[u8; 512], used: usize) -> &[u8]
+    requires { used ≤ 480 }
+    ensures payload { result.now ≡ take used (drop 32 bytes.now) }
+    ensures size { length result.now ≡ used }
 {
-    BigEndian::read_u16(&bytes[place..place + 2])
-}
-
-#[tactic(auto, unfolding(ipl_format::specs::Numbers::word_at))]
-pub(crate) fn u32_at(bytes: &[u8; 512], place: usize) -> u32
-    requires { place + 4 ≤ 512 }
-    ensures { result ≡ word_at place bytes.now }
-{
-    BigEndian::read_u32(&bytes[place..place + 4])
-}
-
-#[tactic(auto, unfolding(ipl_format::specs::Numbers::long_at))]
-fn u64_at(bytes: &[u8; 512], place: usize) -> u64
-    requires { place + 8 ≤ 512 }
-    ensures { result ≡ long_at place bytes.now }
-{
-    BigEndian::read_u64(&bytes[place..place + 8])
+    &bytes[32..32 + used]
 }
 
 // The sum of all bytes but those of the sum itself.
@@ -63,7 +47,7 @@ fn is_marked(bytes: &[u8; 512]) -> bool
 pub(crate) fn used_length(bytes: &[u8; 512]) -> usize
     ensures { result ≡ used_length bytes.now }
 {
-    usize::from(u16_at(bytes, 6))
+    usize::from(half_at(bytes, 6))
 }
 
 fn is_zero(bytes: &[u8]) -> bool
@@ -98,8 +82,8 @@ pub(crate) fn head_in(bytes: &[u8; 512]) -> Head
 {
     Head {
         kind: bytes[4],
-        unit: u32_at(bytes, 8),
-        generation: u64_at(bytes, 12),
-        serial: u64_at(bytes, 20),
+        unit: word_at(bytes, 8),
+        generation: long_at(bytes, 12),
+        serial: long_at(bytes, 20),
     }
 }

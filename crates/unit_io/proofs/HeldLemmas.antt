@@ -14,10 +14,11 @@ use Rattle.ipl_format.proofs.ListLemmas.{both_true}
 use Rattle.ipl_format.proofs.SectorOnceLemmas.{formed_facts, said_parts}
 use Rattle.ipl_meaning.specs.Chart.{Chart, chart_of}
 use Rattle.ipl_meaning.specs.Layout.{base_sector}
-use Rattle.unit_io.specs.Faults.{is_filled, is_piece, piece_fault_at, payload_of, text_below, is_page_text, first_below, text_fault, page_fault, HoldsPage}
+use Rattle.ipl_base.specs.First.{first_below}
+use Rattle.unit_io.specs.Faults.{is_filled, is_piece, piece_fault_at, payload_of, text_below, is_page_text, text_fault, page_fault, HoldsPage}
 use Rattle.unit_io.specs.Laws.{SoundPagesAreHeld, HeldPagesReadWell}
 use Rattle.unit_io.proofs.FaultLemmas.{no_fault, said_fault}
-use Rattle.unit_io.proofs.PiecesLemmas.{first_none, none_first, none_second, none_each}
+use Rattle.ipl_base.proofs.FirstLemmas.{first_none, or_none, none_before}
 use Rattle.unit_io.proofs.TextLemmas.{tests_text}
 
 -- ---- one piece
@@ -144,7 +145,7 @@ module _ (x : Contents) (place u g page pieces : ℕ) where
   sound_pieces n none i low =
       piece_in (x place (base_sector_of page i)) (sector_in (x place (base_sector_of page i))) u g (page * 16 + i) (eqb (i + 1) pieces) refl
       (no_fault place (base_sector_of page i) u g (page * 16 + i) (eqb (i + 1) pieces) (x place (base_sector_of page i))
-      (none_each (piece_fault_at x place u g page pieces) n none i low))
+      (none_before (piece_fault_at x place u g page pieces) n none i low))
 
   pub sound_held : (slots : Slots) → first_below (piece_fault_at x place u g page pieces) pieces ≡ None
       → SpellsPage (text_below (chart_of x) place page pieces) slots → HoldsPage (chart_of x) place u g page pieces slots
@@ -177,8 +178,8 @@ module _ (x : Contents) (place u g page pieces : ℕ) where
       → (first_below (piece_fault_at x place u g page pieces) pieces ≡ None) × (text_fault place page (text_below (chart_of x) place page pieces) ≡ None)
   unfolding page_fault
   parts_of none = (
-    none_first (first_below (piece_fault_at x place u g page pieces) pieces) (text_fault place page (text_below (chart_of x) place page pieces)) none,
-    none_second (first_below (piece_fault_at x place u g page pieces) pieces) (text_fault place page (text_below (chart_of x) place page pieces)) none,
+    (or_none (first_below (piece_fault_at x place u g page pieces) pieces) (text_fault place page (text_below (chart_of x) place page pieces)) none).0,
+    (or_none (first_below (piece_fault_at x place u g page pieces) pieces) (text_fault place page (text_below (chart_of x) place page pieces)) none).1,
   )
 
   text_of : text_fault place page (text_below (chart_of x) place page pieces) ≡ None → IsPageText (text_below (chart_of x) place page pieces)

@@ -1,5 +1,6 @@
 -- Calls that program no log sector and no commit sector.
 use Rattle.std.proofs.Common.{◌≡◌, ℕ, List, [], ◌∷◌, ◌++◌, Some, Result, Ok, Err, inl, inr, sym, ◌∙◌, ap, append_assoc, option_map, subst}
+use Rattle.std.proofs.lemmas.Option.{same_Some}
 use Rattle.chip_trait.specs.declared.event.Event.{Event}
 use Rattle.chip_trait.specs.declared.event.Event.TheVariants.{Barrier}
 use Rattle.chip_trait.specs.Story.{Story}
@@ -42,7 +43,4 @@ plain_waited old new (Err fault) did = plain_same old new did.history
 
 -- bytes that say one sector say no other
 pub plain_said : (bytes : List ℕ) (sector : Sector) → sector_in bytes ≡ Some sector → IsPlainSector sector → IsPlain bytes
-plain_said bytes sector said plain other is = subst IsPlainSector (some_one (sym said ∙ is)) plain
-  where
-    some_one : {X : Type 0} {a b : X} → Some a ≡ Some b → a ≡ b
-    some_one e = cc
+plain_said bytes sector said plain other is = subst IsPlainSector (same_Some _ _ (sym said ∙ is)) plain

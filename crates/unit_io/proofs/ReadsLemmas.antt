@@ -6,28 +6,21 @@ use Rattle.std.proofs.lemmas.List.Elements.{All-cons}
 use Rattle.chip_trait.specs.declared.event.Event.{Event}
 use Rattle.chip_trait.specs.declared.event.Event.TheVariants.{Read, Program, Erase, Barrier, Said}
 use Rattle.chip_trait.specs.Story.{Story}
-use Rattle.chip_trait.specs.Told.{History, Told, Appends, Misses, adds, adds_all}
+use Rattle.chip_trait.specs.Told.{Told, Appends, Misses, adds}
+use Rattle.chip_trait.proofs.HistoryLemmas.{same_history, history_then}
 use Rattle.ipl_format.specs.Place.{base_sector_of}
 use Rattle.unit_io.specs.Reads.{Reads, page_reads, IsPageRead}
 use Rattle.unit_io.specs.Laws.{PageReadsAreOfThePage}
 
-none_added : (o : Option History) → o ≡ option_map (adds_all []) o
-none_added None = refl
-none_added (Some h) = refl
-
-one_added : (e : Event) (added : Story) (o : Option History) → option_map (adds e) (option_map (adds_all added) o) ≡ option_map (adds_all (e ∷ added)) o
-one_added e added None = refl
-one_added e added (Some h) = refl
-
 pub reads_none : (t : Told) → Reads [] t t
-reads_none t = record { places = refl; settled = refl; history = none_added t.history; contents = refl }
+reads_none t = record { places = refl; settled = refl; history = same_history t.history; contents = refl }
 
 module _ (added : Story) (p s : ℕ) (first mid new : Told) (so_far : Reads added first mid) where
   pub reads_more : Appends (Read p s) mid new → Reads (Read p s ∷ added) first new
   reads_more did = record {
     places = did.places ∙ so_far.places;
     settled = did.settled ∙ so_far.settled;
-    history = did.history ∙ (ap (option_map (adds (Read p s))) so_far.history ∙ one_added (Read p s) added first.history);
+    history = did.history ∙ (ap (option_map (adds (Read p s))) so_far.history ∙ history_then (Read p s ∷ []) added first.history);
     contents = did.contents ∙ (option_map_id mid.contents ∙ so_far.contents);
   }
 
@@ -43,7 +36,7 @@ module _ (added : Story) (p s : ℕ) (first mid new : Told) (so_far : Reads adde
   reads_tried missed some = record {
     places = missed.places ∙ so_far.places;
     settled = missed.settled ∙ so_far.settled;
-    history = some ∙ (ap (option_map (adds (Read p s))) so_far.history ∙ one_added (Read p s) added first.history);
+    history = some ∙ (ap (option_map (adds (Read p s))) so_far.history ∙ history_then (Read p s ∷ []) added first.history);
     contents = missed.contents ∙ so_far.contents;
   }
 

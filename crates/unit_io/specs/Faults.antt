@@ -4,6 +4,7 @@ use Rattle.std.specs.List.{list_all}
 use Rattle.std.specs.Option.{option_or}
 use Rattle.chip_trait.specs.Story.{Contents}
 use Rattle.chip_trait.specs.Told.{Told, Rose}
+use Rattle.ipl_base.specs.First.{first_below}
 use Rattle.ipl_base.specs.declared.fault.ChipFault.{ChipFault}
 use Rattle.ipl_base.specs.declared.fault.ChipFault.TheVariants.{ReadFault, Stopped, Damaged, Malformed}
 use Rattle.ipl_format.specs.Sector.{Sector, stored_sum, computed_sum, sector_in}
@@ -66,11 +67,6 @@ unfoldable pub is_page_text : List ℕ → Bool
 is_page_text bytes = is_text_from (length bytes) 0 bytes
 
 -- ---- the page
-
--- the first of them
-abbrev pub first_below : (ℕ → Option ChipFault) → ℕ → Option ChipFault
-first_below f zero = None
-first_below f (suc n) = option_or (first_below f n) (f n)
 
 -- what is wrong with the i-th of so many pieces
 abbrev pub piece_fault_at : Contents → ℕ → ℕ → ℕ → ℕ → ℕ → ℕ → Option ChipFault

@@ -16,7 +16,7 @@ pub use laws::page_laws;
 pub use page_reading::read_page;
 pub use pages::program_page;
 pub use places::{begin_unit, seal};
-pub use reading::{read_commit, read_head, read_log};
+pub use reading::{read_commit, read_head, read_log, read_sector};
 pub use sectors::program_log;
 
 #[cfg(test)]

@@ -10,14 +10,15 @@ ghost use Rattle.sector_format.specs.Decode.{IsDecoded, sector_of, sector_read};
 ghost use Rattle.ipl_meaning.specs.Chart.{chart_of};
 ghost use Rattle.unit_io.specs.Accounts.{Accounts};
 ghost use Rattle.unit_io.specs.Reads.{Asked, OfContents, PageAsked};
-ghost use Rattle.unit_io.specs.Faults.{is_filled, is_piece, piece_fault, piece_fault_at, payload_of, text_below, first_below, page_fault, TellsChipFault, IsPageCause, HoldsPage};
+ghost use Rattle.ipl_base.specs.First.{first_below};
+ghost use Rattle.unit_io.specs.Faults.{is_filled, is_piece, piece_fault, piece_fault_at, payload_of, text_below, page_fault, TellsChipFault, IsPageCause, HoldsPage};
 
 use crate::pages::PIECE;
-use crate::reading::read_sector;
+use crate::reading::read_decoded;
 use chip_trait::Chip;
 use ipl_base::ChipFault;
 use page_text::{PageMap, read};
-use sector_format::{Decoded, Head};
+use sector_format::{Decoded, Head, payload_in};
 use unit_layout::base_sector;
 
 /// Whether a piece may use so many bytes: all 480, or if it is the last one any number but 0.
@@ -89,7 +90,7 @@ fn put_piece(bytes: &[u8; 512], used: usize, text: &mut [u8; 7680], start: usize
     requires room { start + 480 ≤ 7680 }
     ensures { text.new ≡ take start text.old ++ take used (drop 32 bytes.now) ++ drop (start + used) text.old }
 {
-    text[start..start + used].copy_from_slice(&bytes[32..32 + used]);
+    text[start..start + used].copy_from_slice(payload_in(bytes, used));
 }
 
 /// Reads a piece (0 to 15) of a page (0 to 14) into its part of a text, and answers where that ends.
@@ -115,7 +116,7 @@ fn read_piece<C: Chip>(
     ensures accounts { Accounts (IsPageCause place page) result (C.told chip.old) (C.told chip.new) }
 {
     let mut bytes = [0; 512];
-    let answer = read_sector(chip, place, base_sector(page, piece), &mut bytes)?;
+    let answer = read_decoded(chip, place, base_sector(page, piece), &mut bytes)?;
     let used = check_piece(answer, place, head, page, piece, is_last)?;
     let start = piece as usize * PIECE;
     put_piece(&bytes, used, text, start);

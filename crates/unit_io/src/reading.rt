@@ -3,6 +3,7 @@ ghost use Rattle.std.specs.Prelude.{◌≡◌, ◌<◌, ◌≤◌, ℕ, List, If
 ghost use Rattle.chip_trait.specs.declared.event.Event.TheVariants.{Read};
 ghost use Rattle.chip_trait.specs.Told.{Told};
 ghost use Rattle.ipl_format.specs.Sector.{sector_in};
+ghost use Rattle.ipl_format.specs.Whole.{IsWhole};
 ghost use Rattle.sector_format.specs.Decode.{IsDecoded, sector_read};
 ghost use Rattle.ipl_meaning.specs.Chart.{chart_of};
 ghost use Rattle.unit_io.specs.Accounts.{Accounts};
@@ -14,8 +15,8 @@ use chip_trait::Chip;
 use ipl_base::{ChipFault, Spot};
 use sector_format::{Decoded, Head, decode};
 
-/// Reads a sector (0 to 255) of a place, and what it is.
-pub(crate) fn read_sector<C: Chip>(
+/// Reads a sector (0 to 255) of a place, and what its bytes are.
+pub(crate) fn read_decoded<C: Chip>(
     chip: &mut C,
     place: u32,
     sector: u32,
@@ -25,34 +26,59 @@ pub(crate) fn read_sector<C: Chip>(
     requires sector { sector < 256 }
     ensures says { IfOk result (λ answer. sector_in into.new ≡ sector_read into.new answer) }
     ensures decoded { IfOk result (λ answer. IsDecoded into.new answer) }
-    ensures asks { Asked (Read place sector) result (C.told chip.old) (C.told chip.new) }
     ensures bytes { OnOk result (OfContents (C.told chip.old) (λ x. into.new ≡ x place sector)) }
+    ensures asks { Asked (Read place sector) result (C.told chip.old) (C.told chip.new) }
     ensures accounts { Accounts IsReadFault result (C.told chip.old) (C.told chip.new) }
 {
     read(chip, place, sector, into)?;
     Ok(decode(into))
 }
 
-/// The head and the used length, where a sector checks and its kind is one of these.
-fn of_kinds(answer: Decoded, first: u8, last: u8) -> Option<(Head, usize)>
-    ensures exact { (bytes : List ℕ) → sector_named bytes result ≡ of_kinds first last (sector_read bytes answer) }
-    ensures kind { IfSome result (λ found. (first ≤ found.0.kind) × (found.0.kind ≤ last)) }
-    ensures fits { (bytes : List ℕ) → IsDecoded bytes answer → IfSome result (λ found. found.1 ≤ 480) }
+/// The head and the used length of a sector, where it checks.
+fn named(bytes: &[u8; 512]) -> Option<(Head, usize)>
+    ensures exact { sector_named bytes.now result ≡ sector_in bytes.now }
+    ensures fits { IfSome result (λ found. found.1 ≤ 480) }
+    ensures whole { IsWhole bytes.now }
 {
-    match answer {
-        Decoded::Sector(head, used) => {
-            if first <= head.kind && head.kind <= last {
-                Some((head, used))
-            } else {
-                None
-            }
-        }
+    match decode(bytes) {
+        Decoded::Sector(head, used) => Some((head, used)),
         _ => None,
     }
 }
 
-/// Reads a sector (0 to 255), and answers its head and how many bytes of payload it uses, from byte 32 of the buffer on;
-/// `None` exactly where it doesn't check as one of these kinds.
+/// Reads a sector (0 to 255 of its place), and answers its head and how many bytes of payload it uses, from byte 32 of the
+/// buffer on; `None` exactly where it doesn't check. After a fault the buffer holds anything.
+pub fn read_sector<C: Chip>(
+    chip: &mut C,
+    spot: Spot,
+    into: &mut [u8; 512],
+) -> Result<Option<(Head, usize)>, ChipFault>
+    requires place { spot.place < (C.told chip.old).places }
+    requires sector { spot.sector < 256 }
+    ensures exact { IfOk result (λ o. OfContents (C.told chip.old) (λ x.
+        sector_named into.new o ≡ chart_of x spot.place spot.sector)) }
+    ensures fits { IfOk result (λ o. IfSome o (λ found. found.1 ≤ 480)) }
+    ensures whole { OnOk result (OfContents (C.told chip.old) (λ x. IsWhole (x spot.place spot.sector))) }
+    ensures asks { Asked (Read spot.place spot.sector) result (C.told chip.old) (C.told chip.new) }
+    ensures accounts { Accounts IsReadFault result (C.told chip.old) (C.told chip.new) }
+{
+    read(chip, spot.place, spot.sector, into)?;
+    Ok(named(into))
+}
+
+/// What was found, if its kind is one of these.
+fn of_kinds(found: Option<(Head, usize)>, first: u8, last: u8) -> Option<(Head, usize)>
+    ensures exact { (bytes : List ℕ) → sector_named bytes result ≡ of_kinds first last (sector_named bytes found) }
+    ensures kind { IfSome result (λ it. (first ≤ it.0.kind) × (it.0.kind ≤ last)) }
+    ensures fits { IfSome found (λ it. it.1 ≤ 480) → IfSome result (λ it. it.1 ≤ 480) }
+{
+    match found {
+        Some((head, used)) if first <= head.kind && head.kind <= last => Some((head, used)),
+        _ => None,
+    }
+}
+
+/// Reads a sector, and answers what it is where it checks as one of these kinds.
 fn read_of_kinds<C: Chip>(
     chip: &mut C,
     spot: Spot,
@@ -69,8 +95,8 @@ fn read_of_kinds<C: Chip>(
     ensures asks { Asked (Read spot.place spot.sector) result (C.told chip.old) (C.told chip.new) }
     ensures accounts { Accounts IsReadFault result (C.told chip.old) (C.told chip.new) }
 {
-    let answer = read_sector(chip, spot.place, spot.sector, into)?;
-    Ok(of_kinds(answer, first, last))
+    let found = read_sector(chip, spot, into)?;
+    Ok(of_kinds(found, first, last))
 }
 
 /// Reads the header of a place: its head and how many bytes of payload it uses, from byte 32 of the buffer on; `None`

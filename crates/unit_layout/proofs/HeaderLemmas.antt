@@ -4,6 +4,7 @@ use Rattle.std.proofs.lemmas.List.{take-append-drop, drop-drop, length-take-le, 
 use Rattle.ipl_format.specs.Numbers.{IsBytes, word, word_at}
 use Rattle.ipl_format.specs.Header.{IsCount, SpellsDataHeader, SpellsUnits, data_header_bytes}
 use Rattle.ipl_format.proofs.NumberLemmas.{length-word, word_rebuilt, word_at-lt}
+use Rattle.ipl_format.proofs.HeaderLemmas.{one_left, header_rebuilt, header_parts}
 use Rattle.ipl_format.proofs.PayloadLemmas.{data_headers_spell_once, data_headers_have_sizes, units_have_sizes}
 use Rattle.unit_layout.specs.declared.header.DataHeader.{DataHeader}
 use Rattle.unit_layout.specs.Header.{SpellsHeader}
@@ -24,32 +25,13 @@ pieces_stand_apart page piece other last low less same = (omega (arith, low, les
 
 -- ---- reading
 
--- the one element of a list of one
-one_left : (xs : List ℕ) → length xs ≡ 1 → xs ≡ get_or xs 0 0 ∷ []
-one_left [] one = absurd (omega (arith, one))
-one_left (x ∷ []) one = refl
-one_left (x ∷ y ∷ xs) one = absurd (omega (arith, one))
-
--- twenty bytes are a number, fifteen counts and one more
-twenty : (payload : List ℕ) → length payload ≡ 20 → IsBytes payload
-    → payload ≡ data_header_bytes (word_at 0 payload) (take 15 (drop 4 payload)) (get_or payload 19 0)
-unfolding data_header_bytes
-twenty payload size all =
-    let number : take 4 payload ≡ word (word_at 0 payload) = word_rebuilt 0 payload (omega (arith, size)) all in
-    let tail : drop 15 (drop 4 payload) ≡ get_or payload 19 0 ∷ [] =
-    drop-drop 15 4 payload ∙ (one_left (drop 19 payload) (omega (arith, length-drop 19 payload, size))
-    ∙ ap (λ (n : ℕ). n ∷ []) (get_or-drop 19 payload 0 0)) in
-    sym (take-append-drop 4 payload) ∙ ap₂ (λ (x y : List ℕ). x ++ y) number
-    (sym (take-append-drop 15 (drop 4 payload)) ∙ ap (λ (x : List ℕ). take 15 (drop 4 payload) ++ x) tail)
-    ∙ sym (append_assoc (word (word_at 0 payload)) (take 15 (drop 4 payload)) (get_or payload 19 0 ∷ []))
-
 -- what was read says the header
 pub header_read : (payload : List ℕ) (h : DataHeader) → length payload ≡ 20 → IsBytes payload → h.units ≡ word_at 0 payload
     → h.pieces ≡ take 15 (drop 4 payload) → h.carried ≡ get_or payload 19 0 → All IsCount h.pieces → h.carried ≤ 12 → SpellsHeader h payload
 header_read payload h size all units pieces carried counts few = (
   record {
     carried = h.carried;
-    bytes = twenty payload size all ∙ ap₂ (λ (p : ℕ × List ℕ) (c : ℕ). data_header_bytes p.0 p.1 c)
+    bytes = header_rebuilt payload size all ∙ ap₂ (λ (p : ℕ × List ℕ) (c : ℕ). data_header_bytes p.0 p.1 c)
         (ap₂ (λ (n : ℕ) (l : List ℕ). let p : ℕ × List ℕ = (n, l) in p) (sym units) (sym pieces)) (sym carried);
     fits = let low = word_at-lt 0 payload all in omega (arith, units, low);
     fifteen = ap length pieces ∙ length-take-le 15 (drop 4 payload) (omega (arith, length-drop 4 payload, size));
@@ -64,31 +46,16 @@ header_read payload h size all units pieces carried counts few = (
 pub other_size : (payload : List ℕ) → length payload ≢ 20 → (units : ℕ) (pieces : List ℕ) → SpellsDataHeader units pieces payload → ⊥
 other_size payload other units pieces spelled = other (data_headers_have_sizes payload units pieces spelled)
 
--- the parts of a payload that is spelled
-parts : (units carried : ℕ) (pieces : List ℕ) → length pieces ≡ 15
-    → (take 15 (drop 4 (data_header_bytes units pieces carried)) ≡ pieces) × (get_or (data_header_bytes units pieces carried) 19 0 ≡ carried)
-unfolding data_header_bytes word
-parts units carried pieces fifteen =
-    let rest : drop 4 ((word units ++ pieces) ++ carried ∷ []) ≡ pieces ++ carried ∷ [] = dropped units pieces (carried ∷ []) in (
-      ap (take 15) rest ∙ take_at pieces (carried ∷ []) 15 fifteen,
-      sym (get_or-drop 19 ((word units ++ pieces) ++ carried ∷ []) 0 0)
-          ∙ ap (λ (l : List ℕ). get_or l 0 0) (sym (drop-drop 15 4 ((word units ++ pieces) ++ carried ∷ []))
-          ∙ (ap (drop 15) rest ∙ drop_at pieces (carried ∷ []) 15 fifteen)),
-    )
-  where
-    dropped : (n : ℕ) (xs ys : List ℕ) → drop 4 ((word n ++ xs) ++ ys) ≡ xs ++ ys
-    dropped n xs ys = refl
-
 pub many_carried : (payload : List ℕ) → (get_or payload 19 0 ≤ 12 → ⊥) → (units : ℕ) (pieces : List ℕ) → SpellsDataHeader units pieces payload → ⊥
 many_carried payload many units pieces spelled =
     let few = spelled.few in
-    let last = ap (λ (l : List ℕ). get_or l 19 0) spelled.bytes ∙ (parts units spelled.carried pieces spelled.fifteen).1 in
+    let last = ap (λ (l : List ℕ). get_or l 19 0) spelled.bytes ∙ (header_parts units spelled.carried pieces spelled.fifteen).1 in
     many (omega (arith, few, last))
 
 pub no_counts : (payload counts : List ℕ) → counts ≡ take 15 (drop 4 payload) → (All IsCount counts → ⊥) → (units : ℕ) (pieces : List ℕ)
     → SpellsDataHeader units pieces payload → ⊥
 no_counts payload counts is refused units pieces spelled =
-    refused (subst (All IsCount) (sym (is ∙ ap (λ (l : List ℕ). take 15 (drop 4 l)) spelled.bytes ∙ (parts units spelled.carried pieces spelled.fifteen).0)) spelled.each)
+    refused (subst (All IsCount) (sym (is ∙ ap (λ (l : List ℕ). take 15 (drop 4 l)) spelled.bytes ∙ (header_parts units spelled.carried pieces spelled.fifteen).0)) spelled.each)
 
 -- ---- the number of units alone
 

@@ -4,7 +4,7 @@ ghost use Rattle.ipl_format.specs.Header.{IsCount, SpellsDataHeader};
 ghost use Rattle.ipl_format.specs.Numbers.{word};
 ghost use Rattle.unit_layout.specs.Header.{SpellsHeader};
 
-use crate::units::first_number;
+use ipl_format::word_at;
 
 /// What a data header says of its unit. The table is in docs/FORMAT.md, "Header payloads".
 #[derive(Clone, Copy, Debug, PartialEq, Eq)]
@@ -84,7 +84,7 @@ pub fn read_data_header(payload: &[u8]) -> Option<DataHeader>
         return None;
     }
     Some(DataHeader {
-        units: first_number(payload),
+        units: word_at(payload, 0),
         pieces,
         carried: payload[19],
     })

@@ -1,7 +1,8 @@
 //! The payloads of status and overflow headers: the number of units.
-ghost use Rattle.std.specs.Prelude.{◌≡◌, ◌≤◌, ℕ, IfSome, IfNone, length};
+ghost use Rattle.std.specs.Prelude.{ℕ, IfSome, IfNone};
 ghost use Rattle.ipl_format.specs.Header.{SpellsUnits};
-ghost use Rattle.ipl_format.specs.Numbers.{word_at};
+
+use ipl_format::word_at;
 
 // The four bytes of a number.
 #[tactic(auto, unfolding(ipl_format::specs::Numbers::word))]
@@ -9,15 +10,6 @@ fn write_units(units: u32, out: &mut [u8; 4])
     ensures { SpellsUnits units out.new }
 {
     out.copy_from_slice(&units.to_be_bytes());
-}
-
-// The number in the first four bytes.
-#[tactic(auto, unfolding(ipl_format::specs::Numbers::word_at))]
-pub(crate) fn first_number(bytes: &[u8]) -> u32
-    requires { 4 ≤ length bytes.now }
-    ensures { result ≡ word_at 0 bytes.now }
-{
-    u32::from_be_bytes([bytes[0], bytes[1], bytes[2], bytes[3]])
 }
 
 // The number in four bytes; `None` exactly where there are more or fewer.
@@ -28,7 +20,7 @@ fn read_units(payload: &[u8]) -> Option<u32>
     if payload.len() != 4 {
         return None;
     }
-    Some(first_number(payload))
+    Some(word_at(payload, 0))
 }
 
 /// Writes the payload of a status header. The table is in docs/FORMAT.md, "Header payloads".

@@ -1,7 +1,7 @@
 use Rattle.std.proofs.Common.{◌∙◌}
 use Rattle.std.proofs.lemmas.Result.{err_from_is_err_and}
 use Rattle.unit_io.specs.Faults.{piece_fault_at}
-use Rattle.unit_io.proofs.PiecesLemmas.{first_found}
+use Rattle.ipl_base.proofs.FirstLemmas.{first_found}
 use Rattle.unit_io.proofs.ReadsLemmas.{page_missed}
 use Rattle.unit_io.proofs.page_reading.read_pieces.Goals as goal
 

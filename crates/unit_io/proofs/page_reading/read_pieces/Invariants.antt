@@ -2,7 +2,8 @@ use Rattle.std.proofs.Common.{◌≡◌, ◌≤◌, ◌<◌, ◌*◌, ℕ, List,
 use Rattle.chip_trait.specs.Told.{Told, Counts}
 use Rattle.ipl_meaning.specs.Chart.{chart_of}
 use Rattle.unit_io.specs.Reads.{OfContents, Reads, page_reads}
-use Rattle.unit_io.specs.Faults.{first_below, piece_fault_at, text_below}
+use Rattle.ipl_base.specs.First.{first_below}
+use Rattle.unit_io.specs.Faults.{piece_fault_at, text_below}
 use Rattle.unit_io.proofs.page_reading.read_pieces.Given as goal
 
 -- what is so after some pieces

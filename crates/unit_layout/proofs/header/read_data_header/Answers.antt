@@ -20,5 +20,5 @@ pub returns-clause-some : goal.returns-clause-some
 returns-clause-some c =
     let each : All IsCount c.counts-pieces.result = search rules in
     let few : get_or c.args.payload.now 19 0 ≤ 12 = search rules in
-    header_read c.args.payload.now _ c.if-payload-ne20.false (λ i. omega (arith, c.type_inv.payload i)) c.first_number.ensures
+    header_read c.args.payload.now _ c.if-payload-ne20.false (λ i. omega (arith, c.type_inv.payload i)) c.word_at.ensures
     c.counts-pieces.ensures refl each few

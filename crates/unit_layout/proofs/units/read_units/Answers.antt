@@ -7,4 +7,4 @@ returns-then-payload-ne4-clause-none c = other_length c.args.payload.now c.if-pa
 
 pub returns-clause-some : goal.returns-clause-some
 returns-clause-some c =
-    units_read c.args.payload.now c.first_number.result c.if-payload-ne4.false (λ i. omega (arith, c.type_inv.payload i)) c.first_number.ensures
+    units_read c.args.payload.now c.word_at.result c.if-payload-ne4.false (λ i. omega (arith, c.type_inv.payload i)) c.word_at.ensures
