@@ -11,7 +11,7 @@ use Rattle.opening_rules.specs.Payloads.{numbers_within}
 use Rattle.opening_rules.specs.Chosen.{Winner}
 use Rattle.opening_rules.specs.Live.{kept, is_commit_of, commit_at}
 use Rattle.opening_rules.specs.Faults.{commit_test, commit_fault, commit_number, greatest_of_commits}
-use Rattle.opening_rules.specs.Laws.{IsWhole}
+use Rattle.ipl_format.specs.Whole.{IsWhole}
 use Rattle.opening_rules.proofs.FirstLemmas.{greatest_step}
 use Rattle.opening_rules.proofs.BelowLemmas.{greatest_of-push}
 
@@ -21,10 +21,14 @@ numbers_push (suc n) bytes =
     let at : 8 * suc n ≡ 8 + 8 * n = omega arith in
     rw (numbers_push n (drop 8 bytes), at) (ap (λ (rest : List ℕ). long_at 0 bytes ∷ (numbers_within n (drop 8 bytes) ++ long_at 0 rest ∷ [])) (drop-drop (8 * n) 8 bytes))
 
+long_from : (at : ℕ) (bytes : List ℕ) → long_at at bytes ≡ long_at 0 (drop at bytes)
+unfolding long_at
+long_from at bytes = refl
+
 -- the greatest with one number more
-pub greatest_more : (least n greatest next : ℕ) (bytes : List ℕ) → greatest ≡ greatest_of least (numbers_within n bytes) → next ≡ long_at 0 (drop (8 * n) bytes)
+pub greatest_more : (least n greatest next : ℕ) (bytes : List ℕ) → greatest ≡ greatest_of least (numbers_within n bytes) → next ≡ long_at (8 * n) bytes
     → max greatest next ≡ greatest_of least (numbers_within (n + 1) bytes)
-greatest_more least n greatest next bytes so_far is = rw (add-one n, numbers_push n bytes, greatest_of-push, so_far, is) refl
+greatest_more least n greatest next bytes so_far is = rw (add-one n, numbers_push n bytes, greatest_of-push, so_far, is ∙ long_from (8 * n) bytes) refl
 
 module _ (c : Chart) (winner : Winner) (p s : ℕ) (o : Option Sector) (some : 1 ≤ s) (at : p ≡ winner.place) (is : o ≡ c p s) where
   commit_here : commit_at c (Some winner) s ≡ kept (is_commit_of winner.head.generation) o

@@ -9,18 +9,20 @@ use Rattle.ipl_base.specs.declared.fault.ImageFault.{ImageFault}
 use Rattle.ipl_meaning.specs.Chart.{Chart, chart_of}
 use Rattle.ipl_meaning.specs.Layout.{Laid}
 use Rattle.ipl_meaning.specs.Tables.{Places, IsFree}
-use Rattle.opening_rules.specs.First.{at, first_below, first_of, count_below}
+use Rattle.ipl_base.specs.First.{first_below}
+use Rattle.opening_rules.specs.First.{at, first_of, count_below}
 use Rattle.opening_rules.specs.Chosen.{KeptHeader, Winner, header_at, current_in, current_at, status_in, status_at}
 use Rattle.opening_rules.specs.Live.{sectors, is_at, is_log_spot, is_overflow_place, Mark, marks, marks_in}
 use Rattle.opening_rules.specs.Faults.{TellsImageFault, size_fault, not_formatted, other_geometry, missing, bad_header, header_tests, header_fault, first_fault, greatest_of_heads, greatest_of_commits, greatest_of_logs, greatest_found, spent, no_spare, holds_live}
 use Rattle.opening_rules.specs.LaidOut.{place_of, layout_in}
-use Rattle.opening_rules.specs.Laws.{MayBeRead, IsWhole}
-use Rattle.opening_rules.proofs.FirstLemmas.{none_before}
+use Rattle.ipl_format.specs.Whole.{IsWhole}
+use Rattle.opening_rules.specs.Laws.{MayBeRead}
+use Rattle.ipl_base.proofs.FirstLemmas.{none_before}
 use Rattle.opening_rules.proofs.ChosenLemmas.{chosen_is_best}
 use Rattle.opening_rules.proofs.PartLemmas.{six_parts}
 use Rattle.opening_rules.proofs.ContentsLemmas.{whole_sectors_make_byte_charts}
 use Rattle.opening_rules.proofs.NoFaultLemmas.{no_fault_is_laid}
-use Rattle.opening_rules.proofs.TellsLemmas.{tells_exit}
+use Rattle.opening_rules.proofs.TellsLemmas.{tells_exit, tells_past}
 use Rattle.restart.specs.Looks.{IsMissed}
 use Rattle.restart.specs.Notes.{Notes, IsNoted}
 use Rattle.restart.specs.Filled.{is_home, is_used, AreUsed, AreAdopted}
@@ -98,7 +100,7 @@ number_is c heads current status size places first least greatest same one two t
 
 -- ---- to the chart
 
-pub size_none : (places : ℕ) → 5 ≤ places → places ≤ 1028 → size_fault places ≡ None
+size_none : (places : ℕ) → 5 ≤ places → places ≤ 1028 → size_fault places ≡ None
 size_none places least most = rw (le-leb 5 places least, le-leb places 1028 most) refl
 
 or_parts : (a b : Bool) → (a || b) ≡ false → (a ≡ false) × (b ≡ false)
@@ -133,9 +135,14 @@ module _ (c : Chart) (places : ℕ) (heads : List (Option KeptHeader)) (current 
       (subst (λ (cur : ℕ → Option Winner). P (at heads) cur (status_at c places)) shows.current_are
       (subst (λ (st : Option Winner). P (at heads) (at current) st) shows.status_is it))
 
-  pub rest_tells : {T : Type 0} (r : Result T ImageFault) → TellsImageFault (fault_by c (at heads) (at current) (Some status) places) r
+  rest_tells : {T : Type 0} (r : Result T ImageFault) → TellsImageFault (fault_by c (at heads) (at current) (Some status) places) r
       → TellsImageFault (fault_by c (header_at c places) (current_at c places) (status_at c places) places) r
   rest_tells r tells = to_chart (λ h cur st. TellsImageFault (fault_by c h cur st places) r) tells
+
+  -- where the size and the headers are well, the rest tells the first fault
+  pub all_tells : {T : Type 0} (r : Result T ImageFault) → 5 ≤ places → places ≤ 1028 → header_fault c places ≡ None
+      → TellsImageFault (fault_by c (at heads) (at current) (Some status) places) r → TellsImageFault (first_fault c places) r
+  all_tells r least most well tells = tells_past _ _ r (size_none places least most) (tells_past _ _ r well (rest_tells r tells))
 
   pub number_found : (n : ℕ) → n ≡ number_by c (at heads) (at current) (Some status) places → n ≡ greatest_found c places
   number_found n is = to_chart (λ h cur st. n ≡ number_by c h cur st places) is
@@ -181,6 +188,10 @@ module _ (c : Chart) (places : ℕ) (heads : List (Option KeptHeader)) (current 
     free = λ p low. (unused_from notes noted d units most four used p low, unused_to notes noted d units most four used p low);
     number = next ∙ ap (λ (n : ℕ). n + 1) (number_found greatest number);
   }
+
+-- the same places are used, of as many
+pub used_of : {used : ℕ → Bool} {m n most : ℕ} {in_use : List Bool} → m ≡ n → AreUsed used m most in_use → AreUsed used n most in_use
+used_of {used} {m} {n} {most} {in_use} same it = subst (λ (k : ℕ). AreUsed used k most in_use) same it
 
 -- whether told or not, a place is free, and it is not that of the first unit
 pub has_free : (heads : List (Option KeptHeader)) (current : List (Option Winner)) (status : Winner) (notes : Notes) (d : Places) (units places count : ℕ) → units + 4 ≡ places → 1 ≤ units → count ≤ 2

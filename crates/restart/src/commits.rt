@@ -1,22 +1,23 @@
 //! The commit sectors of the status place are read.
-ghost use Rattle.std.specs.Prelude.{◌≡◌, ◌<◌, ◌≤◌, ℕ, true, max, length, Some, IfOk, IfErr, IfSome, OnOk};
-ghost use Rattle.ipl_format.specs.Numbers.{long_at};
+ghost use Rattle.std.specs.Prelude.{◌≡◌, ◌<◌, ◌≤◌, ℕ, true, max, Some, IfOk, IfErr, IfSome, OnOk};
 ghost use Rattle.sector_format.specs.Decode.{sector_of};
 ghost use Rattle.ipl_meaning.specs.Chart.{chart_of};
 ghost use Rattle.unit_io.specs.Reads.{OfContents};
 ghost use Rattle.unit_io.specs.Kinds.{sector_named};
-ghost use Rattle.opening_rules.specs.First.{first_below, greatest_of};
+ghost use Rattle.ipl_base.specs.First.{first_below};
+ghost use Rattle.opening_rules.specs.First.{greatest_of};
 ghost use Rattle.opening_rules.specs.Payloads.{is_commit_payload, numbers_in};
 ghost use Rattle.opening_rules.specs.Live.{sectors, kept, is_commit_of};
 ghost use Rattle.opening_rules.specs.Faults.{TellsImageFault, is_image, commit_test, commit_fault, commit_number, greatest_of_commits};
-ghost use Rattle.opening_rules.specs.Laws.{IsWhole};
-ghost use Rattle.restart.specs.Looks.{OnlyReads, HasCause};
+ghost use Rattle.ipl_format.specs.Whole.{IsWhole};
+ghost use Rattle.restart.specs.Looks.{Looks, HasCause};
 
 use crate::kept::Winner;
-use crate::looking::{look, payload_in};
 use chip_trait::Chip;
-use ipl_base::{ChipFault, ImageFault};
-use sector_format::Head;
+use ipl_base::{ChipFault, ImageFault, Spot};
+use ipl_format::long_at;
+use sector_format::{Head, payload_in};
+use unit_io::read_sector;
 
 /// Whether the payload is 1 to 60 numbers of eight bytes, with nothing left over.
 fn is_commit(payload: &[u8]) -> bool
@@ -25,23 +26,13 @@ fn is_commit(payload: &[u8]) -> bool
     payload.len() % 8 == 0 && 1 <= payload.len() / 8 && payload.len() / 8 <= 60
 }
 
-#[tactic(auto, unfolding(ipl_format::specs::Numbers::long_at))]
-fn first_number(bytes: &[u8]) -> u64
-    requires { 8 ≤ length bytes.now }
-    ensures { result ≡ long_at 0 bytes.now }
-{
-    u64::from_be_bytes([
-        bytes[0], bytes[1], bytes[2], bytes[3], bytes[4], bytes[5], bytes[6], bytes[7],
-    ])
-}
-
 /// The greatest of the numbers in a payload, and at least this.
 fn greatest_number(payload: &[u8], least: u64) -> u64
     ensures { result ≡ greatest_of least (numbers_in payload.now) }
 {
     let mut greatest = least;
     for i in 0..payload.len() / 8 {
-        greatest = greatest.max(first_number(&payload[8 * i..]));
+        greatest = greatest.max(long_at(payload, 8 * i));
     }
     greatest
 }
@@ -105,13 +96,16 @@ pub(crate) fn read_commits<C: Chip>(
         TellsImageFault (first_below (commit_fault (chart_of x) (Some winner.now)) sectors) result) }
     ensures whole { OnOk result (OfContents (C.told chip.old) (λ x.
         (s : ℕ) → 1 ≤ s → s < 256 → IsWhole (x winner.now.place s))) }
-    ensures reads { OnlyReads (C.told chip.old) (C.told chip.new) }
-    ensures cause { IfErr result (λ e. HasCause e (C.told chip.old) (C.told chip.new)) }
+    ensures looks { Looks HasCause result (C.told chip.old) (C.told chip.new) }
 {
     let mut greatest = least;
     for sector in 1..256 {
         let mut bytes = [0; 512];
-        let found = look(chip, winner.place(), sector, &mut bytes)?;
+        let spot = Spot {
+            place: winner.place(),
+            sector,
+        };
+        let found = read_sector(chip, spot, &mut bytes)?;
         greatest = take_commit(winner, sector, found, &bytes, greatest)?;
     }
     Ok(greatest)

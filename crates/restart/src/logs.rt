@@ -6,21 +6,22 @@ ghost use Rattle.log_records.specs.Reading.{records_of};
 ghost use Rattle.ipl_meaning.specs.Chart.{chart_of};
 ghost use Rattle.unit_io.specs.Reads.{OfContents};
 ghost use Rattle.unit_io.specs.Kinds.{sector_named};
-ghost use Rattle.opening_rules.specs.First.{at, greatest_of, first_below, with_one};
+ghost use Rattle.ipl_base.specs.First.{first_below};
+ghost use Rattle.opening_rules.specs.First.{at, greatest_of, with_one};
 ghost use Rattle.opening_rules.specs.Payloads.{is_log_payload, tid_of, tids_told};
 ghost use Rattle.opening_rules.specs.Live.{kept, Mark, mark_of, is_at, is_generation, is_log, is_log_spot, is_overflow_place, is_place_of, is_live};
 ghost use Rattle.opening_rules.specs.Faults.{TellsImageFault, is_image, log_test, log_fault, log_number};
-ghost use Rattle.restart.specs.Looks.{OnlyReads, HasCause};
-ghost use Rattle.restart.specs.Notes.{units_of, places_of, overflow_count_of, IsNoted, IsRoomy};
+ghost use Rattle.restart.specs.Looks.{Looks, HasCause};
+ghost use Rattle.restart.specs.Notes.{units_of, places_of, SameSize, overflow_count_of, IsNoted, IsRoomy};
 ghost use Rattle.restart.specs.Scanned.{IsScanned};
 
 use crate::kept::{Header, Winner};
-use crate::looking::{look, payload_in};
 use crate::noted::Noted;
 use chip_trait::Chip;
-use ipl_base::{ChipFault, FIRST_LOG_SECTOR, Geometry, ImageFault};
+use ipl_base::{ChipFault, FIRST_LOG_SECTOR, Geometry, ImageFault, Spot};
 use log_records::{Payload, is_list, records};
-use sector_format::Head;
+use sector_format::{Head, payload_in};
+use unit_io::read_sector;
 
 /// Whether the place is an overflow place.
 pub(crate) fn is_overflow_place(heads: &[Option<Header>], place: u32) -> bool
@@ -184,8 +185,7 @@ fn take_log(
         → IsNoted noted.new (with_one marks (option_map (mark_of (at heads.now) (place * 256 + sector))
         (kept (is_live (at heads.now) (at current.now) place) (Some (sector_of head.now payload.now)))))) }
     ensures roomy { OnOk result (IsRoomy (at current.now) (place * 256 + sector + 1) noted.new) }
-    ensures units { units_of noted.new ≡ units_of noted.old }
-    ensures places { places_of noted.new ≡ places_of noted.old }
+    ensures sized { SameSize noted.old noted.new }
     ensures image { IfErr result (λ e. is_image e ≡ true) }
 {
     if is_live(heads, current, place, head) {
@@ -226,8 +226,7 @@ fn take_found(
         (kept (is_live (at heads.now) (at current.now) place) (kept is_log (sector_named bytes.now found)))))) }
     ensures number { IfOk result (λ n. n ≡ max greatest (log_number (kept is_log (sector_named bytes.now found)))) }
     ensures roomy { OnOk result (IsRoomy (at current.now) (place * 256 + sector + 1) noted.new) }
-    ensures units { units_of noted.new ≡ units_of noted.old }
-    ensures places { places_of noted.new ≡ places_of noted.old }
+    ensures sized { SameSize noted.old noted.new }
     ensures image { IfErr result (λ e. is_image e ≡ true) }
 {
     match found {
@@ -267,16 +266,14 @@ fn scan_sector<C: Chip>(
         → is_image e ≡ true
         → first_below (log_fault (at heads.now) (at current.now) (chart_of x)) (length heads.now * 256) ≡ Some e)) }
     ensures roomy { OnOk result (IsRoomy (at current.now) (place * 256 + sector + 1) noted.new) }
-    ensures units { units_of noted.new ≡ units_of noted.old }
-    ensures places { places_of noted.new ≡ places_of noted.old }
-    ensures reads { OnlyReads (C.told chip.old) (C.told chip.new) }
-    ensures cause { IfErr result (λ e. HasCause e (C.told chip.old) (C.told chip.new)) }
+    ensures sized { SameSize noted.old noted.new }
+    ensures looks { Looks HasCause result (C.told chip.old) (C.told chip.new) }
 {
     if !may_hold_log(heads, current, place, sector) {
         return Ok(greatest);
     }
     let mut bytes = [0; 512];
-    let found = look(chip, place, sector, &mut bytes)?;
+    let found = read_sector(chip, Spot { place, sector }, &mut bytes)?;
     let greatest = take_found(
         heads, current, noted, place, sector, found, &bytes, greatest,
     )?;
@@ -305,10 +302,8 @@ fn scan_place<C: Chip>(
         → is_image e ≡ true
         → first_below (log_fault (at heads.now) (at current.now) (chart_of x)) (length heads.now * 256) ≡ Some e)) }
     ensures roomy { OnOk result (IsRoomy (at current.now) ((place + 1) * 256) noted.new) }
-    ensures units { units_of noted.new ≡ units_of noted.old }
-    ensures places { places_of noted.new ≡ places_of noted.old }
-    ensures reads { OnlyReads (C.told chip.old) (C.told chip.new) }
-    ensures cause { IfErr result (λ e. HasCause e (C.told chip.old) (C.told chip.new)) }
+    ensures sized { SameSize noted.old noted.new }
+    ensures looks { Looks HasCause result (C.told chip.old) (C.told chip.new) }
 {
     let mut greatest = least;
     for sector in 0..256 {
@@ -334,10 +329,8 @@ pub(crate) fn scan<C: Chip>(
         IsScanned x (at heads.now) (at current.now) least (geometry * 256) noted.new n)) }
     ensures fault { IfErr result (λ e. OfContents (C.told chip.old) (λ x. is_image e ≡ true
         → first_below (log_fault (at heads.now) (at current.now) (chart_of x)) (geometry * 256) ≡ Some e)) }
-    ensures units { units_of noted.new ≡ units_of noted.old }
-    ensures places { places_of noted.new ≡ places_of noted.old }
-    ensures reads { OnlyReads (C.told chip.old) (C.told chip.new) }
-    ensures cause { IfErr result (λ e. HasCause e (C.told chip.old) (C.told chip.new)) }
+    ensures sized { SameSize noted.old noted.new }
+    ensures looks { Looks HasCause result (C.told chip.old) (C.told chip.new) }
 {
     noted.clear();
     let mut greatest = least;

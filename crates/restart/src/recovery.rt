@@ -1,5 +1,5 @@
 //! The opening of a chip.
-ghost use Rattle.std.specs.Prelude.{◌≡◌, ◌≢◌, ◌⊎◌, ◌<◌, ◌≤◌, ◌+◌, ◌-◌, ◌*◌, ◌^◌, ℕ, length, true, Some, None, IfOk, IfErr, OnOk};
+ghost use Rattle.std.specs.Prelude.{◌≡◌, ◌≢◌, ◌⊎◌, ◌<◌, ◌≤◌, ◌+◌, ◌-◌, ◌*◌, ◌^◌, ℕ, length, true, Some, None, IfOk, OnOk};
 ghost use Rattle.chip_trait.specs.Told.{Told};
 ghost use Rattle.ipl_meaning.specs.Chart.{chart_of};
 ghost use Rattle.ipl_meaning.specs.Layout.{Laid};
@@ -9,9 +9,9 @@ ghost use Rattle.opening_rules.specs.Chosen.{Winner as Chosen};
 ghost use Rattle.opening_rules.specs.Live.{is_log_spot, marks};
 ghost use Rattle.opening_rules.specs.Faults.{TellsImageFault, header_fault, first_fault};
 ghost use Rattle.opening_rules.specs.LaidOut.{layout_in};
-ghost use Rattle.opening_rules.specs.Laws.{IsWhole};
-ghost use Rattle.restart.specs.Looks.{OnlyReads, HasCause};
-ghost use Rattle.restart.specs.Notes.{units_of, places_of, IsNoted};
+ghost use Rattle.ipl_format.specs.Whole.{IsWhole};
+ghost use Rattle.restart.specs.Looks.{Looks, HasCause};
+ghost use Rattle.restart.specs.Notes.{units_of, places_of, SameSize, IsNoted};
 ghost use Rattle.restart.specs.Shown.{ShowsHeaders, is_held, number_by, fault_by};
 ghost use Rattle.restart.specs.Opened.{IsOpened, HasFree};
 
@@ -48,8 +48,7 @@ fn read_headers<C: Chip>(
     ensures status { IfOk result (λ status. status.place < geometry) }
     ensures within { OnOk result ((u : ℕ) (winner : Chosen) → at current.new u ≡ Some winner → winner.place < geometry) }
     ensures there { OnOk result ((u : ℕ) → u < length current.new → at current.new u ≢ None) }
-    ensures reads { OnlyReads (C.told chip.old) (C.told chip.new) }
-    ensures cause { IfErr result (λ e. HasCause e (C.told chip.old) (C.told chip.new)) }
+    ensures looks { Looks HasCause result (C.told chip.old) (C.told chip.new) }
 {
     read_heads(chip, geometry, heads)?;
     let status = choose(heads, current);
@@ -81,10 +80,8 @@ fn read_rest<C: Chip>(
         → (p ≡ status.now.place) ⊎ (is_log_spot (at heads.now) (at current.now) p s ≡ true) → IsWhole (x p s))) }
     ensures left { IfOk result (λ n. n < 2 ^ 63) }
     ensures two { OnOk result (count_below (is_held heads.now noted.new) (length heads.now) ≤ 2) }
-    ensures units { units_of noted.new ≡ units_of noted.old }
-    ensures places { places_of noted.new ≡ places_of noted.old }
-    ensures reads { OnlyReads (C.told chip.old) (C.told chip.new) }
-    ensures cause { IfErr result (λ e. HasCause e (C.told chip.old) (C.told chip.new)) }
+    ensures sized { SameSize noted.old noted.new }
+    ensures looks { Looks HasCause result (C.told chip.old) (C.told chip.new) }
 {
     let least = greatest_in(heads);
     let least = read_commits(chip, status, least)?;
@@ -117,10 +114,8 @@ fn open<C: Chip>(
     ensures size { OnOk result (length directory.new.in_use ≡ geometry) }
     ensures free { OnOk result (HasFree directory.new) }
     ensures left { OnOk result (counter.new ≤ 2 ^ 63) }
-    ensures units { units_of noted.new ≡ units_of noted.old }
-    ensures places { places_of noted.new ≡ places_of noted.old }
-    ensures reads { OnlyReads (C.told chip.old) (C.told chip.new) }
-    ensures cause { IfErr result (λ e. HasCause e (C.told chip.old) (C.told chip.new)) }
+    ensures sized { SameSize noted.old noted.new }
+    ensures looks { Looks HasCause result (C.told chip.old) (C.told chip.new) }
 {
     let status = read_headers(chip, geometry, heads, current)?;
     let greatest = read_rest(chip, geometry, heads, current, &status, noted)?;
@@ -188,7 +183,6 @@ pub fn recover<C: Chip>(
     // It fails exactly with the first fault of the chip's contents, unless a read failed.
     ensures fault { OfContents (C.told chip.old) (λ x.
         TellsImageFault (first_fault (chart_of x) (C.told chip.old).places) result) }
-    ensures cause { IfErr result (λ e. HasCause e (C.told chip.old) (C.told chip.new)) }
 
     // Else the contents are laid out rightly, and the tables say so.
     ensures opened { OnOk result (OfContents (C.told chip.old) (λ x.
@@ -201,8 +195,8 @@ pub fn recover<C: Chip>(
     ensures free { OnOk result (HasFree directory.new) }
     ensures left { OnOk result (counter.new ≤ 2 ^ 63) }
 
-    // It only reads.
-    ensures reads { OnlyReads (C.told chip.old) (C.told chip.new) }
+    // It only reads, and fails with no other cause than a fault of the contents or a failed read.
+    ensures looks { Looks HasCause result (C.told chip.old) (C.told chip.new) }
     ensures scratch { scratch.new ≡ scratch.old }
 {
     open(

@@ -1,20 +1,25 @@
 use Rattle.std.proofs.Common.{◌≡◌, ◌∙◌, ℕ, Some, None, ap, subst, arith}
 use Rattle.ipl_meaning.specs.Chart.{chart_of}
-use Rattle.opening_rules.specs.First.{first_below}
+use Rattle.ipl_base.specs.First.{first_below}
 use Rattle.opening_rules.specs.Live.{sectors}
 use Rattle.opening_rules.specs.Faults.{commit_fault, greatest_of_commits}
-use Rattle.opening_rules.proofs.FirstLemmas.{first_more}
+use Rattle.ipl_base.proofs.FirstLemmas.{first_more}
 use Rattle.opening_rules.proofs.LiveLemmas.{sectors_are}
 use Rattle.opening_rules.proofs.TellsLemmas.{tells_found}
-use Rattle.restart.proofs.LookLemmas.{reads_then}
+use Rattle.restart.proofs.LookLemmas.{reads_then, asked_reads, looks_missed, looks_weaker, looks_found}
 use Rattle.restart.proofs.CommitLemmas.{commit_fault_here, commit_number_more, whole_more}
 use Rattle.restart.proofs.commits.read_commits.Goals as goal
 
-pub returns-in_err-found-clause-reads : goal.returns-in_err-found-clause-reads
-returns-in_err-found-clause-reads g c = reads_then c.loop-sector.invariant.reads c.look.ensures.reads
+pub returns-in_err-found-clause-looks : goal.returns-in_err-found-clause-looks
+returns-in_err-found-clause-looks g c =
+    looks_weaker c.from_residual.result (looks_missed c.place.result c.loop-sector.sector c.read_sector.result c.from_residual.result c.loop-sector.invariant.reads
+    c.read_sector.ensures.asks c.read_sector.ensures.accounts c.in_err-found.was c.from_residual.ensures.1)
 
-pub returns-in_err-greatest-clause-reads : goal.returns-in_err-greatest-clause-reads
-returns-in_err-greatest-clause-reads g c = reads_then c.loop-sector.invariant.reads c.look.ensures.reads
+pub returns-in_err-greatest-clause-looks : goal.returns-in_err-greatest-clause-looks
+returns-in_err-greatest-clause-looks g c =
+    looks_found c.from_residual-in_err-greatest.result _
+    (reads_then c.loop-sector.invariant.reads (asked_reads c.place.result c.loop-sector.sector c.read_sector.result c.read_sector.ensures.asks c.read_sector.ensures.accounts.counts))
+    c.in_err-greatest.ensures.image c.from_residual-in_err-greatest.ensures.1
 
 pub returns-in_err-greatest-clause-fault : goal.returns-in_err-greatest-clause-fault
 returns-in_err-greatest-clause-fault g c = λ x told.
@@ -32,7 +37,7 @@ loop-sector-preserved g c =
     let winner = c.args.winner.now in
     let s = c.loop-sector.sector in
     record {
-      reads = reads_then same c.look.ensures.reads;
+      reads = reads_then same (asked_reads c.place.result s c.read_sector.result c.read_sector.ensures.asks c.read_sector.ensures.accounts.counts);
       number = λ x told. commit_number_more (chart_of x) winner c.place.result s _ (omega arith) c.place.ensures (c.in_ok-found.ensures.exact x (same.contents ∙ told)) c.args.least c.loop-sector.greatest c.in_ok-greatest.greatest
           (c.loop-sector.invariant.number x told) c.in_ok-greatest.ensures.number;
       fine = λ x told. first_more (commit_fault (chart_of x) (Some winner)) s (c.loop-sector.invariant.fine x told)

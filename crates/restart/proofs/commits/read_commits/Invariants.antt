@@ -1,9 +1,9 @@
 use Rattle.std.proofs.Common.{◌≡◌, ◌≤◌, ◌<◌, ℕ, Some, None}
 use Rattle.ipl_meaning.specs.Chart.{chart_of}
 use Rattle.unit_io.specs.Reads.{OfContents}
-use Rattle.opening_rules.specs.First.{first_below}
+use Rattle.ipl_base.specs.First.{first_below}
 use Rattle.opening_rules.specs.Faults.{commit_fault, greatest_of_commits}
-use Rattle.opening_rules.specs.Laws.{IsWhole}
+use Rattle.ipl_format.specs.Whole.{IsWhole}
 use Rattle.restart.specs.Looks.{OnlyReads}
 use Rattle.restart.proofs.commits.read_commits.Given as goal
 

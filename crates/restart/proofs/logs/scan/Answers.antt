@@ -1,23 +1,24 @@
 use Rattle.std.proofs.Common.{◌≡◌, ◌∙◌, ◌*◌, ℕ, Some, length, subst, arith}
 use Rattle.std.proofs.lemmas.Result.{err_from_is_err_and}
 use Rattle.ipl_meaning.specs.Chart.{chart_of}
-use Rattle.opening_rules.specs.First.{at, first_below}
+use Rattle.ipl_base.specs.First.{first_below}
+use Rattle.opening_rules.specs.First.{at}
 use Rattle.opening_rules.specs.Faults.{log_fault}
-use Rattle.restart.proofs.LookLemmas.{reads_then}
+use Rattle.restart.proofs.LookLemmas.{reads_then, looks_then}
+use Rattle.restart.proofs.NoteLemmas.{sizes_then}
 use Rattle.restart.proofs.LogLemmas.{respelled}
 use Rattle.restart.proofs.logs.scan.Goals as goal
 
-pub returns-in_err-greatest-clause-reads : goal.returns-in_err-greatest-clause-reads
-returns-in_err-greatest-clause-reads g c = reads_then c.loop-place.invariant.reads c.scan_place.ensures.reads
+pub returns-in_err-greatest-clause-looks : goal.returns-in_err-greatest-clause-looks
+returns-in_err-greatest-clause-looks g c = looks_then c.scan_place.result c.from_residual.result c.loop-place.invariant.reads c.scan_place.ensures.looks c.in_err-greatest.was c.from_residual.ensures.1
 
 pub loop-place-preserved : goal.loop-place-preserved
 loop-place-preserved g c =
     let same = c.loop-place.invariant.reads in record {
-      reads = reads_then same c.scan_place.ensures.reads;
+      reads = reads_then same c.scan_place.ensures.looks.reads;
       scanned = λ x told. c.in_ok-greatest.ensures.scanned x (same.contents ∙ told) c.args.least (c.loop-place.invariant.scanned x told);
       roomy = c.in_ok-greatest.ensures.roomy;
-      units = c.scan_place.ensures.units ∙ c.loop-place.invariant.units;
-      places = c.scan_place.ensures.places ∙ c.loop-place.invariant.places;
+      sized = sizes_then c.loop-place.invariant.sized c.scan_place.ensures.sized;
     }
 
 pub returns-in_err-greatest-clause-fault : goal.returns-in_err-greatest-clause-fault

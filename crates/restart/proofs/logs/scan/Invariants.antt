@@ -2,7 +2,7 @@ use Rattle.std.proofs.Common.{◌≡◌, ◌*◌}
 use Rattle.unit_io.specs.Reads.{OfContents}
 use Rattle.opening_rules.specs.First.{at}
 use Rattle.restart.specs.Looks.{OnlyReads}
-use Rattle.restart.specs.Notes.{units_of, places_of, IsRoomy}
+use Rattle.restart.specs.Notes.{SameSize, IsRoomy}
 use Rattle.restart.specs.Scanned.{IsScanned}
 use Rattle.restart.proofs.logs.scan.Given as goal
 
@@ -12,6 +12,5 @@ invariant-loop-place g l =
       reads : OnlyReads (told l.fn.chip) (told l.chip);
       scanned : OfContents (told l.fn.chip) (λ x. IsScanned x (at l.heads) (at l.current) l.least (l.place * 256) l.noted l.greatest);
       roomy : IsRoomy (at l.current) (l.place * 256) l.noted;
-      units : units_of l.noted ≡ units_of l.fn.noted;
-      places : places_of l.noted ≡ places_of l.fn.noted;
+      sized : SameSize l.fn.noted l.noted;
     }

@@ -2,7 +2,7 @@ use Rattle.std.proofs.Common.{◌≡◌, ◌+◌, ◌*◌, ℕ}
 use Rattle.unit_io.specs.Reads.{OfContents}
 use Rattle.opening_rules.specs.First.{at}
 use Rattle.restart.specs.Looks.{OnlyReads}
-use Rattle.restart.specs.Notes.{units_of, places_of, IsRoomy}
+use Rattle.restart.specs.Notes.{SameSize, IsRoomy}
 use Rattle.restart.specs.Scanned.{IsScanned}
 use Rattle.restart.proofs.logs.scan_place.Given as goal
 
@@ -13,6 +13,5 @@ invariant-loop-sector g l =
       scanned : OfContents (told l.fn.chip) (λ x. (base : ℕ) → IsScanned x (at l.heads) (at l.current) base (l.place * 256) l.fn.noted l.least
           → IsScanned x (at l.heads) (at l.current) base (l.place * 256 + l.sector) l.noted l.greatest);
       roomy : IsRoomy (at l.current) (l.place * 256 + l.sector) l.noted;
-      units : units_of l.noted ≡ units_of l.fn.noted;
-      places : places_of l.noted ≡ places_of l.fn.noted;
+      sized : SameSize l.fn.noted l.noted;
     }
