@@ -26,14 +26,14 @@ use Rattle.ipl_meaning.specs.Stands.{Stands}
 use Rattle.ipl_meaning.specs.Rests.{now, StoryRests}
 use Rattle.ipl_meaning.proofs.StoryLemmas.{says_keep}
 use Rattle.script_run.specs.declared.fault.Stop.{Stop}
-use Rattle.script_run.specs.Onward.{Further, Unrisen}
+use Rattle.store_trait.specs.Onward.{Further, Unrisen}
 use Rattle.unit_io.specs.Plain.{IsPlainEvent, ArePlain}
 use Rattle.unit_io.proofs.PlainLemmas.{are_plain_both}
-use Rattle.script_run.specs.Keeping.{AllOf, Stays}
+use Rattle.store_trait.specs.Keeping.{AllOf, Stays}
 use Rattle.script_run.specs.Run.{IsSaidOr, RunLeaves, SaysLines}
 use Rattle.script_run.specs.Goes.{Ended, Stopped, RunsScript}
 use Rattle.script_run.proofs.RunLemmas.{says_none, says_prefix}
-use Rattle.script_run.proofs.OnwardLemmas.{onward_counts, further_onward, unrisen_later}
+use Rattle.store_trait.proofs.OnwardLemmas.{onward_counts, further_onward, unrisen_later}
 use Rattle.restart.specs.Events.{format_events}
 use Rattle.restart.specs.Fresh.{Formats, IsFresh}
 use Rattle.restart.specs.Looks.{OnlyReads, only_reads}

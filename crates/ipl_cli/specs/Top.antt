@@ -24,7 +24,7 @@ use Rattle.ipl_meaning.specs.Rests.{now, StoryRests}
 use Rattle.unit_io.specs.Reads.{OfContents}
 use Rattle.unit_io.specs.Plain.{ArePlain}
 use Rattle.opening_rules.specs.Faults.{greatest_found}
-use Rattle.script_run.specs.Onward.{Unrisen}
+use Rattle.store_trait.specs.Onward.{Unrisen}
 use Rattle.script_run.specs.Run.{SaysLines}
 use Rattle.restart.specs.Events.{format_events}
 use Rattle.restart.specs.Looks.{only_reads}

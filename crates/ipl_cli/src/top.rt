@@ -3,7 +3,7 @@ ghost use Rattle.std.specs.Prelude.{◌≡◌, ◌≢◌, ◌<◌, ◌≤◌, �
 ghost use Rattle.std.specs.String.{string_bytes};
 ghost use Rattle.chip_trait.specs.Told.{History, Counts, Grew, Rose};
 ghost use Rattle.ipl_base.specs.Places.{IsGeometry};
-ghost use Rattle.script_run.specs.Onward.{Further};
+ghost use Rattle.store_trait.specs.Onward.{Further};
 ghost use Rattle.unit_store.specs.Keeps.{Suits};
 ghost use Rattle.command_line.specs.Choice.{requested};
 ghost use Rattle.command_line.specs.declared.asked.Request.TheVariants.{Format, Run};
@@ -15,7 +15,8 @@ use command_line::{Request, request};
 use ipl_base::{ChipFault, FormatFault, Geometry, ImageFault, OpenFault};
 use program_end::{End, NoteLine, status};
 use restart::format;
-use script_run::{Fault, Stop, run_script};
+use script_run::{Stop, run_script};
+use store_trait::Fault;
 use std::alloc::Global;
 use unit_store::UnitStore;
 

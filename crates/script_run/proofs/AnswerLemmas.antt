@@ -20,11 +20,11 @@ use Rattle.chip_trait.specs.Moment.{Leaves}
 use Rattle.chip_trait.specs.Told.{History, Told, Appends, FailsToSay, adds_all}
 use Rattle.chip_trait.proofs.LawfulLemmas.{lawful_none, clean_none}
 use Rattle.chip_trait.proofs.MomentLemmas.{at_start}
-use Rattle.script_run.specs.declared.fault.Fault.{Fault}
-use Rattle.script_run.specs.Keeping.{Keeping, Stays, WorkLeaves, WorksFor, LooksUpFor}
+use Rattle.store_trait.specs.declared.fault.Fault.{Fault}
+use Rattle.store_trait.specs.Keeping.{Keeping, Stays, WorkLeaves, WorksFor, LooksUpFor}
 use Rattle.script_run.specs.Run.{SaysLines, RunLeaves, SayingLeaves}
 use Rattle.script_run.specs.Goes.{SaysSome, row_lines, rows_lines}
-use Rattle.script_run.proofs.OnwardLemmas.{still_said, still_cut, unrisen_later}
+use Rattle.store_trait.proofs.OnwardLemmas.{still_said, still_cut, unrisen_later}
 use Rattle.script_run.proofs.RunLemmas.{says_none, says_all, says_cut, says_behind, says_longer, saying_none, saying_work, saying_said, saying_cut, saying_then, run_command, run_failed}
 
 -- ---- the rows of a list

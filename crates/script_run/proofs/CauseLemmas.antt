@@ -3,10 +3,10 @@ use Rattle.std.proofs.Common.{Result, Ok, Err, IfErr, arith}
 use Rattle.chip_trait.specs.Told.{Told}
 use Rattle.script_run.specs.declared.fault.Stop.{Stop}
 use Rattle.script_run.specs.declared.fault.Stop.TheVariants as stop
-use Rattle.script_run.specs.Onward.{Further}
-use Rattle.script_run.specs.Keeping.{Keeping}
+use Rattle.store_trait.specs.Onward.{Further}
+use Rattle.store_trait.specs.Keeping.{Keeping}
 use Rattle.script_run.specs.Goes.{StopCause}
-use Rattle.script_run.proofs.OnwardLemmas.{further_none}
+use Rattle.store_trait.proofs.OnwardLemmas.{further_none}
 
 -- from earlier on
 pub cause_earlier : {S : Type 0} (k : Keeping S) (first old new : Told) (s : Stop) → Further first old → StopCause k old new s → StopCause k first new s

@@ -9,13 +9,14 @@ use Rattle.ipl_model.specs.Grammar.{line_of, commands_in, commands_of}
 use Rattle.ipl_model.proofs.RunLemmas.{after_all-append}
 use Rattle.chip_trait.specs.Told.{History, Told, Beside, IsBeside, IsNext, adds_all}
 use Rattle.script_run.specs.declared.fault.Stop.{Stop}
-use Rattle.script_run.specs.Onward.{Onward}
-use Rattle.script_run.specs.Keeping.{Keeping, Stays}
+use Rattle.store_trait.specs.Onward.{Onward}
+use Rattle.store_trait.specs.Keeping.{Keeping, Stays}
 use Rattle.script_run.specs.Lines.{commands_from, kept}
 use Rattle.script_run.specs.Run.{RunLeaves}
 use Rattle.script_run.specs.Goes.{Answers, Goes, TakesBytes, Took, Stopped, Ended}
 use Rattle.script_run.proofs.LineLemmas.{keeping, from_start}
-use Rattle.script_run.proofs.OnwardLemmas.{left_then, still_beside, unrisen_later}
+use Rattle.store_trait.proofs.OnwardLemmas.{still_beside, unrisen_later}
+use Rattle.script_run.proofs.ReadLemmas.{left_then}
 use Rattle.script_run.proofs.RunLemmas.{run_none, run_more, run_longer, run_weaker}
 
 module _ {S : Type 0} (k : Keeping S) (limits : Limits) where

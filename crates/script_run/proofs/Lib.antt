@@ -1,4 +1,4 @@
-pub mod OnwardLemmas
+mod ReadLemmas
 mod LineLemmas
 pub mod RunLemmas
 mod AnswerLemmas

@@ -16,7 +16,7 @@ use Rattle.chip_trait.specs.Told.{History, Told, IsPrefix, Appends, FailsToSay, 
 use Rattle.chip_trait.proofs.LawfulLemmas.{lawful_none, clean_none, lawful_then, clean_then}
 use Rattle.chip_trait.proofs.MomentLemmas.{at_start, at_next, at_both}
 use Rattle.chip_trait.proofs.SaidLemmas.{joined-append, pieces-append, said-append, silent-part}
-use Rattle.script_run.specs.Keeping.{Keeping, AllOf, WorkLeaves}
+use Rattle.store_trait.specs.Keeping.{Keeping, AllOf, WorkLeaves}
 use Rattle.script_run.specs.Run.{IsCut, SaysLines, IsSaidOr, StandsNear, RunLeaves, SayingLeaves}
 
 -- ---- lines

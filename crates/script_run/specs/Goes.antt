@@ -11,7 +11,7 @@ use Rattle.chip_trait.specs.Told.{History, Told, Rose}
 use Rattle.script_run.specs.declared.fault.Stop.{Stop}
 use Rattle.script_run.specs.declared.fault.Stop.TheVariants as stop
 use Rattle.script_run.specs.Lines.{commands_from}
-use Rattle.script_run.specs.Keeping.{Keeping, Stays}
+use Rattle.store_trait.specs.Keeping.{Keeping, Stays}
 use Rattle.script_run.specs.Run.{RunLeaves, SayingLeaves, SaysLines}
 
 -- the line of a record, where there is one

@@ -1,5 +1,3 @@
-pub mod Onward
-pub mod Keeping
 pub mod Run
 pub mod Lines
 pub mod Goes

@@ -9,7 +9,7 @@ use Rattle.chip_trait.specs.Story.{Story, Contents, pieces, said}
 use Rattle.chip_trait.specs.Moment.{AtEachMoment, Leaves}
 use Rattle.chip_trait.specs.Lawful.{IsLawfulAfter, LeavesClean}
 use Rattle.chip_trait.specs.Told.{History, Told, adds_all, IsPrefix}
-use Rattle.script_run.specs.Keeping.{Keeping, AllOf}
+use Rattle.store_trait.specs.Keeping.{Keeping, AllOf}
 
 -- what was said of a line that was cut short: nothing, or a beginning of the line that comes next
 abbrev pub IsCut : List (List ℕ) → List (List ℕ) → Type 0

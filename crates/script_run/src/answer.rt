@@ -7,16 +7,16 @@ ghost use Rattle.std.specs.FinMap.{get};
 ghost use Rattle.ipl_model.specs.Text.{reply_text};
 ghost use Rattle.ipl_model.specs.Grammar.{line_of, commands_in};
 ghost use Rattle.ipl_model.specs.declared.command.Command.TheVariants as command;
-ghost use Rattle.script_run.specs.Onward.{Onward};
-ghost use Rattle.script_run.specs.Keeping.{IsSingle, Draws, WORK_DRAWS, LOOK_UP_DRAWS, COMMAND_DRAWS};
+ghost use Rattle.store_trait.specs.Onward.{Onward};
+ghost use Rattle.store_trait.specs.Keeping.{IsSingle, Draws, WORK_DRAWS, LOOK_UP_DRAWS, COMMAND_DRAWS};
 ghost use Rattle.script_run.specs.Goes.{StopCause, Answers, SaysUnder, row_lines, rows_lines};
 
-use crate::store::Store;
-use crate::{Fault, Stop};
+use crate::Stop;
 use chip_trait::{Desk, Failed};
 use ipl_base::Refusal;
 use ipl_model::{Command, Line, Reply};
 use script_text::{TextLine, parse, print};
+use store_trait::{Fault, Store};
 
 /// Says one line of a reply.
 fn say_reply<D: Desk>(desk: &mut D, reply: &Reply) -> Result<(), Failed>

@@ -1,14 +1,5 @@
 //! Why a run of a script ends before the script does.
-use ipl_base::{ChipFault, ImageFault};
-
-/// A store's work didn't succeed: the chip failed or held what it must not, the image couldn't be opened again, or the
-/// numbers are used up.
-#[derive(Clone, Copy, Debug, PartialEq, Eq)]
-pub enum Fault {
-    Chip(ChipFault),
-    Image(ImageFault),
-    Spent,
-}
+use store_trait::Fault;
 
 /// The store's work failed, the script couldn't be read, a reply couldn't be said, or the script has 4,294,967,295 bytes.
 #[derive(Clone, Copy, Debug, PartialEq, Eq)]

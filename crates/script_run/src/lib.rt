@@ -8,8 +8,6 @@ mod answer;
 mod buffer;
 mod fault;
 mod run;
-mod store;
 
-pub use fault::{Fault, Stop};
+pub use fault::Stop;
 pub use run::run_script;
-pub use store::Store;

@@ -1,15 +1,15 @@
 //! A script to its end, in whatever pieces its bytes come.
 ghost use Rattle.std.specs.Prelude.{◌≡◌, ◌≤◌, ◌+◌, ◌-◌, ◌*◌, ◌^◌, ◌∷◌, ◌<◌, [], ℕ, List, length, IfOk, IfErr, IsErrOf};
 ghost use Rattle.chip_trait.specs.Told.{Told, Grew};
-ghost use Rattle.script_run.specs.Onward.{Onward, Further};
-ghost use Rattle.script_run.specs.Keeping.{Draws, COMMAND_DRAWS, SCRIPT_DRAWS};
+ghost use Rattle.store_trait.specs.Onward.{Onward, Further};
+ghost use Rattle.store_trait.specs.Keeping.{Draws, COMMAND_DRAWS, SCRIPT_DRAWS};
 ghost use Rattle.script_run.specs.Goes.{HasRead, StopCause, TakesBytes, TakesNext, RunsScript};
 
+use crate::Stop;
 use crate::answer::answer_line;
 use crate::buffer::LineBuffer;
-use crate::store::Store;
-use crate::{Fault, Stop};
 use chip_trait::Desk;
+use store_trait::{Fault, Store};
 
 /// The most bytes that are read at once.
 const PIECE: usize = 4096;

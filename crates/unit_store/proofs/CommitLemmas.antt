@@ -17,7 +17,7 @@ use Rattle.std.proofs.lemmas.List.{append_cancel_right}
 use Rattle.unit_io.specs.Spots.{Clears}
 use Rattle.unit_io.specs.Plain.{ArePlain, AddsPlain}
 use Rattle.unit_directory.specs.Directory.{after_replace}
-use Rattle.script_run.specs.declared.fault.Fault.{Fault}
+use Rattle.store_trait.specs.declared.fault.Fault.{Fault}
 use Rattle.unit_store.specs.Rewritten.{IsRenamed, IsRewritten, after_move}
 use Rattle.unit_store.specs.Pages.{Named}
 use Rattle.unit_store.specs.Bare.{IsBare}

@@ -24,10 +24,10 @@ use Rattle.memory_store.specs.declared.store.MemoryStore.{MemoryStore}
 use Rattle.memory_store.specs.Kept.{record_of}
 use Rattle.memory_store.specs.Fits.{Fits, is_writing}
 use Rattle.memory_store.proofs.StandingLemmas.{commit_below, commit_above, quiet_commit}
-use Rattle.script_run.specs.declared.fault.Fault.{Fault}
-use Rattle.script_run.specs.declared.fault.Fault.TheVariants.{Chip, Image, Spent}
-use Rattle.script_run.specs.Onward.{Unrisen}
-use Rattle.script_run.specs.Keeping.{AllOf, IsSingle, WorkLeaves, WorksFor, Works, LooksUpFor, LooksUp}
+use Rattle.store_trait.specs.declared.fault.Fault.{Fault}
+use Rattle.store_trait.specs.declared.fault.Fault.TheVariants.{Chip, Image, Spent}
+use Rattle.store_trait.specs.Onward.{Unrisen}
+use Rattle.store_trait.specs.Keeping.{AllOf, IsSingle, WorkLeaves, WorksFor, Works, LooksUpFor, LooksUp}
 use Rattle.unit_io.specs.Plain.{IsPlainEvent, ArePlain}
 use Rattle.unit_io.specs.Leads.{Leads}
 use Rattle.unit_store.specs.declared.store.UnitStore.{UnitStore}

@@ -12,10 +12,10 @@ use Rattle.ipl_meaning.specs.Chart.{chart_of}
 use Rattle.ipl_meaning.specs.Stands.{Stands}
 use Rattle.unit_io.specs.Plain.{IsPlainEvent}
 use Rattle.memory_store.specs.Fits.{Fits}
-use Rattle.script_run.specs.declared.fault.Fault.{Fault}
-use Rattle.script_run.specs.declared.fault.Fault.TheVariants.{Chip, Image, Spent}
-use Rattle.script_run.specs.Onward.{Still, Further, sayings}
-use Rattle.script_run.specs.Keeping.{Keeping}
+use Rattle.store_trait.specs.declared.fault.Fault.{Fault}
+use Rattle.store_trait.specs.declared.fault.Fault.TheVariants.{Chip, Image, Spent}
+use Rattle.store_trait.specs.Onward.{Still, Further, sayings}
+use Rattle.store_trait.specs.Keeping.{Keeping}
 use Rattle.unit_store.specs.declared.store.UnitStore.{UnitStore}
 use Rattle.unit_store.specs.OnChip.{OnChip, said_keeps}
 

@@ -1,7 +1,7 @@
 -- How the records stand on the chip.
 use Rattle.std.specs.Prelude.{ℕ, ◌≡◌, List, [], ◌∷◌}
 use Rattle.chip_trait.specs.Told.{History, adds_all}
-use Rattle.script_run.specs.Onward.{sayings}
+use Rattle.store_trait.specs.Onward.{sayings}
 use Rattle.ipl_rules.specs.State.{Map}
 use Rattle.ipl_meaning.specs.Layout.{Layout}
 use Rattle.ipl_meaning.specs.Stands.{Says}

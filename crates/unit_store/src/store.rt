@@ -5,7 +5,7 @@ ghost use Rattle.ipl_rules.specs.State.{State, Map};
 ghost use Rattle.ipl_meaning.specs.Tables.{IsFree};
 ghost use Rattle.ipl_meaning.specs.Rests.{EachStandsEither};
 ghost use Rattle.unit_directory.specs.Free.{free_count};
-ghost use Rattle.script_run.specs.Keeping.{LAST_NUMBER};
+ghost use Rattle.store_trait.specs.Keeping.{LAST_NUMBER};
 ghost use Rattle.unit_io.specs.Leads.{Leads};
 ghost use Rattle.unit_io.specs.Reads.{OfContents};
 
@@ -17,7 +17,7 @@ use chip_trait::Chip;
 use ipl_base::{Counter, Geometry, ImageFault, OpenFault, OutOfMemory, Refusal, Value};
 use ipl_model::{Command, Reply};
 use memory_store::{MemoryStore, NAMES};
-use script_run::{Fault, Store};
+use store_trait::{Fault, Store};
 use std::alloc::Global;
 use unit_directory::Directory;
 
@@ -209,7 +209,7 @@ impl UnitStore {
 }
 
 impl UnitStore {
-    ghost use Rattle.script_run.specs.Keeping.{Works, Draws, WORK_DRAWS};
+    ghost use Rattle.store_trait.specs.Keeping.{Works, Draws, WORK_DRAWS};
     ghost use Rattle.unit_store.specs.Keeps.{FaultCause, Suits, unit_keeping};
     ghost use Rattle.ipl_model.specs.declared.command.Command.TheVariants as command;
 

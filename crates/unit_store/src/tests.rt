@@ -1,6 +1,6 @@
 //! What a commit asks of a small chip, and what asks nothing.
 ghost use Rattle.chip_trait.specs.Told.{Told};
-ghost use Rattle.script_run.specs.Keeping.{IsSingle};
+ghost use Rattle.store_trait.specs.Keeping.{IsSingle};
 ghost use Rattle.unit_store.specs.Keeps.{Suits};
 
 use crate::UnitStore;
@@ -8,7 +8,7 @@ use chip_mem::MemChip;
 use chip_trait::{Chip, Event};
 use ipl_base::{Geometry, Value};
 use ipl_model::{Command, PutBytes, Reply};
-use script_run::{Fault, Store};
+use store_trait::{Fault, Store};
 use std::test::Fail;
 
 /// What an event was, and at which place and sector.

@@ -1,6 +1,6 @@
 use Rattle.std.proofs.Common.{Option, List, ℕ, Ok, subst}
 use Rattle.std.proofs.lemmas.Result.{err_from_is_err_and}
-use Rattle.script_run.specs.Keeping.{LooksUpFor}
+use Rattle.store_trait.specs.Keeping.{LooksUpFor}
 use Rattle.script_run.proofs.AnswerLemmas.{row_said, row_absent, row_unsaid, row_failed}
 use Rattle.script_run.proofs.answer.say_row.Goals as goal
 

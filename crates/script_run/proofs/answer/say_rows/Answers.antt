@@ -4,7 +4,7 @@ use Rattle.std.proofs.lemmas.Result.{err_from_is_err_and}
 use Rattle.chip_trait.specs.Told.{adds_all}
 use Rattle.script_run.specs.Run.{SayingLeaves}
 use Rattle.script_run.specs.Goes.{rows_lines}
-use Rattle.script_run.proofs.OnwardLemmas.{onward_none, onward_then}
+use Rattle.store_trait.proofs.OnwardLemmas.{onward_none, onward_then}
 use Rattle.script_run.proofs.AnswerLemmas.{rows_none, rows_then, rows_stop}
 use Rattle.script_run.proofs.answer.say_rows.Goals as goal
 

@@ -1,8 +1,8 @@
 use Rattle.std.proofs.Common.{◌≡◌, ◌≤◌, ◌<◌, ◌-◌, ◌+◌, ◌*◌, ℕ, true, Some}
 use Rattle.ipl_rules.specs.State.{State, Limits}
 use Rattle.chip_trait.specs.Told.{History}
-use Rattle.script_run.specs.Keeping.{LOOK_UP_DRAWS}
-use Rattle.script_run.specs.Onward.{Onward}
+use Rattle.store_trait.specs.Keeping.{LOOK_UP_DRAWS}
+use Rattle.store_trait.specs.Onward.{Onward}
 use Rattle.script_run.specs.Run.{SayingLeaves}
 use Rattle.script_run.specs.Goes.{rows_lines}
 use Rattle.script_run.proofs.answer.say_rows.Given as goal

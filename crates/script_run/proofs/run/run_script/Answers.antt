@@ -2,10 +2,11 @@ use Rattle.std.proofs.Common.{◌≡◌, ℕ, List, sym, subst, arith}
 use Rattle.std.proofs.lemmas.List.{length-take}
 use Rattle.std.proofs.lemmas.Result.{err_from_is_err_and}
 use Rattle.ipl_model.specs.Grammar.{line_of, commands_in}
-use Rattle.script_run.specs.Keeping.{Stays}
+use Rattle.store_trait.specs.Keeping.{Stays}
 use Rattle.script_run.specs.declared.fault.Stop.{Stop}
 use Rattle.script_run.specs.Goes.{Answers, HasRead, StopCause}
-use Rattle.script_run.proofs.OnwardLemmas.{further_none, further_then, grew_none, grew_then, read_none, read_then}
+use Rattle.store_trait.proofs.OnwardLemmas.{further_none, further_then}
+use Rattle.script_run.proofs.ReadLemmas.{grew_none, grew_then, read_none, read_then}
 use Rattle.script_run.proofs.CauseLemmas.{cause_earlier}
 use Rattle.script_run.proofs.GoesLemmas.{Running, running_none, running_more, running_stopped, running_failed, running_last, stays_later, stops_weaker, ends_later}
 use Rattle.script_run.proofs.run.run_script.Goals as goal

@@ -1,8 +1,8 @@
 use Rattle.std.proofs.Common.{◌≡◌, ◌≤◌, ◌-◌, ◌+◌, ◌*◌, List, ℕ, Some}
 use Rattle.ipl_rules.specs.State.{State, Limits}
 use Rattle.chip_trait.specs.Told.{History, Grew}
-use Rattle.script_run.specs.Keeping.{COMMAND_DRAWS}
-use Rattle.script_run.specs.Onward.{Further}
+use Rattle.store_trait.specs.Keeping.{COMMAND_DRAWS}
+use Rattle.store_trait.specs.Onward.{Further}
 use Rattle.script_run.specs.Goes.{HasRead}
 use Rattle.script_run.proofs.GoesLemmas.{Running}
 use Rattle.script_run.proofs.run.run_script.Given as goal

@@ -1,11 +1,11 @@
 use Rattle.std.proofs.Common.{false, take, refl, sym, subst, ◌∙◌}
 use Rattle.std.proofs.lemmas.Result.{err_from_is_err_and}
 use Rattle.script_run.specs.declared.fault.Stop.{Stop}
-use Rattle.script_run.specs.Keeping.{Stays}
+use Rattle.store_trait.specs.Keeping.{Stays}
 use Rattle.script_run.specs.Goes.{StopCause}
 use Rattle.script_run.proofs.GoesLemmas.{holds_beside, took, stopped, stopped_at_once, stays_later}
 use Rattle.script_run.proofs.RunLemmas.{run_weaker}
-use Rattle.script_run.proofs.OnwardLemmas.{further_read, read_once}
+use Rattle.script_run.proofs.ReadLemmas.{further_read, read_once}
 use Rattle.script_run.proofs.CauseLemmas.{cause_earlier}
 use Rattle.script_run.proofs.run.take_next.Goals as goal
 

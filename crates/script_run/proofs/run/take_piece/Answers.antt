@@ -1,9 +1,9 @@
 use Rattle.std.proofs.Common.{ℕ, [], ◌∷◌, false, List, take, get_or, sym, subst, arith}
 use Rattle.std.proofs.lemmas.List.{take_more, take_all}
 use Rattle.std.proofs.lemmas.Result.{err_from_is_err_and}
-use Rattle.script_run.specs.Keeping.{Stays}
+use Rattle.store_trait.specs.Keeping.{Stays}
 use Rattle.script_run.specs.Goes.{Goes}
-use Rattle.script_run.proofs.OnwardLemmas.{onward_none, onward_then}
+use Rattle.store_trait.proofs.OnwardLemmas.{onward_none, onward_then}
 use Rattle.script_run.proofs.GoesLemmas.{goes_none, goes_then, stops_in_piece, stays_later}
 use Rattle.script_run.proofs.RunLemmas.{run_weaker}
 use Rattle.script_run.proofs.run.take_piece.Goals as goal

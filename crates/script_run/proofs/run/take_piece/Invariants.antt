@@ -1,8 +1,8 @@
 use Rattle.std.proofs.Common.{◌≡◌, ◌≤◌, ◌+◌, ◌*◌, ℕ, take, Some}
 use Rattle.ipl_rules.specs.State.{State, Limits}
 use Rattle.chip_trait.specs.Told.{History}
-use Rattle.script_run.specs.Keeping.{COMMAND_DRAWS}
-use Rattle.script_run.specs.Onward.{Onward}
+use Rattle.store_trait.specs.Keeping.{COMMAND_DRAWS}
+use Rattle.store_trait.specs.Onward.{Onward}
 use Rattle.script_run.specs.Goes.{Goes}
 use Rattle.script_run.proofs.run.take_piece.Given as goal
 

@@ -1,7 +1,7 @@
 use Rattle.std.proofs.Common.{◌+◌, ◌∙◌, ℕ, sym, ap, subst, Ok, Err}
 use Rattle.ipl_meaning.specs.Tables.{Places}
 use Rattle.unit_directory.specs.Directory.{after_replace}
-use Rattle.script_run.specs.declared.fault.Fault.TheVariants.{Chip}
+use Rattle.store_trait.specs.declared.fault.Fault.TheVariants.{Chip}
 use Rattle.unit_store.specs.Values.{seen_in}
 use Rattle.unit_store.proofs.CommitLemmas.{written_leads, write_fails, WriteSays}
 use Rattle.unit_store.proofs.store.UnitStore.write.Goals as goal

@@ -10,7 +10,7 @@ use ipl_model::{Command, Reply};
 /// A store of records over a chip. It says nothing; a run says its replies.
 pub trait Store {
     ghost use Rattle.ipl_rules.specs.State.{State, Limits};
-    ghost use Rattle.script_run.specs.Keeping.{Keeping, IsSingle, Works, LooksUp, Draws, WORK_DRAWS, LOOK_UP_DRAWS};
+    ghost use Rattle.store_trait.specs.Keeping.{Keeping, IsSingle, Works, LooksUp, Draws, WORK_DRAWS, LOOK_UP_DRAWS};
 
     /// How it keeps a state on a chip.
     ghost keeping: { Keeping Self };
@@ -27,7 +27,6 @@ pub trait Store {
         ensures draws { Draws keeping WORK_DRAWS self.old (IsErrOf result Fault.Spent) self.new }
         ensures works { Works keeping command.now self.old (C.told chip.old) result self.new (C.told chip.new) }
         ensures suited { (places : ℕ) → keeping.suits self.old places → keeping.suits self.new places }
-        ensures places { (C.told chip.new).places ≡ (C.told chip.old).places }
         ensures counts { Counts (C.told chip.old) (C.told chip.new) }
         ensures cause { IfErr result (λ fault. keeping.cause fault (C.told chip.old) (C.told chip.new)) };
 
@@ -37,7 +36,6 @@ pub trait Store {
         ensures draws { Draws keeping LOOK_UP_DRAWS self.old (IsErrOf result Fault.Spent) self.new }
         ensures looks_up { LooksUp keeping n self.old (C.told chip.old) result self.new (C.told chip.new) }
         ensures suited { (places : ℕ) → keeping.suits self.old places → keeping.suits self.new places }
-        ensures places { (C.told chip.new).places ≡ (C.told chip.old).places }
         ensures counts { Counts (C.told chip.old) (C.told chip.new) }
         ensures cause { IfErr result (λ fault. keeping.cause fault (C.told chip.old) (C.told chip.new)) };
 }
