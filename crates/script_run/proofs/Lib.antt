@@ -4,3 +4,4 @@ pub mod RunLemmas
 mod AnswerLemmas
 mod GoesLemmas
 pub mod CauseLemmas
+mod AlongLemmas

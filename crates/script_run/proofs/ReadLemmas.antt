@@ -1,5 +1,5 @@
 -- Reads of the script, and what stands beside the chip over them.
-use Rattle.std.proofs.Common.{◌≡◌, ℕ, ◌+◌, ◌≤◌, List, drop, Option, Some, refl, ◌∙◌, ap, arith}
+use Rattle.std.proofs.Common.{◌≡◌, ℕ, ◌+◌, List, drop, Some, ◌∙◌, ap, arith}
 use Rattle.std.specs.Option.{option_map}
 use Rattle.std.proofs.lemmas.List.{drop-drop, length-drop}
 use Rattle.chip_trait.specs.Told.{Told, Beside, IsBeside, Grew, IsNext}

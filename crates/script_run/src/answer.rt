@@ -8,8 +8,8 @@ ghost use Rattle.ipl_model.specs.Text.{reply_text};
 ghost use Rattle.ipl_model.specs.Grammar.{line_of, commands_in};
 ghost use Rattle.ipl_model.specs.declared.command.Command.TheVariants as command;
 ghost use Rattle.store_trait.specs.Onward.{Onward};
-ghost use Rattle.store_trait.specs.Keeping.{IsSingle, Draws, WORK_DRAWS, LOOK_UP_DRAWS, COMMAND_DRAWS};
-ghost use Rattle.script_run.specs.Goes.{StopCause, Answers, SaysUnder, row_lines, rows_lines};
+ghost use Rattle.store_trait.specs.Keeping.{IsSingle, WORK_DRAWS, LOOK_UP_DRAWS, COMMAND_DRAWS};
+ghost use Rattle.script_run.specs.Goes.{Along, Answers, SaysUnder, row_lines, rows_lines};
 
 use crate::Stop;
 use chip_trait::{Desk, Failed};
@@ -36,11 +36,7 @@ fn answer_one<S: Store, D: Desk>(store: &mut S, desk: &mut D, command: &Command)
     requires single { IsSingle command.now }
     requires suits { S.keeping.suits store.old (D.told desk.old).places }
     ensures answers { Answers S.keeping (command.now ∷ []) store.old (D.told desk.old) result store.new (D.told desk.new) }
-    ensures draws { Draws S.keeping WORK_DRAWS store.old (IsErrOf result (Stop.Store Fault.Spent)) store.new }
-    ensures suited { (places : ℕ) → S.keeping.suits store.old places → S.keeping.suits store.new places }
-    ensures onward { Onward (D.told desk.old) (D.told desk.new) }
-    ensures cause { IfErr result (λ stop. StopCause S.keeping (D.told desk.old) (D.told desk.new) stop) }
-    ensures never { IsErrOf result Stop.TooLong → ⊥ }
+    ensures along { Along S.keeping Onward WORK_DRAWS store.old (D.told desk.old) result store.new (D.told desk.new) }
 {
     let reply = store.work(desk, command)?;
     match say_reply(desk, &reply) {
@@ -53,11 +49,7 @@ fn answer_one<S: Store, D: Desk>(store: &mut S, desk: &mut D, command: &Command)
 fn say_row<S: Store, D: Desk>(store: &mut S, desk: &mut D, n: u32) -> Result<(), Stop>
     requires { S.keeping.suits store.old (D.told desk.old).places }
     ensures says { (limits : Limits) → n < limits.names → SaysUnder S.keeping limits (λ state. row_lines n (get state.map n)) store.old (D.told desk.old) result store.new (D.told desk.new) }
-    ensures draws { Draws S.keeping LOOK_UP_DRAWS store.old (IsErrOf result (Stop.Store Fault.Spent)) store.new }
-    ensures suited { (places : ℕ) → S.keeping.suits store.old places → S.keeping.suits store.new places }
-    ensures onward { Onward (D.told desk.old) (D.told desk.new) }
-    ensures cause { IfErr result (λ stop. StopCause S.keeping (D.told desk.old) (D.told desk.new) stop) }
-    ensures never { IsErrOf result Stop.TooLong → ⊥ }
+    ensures along { Along S.keeping Onward LOOK_UP_DRAWS store.old (D.told desk.old) result store.new (D.told desk.new) }
 {
     match store.look_up(desk, n)? {
         Some(value) => match say_reply(desk, &Reply::Row(n, value)) {
@@ -77,11 +69,7 @@ fn say_rows<S: Store, D: Desk>(
 ) -> Result<(), Stop>
     requires { S.keeping.suits store.old (D.told desk.old).places }
     ensures says { (limits : Limits) → end ≤ limits.names → SaysUnder S.keeping limits (λ state. rows_lines state.map first (end - first)) store.old (D.told desk.old) result store.new (D.told desk.new) }
-    ensures draws { Draws S.keeping (LOOK_UP_DRAWS * (end - first)) store.old (IsErrOf result (Stop.Store Fault.Spent)) store.new }
-    ensures suited { (places : ℕ) → S.keeping.suits store.old places → S.keeping.suits store.new places }
-    ensures onward { Onward (D.told desk.old) (D.told desk.new) }
-    ensures cause { IfErr result (λ stop. StopCause S.keeping (D.told desk.old) (D.told desk.new) stop) }
-    ensures never { IsErrOf result Stop.TooLong → ⊥ }
+    ensures along { Along S.keeping Onward (LOOK_UP_DRAWS * (end - first)) store.old (D.told desk.old) result store.new (D.told desk.new) }
 {
     for n in first..end {
         say_row(store, desk, n)?;
@@ -93,11 +81,7 @@ fn say_rows<S: Store, D: Desk>(
 fn list<S: Store, D: Desk>(store: &mut S, desk: &mut D, first: u32, last: u32) -> Result<(), Stop>
     requires { S.keeping.suits store.old (D.told desk.old).places }
     ensures answers { Answers S.keeping (command.List first last ∷ []) store.old (D.told desk.old) result store.new (D.told desk.new) }
-    ensures draws { Draws S.keeping COMMAND_DRAWS store.old (IsErrOf result (Stop.Store Fault.Spent)) store.new }
-    ensures suited { (places : ℕ) → S.keeping.suits store.old places → S.keeping.suits store.new places }
-    ensures onward { Onward (D.told desk.old) (D.told desk.new) }
-    ensures cause { IfErr result (λ stop. StopCause S.keeping (D.told desk.old) (D.told desk.new) stop) }
-    ensures never { IsErrOf result Stop.TooLong → ⊥ }
+    ensures along { Along S.keeping Onward COMMAND_DRAWS store.old (D.told desk.old) result store.new (D.told desk.new) }
 {
     let names = store.names();
     if first >= names || last >= names {
@@ -117,11 +101,7 @@ fn list<S: Store, D: Desk>(store: &mut S, desk: &mut D, first: u32, last: u32) -
 fn answer<S: Store, D: Desk>(store: &mut S, desk: &mut D, command: &Command) -> Result<(), Stop>
     requires { S.keeping.suits store.old (D.told desk.old).places }
     ensures answers { Answers S.keeping (command.now ∷ []) store.old (D.told desk.old) result store.new (D.told desk.new) }
-    ensures draws { Draws S.keeping COMMAND_DRAWS store.old (IsErrOf result (Stop.Store Fault.Spent)) store.new }
-    ensures suited { (places : ℕ) → S.keeping.suits store.old places → S.keeping.suits store.new places }
-    ensures onward { Onward (D.told desk.old) (D.told desk.new) }
-    ensures cause { IfErr result (λ stop. StopCause S.keeping (D.told desk.old) (D.told desk.new) stop) }
-    ensures never { IsErrOf result Stop.TooLong → ⊥ }
+    ensures along { Along S.keeping Onward COMMAND_DRAWS store.old (D.told desk.old) result store.new (D.told desk.new) }
 {
     match command {
         Command::List(first, last) => list(store, desk, *first, *last),
@@ -133,11 +113,7 @@ fn answer<S: Store, D: Desk>(store: &mut S, desk: &mut D, command: &Command) -> 
 pub fn answer_line<S: Store, D: Desk>(store: &mut S, desk: &mut D, line: &[u8]) -> Result<(), Stop>
     requires { S.keeping.suits store.old (D.told desk.old).places }
     ensures answers { Answers S.keeping (commands_in (line_of line.now)) store.old (D.told desk.old) result store.new (D.told desk.new) }
-    ensures draws { Draws S.keeping COMMAND_DRAWS store.old (IsErrOf result (Stop.Store Fault.Spent)) store.new }
-    ensures suited { (places : ℕ) → S.keeping.suits store.old places → S.keeping.suits store.new places }
-    ensures onward { Onward (D.told desk.old) (D.told desk.new) }
-    ensures cause { IfErr result (λ stop. StopCause S.keeping (D.told desk.old) (D.told desk.new) stop) }
-    ensures never { IsErrOf result Stop.TooLong → ⊥ }
+    ensures along { Along S.keeping Onward COMMAND_DRAWS store.old (D.told desk.old) result store.new (D.told desk.new) }
 {
     match parse(line) {
         Line::Skip => Ok(()),

@@ -3,7 +3,7 @@ ghost use Rattle.std.specs.Prelude.{◌≡◌, ◌≤◌, ◌+◌, ◌-◌, ◌*
 ghost use Rattle.chip_trait.specs.Told.{Told, Grew};
 ghost use Rattle.store_trait.specs.Onward.{Onward, Further};
 ghost use Rattle.store_trait.specs.Keeping.{Draws, COMMAND_DRAWS, SCRIPT_DRAWS};
-ghost use Rattle.script_run.specs.Goes.{HasRead, StopCause, TakesBytes, TakesNext, RunsScript};
+ghost use Rattle.script_run.specs.Goes.{Along, HasRead, StopCause, TakesBytes, TakesNext, RunsScript};
 
 use crate::Stop;
 use crate::answer::answer_line;
@@ -26,11 +26,7 @@ fn take_byte<S: Store, D: Desk>(
 ) -> Result<(), Stop>
     requires { S.keeping.suits store.old (D.told desk.old).places }
     ensures takes { TakesBytes S.keeping (byte ∷ []) store.old line.old (D.told desk.old) result store.new line.new (D.told desk.new) }
-    ensures draws { Draws S.keeping COMMAND_DRAWS store.old (IsErrOf result (Stop.Store Fault.Spent)) store.new }
-    ensures suited { (places : ℕ) → S.keeping.suits store.old places → S.keeping.suits store.new places }
-    ensures onward { Onward (D.told desk.old) (D.told desk.new) }
-    ensures cause { IfErr result (λ stop. StopCause S.keeping (D.told desk.old) (D.told desk.new) stop) }
-    ensures never { IsErrOf result Stop.TooLong → ⊥ }
+    ensures along { Along S.keeping Onward COMMAND_DRAWS store.old (D.told desk.old) result store.new (D.told desk.new) }
 {
     if byte == b'\n' {
         let answered = answer_line(store, desk, line.bytes());
@@ -50,11 +46,7 @@ fn take_piece<S: Store, D: Desk>(
 ) -> Result<(), Stop>
     requires { S.keeping.suits store.old (D.told desk.old).places }
     ensures takes { TakesBytes S.keeping piece.now store.old line.old (D.told desk.old) result store.new line.new (D.told desk.new) }
-    ensures draws { Draws S.keeping (COMMAND_DRAWS * length piece.now) store.old (IsErrOf result (Stop.Store Fault.Spent)) store.new }
-    ensures suited { (places : ℕ) → S.keeping.suits store.old places → S.keeping.suits store.new places }
-    ensures onward { Onward (D.told desk.old) (D.told desk.new) }
-    ensures cause { IfErr result (λ stop. StopCause S.keeping (D.told desk.old) (D.told desk.new) stop) }
-    ensures never { IsErrOf result Stop.TooLong → ⊥ }
+    ensures along { Along S.keeping Onward (COMMAND_DRAWS * length piece.now) store.old (D.told desk.old) result store.new (D.told desk.new) }
 {
     for byte in piece {
         take_byte(store, desk, line, *byte)?;
@@ -72,15 +64,11 @@ fn take_next<S: Store, D: Desk>(
     requires some { 0 < length piece.old }
     requires suits { S.keeping.suits store.old (D.told desk.old).places }
     ensures takes { TakesNext S.keeping store.old line.old (D.told desk.old) result store.new line.new (D.told desk.new) }
-    ensures draws { Draws S.keeping (COMMAND_DRAWS * length piece.old) store.old (IsErrOf result (Stop.Store Fault.Spent)) store.new }
+    ensures along { Along S.keeping Further (COMMAND_DRAWS * length piece.old) store.old (D.told desk.old) result store.new (D.told desk.new) }
     ensures drew { IfOk result (λ n. S.keeping.counter store.new ≤ S.keeping.counter store.old + COMMAND_DRAWS * n) }
-    ensures suited { (places : ℕ) → S.keeping.suits store.old places → S.keeping.suits store.new places }
-    ensures further { Further (D.told desk.old) (D.told desk.new) }
     ensures bytes { IfOk result (λ n. Grew (D.told desk.old).beside.script_bytes n (D.told desk.new).beside.script_bytes) }
     ensures read { IfOk result (λ n. HasRead n (D.told desk.old) (D.told desk.new)) }
     ensures few { IfOk result (λ n. n ≤ length piece.old) }
-    ensures cause { IfErr result (λ stop. StopCause S.keeping (D.told desk.old) (D.told desk.new) stop) }
-    ensures never { IsErrOf result Stop.TooLong → ⊥ }
 {
     match desk.read_script(piece) {
         Ok(count) => {

@@ -3,6 +3,7 @@ use Rattle.ipl_model.specs.declared.command.Command.{Command}
 use Rattle.ipl_model.specs.Run.{after_all}
 use Rattle.ipl_model.specs.Grammar.{commands_in}
 use Rattle.script_run.specs.Run.{RunLeaves}
+use Rattle.script_run.proofs.AlongLemmas.{along_none}
 use Rattle.script_run.proofs.RunLemmas.{run_none}
 use Rattle.script_run.proofs.answer.answer_line.Goals as goal
 
@@ -13,3 +14,6 @@ returns-in-Skip-clause-answers g c = λ limits state h holds told.
     let t = g.D.Chip.told c.args.desk.now in
     subst (λ (cs : List Command). RunLeaves k limits state cs store h (k.holds limits store t) store t true × k.holds limits store t (after_all limits state cs)) (ap commands_in c.in-Skip.ensures)
     (run_none k limits state store h (k.holds limits store t) t true holds told holds, holds)
+
+pub returns-in-Skip-clause-along : goal.returns-in-Skip-clause-along
+returns-in-Skip-clause-along g c = along_none g.S.Store.keeping _ c.args.store.now (g.D.Chip.told c.args.desk.now)

@@ -1,4 +1,6 @@
+use Rattle.std.proofs.Common.{arith}
 use Rattle.std.proofs.lemmas.Result.{err_from_is_err_and}
+use Rattle.script_run.proofs.AlongLemmas.{along_work, along_fault, along_said, along_unsaid}
 use Rattle.script_run.proofs.AnswerLemmas.{answered, unsaid, failed}
 use Rattle.script_run.proofs.answer.answer_one.Goals as goal
 
@@ -14,3 +16,18 @@ returns-in-Ok-clause-answers g c = λ limits state h holds told.
 pub returns-in-Err-clause-answers : goal.returns-in-Err-clause-answers
 returns-in-Err-clause-answers g c = λ limits state h holds told.
     unsaid g.S.Store.keeping limits state c.args.command.now c.args.store.now c.work.new.self h _ _ _ _ (c.in_ok-reply.ensures.works limits state h holds told) c.in-Err.ensures.says
+
+pub returns-in_err-reply-clause-along : goal.returns-in_err-reply-clause-along
+returns-in_err-reply-clause-along g c =
+    let w = c.in_err-reply.ensures in
+    along_fault g.S.Store.keeping c.from_residual.result c.from_residual.ensures.1 w.draws w.suited w.counts w.cause
+
+pub returns-in-Ok-clause-along : goal.returns-in-Ok-clause-along
+returns-in-Ok-clause-along g c =
+    let w = c.in_ok-reply.ensures in
+    along_said g.S.Store.keeping (along_work g.S.Store.keeping w.draws.most w.suited w.counts) c.in-Ok.ensures.onward (omega arith)
+
+pub returns-in-Err-clause-along : goal.returns-in-Err-clause-along
+returns-in-Err-clause-along g c =
+    let w = c.in_ok-reply.ensures in
+    along_unsaid g.S.Store.keeping (along_work g.S.Store.keeping w.draws.most w.suited w.counts) c.in-Err.ensures.onward c.in-Err.ensures.cause (omega arith)

@@ -1,6 +1,7 @@
-use Rattle.std.proofs.Common.{Option, List, ℕ, Ok, subst}
+use Rattle.std.proofs.Common.{arith, Option, List, ℕ, Ok, subst}
 use Rattle.std.proofs.lemmas.Result.{err_from_is_err_and}
 use Rattle.store_trait.specs.Keeping.{LooksUpFor}
+use Rattle.script_run.proofs.AlongLemmas.{along_work, along_fault, along_said, along_unsaid}
 use Rattle.script_run.proofs.AnswerLemmas.{row_said, row_absent, row_unsaid, row_failed}
 use Rattle.script_run.proofs.answer.say_row.Goals as goal
 
@@ -23,3 +24,23 @@ pub returns-in-None-clause-says : goal.returns-in-None-clause-says
 returns-in-None-clause-says g c = λ limits named state h holds told.
     let found = subst (λ (o : Option (List ℕ)). LooksUpFor g.S.Store.keeping limits state c.args.n c.args.store.now h (Ok o) c.look_up.new.self (g.D.Chip.told c.args.desk.now) (g.D.Chip.told c.look_up.new.chip)) c.in-None.is (c.in_ok-value.ensures.looks_up limits state h holds told named) in
     row_absent g.S.Store.keeping limits state c.args.n c.args.store.now c.look_up.new.self h _ _ found
+
+pub returns-in_err-value-clause-along : goal.returns-in_err-value-clause-along
+returns-in_err-value-clause-along g c =
+    let w = c.in_err-value.ensures in
+    along_fault g.S.Store.keeping c.from_residual.result c.from_residual.ensures.1 w.draws w.suited w.counts w.cause
+
+pub returns-in-Ok-clause-along : goal.returns-in-Ok-clause-along
+returns-in-Ok-clause-along g c =
+    let w = c.in_ok-value.ensures in
+    along_said g.S.Store.keeping (along_work g.S.Store.keeping w.draws.most w.suited w.counts) c.in-Ok.ensures.onward (omega arith)
+
+pub returns-in-Err-clause-along : goal.returns-in-Err-clause-along
+returns-in-Err-clause-along g c =
+    let w = c.in_ok-value.ensures in
+    along_unsaid g.S.Store.keeping (along_work g.S.Store.keeping w.draws.most w.suited w.counts) c.in-Err.ensures.onward c.in-Err.ensures.cause (omega arith)
+
+pub returns-in-None-clause-along : goal.returns-in-None-clause-along
+returns-in-None-clause-along g c =
+    let w = c.in_ok-value.ensures in
+    along_work g.S.Store.keeping w.draws.most w.suited w.counts

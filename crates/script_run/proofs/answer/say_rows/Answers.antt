@@ -1,27 +1,24 @@
-use Rattle.std.proofs.Common.{◌≡◌, ◌-◌, ℕ, true, refl, subst, inl, inr, arith}
-use Rattle.std.proofs.lemmas.Bool.{cases_lt}
+use Rattle.std.proofs.Common.{◌≡◌, ◌-◌, ℕ, true, refl, subst, arith}
 use Rattle.std.proofs.lemmas.Result.{err_from_is_err_and}
 use Rattle.chip_trait.specs.Told.{adds_all}
 use Rattle.script_run.specs.Run.{SayingLeaves}
 use Rattle.script_run.specs.Goes.{rows_lines}
-use Rattle.store_trait.proofs.OnwardLemmas.{onward_none, onward_then}
+use Rattle.script_run.proofs.AlongLemmas.{along_none, along_more, along_then, along_stop}
 use Rattle.script_run.proofs.AnswerLemmas.{rows_none, rows_then, rows_stop}
 use Rattle.script_run.proofs.answer.say_rows.Goals as goal
 
 pub loop-n-init : goal.loop-n-init
 loop-n-init g c = record {
   says = λ limits named state h holds told. (rows_none g.S.Store.keeping limits state c.args.first c.args.store.now h _ holds told, holds);
-  suited = λ places suits. suits;
-  drew = omega arith;
+  along = along_none g.S.Store.keeping _ c.args.store.now (g.D.Chip.told c.args.desk.now);
   none = λ lt. refl;
-  onward = onward_none (g.D.Chip.told c.args.desk.now);
 }
 
 pub returns-in_err-say_row-clause-says : goal.returns-in_err-say_row-clause-says
 returns-in_err-say_row-clause-says g c = λ limits named state h holds told.
     let stop = err_from_is_err_and c.from_residual.result c.from_residual.ensures.1 in
     let so_far = c.loop-n.invariant.says limits named state h holds told in
-    rw stop.1 (rows_stop g.S.Store.keeping limits state c.args.first c.loop-n.n c.args.end c.args.store.now c.loop-n.store c.say_row.new.store h _ _ _ (omega arith) (omega arith) c.loop-n.invariant.onward.writes so_far.0
+    rw stop.1 (rows_stop g.S.Store.keeping limits state c.args.first c.loop-n.n c.args.end c.args.store.now c.loop-n.store c.say_row.new.store h _ _ _ (omega arith) (omega arith) c.loop-n.invariant.along.beside.writes so_far.0
     (c.in_err-say_row.ensures.says limits (omega arith) state (adds_all so_far.0.added h) so_far.1 so_far.0.history))
 
 pub loop-n-preserved : goal.loop-n-preserved
@@ -30,14 +27,19 @@ loop-n-preserved g c = record {
       let so_far = c.loop-n.invariant.says limits named state h holds told in
       let row = c.in_ok-say_row.ensures.says limits (omega arith) state (adds_all so_far.0.added h) so_far.1 so_far.0.history in
       (rows_then g.S.Store.keeping limits state c.args.first c.loop-n.n c.args.store.now c.loop-n.store c.say_row.new.store h _ _ (omega arith) so_far.0 row.0, row.1);
-  suited = λ places suits. c.say_row.ensures.suited places (c.loop-n.invariant.suited places suits);
-  drew = omega (arith, c.loop-n.invariant.drew, c.say_row.ensures.draws.most);
+  along = along_more g.S.Store.keeping (along_then g.S.Store.keeping c.loop-n.invariant.along c.in_ok-say_row.ensures.along) (omega arith);
   none = λ lt. absurd (omega arith);
-  onward = onward_then (g.D.Chip.told c.args.desk.now) (g.D.Chip.told c.loop-n.desk) (g.D.Chip.told c.say_row.new.desk) c.loop-n.invariant.onward c.say_row.ensures.onward;
 }
 
 pub returns-clause-says : goal.returns-clause-says
 returns-clause-says g c = λ limits named state h holds told.
-    let all : c.loop-n.n - c.args.first ≡ c.args.end - c.args.first = elim (cases_lt c.args.end c.args.first) [ inl none ↦ let here = c.loop-n.invariant.none none in omega arith | inr some ↦ omega arith ] in
+    let all : c.loop-n.n - c.args.first ≡ c.args.end - c.args.first = grind (arith, c.loop-n.invariant.none) in
     let so_far = c.loop-n.invariant.says limits named state h holds told in
     (subst (λ (j : ℕ). SayingLeaves g.S.Store.keeping limits state.map (rows_lines state.map c.args.first j) c.args.store.now h c.loop-n.store (g.D.Chip.told c.loop-n.desk) true) all so_far.0, so_far.1)
+
+pub returns-in_err-say_row-clause-along : goal.returns-in_err-say_row-clause-along
+returns-in_err-say_row-clause-along g c =
+    along_more g.S.Store.keeping (along_then g.S.Store.keeping c.loop-n.invariant.along (along_stop g.S.Store.keeping c.from_residual.result c.from_residual.ensures.1 c.in_err-say_row.ensures.along)) (omega arith)
+
+pub returns-clause-along : goal.returns-clause-along
+returns-clause-along g c = along_more g.S.Store.keeping c.loop-n.invariant.along (grind (arith, c.loop-n.invariant.none))

@@ -1,10 +1,10 @@
-use Rattle.std.proofs.Common.{◌≡◌, ◌≤◌, ◌<◌, ◌-◌, ◌+◌, ◌*◌, ℕ, true, Some}
+use Rattle.std.proofs.Common.{◌≡◌, ◌≤◌, ◌<◌, ◌-◌, ◌*◌, true, Some}
 use Rattle.ipl_rules.specs.State.{State, Limits}
 use Rattle.chip_trait.specs.Told.{History}
 use Rattle.store_trait.specs.Keeping.{LOOK_UP_DRAWS}
-use Rattle.store_trait.specs.Onward.{Onward}
 use Rattle.script_run.specs.Run.{SayingLeaves}
 use Rattle.script_run.specs.Goes.{rows_lines}
+use Rattle.script_run.proofs.AlongLemmas.{SoFar}
 use Rattle.script_run.proofs.answer.say_rows.Given as goal
 
 abbrev pub invariant-loop-n : goal.invariant-loop-n
@@ -14,8 +14,6 @@ invariant-loop-n g l =
     record {
       says : (limits : Limits) → l.end ≤ limits.names → (state : State) (h : History) → k.holds limits l.fn.store (told l.fn.desk) state → (told l.fn.desk).history ≡ Some h
           → SayingLeaves k limits state.map (rows_lines state.map l.first (l.n - l.first)) l.fn.store h l.store (told l.desk) true × k.holds limits l.store (told l.desk) state;
-      suited : (places : ℕ) → k.suits l.fn.store places → k.suits l.store places;
-      drew : k.counter l.store ≤ k.counter l.fn.store + LOOK_UP_DRAWS * (l.n - l.first);
+      along : SoFar k (LOOK_UP_DRAWS * (l.n - l.first)) l.fn.store (told l.fn.desk) l.store (told l.desk);
       none : l.end < l.first → l.n ≡ l.first;
-      onward : Onward (told l.fn.desk) (told l.desk);
     }

@@ -34,8 +34,8 @@ loop-total-preserved g c =
     let k = g.S.Store.keeping in record {
       running = λ limits state h holds told source left.
           running_more k limits state source c.args.store.now c.loop-total.store t.new.store h c.loop-total.line t.new.line (at c.loop-total.desk) (at t.new.desk) c.in_ok-count.count (was.running limits state h holds told source left) (λ s g' now is. o.takes limits s g' now is);
-      suited = λ places suits. t.ensures.suited places (was.suited places suits);
-      further = further_then (at c.args.desk.now) (at c.loop-total.desk) (at t.new.desk) was.further t.ensures.further;
+      suited = λ places suits. t.ensures.along.suited places (was.suited places suits);
+      further = further_then (at c.args.desk.now) (at c.loop-total.desk) (at t.new.desk) was.further t.ensures.along.beside;
       bytes = grew_then (at c.args.desk.now).beside.script_bytes (at c.loop-total.desk).beside.script_bytes (at t.new.desk).beside.script_bytes c.loop-total.total c.in_ok-count.count was.bytes o.bytes;
       read = read_then (at c.args.desk.now) (at c.loop-total.desk) (at t.new.desk) c.loop-total.total c.in_ok-count.count was.read o.read;
       drew = let d = o.drew in omega (arith, was.drew, d);
@@ -63,7 +63,7 @@ returns-in_err-count-clause-cause g c =
     let at = g.D.Chip.told in
     let stop = err_from_is_err_and c.from_residual.result c.from_residual.ensures.1 in
     rw stop.1 (subst (λ (s : Stop). StopCause g.S.Store.keeping (at c.args.desk.now) (at c.take_next.new.desk) s) (sym stop.2)
-    (cause_earlier g.S.Store.keeping (at c.args.desk.now) (at c.loop-total.desk) (at c.take_next.new.desk) _ c.loop-total.invariant.further c.in_err-count.ensures.cause))
+    (cause_earlier g.S.Store.keeping (at c.args.desk.now) (at c.loop-total.desk) (at c.take_next.new.desk) _ c.loop-total.invariant.further c.in_err-count.ensures.along.cause))
 
 pub returns-then-count-eq0-clause-run : goal.returns-then-count-eq0-clause-run
 returns-then-count-eq0-clause-run g c = λ limits state h holds told source left.
@@ -72,9 +72,9 @@ returns-then-count-eq0-clause-run g c = λ limits state h holds told source left
     let t = c.take_next in
     let a = c.answer_line in
     let answers = subst (λ (l : List ℕ). Answers k (commands_in (line_of l)) t.new.store (at t.new.desk) a.result a.new.store (at a.new.desk)) c.bytes.ensures a.ensures.answers in
-    ends_later k limits state source c.args.store.now a.new.store h a.result (at c.args.desk.now) (at t.new.desk) (at a.new.desk) (omega (arith, c.loop-total.invariant.further.writes, c.in_ok-count.ensures.further.writes))
+    ends_later k limits state source c.args.store.now a.new.store h a.result (at c.args.desk.now) (at t.new.desk) (at a.new.desk) (omega (arith, c.loop-total.invariant.further.writes, c.in_ok-count.ensures.along.beside.writes))
     (running_last k limits state source c.args.store.now c.loop-total.store t.new.store a.new.store h c.loop-total.line t.new.line (at c.loop-total.desk) (at t.new.desk) (at a.new.desk) c.in_ok-count.count a.result
-    (c.loop-total.invariant.running limits state h holds told source left) (λ s g' now is. c.in_ok-count.ensures.takes limits s g' now is) c.if-count-eq0.true answers a.ensures.onward)
+    (c.loop-total.invariant.running limits state h holds told source left) (λ s g' now is. c.in_ok-count.ensures.takes limits s g' now is) c.if-count-eq0.true answers a.ensures.along.beside)
 
 pub returns-clause-long : goal.returns-clause-long
 returns-clause-long g c = λ x.

@@ -1,6 +1,7 @@
 use Rattle.std.proofs.Common.{ℕ, List, ◌∷◌, [], sym, subst}
 use Rattle.std.proofs.lemmas.Bool.{ne_eqb}
 use Rattle.script_run.specs.Goes.{Goes}
+use Rattle.script_run.proofs.AlongLemmas.{along_none}
 use Rattle.script_run.proofs.GoesLemmas.{takes_line, goes_byte}
 use Rattle.script_run.proofs.run.take_byte.Goals as goal
 
@@ -13,3 +14,6 @@ pub returns-clause-takes : goal.returns-clause-takes
 returns-clause-takes g c = λ limits state h holds told.
     subst (λ (l : List ℕ). Goes g.S.Store.keeping limits state c.args.line.now (c.args.byte ∷ []) c.args.store.now h c.args.store.now l (g.D.Chip.told c.args.desk.now)) (sym c.push.ensures)
     (goes_byte g.S.Store.keeping limits state c.args.line.now c.args.byte c.args.store.now h (g.D.Chip.told c.args.desk.now) (ne_eqb c.args.byte 10 c.if-byte-eq10.false) holds told)
+
+pub returns-clause-along : goal.returns-clause-along
+returns-clause-along g c = along_none g.S.Store.keeping _ c.args.store.now (g.D.Chip.told c.args.desk.now)

@@ -1,12 +1,11 @@
-use Rattle.std.proofs.Common.{false, take, refl, sym, subst, ◌∙◌}
+use Rattle.std.proofs.Common.{arith, false, take, refl, ◌∙◌}
+use Rattle.std.proofs.lemmas.List.{length-take}
 use Rattle.std.proofs.lemmas.Result.{err_from_is_err_and}
-use Rattle.script_run.specs.declared.fault.Stop.{Stop}
 use Rattle.store_trait.specs.Keeping.{Stays}
-use Rattle.script_run.specs.Goes.{StopCause}
 use Rattle.script_run.proofs.GoesLemmas.{holds_beside, took, stopped, stopped_at_once, stays_later}
 use Rattle.script_run.proofs.RunLemmas.{run_weaker}
-use Rattle.script_run.proofs.ReadLemmas.{further_read, read_once}
-use Rattle.script_run.proofs.CauseLemmas.{cause_earlier}
+use Rattle.script_run.proofs.ReadLemmas.{further_read, further_failed, read_once}
+use Rattle.script_run.proofs.AlongLemmas.{along_more, along_later, along_stop, along_ok, along_unread}
 use Rattle.script_run.proofs.run.take_next.Goals as goal
 
 pub returns-in_err-take_piece-in-Ok-clause-takes : goal.returns-in_err-take_piece-in-Ok-clause-takes
@@ -20,7 +19,7 @@ returns-in_err-take_piece-in-Ok-clause-takes g c = λ limits state h holds told 
     let new = at t.new.desk in
     let stop = err_from_is_err_and c.from_residual.result c.from_residual.ensures.1 in
     rw stop.1 (stopped k limits state c.args.line.now source (take c.in-Ok.count c.read_script.new.buf) c.read_script.new.buf c.in-Ok.count (Stays k limits t.new.store old new) old mid new c.args.store.now t.new.store h
-    r.bytes.0 t.ensures.onward left (r.bytes.2 source left) refl
+    r.bytes.0 t.ensures.along.beside left (r.bytes.2 source left) refl
     (λ tail. run_weaker k limits state _ c.args.store.now t.new.store h _ _ new false (λ s. stays_later k limits t.new.store old mid new s r.chip.writes)
     (c.in_err-take_piece-in-Ok.ensures.takes limits state h (holds_beside k limits c.args.store.now old mid state r.chip holds) (r.chip.history ∙ told) tail)))
 
@@ -33,7 +32,7 @@ returns-in_ok-take_piece-in-Ok-clause-takes g c = λ limits state h holds told s
     let old = at c.args.desk.now in
     let mid = at c.read_script.new.self in
     took k limits state c.args.line.now source (take c.in-Ok.count c.read_script.new.buf) c.read_script.new.buf c.in-Ok.count old mid (at t.new.desk) c.args.store.now t.new.store h t.new.line
-    r.bytes.0 t.ensures.onward left (r.bytes.2 source left) refl
+    r.bytes.0 t.ensures.along.beside left (r.bytes.2 source left) refl
     (c.in_ok-take_piece-in-Ok.ensures.takes limits state h (holds_beside k limits c.args.store.now old mid state r.chip holds) (r.chip.history ∙ told))
 
 pub returns-in-Err-clause-takes : goal.returns-in-Err-clause-takes
@@ -44,16 +43,24 @@ returns-in-Err-clause-takes g c = λ limits state h holds told source left.
     let r = c.in-Err.ensures in
     stopped_at_once k limits state c.args.line.now source _ old new c.args.store.now h holds told (λ quiet. holds_beside k limits c.args.store.now old new state r.chip holds) r.chip r.bytes left
 
-pub returns-in_err-take_piece-in-Ok-clause-cause : goal.returns-in_err-take_piece-in-Ok-clause-cause
-returns-in_err-take_piece-in-Ok-clause-cause g c =
-    let at = g.D.Chip.told in
+pub returns-in_err-take_piece-in-Ok-clause-along : goal.returns-in_err-take_piece-in-Ok-clause-along
+returns-in_err-take_piece-in-Ok-clause-along g c =
     let r = c.in-Ok.ensures in
-    let stop = err_from_is_err_and c.from_residual.result c.from_residual.ensures.1 in
-    rw stop.1 (subst (λ (s : Stop). StopCause g.S.Store.keeping (at c.args.desk.now) (at c.take_piece.new.desk) s) (sym stop.2)
-    (cause_earlier g.S.Store.keeping (at c.args.desk.now) (at c.read_script.new.self) (at c.take_piece.new.desk) _ (further_read (at c.args.desk.now) (at c.read_script.new.self) c.in-Ok.count r.chip r.bytes.0 r.bytes.1) c.in_err-take_piece-in-Ok.ensures.cause))
+    along_stop g.S.Store.keeping c.from_residual.result c.from_residual.ensures.1 (along_more g.S.Store.keeping (along_later g.S.Store.keeping (further_read (g.D.Chip.told c.args.desk.now) (g.D.Chip.told c.read_script.new.self) c.in-Ok.count r.chip r.bytes.0 r.bytes.1) c.in_err-take_piece-in-Ok.ensures.along) (omega (arith, length-take c.in-Ok.count c.read_script.new.buf)))
+
+pub returns-in_ok-take_piece-in-Ok-clause-along : goal.returns-in_ok-take_piece-in-Ok-clause-along
+returns-in_ok-take_piece-in-Ok-clause-along g c =
+    let r = c.in-Ok.ensures in
+    along_ok g.S.Store.keeping c.in-Ok.count (along_more g.S.Store.keeping (along_later g.S.Store.keeping (further_read (g.D.Chip.told c.args.desk.now) (g.D.Chip.told c.read_script.new.self) c.in-Ok.count r.chip r.bytes.0 r.bytes.1) c.in_ok-take_piece-in-Ok.ensures.along) (omega (arith, length-take c.in-Ok.count c.read_script.new.buf)))
+
+pub returns-in-Err-clause-along : goal.returns-in-Err-clause-along
+returns-in-Err-clause-along g c =
+    let old = g.D.Chip.told c.args.desk.now in
+    let new = g.D.Chip.told c.read_script.new.self in
+    along_unread g.S.Store.keeping _ c.args.store.now old new (further_failed old new c.in-Err.ensures.chip c.in-Err.ensures.bytes) c.in-Err.ensures.cause
 
 pub returns-in_ok-take_piece-in-Ok-clause-read : goal.returns-in_ok-take_piece-in-Ok-clause-read
 returns-in_ok-take_piece-in-Ok-clause-read g c =
     let at = g.D.Chip.told in
     let r = c.in-Ok.ensures in
-    read_once (at c.args.desk.now) (at c.read_script.new.self) (at c.take_piece.new.desk) c.in-Ok.count c.read_script.new.buf r.bytes.0 r.bytes.2 c.take_piece.ensures.onward
+    read_once (at c.args.desk.now) (at c.read_script.new.self) (at c.take_piece.new.desk) c.in-Ok.count c.read_script.new.buf r.bytes.0 r.bytes.2 c.take_piece.ensures.along.beside

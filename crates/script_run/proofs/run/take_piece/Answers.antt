@@ -3,7 +3,7 @@ use Rattle.std.proofs.lemmas.List.{take_more, take_all}
 use Rattle.std.proofs.lemmas.Result.{err_from_is_err_and}
 use Rattle.store_trait.specs.Keeping.{Stays}
 use Rattle.script_run.specs.Goes.{Goes}
-use Rattle.store_trait.proofs.OnwardLemmas.{onward_none, onward_then}
+use Rattle.script_run.proofs.AlongLemmas.{along_none, along_more, along_then, along_stop}
 use Rattle.script_run.proofs.GoesLemmas.{goes_none, goes_then, stops_in_piece, stays_later}
 use Rattle.script_run.proofs.RunLemmas.{run_weaker}
 use Rattle.script_run.proofs.run.take_piece.Goals as goal
@@ -11,15 +11,13 @@ use Rattle.script_run.proofs.run.take_piece.Goals as goal
 pub loop-byte-init : goal.loop-byte-init
 loop-byte-init g c = record {
   goes = λ limits state h holds told. goes_none g.S.Store.keeping limits state c.args.line.now c.args.store.now h (g.D.Chip.told c.args.desk.now) holds told;
-  suited = λ places suits. suits;
-  drew = omega arith;
-  onward = onward_none (g.D.Chip.told c.args.desk.now);
+  along = along_none g.S.Store.keeping _ c.args.store.now (g.D.Chip.told c.args.desk.now);
 }
 
 pub take_byte-requires : goal.take_byte-requires
 take_byte-requires g c =
-    let was = c.loop-byte.invariant in
-    subst (g.S.Store.keeping.suits c.loop-byte.store) (sym was.onward.places) (was.suited (g.D.Chip.told c.args.desk.now).places c.requires)
+    let was = c.loop-byte.invariant.along in
+    subst (g.S.Store.keeping.suits c.loop-byte.store) (sym was.beside.places) (was.suited (g.D.Chip.told c.args.desk.now).places c.requires)
 
 pub loop-byte-preserved : goal.loop-byte-preserved
 loop-byte-preserved g c =
@@ -30,9 +28,7 @@ loop-byte-preserved g c =
           subst (λ (l : List ℕ). Goes g.S.Store.keeping limits state c.args.line.now l c.args.store.now h t.new.store t.new.line (told_of t.new.desk)) (sym (take_more c.args.piece.now c.loop-byte.byte-index 0 c.loop-byte-test.true))
           (goes_then g.S.Store.keeping limits state c.args.line.now (take c.loop-byte.byte-index c.args.piece.now) (get_or c.args.piece.now c.loop-byte.byte-index 0 ∷ []) c.args.store.now c.loop-byte.store t.new.store h
           c.loop-byte.line t.new.line (told_of c.loop-byte.desk) (told_of t.new.desk) (was.goes limits state h holds told) (λ s g' now is. c.in_ok-take_byte.ensures.takes limits s g' now is));
-      suited = λ places suits. t.ensures.suited places (was.suited places suits);
-      drew = omega (arith, was.drew, t.ensures.draws.most);
-      onward = onward_then (told_of c.args.desk.now) (told_of c.loop-byte.desk) (told_of t.new.desk) was.onward t.ensures.onward;
+      along = along_more g.S.Store.keeping (along_then g.S.Store.keeping was.along c.in_ok-take_byte.ensures.along) (omega arith);
     }
 
 pub returns-in_err-take_byte-clause-takes : goal.returns-in_err-take_byte-clause-takes
@@ -44,9 +40,16 @@ returns-in_err-take_byte-clause-takes g c = λ limits state h holds told.
     rw stop.1 (stops_in_piece k limits state c.args.line.now c.args.piece.now c.loop-byte.byte-index c.args.store.now c.loop-byte.store t.new.store h (Stays k limits t.new.store (told_of c.args.desk.now) (told_of t.new.desk))
     c.loop-byte.line (told_of c.loop-byte.desk) (told_of t.new.desk) c.loop-byte-test.true (c.loop-byte.invariant.goes limits state h holds told)
     (λ s g' now is tail. run_weaker k limits s _ c.loop-byte.store t.new.store g' _ _ (told_of t.new.desk) false
-    (λ n. stays_later k limits t.new.store (told_of c.args.desk.now) (told_of c.loop-byte.desk) (told_of t.new.desk) n c.loop-byte.invariant.onward.writes) (c.in_err-take_byte.ensures.takes limits s g' now is tail)))
+    (λ n. stays_later k limits t.new.store (told_of c.args.desk.now) (told_of c.loop-byte.desk) (told_of t.new.desk) n c.loop-byte.invariant.along.beside.writes) (c.in_err-take_byte.ensures.takes limits s g' now is tail)))
 
 pub returns-clause-takes : goal.returns-clause-takes
 returns-clause-takes g c = λ limits state h holds told.
     subst (λ (l : List ℕ). Goes g.S.Store.keeping limits state c.args.line.now l c.args.store.now h c.loop-byte.store c.loop-byte.line (g.D.Chip.told c.loop-byte.desk)) (take_all c.loop-byte.byte-index c.args.piece.now (omega arith))
     (c.loop-byte.invariant.goes limits state h holds told)
+
+pub returns-in_err-take_byte-clause-along : goal.returns-in_err-take_byte-clause-along
+returns-in_err-take_byte-clause-along g c =
+    along_more g.S.Store.keeping (along_then g.S.Store.keeping c.loop-byte.invariant.along (along_stop g.S.Store.keeping c.from_residual.result c.from_residual.ensures.1 c.in_err-take_byte.ensures.along)) (omega arith)
+
+pub returns-clause-along : goal.returns-clause-along
+returns-clause-along g c = along_more g.S.Store.keeping c.loop-byte.invariant.along (omega arith)

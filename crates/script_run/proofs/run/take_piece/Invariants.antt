@@ -1,9 +1,9 @@
-use Rattle.std.proofs.Common.{◌≡◌, ◌≤◌, ◌+◌, ◌*◌, ℕ, take, Some}
+use Rattle.std.proofs.Common.{◌≡◌, ◌*◌, take, Some}
 use Rattle.ipl_rules.specs.State.{State, Limits}
 use Rattle.chip_trait.specs.Told.{History}
 use Rattle.store_trait.specs.Keeping.{COMMAND_DRAWS}
-use Rattle.store_trait.specs.Onward.{Onward}
 use Rattle.script_run.specs.Goes.{Goes}
+use Rattle.script_run.proofs.AlongLemmas.{SoFar}
 use Rattle.script_run.proofs.run.take_piece.Given as goal
 
 abbrev pub invariant-loop-byte : goal.invariant-loop-byte
@@ -13,7 +13,5 @@ invariant-loop-byte g l =
     record {
       goes : (limits : Limits) (state : State) (h : History) → k.holds limits l.fn.store (told l.fn.desk) state → (told l.fn.desk).history ≡ Some h
           → Goes k limits state l.fn.line (take l.byte-index l.piece) l.fn.store h l.store l.line (told l.desk);
-      suited : (places : ℕ) → k.suits l.fn.store places → k.suits l.store places;
-      drew : k.counter l.store ≤ k.counter l.fn.store + COMMAND_DRAWS * l.byte-index;
-      onward : Onward (told l.fn.desk) (told l.desk);
+      along : SoFar k (COMMAND_DRAWS * l.byte-index) l.fn.store (told l.fn.desk) l.store (told l.desk);
     }
