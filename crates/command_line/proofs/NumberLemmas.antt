@@ -1,4 +1,4 @@
--- Numbers below 2^32: what the grammar reads, what std's parse reads, and what decimals spell.
+-- Numbers below 2^32: what the grammar reads, and what decimals spell.
 use Rattle.std.proofs.Common.{◌≡◌, ◌≢◌, ◌∙◌, ℕ, zero, suc, ◌+◌, ◌-◌, ◌*◌, ◌<◌, ◌≤◌, ◌^◌, Bool, true, false, List, [], ◌∷◌, length, get_or, Option, Some, None, Result, Ok, Err, refl, sym, subst, ap, ltb, arith}
 use Rattle.std.specs.Prelude.{◌==◌, ◌&&◌, nat_lt, if◌then◌else◌}
 use Rattle.std.specs.Char.{digit_value}
@@ -74,19 +74,6 @@ number_had (d ∷ ds) v is =
     let h = led d v ds (d == 48 && nat_lt 0 (length ds)) refl is in
     let digits = digits_had 0 v (d ∷ ds) (omega arith) h.1 in
     ((omega arith, digits.0), h.0, digits.1, digits.2)
-
--- where no plus stands first, `parse` reads what the grammar does, but for leading zeros
-unread : (t : List ℕ) (o : Option ℕ) → number_of t ≡ o → ((IsNumeral 10 t × (digits_value 10 t < 2 ^ 32)) → ⊥) → None ≡ number_of t
-unread t None is none = sym is
-unread t (Some v) is none = let h = number_had t v is in absurd (none (h.0, rw h.2 h.3))
-
-parsed_plain : {E : Type 0} (t : List ℕ) (r : Result ℕ E) → OkIff r (IsNumeral 10 t × (digits_value 10 t < 2 ^ 32)) (digits_value 10 t) → HasNoLeadingZero t → result_ok r ≡ number_of t
-parsed_plain t (Ok v) h single = ap Some h.1 ∙ sym (number_read t h.0.0 single h.0.1)
-parsed_plain t (Err e) h single = unread t (number_of t) refl h
-
-pub parsed : {E : Type 0} (t : List ℕ) (r : Result ℕ E) → ParsesUnsigned 32 10 t r → get_or t 0 0 ≢ 43 → HasNoLeadingZero t → result_ok r ≡ number_of t
-parsed t r h no_plus single =
-    parsed_plain t r (subst (λ (s : List ℕ). OkIff r (IsNumeral 10 s × (digits_value 10 s < 2 ^ 32)) (digits_value 10 s)) (without_leading_plus_none t no_plus) h) single
 
 -- the numbers are those of decimals
 own : IsNumeralModel (AllDigits 10) (digits_value 10)

@@ -2,8 +2,9 @@
 ghost use Rattle.std.specs.Prelude.{◌≡◌};
 ghost use Rattle.std.specs.List.{before_first, after_first};
 ghost use Rattle.std.specs.Option.{option_map};
-ghost use Rattle.ipl_model.specs.Grammar.{number_of};
 ghost use Rattle.command_line.specs.Chip.{is_colon, chip_of, word_view};
+
+use plain_text::number;
 
 /// A chip of so many places, in memory or in the file at a path, which isn't empty.
 #[derive(Clone, Copy)]
@@ -23,30 +24,20 @@ fn parts(text: &str) -> (&str, &str)
     }
 }
 
-/// The number that a text is: decimal digits with no leading zero, below 2^32.
-fn number(text: &str) -> Option<u32>
-    ensures { result ≡ number_of text.now }
-{
-    match text.as_bytes() {
-        [b'+', ..] | [b'0', _, ..] => None,
-        _ => text.parse::<u32>().ok(),
-    }
-}
-
 /// The chip that a word names, and `None` where it names none.
 pub(crate) fn chip_word(text: &str) -> Option<ChipWord<'_>>
     ensures { option_map word_view result ≡ chip_of text.now }
 {
     let (kind, rest) = parts(text);
     if kind == "ram" {
-        return Some(ChipWord::Ram(number(rest)?));
+        return Some(ChipWord::Ram(number(rest.as_bytes())?));
     }
     if kind == "file" {
         let (units, path) = parts(rest);
         if path.is_empty() {
             return None;
         }
-        return Some(ChipWord::File(number(units)?, path));
+        return Some(ChipWord::File(number(units.as_bytes())?, path));
     }
     None
 }

@@ -15,7 +15,8 @@ use crate::Stop;
 use chip_trait::{Desk, Failed};
 use ipl_base::Refusal;
 use ipl_model::{Command, Line, Reply};
-use script_text::{TextLine, parse, print};
+use plain_text::TextLine;
+use script_text::{parse, print};
 use store_trait::{Fault, Store};
 
 /// Says one line of a reply.

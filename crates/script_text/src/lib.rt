@@ -6,9 +6,7 @@ mod line;
 mod printing;
 #[cfg(test)]
 mod tests;
-mod text_line;
 mod word;
 
 pub use line::parse;
 pub use printing::print;
-pub use text_line::TextLine;

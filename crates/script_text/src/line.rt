@@ -4,8 +4,9 @@ ghost use Rattle.std.specs.Option.{option_copied};
 ghost use Rattle.std.specs.List.{slice_split};
 ghost use Rattle.ipl_model.specs.Grammar.{is_space, words_behind, one_number, two_numbers, numbers_and_value, command_of, line_of};
 
-use crate::word::{first_word, number, value};
+use crate::word::{first_word, value};
 use ipl_model::{Command, Line, PutBytes};
+use plain_text::number;
 
 /// The number that the words behind a verb are.
 #[tactic(auto, using(crate::proofs::Words::one_too_many))]

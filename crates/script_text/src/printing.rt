@@ -1,10 +1,10 @@
 //! The text of a reply.
 ghost use Rattle.std.specs.Prelude.{◌≡◌, ◌≤◌, ◌<◌, ◌+◌, ◌++◌, length};
-ghost use Rattle.ipl_model.specs.Text.{refusal_text, reply_text};
+ghost use Rattle.ipl_model.specs.Text.{refusal_text, reply_text, value_text};
 
-use crate::TextLine;
-use ipl_base::Refusal;
+use ipl_base::{Refusal, Value};
 use ipl_model::Reply;
+use plain_text::TextLine;
 
 /// Appends the number and the word of a refusal.
 fn push_refusal(refusal: Refusal, out: &mut TextLine)
@@ -34,6 +34,23 @@ fn push_refusal(refusal: Refusal, out: &mut TextLine)
     }
 }
 
+/// Appends a value in hex digits, or a dash where it is empty.
+fn push_value(value: &Value, out: &mut TextLine)
+    requires { length out.old + 216 ≤ 256 }
+    ensures text { out.new ≡ out.old ++ value_text value.now }
+    ensures len { length out.new ≤ length out.old + 216 }
+{
+    let bytes = value.bytes();
+    if bytes.is_empty() {
+        out.push(b"-");
+        return;
+    }
+    let mut digits = [0u8; 216];
+    let room = &mut digits[..2 * bytes.len()];
+    let _ = hex::encode_to_slice(bytes, room);
+    out.push(&digits[..2 * bytes.len()]);
+}
+
 /// Writes a line of a reply with its line feed, in place of what the line held.
 fn print_line(reply: &Reply, out: &mut TextLine)
     ensures text { out.new ≡ reply_text reply.now }
@@ -45,13 +62,13 @@ fn print_line(reply: &Reply, out: &mut TextLine)
         Reply::Nothing => out.push(b"none\n"),
         Reply::Value(value) => {
             out.push(b"value ");
-            out.push_value(value);
+            push_value(value, out);
             out.push(b"\n");
         }
         Reply::Row(name, value) => {
             out.push_number(*name);
             out.push(b" ");
-            out.push_value(value);
+            push_value(value, out);
             out.push(b"\n");
         }
         Reply::End => out.push(b"end\n"),

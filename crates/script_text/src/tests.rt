@@ -1,9 +1,10 @@
 //! Lines and replies with what they are, worked out by hand.
 ghost use Rattle.std.specs.Prelude.{◌≤◌, length};
 
-use crate::{TextLine, parse, print};
+use crate::{parse, print};
 use ipl_base::{Refusal, Value};
 use ipl_model::{Command, Line, PutBytes, Reply};
+use plain_text::TextLine;
 use std::test::Fail;
 
 fn put(session: u32, name: u32, bytes: &[u8]) -> Line

@@ -2,30 +2,9 @@
 ghost use Rattle.std.specs.Prelude.{◌≡◌, ◌≤◌, length, IfSome};
 ghost use Rattle.std.specs.Option.{option_copied};
 ghost use Rattle.std.specs.List.{slice_split};
-ghost use Rattle.ipl_model.specs.Grammar.{number_of, value_of, is_space, words_with};
+ghost use Rattle.ipl_model.specs.Grammar.{value_of, is_space, words_with};
 
 use ipl_model::PutBytes;
-
-/// The number that a word is: decimal digits with no leading zero, below 2^32.
-pub fn number(word: &[u8]) -> Option<u32>
-    ensures { result ≡ number_of word.now }
-{
-    if word.is_empty() || (word[0] == b'0' && word.len() > 1) {
-        return None;
-    }
-    let mut value: u32 = 0;
-    for byte in word {
-        if *byte < b'0' || *byte > b'9' {
-            return None;
-        }
-        let next = u64::from(value) * 10 + u64::from(*byte - b'0');
-        if next > 0xffff_ffff {
-            return None;
-        }
-        value = next as u32;
-    }
-    Some(value)
-}
 
 /// The bytes that a word spells: `-` for none, or pairs of hex digits.
 pub fn value(word: &[u8]) -> Option<PutBytes>

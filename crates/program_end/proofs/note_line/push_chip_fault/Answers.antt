@@ -1,5 +1,5 @@
 use Rattle.std.proofs.Common.{refl, append_assoc}
-use Rattle.program_end.proofs.note_line.NoteLine.push_chip_fault.Goals as goal
+use Rattle.program_end.proofs.note_line.push_chip_fault.Goals as goal
 
 pub returns-in-Damaged-clause-text : goal.returns-in-Damaged-clause-text
 returns-in-Damaged-clause-text c =

@@ -1,10 +1,8 @@
 //! A line of text of bounded length.
 ghost use Rattle.std.specs.Prelude.{◌≡◌, ◌≤◌, ◌+◌, ◌++◌, [], ℕ, List, length};
 ghost use Rattle.std.specs.Fmt.{decimal};
-ghost use Rattle.ipl_model.specs.Text.{value_text};
 
 use arrayvec::ArrayVec;
-use ipl_base::Value;
 use itoa::Buffer;
 use std::marker::Model;
 
@@ -41,14 +39,14 @@ impl TextLine {
     }
 
     /// Takes all bytes away.
-    pub(crate) fn clear(&mut self)
+    pub fn clear(&mut self)
         ensures { self.new ≡ [] }
     {
         self.bytes.clear();
     }
 
     /// Appends a text.
-    pub(crate) fn push(&mut self, text: &[u8])
+    pub fn push(&mut self, text: &[u8])
         requires { length self.old + length text.now ≤ 256 }
         ensures text { self.new ≡ self.old ++ text.now }
         ensures len { length self.new ≡ length self.old + length text.now }
@@ -57,29 +55,12 @@ impl TextLine {
     }
 
     /// Appends a number in decimal digits.
-    pub(crate) fn push_number(&mut self, number: u32)
+    pub fn push_number(&mut self, number: u32)
         requires { length self.old + 10 ≤ 256 }
         ensures text { self.new ≡ self.old ++ decimal number }
         ensures len { length self.new ≤ length self.old + 10 }
     {
         let mut buffer = Buffer::new();
         self.push(buffer.format(number).as_bytes());
-    }
-
-    /// Appends a value in hex digits, or a dash where it is empty.
-    pub(crate) fn push_value(&mut self, value: &Value)
-        requires { length self.old + 216 ≤ 256 }
-        ensures text { self.new ≡ self.old ++ value_text value.now }
-        ensures len { length self.new ≤ length self.old + 216 }
-    {
-        let bytes = value.bytes();
-        if bytes.is_empty() {
-            self.push(b"-");
-            return;
-        }
-        let mut digits = [0u8; 216];
-        let room = &mut digits[..2 * bytes.len()];
-        let _ = hex::encode_to_slice(bytes, room);
-        self.push(&digits[..2 * bytes.len()]);
     }
 }

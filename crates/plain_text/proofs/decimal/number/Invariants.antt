@@ -1,6 +1,6 @@
 use Rattle.std.proofs.Common.{◌≡◌, ◌<◌, ◌^◌, drop}
 use Rattle.ipl_model.specs.Grammar.{number_behind}
-use Rattle.script_text.proofs.word.number.Given as goal
+use Rattle.plain_text.proofs.decimal.number.Given as goal
 
 -- the rest of the word goes on behind the value so far
 abbrev pub invariant-loop-byte : goal.invariant-loop-byte

@@ -1,0 +1,9 @@
+//! Text as the program reads and writes it: numbers in decimal digits, and lines of bounded length. It stands on the grammar
+//! alone. A contract sees a word and a line as lists of bytes.
+#![tactic(auto)]
+
+mod decimal;
+mod text_line;
+
+pub use decimal::number;
+pub use text_line::TextLine;
