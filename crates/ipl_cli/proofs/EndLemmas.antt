@@ -50,8 +50,8 @@ use Rattle.ipl_cli.specs.Runs.{StartsFormatted, StartsOpened}
 some_one : {X : Type 0} {a b : X} → Some a ≡ Some b → a ≡ b
 some_one e = cc
 
-pub further_started : (old mid : Told) → mid.places ≡ old.places → Counts old mid → Further old mid
-further_started old mid places counts = further_onward old mid (onward_counts old mid places counts)
+pub further_started : (old mid : Told) → Counts old mid → Further old mid
+further_started old mid counts = further_onward old mid (onward_counts old mid counts)
 
 -- what stands beside the chip is left as it was
 pub left_counts : (old new : Told) → Counts old new → new.beside.left ≡ old.beside.left

@@ -16,8 +16,8 @@ use ipl_base::{ChipFault, FormatFault, Geometry, ImageFault, OpenFault};
 use program_end::{End, NoteLine, status};
 use restart::format;
 use script_run::{Stop, run_script};
-use store_trait::Fault;
 use std::alloc::Global;
+use store_trait::Fault;
 use unit_store::UnitStore;
 
 /// What a format says.

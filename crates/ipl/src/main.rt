@@ -1,24 +1,14 @@
-//! `ipl`: a store of short records over a chip, run by scripts.
+//! `ipl`: a store of short records over a chip, run by scripts. Here the chip and the desk are made, and `top` of ipl_cli
+//! does the rest.
 #![tactic(auto)]
-
-#[cfg(test)]
-mod cuts;
-mod failing;
-mod mem_desk;
-#[cfg(test)]
-mod openings;
-mod real_desk;
-#[cfg(test)]
-mod tests;
-mod top;
 
 use chip_image::{AttachFault, FileChip, NoChip};
 use chip_mem::PlainChip;
 use chip_trait::Chip;
 use command_line::{Choice, chip_choice};
 use ipl_base::{Geometry, OutOfMemory};
+use ipl_cli::{RealDesk, top};
 use program_end::{End, NoteLine, status};
-use real_desk::RealDesk;
 use std::alloc::Global;
 use std::env;
 use std::io::{ErrorKind, Write};
@@ -90,7 +80,7 @@ fn over_file(
 /// Runs the words over a chip.
 fn over<C: Chip + Drop>(rt: &HostRuntime, alloc: Global, words: &[String], chip: C) -> ExitCode {
     let mut desk = RealDesk::new(chip, rt.stdin(), rt.stdout(), rt.stderr());
-    ExitCode::from(top::top(alloc, words, &mut desk))
+    ExitCode::from(top(alloc, words, &mut desk))
 }
 
 /// What is done where memory is wanting before there is a chip.

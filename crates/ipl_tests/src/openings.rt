@@ -1,9 +1,9 @@
 //! Chips that a format or a run left and that were changed after it, opened; and how much an opening reads.
-use crate::mem_desk::MemDesk;
-use crate::tests::{desk_with, ends, formatted, left_by, run, said};
+use crate::runs::{desk_with, ends, formatted, left_by, run, said};
 use chip_mem::MemChip;
 use chip_trait::{Chip, Event};
 use crc_sum::crc32_parts;
+use ipl_cli::MemDesk;
 use sector_format::{Head, encode};
 use std::alloc::Global;
 use std::process::Abort;

@@ -1,9 +1,7 @@
 //! The program over desks in memory. Of each case it is known what is said, what is noted and how it ends.
-use crate::failing::FailingSay;
-use crate::mem_desk::MemDesk;
-use crate::top::top;
 use chip_mem::MemChip;
 use chip_trait::Event;
+use ipl_cli::{FailingSay, MemDesk, top};
 use restart::format;
 use std::alloc::Global;
 use std::test::Fail;

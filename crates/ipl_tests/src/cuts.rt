@@ -1,11 +1,11 @@
 //! Runs over a chip in memory, cut after each event and failing at each call of the chip. What is left is opened, and its
 //! records are listed.
-use crate::mem_desk::MemDesk;
-use crate::tests::{
+use crate::runs::{
     ITS_REPLIES, ONE_SESSION, desk_with, ends, formatted, left_by, lists, run, said,
 };
 use chip_mem::{Choice, MemChip, Pick};
 use chip_trait::Event;
+use ipl_cli::MemDesk;
 use std::alloc::Global;
 use std::process::Abort;
 use std::test::Fail;

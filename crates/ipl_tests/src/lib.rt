@@ -1,0 +1,10 @@
+//! Tests of the program over desks in memory: what it says and notes, what power cuts and faults of the chip leave, and what
+//! is opened of changed chips. They stand in a crate of their own so that the crates below are proved once.
+#![tactic(auto)]
+
+#[cfg(test)]
+mod cuts;
+#[cfg(test)]
+mod openings;
+#[cfg(test)]
+mod runs;
