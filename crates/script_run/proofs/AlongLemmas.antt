@@ -12,18 +12,18 @@ use Rattle.script_run.specs.declared.fault.Stop.TheVariants as stop
 use Rattle.script_run.specs.Goes.{Along}
 use Rattle.script_run.proofs.CauseLemmas.{causes_earlier}
 
-module _ {S : Type 0} (k : Keeping S) where
-  -- what goes along with a part that didn't stop
-  abbrev pub SoFar : ℕ → S → Told → S → Told → Type 0
-  SoFar n before old then new = Along k {T = Unit {0}} Onward n before old (Ok tt) then new
+-- what goes along with a part that didn't stop
+abbrev pub SoFar : {S : Type 0} → Keeping S → ℕ → S → Told → S → Told → Type 0
+SoFar k n before old then new = Along k {T = Unit {0}} Onward n before old (Ok tt) then new
 
+module _ {S : Type 0} {k : Keeping S} where
   -- nothing was done
-  pub along_none : (n : ℕ) (store : S) (t : Told) → SoFar n store t store t
-  along_none n store t = record { draws = record { most = omega arith; spent = λ is. cc }; suited = λ places suits. suits; beside = onward_none t; cause = tt; never = λ is. cc }
+  pub along_none : {n : ℕ} {store : S} {t : Told} → Along k {T = Unit {0}} Onward n store t (Ok tt) store t
+  along_none {n} {store} {t} = record { draws = record { most = omega arith; spent = λ is. cc }; suited = λ places suits. suits; beside = onward_none t; cause = tt; never = λ is. cc }
 
   -- the store did its work
   pub along_work : {n : ℕ} {before then : S} {old new : Told} → k.counter then ≤ k.counter before + n → ((places : ℕ) → k.suits before places → k.suits then places) → Counts old new
-      → SoFar n before old then new
+      → Along k {T = Unit {0}} Onward n before old (Ok tt) then new
   along_work {n} {before} {then} {old} {new} most suited counts =
       record { draws = record { most = most; spent = λ is. cc }; suited = suited; beside = onward_counts old new counts; cause = tt; never = λ is. cc }
 
@@ -35,12 +35,12 @@ module _ {S : Type 0} (k : Keeping S) where
       rw is (record { draws = record { most = draws.most; spent = λ e. draws.spent cc }; suited = suited; beside = onward_counts old new counts; cause = cause; never = λ e. cc })
 
   -- then its reply was said
-  pub along_said : {n m : ℕ} {before then : S} {old mid new : Told} → SoFar n before old then mid → Onward mid new → n ≤ m → SoFar m before old then new
+  pub along_said : {n m : ℕ} {before then : S} {old mid new : Told} → Along k {T = Unit {0}} Onward n before old (Ok tt) then mid → Onward mid new → n ≤ m → Along k {T = Unit {0}} Onward m before old (Ok tt) then new
   along_said {n} {m} {before} {then} {old} {mid} {new} first on le =
       record { draws = record { most = omega (arith, first.draws.most, le); spent = λ is. cc }; suited = first.suited; beside = onward_then old mid new first.beside on; cause = tt; never = λ is. cc }
 
   -- or it couldn't be
-  pub along_unsaid : {n m : ℕ} {before then : S} {old mid new : Told} → SoFar n before old then mid → Onward mid new → Rose mid.beside.say_faults new.beside.say_faults → n ≤ m
+  pub along_unsaid : {n m : ℕ} {before then : S} {old mid new : Told} → Along k {T = Unit {0}} Onward n before old (Ok tt) then mid → Onward mid new → Rose mid.beside.say_faults new.beside.say_faults → n ≤ m
       → Along k {T = Unit {0}} Onward m before old (Err stop.Output) then new
   along_unsaid {n} {m} {before} {then} {old} {mid} {new} first on rose le = record {
     draws = record { most = omega (arith, first.draws.most, le); spent = λ is. cc };
@@ -61,7 +61,7 @@ module _ {S : Type 0} (k : Keeping S) where
   along_stop (Err e) is along = rw is (record { draws = record { most = along.draws.most; spent = λ f. along.draws.spent cc }; suited = along.suited; beside = along.beside; cause = along.cause; never = λ f. along.never cc })
 
   -- one part after another
-  pub along_then : {T : Type 0} {n m : ℕ} {before between then : S} {old mid new : Told} {result : Result T Stop} → SoFar n before old between mid → Along k Onward m between mid result then new → Along k Onward (n + m) before old result then new
+  pub along_then : {T : Type 0} {n m : ℕ} {before between then : S} {old mid new : Told} {result : Result T Stop} → Along k {T = Unit {0}} Onward n before old (Ok tt) between mid → Along k Onward m between mid result then new → Along k Onward (n + m) before old result then new
   along_then {T} {n} {m} {before} {between} {then} {old} {mid} {new} {result} first next = record {
     draws = record { most = omega (arith, first.draws.most, next.draws.most); spent = λ is. let low = next.draws.spent is in omega (arith, first.draws.most, low) };
     suited = λ places suits. next.suited places (first.suited places suits);

@@ -16,4 +16,4 @@ returns-in-Skip-clause-answers g c = λ limits state h holds told.
     (run_none k limits state store h (k.holds limits store t) t true holds told holds, holds)
 
 pub returns-in-Skip-clause-along : goal.returns-in-Skip-clause-along
-returns-in-Skip-clause-along g c = along_none g.S.Store.keeping _ c.args.store.now (g.D.Chip.told c.args.desk.now)
+returns-in-Skip-clause-along g c = along_none

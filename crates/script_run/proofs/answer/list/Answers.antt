@@ -37,19 +37,19 @@ returns-in-Err-say_reply-clause-answers g c = λ limits state h holds told.
     list_unsaid g.S.Store.keeping limits state c.args.first c.args.last c.names-names.result named c.args.store.now c.say_rows.new.store h _ _ _ c.if-first-names.false c.if-last-names.false holds told rows.0 rows.1 c.in-Err-say_reply.ensures.says
 
 pub returns-in-Ok-clause-along : goal.returns-in-Ok-clause-along
-returns-in-Ok-clause-along g c = along_said g.S.Store.keeping (along_none g.S.Store.keeping 0 c.args.store.now (g.D.Chip.told c.args.desk.now)) c.in-Ok.ensures.onward (omega arith)
+returns-in-Ok-clause-along g c = along_said (along_none {n = 0}) c.in-Ok.ensures.onward (omega arith)
 
 pub returns-in-Err-clause-along : goal.returns-in-Err-clause-along
-returns-in-Err-clause-along g c = along_unsaid g.S.Store.keeping (along_none g.S.Store.keeping 0 c.args.store.now (g.D.Chip.told c.args.desk.now)) c.in-Err.ensures.onward c.in-Err.ensures.cause (omega arith)
+returns-in-Err-clause-along g c = along_unsaid (along_none {n = 0}) c.in-Err.ensures.onward c.in-Err.ensures.cause (omega arith)
 
 pub returns-in_err-say_rows-clause-along : goal.returns-in_err-say_rows-clause-along
 returns-in_err-say_rows-clause-along g c =
-    along_more g.S.Store.keeping (along_stop g.S.Store.keeping c.from_residual.result c.from_residual.ensures.1 c.in_err-say_rows.ensures.along) (omega (arith, c.names-names.ensures.most, c.if-last-names.false))
+    along_more (along_stop c.from_residual.result c.from_residual.ensures.1 c.in_err-say_rows.ensures.along) (omega (arith, c.names-names.ensures.most, c.if-last-names.false))
 
 pub returns-in-Ok-say_reply-clause-along : goal.returns-in-Ok-say_reply-clause-along
 returns-in-Ok-say_reply-clause-along g c =
-    along_said g.S.Store.keeping c.in_ok-say_rows.ensures.along c.in-Ok-say_reply.ensures.onward (omega (arith, c.names-names.ensures.most, c.if-last-names.false))
+    along_said c.in_ok-say_rows.ensures.along c.in-Ok-say_reply.ensures.onward (omega (arith, c.names-names.ensures.most, c.if-last-names.false))
 
 pub returns-in-Err-say_reply-clause-along : goal.returns-in-Err-say_reply-clause-along
 returns-in-Err-say_reply-clause-along g c =
-    along_unsaid g.S.Store.keeping c.in_ok-say_rows.ensures.along c.in-Err-say_reply.ensures.onward c.in-Err-say_reply.ensures.cause (omega (arith, c.names-names.ensures.most, c.if-last-names.false))
+    along_unsaid c.in_ok-say_rows.ensures.along c.in-Err-say_reply.ensures.onward c.in-Err-say_reply.ensures.cause (omega (arith, c.names-names.ensures.most, c.if-last-names.false))

@@ -28,19 +28,19 @@ returns-in-None-clause-says g c = λ limits named state h holds told.
 pub returns-in_err-value-clause-along : goal.returns-in_err-value-clause-along
 returns-in_err-value-clause-along g c =
     let w = c.in_err-value.ensures in
-    along_fault g.S.Store.keeping c.from_residual.result c.from_residual.ensures.1 w.draws w.suited w.counts w.cause
+    along_fault c.from_residual.result c.from_residual.ensures.1 w.draws w.suited w.counts w.cause
 
 pub returns-in-Ok-clause-along : goal.returns-in-Ok-clause-along
 returns-in-Ok-clause-along g c =
     let w = c.in_ok-value.ensures in
-    along_said g.S.Store.keeping (along_work g.S.Store.keeping w.draws.most w.suited w.counts) c.in-Ok.ensures.onward (omega arith)
+    along_said (along_work w.draws.most w.suited w.counts) c.in-Ok.ensures.onward (omega arith)
 
 pub returns-in-Err-clause-along : goal.returns-in-Err-clause-along
 returns-in-Err-clause-along g c =
     let w = c.in_ok-value.ensures in
-    along_unsaid g.S.Store.keeping (along_work g.S.Store.keeping w.draws.most w.suited w.counts) c.in-Err.ensures.onward c.in-Err.ensures.cause (omega arith)
+    along_unsaid (along_work w.draws.most w.suited w.counts) c.in-Err.ensures.onward c.in-Err.ensures.cause (omega arith)
 
 pub returns-in-None-clause-along : goal.returns-in-None-clause-along
 returns-in-None-clause-along g c =
     let w = c.in_ok-value.ensures in
-    along_work g.S.Store.keeping w.draws.most w.suited w.counts
+    along_work w.draws.most w.suited w.counts

@@ -10,7 +10,7 @@ use Rattle.script_run.proofs.answer.say_rows.Goals as goal
 pub loop-n-init : goal.loop-n-init
 loop-n-init g c = record {
   says = λ limits named state h holds told. (rows_none g.S.Store.keeping limits state c.args.first c.args.store.now h _ holds told, holds);
-  along = along_none g.S.Store.keeping _ c.args.store.now (g.D.Chip.told c.args.desk.now);
+  along = along_none;
   none = λ lt. refl;
 }
 
@@ -27,7 +27,7 @@ loop-n-preserved g c = record {
       let so_far = c.loop-n.invariant.says limits named state h holds told in
       let row = c.in_ok-say_row.ensures.says limits (omega arith) state (adds_all so_far.0.added h) so_far.1 so_far.0.history in
       (rows_then g.S.Store.keeping limits state c.args.first c.loop-n.n c.args.store.now c.loop-n.store c.say_row.new.store h _ _ (omega arith) so_far.0 row.0, row.1);
-  along = along_more g.S.Store.keeping (along_then g.S.Store.keeping c.loop-n.invariant.along c.in_ok-say_row.ensures.along) (omega arith);
+  along = along_more (along_then c.loop-n.invariant.along c.in_ok-say_row.ensures.along) (omega arith);
   none = λ lt. absurd (omega arith);
 }
 
@@ -39,7 +39,7 @@ returns-clause-says g c = λ limits named state h holds told.
 
 pub returns-in_err-say_row-clause-along : goal.returns-in_err-say_row-clause-along
 returns-in_err-say_row-clause-along g c =
-    along_more g.S.Store.keeping (along_then g.S.Store.keeping c.loop-n.invariant.along (along_stop g.S.Store.keeping c.from_residual.result c.from_residual.ensures.1 c.in_err-say_row.ensures.along)) (omega arith)
+    along_more (along_then c.loop-n.invariant.along (along_stop c.from_residual.result c.from_residual.ensures.1 c.in_err-say_row.ensures.along)) (omega arith)
 
 pub returns-clause-along : goal.returns-clause-along
-returns-clause-along g c = along_more g.S.Store.keeping c.loop-n.invariant.along (grind (arith, c.loop-n.invariant.none))
+returns-clause-along g c = along_more c.loop-n.invariant.along (grind (arith, c.loop-n.invariant.none))

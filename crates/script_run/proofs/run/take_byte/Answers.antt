@@ -16,4 +16,4 @@ returns-clause-takes g c = λ limits state h holds told.
     (goes_byte g.S.Store.keeping limits state c.args.line.now c.args.byte c.args.store.now h (g.D.Chip.told c.args.desk.now) (ne_eqb c.args.byte 10 c.if-byte-eq10.false) holds told)
 
 pub returns-clause-along : goal.returns-clause-along
-returns-clause-along g c = along_none g.S.Store.keeping _ c.args.store.now (g.D.Chip.told c.args.desk.now)
+returns-clause-along g c = along_none

@@ -11,7 +11,7 @@ use Rattle.script_run.proofs.run.take_piece.Goals as goal
 pub loop-byte-init : goal.loop-byte-init
 loop-byte-init g c = record {
   goes = λ limits state h holds told. goes_none g.S.Store.keeping limits state c.args.line.now c.args.store.now h (g.D.Chip.told c.args.desk.now) holds told;
-  along = along_none g.S.Store.keeping _ c.args.store.now (g.D.Chip.told c.args.desk.now);
+  along = along_none;
 }
 
 pub take_byte-requires : goal.take_byte-requires
@@ -28,7 +28,7 @@ loop-byte-preserved g c =
           subst (λ (l : List ℕ). Goes g.S.Store.keeping limits state c.args.line.now l c.args.store.now h t.new.store t.new.line (told_of t.new.desk)) (sym (take_more c.args.piece.now c.loop-byte.byte-index 0 c.loop-byte-test.true))
           (goes_then g.S.Store.keeping limits state c.args.line.now (take c.loop-byte.byte-index c.args.piece.now) (get_or c.args.piece.now c.loop-byte.byte-index 0 ∷ []) c.args.store.now c.loop-byte.store t.new.store h
           c.loop-byte.line t.new.line (told_of c.loop-byte.desk) (told_of t.new.desk) (was.goes limits state h holds told) (λ s g' now is. c.in_ok-take_byte.ensures.takes limits s g' now is));
-      along = along_more g.S.Store.keeping (along_then g.S.Store.keeping was.along c.in_ok-take_byte.ensures.along) (omega arith);
+      along = along_more (along_then was.along c.in_ok-take_byte.ensures.along) (omega arith);
     }
 
 pub returns-in_err-take_byte-clause-takes : goal.returns-in_err-take_byte-clause-takes
@@ -49,7 +49,7 @@ returns-clause-takes g c = λ limits state h holds told.
 
 pub returns-in_err-take_byte-clause-along : goal.returns-in_err-take_byte-clause-along
 returns-in_err-take_byte-clause-along g c =
-    along_more g.S.Store.keeping (along_then g.S.Store.keeping c.loop-byte.invariant.along (along_stop g.S.Store.keeping c.from_residual.result c.from_residual.ensures.1 c.in_err-take_byte.ensures.along)) (omega arith)
+    along_more (along_then c.loop-byte.invariant.along (along_stop c.from_residual.result c.from_residual.ensures.1 c.in_err-take_byte.ensures.along)) (omega arith)
 
 pub returns-clause-along : goal.returns-clause-along
-returns-clause-along g c = along_more g.S.Store.keeping c.loop-byte.invariant.along (omega arith)
+returns-clause-along g c = along_more c.loop-byte.invariant.along (omega arith)
