@@ -1,6 +1,6 @@
-//! The words of the command line: what they ask, and the chip that they choose. Which words are
-//! valid is clap's own definition, over the command that stands in specs/Ipl.antt; the word for a
-//! chip is ours. A contract sees the request and the choice as functions of the words.
+//! The words of the command line: what they ask, and the chip that they choose. Which words are valid
+//! is clap's own definition, over the command that stands in specs/Ipl.antt. It stands on `plain_text`
+//! for numbers. A contract sees words as lists of bytes.
 #![tactic(auto)]
 
 mod asked;

@@ -1,5 +1,5 @@
-//! Text as the program reads and writes it: numbers in decimal digits, and lines of bounded length. It stands on the grammar
-//! alone. A contract sees a word and a line as lists of bytes.
+//! Text as the program reads and writes it: numbers in decimal digits, and lines of bounded length. It
+//! stands on the grammar of `ipl_model` alone. A contract sees a word and a line as lists of bytes.
 #![tactic(auto)]
 
 mod decimal;

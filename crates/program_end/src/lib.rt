@@ -1,6 +1,6 @@
-//! How the program ends before its script does: the status of the process, and the line that is
-//! noted. It stands on the faults of `ipl_base`. A contract sees the status as a number and the
-//! line byte for byte.
+//! How the program ends before its script does: the status of the process, and the line that is noted.
+//! It stands on the faults of `ipl_base` and on `plain_text`. A contract sees the line as a list of
+//! bytes.
 #![tactic(auto)]
 
 mod end;

@@ -25,7 +25,8 @@ rows_lines m first k = map reply_text (map row_reply (rows_from m first k))
 
 -- n bytes of the source were read, where it is told
 abbrev pub HasRead : ℕ → Told → Told → Type 0
-HasRead n old new = (source : List ℕ) → old.beside.left ≡ Some source → (new.beside.left ≡ Some (drop n source)) × (n ≤ length source)
+HasRead n old new = (source : List ℕ) → old.beside.left ≡ Some source
+    → (new.beside.left ≡ Some (drop n source)) × (n ≤ length source)
 
 -- over stores of one kind
 module _ {S : Type 0} (k : Keeping S) where
@@ -38,7 +39,8 @@ module _ {S : Type 0} (k : Keeping S) where
 
   -- What goes along with each part of a run, whatever it does: at most n numbers were drawn, the store suits as many places as
   -- before, beside the chip no more happened than R tells, and a stop has its cause. A part never finds the script too long.
-  pub record Along {T : Type 0} (R : Told → Told → Type 0) (n : ℕ) (before : S) (old : Told) (result : Result T Stop) (then : S) (new : Told) : Type 0 where
+  pub record Along {T : Type 0} (R : Told → Told → Type 0) (n : ℕ) (before : S) (old : Told)
+      (result : Result T Stop) (then : S) (new : Told) : Type 0 where
     pub draws : Draws k n before (IsErrOf result (stop.Store Spent)) then
     pub suited : (places : ℕ) → k.suits before places → k.suits then places
     pub beside : R old new
@@ -46,28 +48,33 @@ module _ {S : Type 0} (k : Keeping S) where
     pub never : IsErrOf result stop.TooLong → ⊥
 
   -- these lines were said, chip calls between them, and the store keeps the same state; or a part of them was
-  pub record SaysSome (limits : Limits) (state : State) (lines : List (List ℕ)) (before : S) (h : History) (then : S) (old new : Told) : Type 0 where
+  pub record SaysSome (limits : Limits) (state : State) (lines : List (List ℕ)) (before : S) (h : History)
+      (then : S) (old new : Told) : Type 0 where
     pub said : List (List ℕ)
     pub part : SaysLines lines said
     pub leaves : SayingLeaves k limits state.map said before h then new false
     pub stays : Stays k limits then old new state
 
   abbrev pub SaysUnder : Limits → (State → List (List ℕ)) → S → Told → Result (Unit {0}) Stop → S → Told → Type 0
-  SaysUnder limits lines before old result then new = (state : State) (h : History) → k.holds limits before old state → old.history ≡ Some h →
+  SaysUnder limits lines before old result then new = (state : State) (h : History)
+      → k.holds limits before old state → old.history ≡ Some h →
       MatchResult result
       (λ _. SayingLeaves k limits state.map (lines state) before h then new true × k.holds limits then new state)
       (λ _. SaysSome limits state (lines state) before h then old new)
 
   -- commands were answered, or it stopped in them
   abbrev pub Answers : List Command → S → Told → Result (Unit {0}) Stop → S → Told → Type 0
-  Answers commands before old result then new = (limits : Limits) (state : State) (h : History) → k.holds limits before old state → old.history ≡ Some h →
+  Answers commands before old result then new = (limits : Limits) (state : State) (h : History)
+      → k.holds limits before old state → old.history ≡ Some h →
       MatchResult result
-      (λ _. RunLeaves k limits state commands before h (k.holds limits then new) then new true × k.holds limits then new (after_all limits state commands))
+      (λ _. RunLeaves k limits state commands before h (k.holds limits then new) then new true
+      × k.holds limits then new (after_all limits state commands))
       (λ _. RunLeaves k limits state commands before h (Stays k limits then old new) then new false)
 
   -- From one moment of a run to a later one, while some bytes were taken: commands were answered, and with those still to come
   -- they are those that were to come before.
-  pub record Goes (limits : Limits) (state : State) (line bytes : List ℕ) (before : S) (h : History) (then : S) (later : List ℕ) (new : Told) : Type 0 where
+  pub record Goes (limits : Limits) (state : State) (line bytes : List ℕ) (before : S) (h : History) (then : S)
+      (later : List ℕ) (new : Told) : Type 0 where
     pub done : List Command
     pub goes_on : (tail : List ℕ) → commands_from line (bytes ++ tail) ≡ done ++ commands_from later tail
     pub leaves : RunLeaves k limits state done before h (k.holds limits then new) then new true
@@ -75,20 +82,24 @@ module _ {S : Type 0} (k : Keeping S) where
 
   -- bytes of the script were taken, or it stopped in them, whatever bytes would have come
   abbrev pub TakesBytes : List ℕ → S → List ℕ → Told → Result (Unit {0}) Stop → S → List ℕ → Told → Type 0
-  TakesBytes bytes before line old result then later new = (limits : Limits) (state : State) (h : History) → k.holds limits before old state → old.history ≡ Some h →
+  TakesBytes bytes before line old result then later new = (limits : Limits) (state : State) (h : History)
+      → k.holds limits before old state → old.history ≡ Some h →
       MatchResult result
       (λ _. Goes limits state line bytes before h then later new)
-      (λ _. (tail : List ℕ) → RunLeaves k limits state (commands_from line (bytes ++ tail)) before h (Stays k limits then old new) then new false)
+      (λ _. (tail : List ℕ) → RunLeaves k limits state (commands_from line (bytes ++ tail)) before h
+      (Stays k limits then old new) then new false)
 
   -- the next n bytes of the source
-  pub record Took (limits : Limits) (state : State) (line source : List ℕ) (before : S) (h : History) (n : ℕ) (then : S) (later : List ℕ) (new : Told) : Type 0 where
+  pub record Took (limits : Limits) (state : State) (line source : List ℕ) (before : S) (h : History) (n : ℕ)
+      (then : S) (later : List ℕ) (new : Told) : Type 0 where
     pub left_is : new.beside.left ≡ Some (drop n source)
     pub within : n ≤ length source
     pub ends : n ≡ 0 → source ≡ []
     pub goes : Goes limits state line (take n source) before h then later new
 
   -- The run stopped: a rest of the script is left, and the commands leave what they leave where they stop anywhere.
-  pub record Stopped (limits : Limits) (state : State) (commands : List Command) (source : List ℕ) (before : S) (h : History) (R : State → Type 0) (then : S) (new : Told) : Type 0 where
+  pub record Stopped (limits : Limits) (state : State) (commands : List Command) (source : List ℕ) (before : S)
+      (h : History) (R : State → Type 0) (then : S) (new : Told) : Type 0 where
     pub read : List ℕ
     pub rest : List ℕ
     pub left_is : new.beside.left ≡ Some rest
@@ -97,21 +108,24 @@ module _ {S : Type 0} (k : Keeping S) where
 
   -- the next bytes of the source were taken, or it stopped in them
   abbrev pub TakesNext : S → List ℕ → Told → Result ℕ Stop → S → List ℕ → Told → Type 0
-  TakesNext before line old result then later new = (limits : Limits) (state : State) (h : History) → k.holds limits before old state → old.history ≡ Some h →
+  TakesNext before line old result then later new = (limits : Limits) (state : State) (h : History)
+      → k.holds limits before old state → old.history ≡ Some h →
       (source : List ℕ) → old.beside.left ≡ Some source →
       MatchResult result
       (λ n. Took limits state line source before h n then later new)
       (λ _. Stopped limits state (commands_from line source) source before h (Stays k limits then old new) then new)
 
   -- At the end of the script all of it was read, and all its commands are answered.
-  pub record Ended (limits : Limits) (state : State) (source : List ℕ) (before : S) (h : History) (then : S) (new : Told) : Type 0 where
+  pub record Ended (limits : Limits) (state : State) (source : List ℕ) (before : S) (h : History) (then : S)
+      (new : Told) : Type 0 where
     pub left_is : new.beside.left ≡ Some []
     pub leaves : RunLeaves k limits state (commands_of source) before h (k.holds limits then new) then new true
     pub holds : k.holds limits then new (after_all limits state (commands_of source))
 
   -- a run of the rest of the script, to its end or to where it stopped
   abbrev pub RunsScript : S → Told → Result (Unit {0}) Stop → S → Told → Type 0
-  RunsScript before old result then new = (limits : Limits) (state : State) (h : History) → k.holds limits before old state → old.history ≡ Some h →
+  RunsScript before old result then new = (limits : Limits) (state : State) (h : History)
+      → k.holds limits before old state → old.history ≡ Some h →
       (source : List ℕ) → old.beside.left ≡ Some source →
       MatchResult result
       (λ _. Ended limits state source before h then new)

@@ -10,4 +10,6 @@ kept line b = if nat_lt (length line) 1025 then line ++ b ∷ [] else line
 -- the commands of what is kept of a line and of the bytes that follow
 abbrev pub commands_from : List ℕ → List ℕ → List Command
 commands_from line [] = commands_in (line_of line)
-commands_from line (b ∷ bytes) = if b == 10 then commands_in (line_of line) ++ commands_from [] bytes else commands_from (line ++ b ∷ []) bytes
+commands_from line (b ∷ bytes) =
+    if b == 10 then commands_in (line_of line) ++ commands_from [] bytes
+    else commands_from (line ++ b ∷ []) bytes

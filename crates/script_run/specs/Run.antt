@@ -43,7 +43,8 @@ module _ {S : Type 0} (k : Keeping S) where
   -- Whatever moment the power is cut at, the chip stands for the records after the commands that were answered, or after one
   -- more. What was said is a beginning of the replies, line by line, and all of them where the commands are done. No sector
   -- is programmed twice. R says of a state how the store keeps it at the end, for the commands that were answered or one more.
-  pub record RunLeaves (limits : Limits) (state : State) (commands : List Command) (before : S) (h : History) (R : State → Type 0) (then : S) (new : Told) (done : Bool) : Type 0 where
+  pub record RunLeaves (limits : Limits) (state : State) (commands : List Command) (before : S) (h : History)
+      (R : State → Type 0) (then : S) (new : Told) (done : Bool) : Type 0 where
     pub added : Story
     pub history : new.history ≡ Some (adds_all added h)
     pub each_moment : AtEachMoment (λ e. Leaves k.checks (StandsNear limits state commands (said e)) h e) added
@@ -55,7 +56,8 @@ module _ {S : Type 0} (k : Keeping S) where
     pub rests : IsNear R limits state commands (said added)
 
   -- what is left while these pieces are said, chip calls between them, of a chip that stands for the same records throughout
-  pub record SayingLeaves (limits : Limits) (m : Map) (said : List (List ℕ)) (before : S) (h : History) (then : S) (new : Told) (done : Bool) : Type 0 where
+  pub record SayingLeaves (limits : Limits) (m : Map) (said : List (List ℕ)) (before : S) (h : History) (then : S)
+      (new : Told) (done : Bool) : Type 0 where
     pub added : Story
     pub history : new.history ≡ Some (adds_all added h)
     pub each_moment : AtEachMoment (Leaves k.checks (λ x. k.stands limits x m) h) added

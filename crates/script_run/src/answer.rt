@@ -36,7 +36,8 @@ fn say_reply<D: Desk>(desk: &mut D, reply: &Reply) -> Result<(), Failed>
 fn answer_one<S: Store, D: Desk>(store: &mut S, desk: &mut D, command: &Command) -> Result<(), Stop>
     requires single { IsSingle command.now }
     requires suits { S.keeping.suits store.old (D.told desk.old).places }
-    ensures answers { Answers S.keeping (command.now ∷ []) store.old (D.told desk.old) result store.new (D.told desk.new) }
+    ensures answers { Answers S.keeping (command.now ∷ []) store.old (D.told desk.old) result store.new
+        (D.told desk.new) }
     ensures along { Along S.keeping Onward WORK_DRAWS store.old (D.told desk.old) result store.new (D.told desk.new) }
 {
     let reply = store.work(desk, command)?;
@@ -49,8 +50,11 @@ fn answer_one<S: Store, D: Desk>(store: &mut S, desk: &mut D, command: &Command)
 /// Says the record of a name, where there is one.
 fn say_row<S: Store, D: Desk>(store: &mut S, desk: &mut D, n: u32) -> Result<(), Stop>
     requires { S.keeping.suits store.old (D.told desk.old).places }
-    ensures says { (limits : Limits) → n < limits.names → SaysUnder S.keeping limits (λ state. row_lines n (get state.map n)) store.old (D.told desk.old) result store.new (D.told desk.new) }
-    ensures along { Along S.keeping Onward LOOK_UP_DRAWS store.old (D.told desk.old) result store.new (D.told desk.new) }
+    ensures says { (limits : Limits) → n < limits.names
+        → SaysUnder S.keeping limits (λ state. row_lines n (get state.map n)) store.old
+        (D.told desk.old) result store.new (D.told desk.new) }
+    ensures along { Along S.keeping Onward LOOK_UP_DRAWS store.old (D.told desk.old) result store.new
+        (D.told desk.new) }
 {
     match store.look_up(desk, n)? {
         Some(value) => match say_reply(desk, &Reply::Row(n, value)) {
@@ -69,8 +73,11 @@ fn say_rows<S: Store, D: Desk>(
     end: u32,
 ) -> Result<(), Stop>
     requires { S.keeping.suits store.old (D.told desk.old).places }
-    ensures says { (limits : Limits) → end ≤ limits.names → SaysUnder S.keeping limits (λ state. rows_lines state.map first (end - first)) store.old (D.told desk.old) result store.new (D.told desk.new) }
-    ensures along { Along S.keeping Onward (LOOK_UP_DRAWS * (end - first)) store.old (D.told desk.old) result store.new (D.told desk.new) }
+    ensures says { (limits : Limits) → end ≤ limits.names
+        → SaysUnder S.keeping limits (λ state. rows_lines state.map first (end - first)) store.old
+        (D.told desk.old) result store.new (D.told desk.new) }
+    ensures along { Along S.keeping Onward (LOOK_UP_DRAWS * (end - first)) store.old
+        (D.told desk.old) result store.new (D.told desk.new) }
 {
     for n in first..end {
         say_row(store, desk, n)?;
@@ -81,8 +88,10 @@ fn say_rows<S: Store, D: Desk>(
 /// Answers a list: its records and then a line that ends it, or a refusal.
 fn list<S: Store, D: Desk>(store: &mut S, desk: &mut D, first: u32, last: u32) -> Result<(), Stop>
     requires { S.keeping.suits store.old (D.told desk.old).places }
-    ensures answers { Answers S.keeping (command.List first last ∷ []) store.old (D.told desk.old) result store.new (D.told desk.new) }
-    ensures along { Along S.keeping Onward COMMAND_DRAWS store.old (D.told desk.old) result store.new (D.told desk.new) }
+    ensures answers { Answers S.keeping (command.List first last ∷ []) store.old (D.told desk.old) result store.new
+        (D.told desk.new) }
+    ensures along { Along S.keeping Onward COMMAND_DRAWS store.old (D.told desk.old) result store.new
+        (D.told desk.new) }
 {
     let names = store.names();
     if first >= names || last >= names {
@@ -101,8 +110,10 @@ fn list<S: Store, D: Desk>(store: &mut S, desk: &mut D, first: u32, last: u32) -
 /// Answers one command.
 fn answer<S: Store, D: Desk>(store: &mut S, desk: &mut D, command: &Command) -> Result<(), Stop>
     requires { S.keeping.suits store.old (D.told desk.old).places }
-    ensures answers { Answers S.keeping (command.now ∷ []) store.old (D.told desk.old) result store.new (D.told desk.new) }
-    ensures along { Along S.keeping Onward COMMAND_DRAWS store.old (D.told desk.old) result store.new (D.told desk.new) }
+    ensures answers { Answers S.keeping (command.now ∷ []) store.old (D.told desk.old) result store.new
+        (D.told desk.new) }
+    ensures along { Along S.keeping Onward COMMAND_DRAWS store.old (D.told desk.old) result store.new
+        (D.told desk.new) }
 {
     match command {
         Command::List(first, last) => list(store, desk, *first, *last),
@@ -113,8 +124,10 @@ fn answer<S: Store, D: Desk>(store: &mut S, desk: &mut D, command: &Command) -> 
 /// Answers one line, if it is a command.
 pub fn answer_line<S: Store, D: Desk>(store: &mut S, desk: &mut D, line: &[u8]) -> Result<(), Stop>
     requires { S.keeping.suits store.old (D.told desk.old).places }
-    ensures answers { Answers S.keeping (commands_in (line_of line.now)) store.old (D.told desk.old) result store.new (D.told desk.new) }
-    ensures along { Along S.keeping Onward COMMAND_DRAWS store.old (D.told desk.old) result store.new (D.told desk.new) }
+    ensures answers { Answers S.keeping (commands_in (line_of line.now)) store.old
+        (D.told desk.old) result store.new (D.told desk.new) }
+    ensures along { Along S.keeping Onward COMMAND_DRAWS store.old (D.told desk.old) result store.new
+        (D.told desk.new) }
 {
     match parse(line) {
         Line::Skip => Ok(()),

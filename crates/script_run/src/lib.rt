@@ -1,6 +1,6 @@
 //! A script run over a store and a desk: its bytes are read in pieces, and each command is answered
-//! before the next is begun. It stands on `store_trait` and `script_text`, and asks the chip
-//! nothing itself. One theorem says of every moment of the run what was said and what a power cut
+//! before the next is begun. It stands on what a store is (`store_trait`) and on the lines of a script
+//! (`script_text`). One theorem says of every moment of the run what was said and what a power cut
 //! leaves.
 #![tactic(auto)]
 

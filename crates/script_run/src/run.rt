@@ -25,8 +25,10 @@ fn take_byte<S: Store, D: Desk>(
     byte: u8,
 ) -> Result<(), Stop>
     requires { S.keeping.suits store.old (D.told desk.old).places }
-    ensures takes { TakesBytes S.keeping (byte ∷ []) store.old line.old (D.told desk.old) result store.new line.new (D.told desk.new) }
-    ensures along { Along S.keeping Onward COMMAND_DRAWS store.old (D.told desk.old) result store.new (D.told desk.new) }
+    ensures takes { TakesBytes S.keeping (byte ∷ []) store.old line.old (D.told desk.old) result store.new line.new
+        (D.told desk.new) }
+    ensures along { Along S.keeping Onward COMMAND_DRAWS store.old (D.told desk.old) result store.new
+        (D.told desk.new) }
 {
     if byte == b'\n' {
         let answered = answer_line(store, desk, line.bytes());
@@ -45,8 +47,10 @@ fn take_piece<S: Store, D: Desk>(
     piece: &[u8],
 ) -> Result<(), Stop>
     requires { S.keeping.suits store.old (D.told desk.old).places }
-    ensures takes { TakesBytes S.keeping piece.now store.old line.old (D.told desk.old) result store.new line.new (D.told desk.new) }
-    ensures along { Along S.keeping Onward (COMMAND_DRAWS * length piece.now) store.old (D.told desk.old) result store.new (D.told desk.new) }
+    ensures takes { TakesBytes S.keeping piece.now store.old line.old (D.told desk.old) result store.new line.new
+        (D.told desk.new) }
+    ensures along { Along S.keeping Onward (COMMAND_DRAWS * length piece.now) store.old
+        (D.told desk.old) result store.new (D.told desk.new) }
 {
     for byte in piece {
         take_byte(store, desk, line, *byte)?;
@@ -63,10 +67,13 @@ fn take_next<S: Store, D: Desk>(
 ) -> Result<usize, Stop>
     requires some { 0 < length piece.old }
     requires suits { S.keeping.suits store.old (D.told desk.old).places }
-    ensures takes { TakesNext S.keeping store.old line.old (D.told desk.old) result store.new line.new (D.told desk.new) }
-    ensures along { Along S.keeping Further (COMMAND_DRAWS * length piece.old) store.old (D.told desk.old) result store.new (D.told desk.new) }
+    ensures takes { TakesNext S.keeping store.old line.old (D.told desk.old) result store.new line.new
+        (D.told desk.new) }
+    ensures along { Along S.keeping Further (COMMAND_DRAWS * length piece.old) store.old
+        (D.told desk.old) result store.new (D.told desk.new) }
     ensures drew { IfOk result (λ n. S.keeping.counter store.new ≤ S.keeping.counter store.old + COMMAND_DRAWS * n) }
-    ensures bytes { IfOk result (λ n. Grew (D.told desk.old).beside.script_bytes n (D.told desk.new).beside.script_bytes) }
+    ensures bytes { IfOk result
+        (λ n. Grew (D.told desk.old).beside.script_bytes n (D.told desk.new).beside.script_bytes) }
     ensures read { IfOk result (λ n. HasRead n (D.told desk.old) (D.told desk.new)) }
     ensures few { IfOk result (λ n. n ≤ length piece.old) }
 {
@@ -87,7 +94,8 @@ pub fn run_script<S: Store, D: Desk>(store: &mut S, desk: &mut D) -> Result<(), 
     ensures draws { Draws S.keeping SCRIPT_DRAWS store.old (IsErrOf result (Stop.Store Fault.Spent)) store.new }
     ensures further { Further (D.told desk.old) (D.told desk.new) }
     ensures cause { IfErr result (λ stop. StopCause S.keeping (D.told desk.old) (D.told desk.new) stop) }
-    ensures exact { IsErrOf result Stop.TooLong → Grew (D.told desk.old).beside.script_bytes 4294967295 (D.told desk.new).beside.script_bytes }
+    ensures exact { IsErrOf result Stop.TooLong
+        → Grew (D.told desk.old).beside.script_bytes 4294967295 (D.told desk.new).beside.script_bytes }
     ensures long { IsErrOf result Stop.TooLong → HasRead 4294967295 (D.told desk.old) (D.told desk.new) }
 {
     let mut line = LineBuffer::new();

@@ -1,5 +1,6 @@
-//! A line of a script as a command, and a reply as a line of text. It stands on the grammar and the
-//! texts of `ipl_model`, and a contract sees each line and each reply exactly as these say.
+//! A line of a script as a command, and a reply as a line of text. It stands on the model's commands
+//! and replies and on `plain_text`, and touches no chip. A contract sees a line as a list of bytes, and
+//! what it says by the grammar of `ipl_model`.
 #![tactic(auto)]
 
 mod line;

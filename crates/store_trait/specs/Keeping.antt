@@ -38,11 +38,14 @@ pub record Keeping (S : Type 0) : Type 1 where
   -- a fault comes only where this was so of what was told before it and after it
   pub cause : Fault → Told → Told → Type 0
   -- whatever a power cut leaves of a chip whose history is told stands for the records
-  pub each : (limits : Limits) (store : S) (t : Told) (state : State) (h : History) → holds limits store t state → t.history ≡ Some h → Leaves checks (λ x. stands limits x state.map) h []
+  pub each : (limits : Limits) (store : S) (t : Told) (state : State) (h : History) → holds limits store t state
+      → t.history ≡ Some h → Leaves checks (λ x. stands limits x state.map) h []
   -- what is said and what is read of a script changes nothing
-  pub still : (limits : Limits) (store : S) (old new : Told) (state : State) → Still old new → holds limits store old state → holds limits store new state
+  pub still : (limits : Limits) (store : S) (old new : Told) (state : State) → Still old new
+      → holds limits store old state → holds limits store new state
   -- a cause is one for a longer time too
-  pub caused : (fault : Fault) (first old new last : Told) → Further first old → cause fault old new → Further new last → cause fault first last
+  pub caused : (fault : Fault) (first old new last : Told) → Further first old → cause fault old new
+      → Further new last → cause fault first last
 
 -- a store answers that its numbers are used up only above this
 abbrev pub LAST_NUMBER : ℕ
@@ -81,7 +84,8 @@ module _ {S : Type 0} (k : Keeping S) where
   -- What work leaves that says nothing. At each moment of it a power cut leaves contents with P; it is lawful, after any
   -- lawful events that leave the sectors clean which the store counts so; and done, it leaves those clean that the store
   -- counts so then.
-  pub record WorkLeaves (P : Contents → Type 0) (before : S) (h : History) (then : S) (new : Told) (done : Bool) : Type 0 where
+  pub record WorkLeaves (P : Contents → Type 0) (before : S) (h : History) (then : S) (new : Told)
+      (done : Bool) : Type 0 where
     pub added : Story
     pub history : new.history ≡ Some (adds_all added h)
     pub each_moment : AtEachMoment (Leaves k.checks P h) added
@@ -102,21 +106,28 @@ module _ {S : Type 0} (k : Keeping S) where
   -- The work for one command: wherever the power is cut, the chip stands for the records before the command or after it.
   -- Done, the store keeps the model's next state, and the reply is the model's. After a fault it keeps the state, unless a
   -- write failed.
-  pub record WorksFor (limits : Limits) (state : State) (c : Command) (before : S) (h : History) (result : Result Reply Fault) (then : S) (old new : Told) : Type 0 where
-    pub leaves : WorkLeaves (λ x. k.stands limits x state.map ⊎ k.stands limits x (step limits state c).0.map) before h then new (is_ok result)
+  pub record WorksFor (limits : Limits) (state : State) (c : Command) (before : S) (h : History)
+      (result : Result Reply Fault) (then : S) (old new : Told) : Type 0 where
+    pub leaves : WorkLeaves
+        (λ x. k.stands limits x state.map ⊎ k.stands limits x (step limits state c).0.map) before h then new
+        (is_ok result)
     pub ends : MatchResult result
         (λ reply. k.holds limits then new (step limits state c).0 × ((step limits state c).1 ≡ reply ∷ []))
         (λ fault. Stays limits then old new state)
 
   abbrev pub Works : Command → S → Told → Result Reply Fault → S → Told → Type 0
-  Works c before old result then new = (limits : Limits) (state : State) (h : History) → k.holds limits before old state → old.history ≡ Some h
+  Works c before old result then new = (limits : Limits) (state : State) (h : History)
+      → k.holds limits before old state → old.history ≡ Some h
       → WorksFor limits state c before h result then old new
 
   -- Looking a record up: wherever the power is cut, the chip stands for the same records.
-  pub record LooksUpFor (limits : Limits) (state : State) (n : ℕ) (before : S) (h : History) (result : Result (Option (List ℕ)) Fault) (then : S) (old new : Told) : Type 0 where
+  pub record LooksUpFor (limits : Limits) (state : State) (n : ℕ) (before : S) (h : History)
+      (result : Result (Option (List ℕ)) Fault) (then : S) (old new : Told) : Type 0 where
     pub leaves : WorkLeaves (λ x. k.stands limits x state.map) before h then new (is_ok result)
-    pub ends : MatchResult result (λ found. k.holds limits then new state × (found ≡ get state.map n)) (λ fault. Stays limits then old new state)
+    pub ends : MatchResult result (λ found. k.holds limits then new state × (found ≡ get state.map n))
+        (λ fault. Stays limits then old new state)
 
   abbrev pub LooksUp : ℕ → S → Told → Result (Option (List ℕ)) Fault → S → Told → Type 0
-  LooksUp n before old result then new = (limits : Limits) (state : State) (h : History) → k.holds limits before old state → old.history ≡ Some h
+  LooksUp n before old result then new = (limits : Limits) (state : State) (h : History)
+      → k.holds limits before old state → old.history ≡ Some h
       → n < limits.names → LooksUpFor limits state n before h result then old new

@@ -18,7 +18,8 @@ pub trait Store {
     /// Names are numbers below this.
     fn names(&self) -> u32
         ensures most { result ≤ 983040 }
-        ensures limit { (limits : Limits) (t : Told) (state : State) → keeping.holds limits self.now t state → result ≡ limits.names };
+        ensures limit { (limits : Limits) (t : Told) (state : State) → keeping.holds limits self.now t state
+            → result ≡ limits.names };
 
     /// Does the work of a command that has one line as its reply, and answers that line.
     fn work<C: Chip>(&mut self, chip: &mut C, command: &Command) -> Result<Reply, Fault>
