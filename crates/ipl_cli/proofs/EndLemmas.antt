@@ -47,9 +47,6 @@ use Rattle.unit_store.proofs.BareLemmas.{bare_has_none}
 use Rattle.ipl_cli.specs.Top.{Runs, RunsOpened, RunsFormatted, IsStopped, IsLaidOut, LaysOut, OnlyLooks, IsAbout, StandsAbout, answers, ok_line}
 use Rattle.ipl_cli.specs.Runs.{StartsFormatted, StartsOpened}
 
-some_one : {X : Type 0} {a b : X} → Some a ≡ Some b → a ≡ b
-some_one e = cc
-
 pub further_started : (old mid : Told) → Counts old mid → Further old mid
 further_started old mid counts = further_onward old mid (onward_counts old mid counts)
 
@@ -73,16 +70,7 @@ started old new store fits first places settled formats = record {
 }
 
 pub stopped_early : (fault : FormatFault) (old new : Told) → Counts old new → ((h : History) → old.history ≡ Some h → Formats {A = Unit {0}} old.places h (Err fault) new) → IsStopped old new
-stopped_early fault old new counts formats = λ h told.
-    let did = formats h told in record {
-      later = did.later;
-      added = did.added;
-      part = did.part;
-      history = did.history;
-      silent = did.silent;
-      lawful = did.lawful;
-      left_is = left_counts old new counts;
-    }
+stopped_early fault old new counts formats = λ h told. record { stopped = new; fault = fault; formats = formats h told; counts = counts; noted = refl }
 
 -- a fresh chip has no log
 fresh_has_none : (places : ℕ) (c : Chart) → IsFresh places c → HasNoLog places c
@@ -319,11 +307,4 @@ runs_looked old new reads = λ h script settled told left m rests none.
     runs_none old.places m script h reads.added reads.reads rests none old new (reads_told old new reads h told) (left_counts old new reads.counts ∙ left)
 
 pub only_looks : (old new : Told) → OnlyReads old new → OnlyLooks old new
-only_looks old new reads = record {
-  settled = reads.settled;
-  contents = reads.contents;
-  added = reads.added;
-  reads = reads.reads;
-  history = reads.history;
-  left_is = left_counts old new reads.counts;
-}
+only_looks old new reads = record { read = new; reads = reads; noted = refl }

@@ -10,6 +10,7 @@ use Rattle.ipl_base.specs.declared.fault.FormatFault.TheVariants as format
 use Rattle.ipl_rules.specs.State.{Map}
 use Rattle.restart.specs.Fresh.{Formats}
 use Rattle.unit_store.specs.declared.store.UnitStore.{UnitStore}
+use Rattle.restart.proofs.LookLemmas.{reads_none}
 use Rattle.unit_store.proofs.OpenLemmas.{fine_or_spent, sound_is_opened, spent_is_found}
 use Rattle.command_line.specs.declared.asked.Request.{Request}
 use Rattle.command_line.specs.declared.asked.Request.TheVariants.{Format, Run}
@@ -150,13 +151,13 @@ module _ (old mid : Told) (noted : Option (List ℕ)) where
   }
 
   stops_noted : {places : ℕ} {h : History} → StopsEarly places h old mid → StopsEarly places h old then
-  stops_noted s = record { later = s.later; added = s.added; part = s.part; history = s.history; silent = s.silent; lawful = s.lawful; left_is = s.left_is }
+  stops_noted s = record { stopped = s.stopped; fault = s.fault; formats = s.formats; counts = s.counts; noted = ap (λ (t : Told). but_noted t noted) s.noted }
 
   laid_out_noted : {places : ℕ} {h : History} {done : Bool} → IsLaidOut places h old mid done → IsLaidOut places h old then done
   laid_out_noted l = record { added = l.added; says = l.says; history = l.history; rests = l.rests; bare = l.bare; lawful = l.lawful; left_is = l.left_is; all = l.all }
 
   looks_noted : OnlyLooks old mid → OnlyLooks old then
-  looks_noted l = record { settled = l.settled; contents = l.contents; added = l.added; reads = l.reads; history = l.history; left_is = l.left_is }
+  looks_noted l = record { read = l.read; reads = l.reads; noted = ap (λ (t : Told). but_noted t noted) l.noted }
 
   untouched_noted : IsUntouched old mid → IsUntouched old then
   untouched_noted is = ap (λ (t : Told). but_noted t noted) is
@@ -240,18 +241,7 @@ untouched_runs old new is = λ h script settled told left m rests none.
     runs_none old.places m script h [] refl rests none old new (ap (λ (t : Told). t.history) is ∙ told) (ap (λ (t : Told). t.beside.left) is ∙ left)
 
 untouched_looks : (old new : Told) → IsUntouched old new → OnlyLooks old new
-untouched_looks old new is = record {
-  settled = ap (λ (t : Told). t.settled) is;
-  contents = ap (λ (t : Told). t.contents) is;
-  added = [];
-  reads = refl;
-  history = ap (λ (t : Told). t.history) is ∙ nothing_more old.history;
-  left_is = ap (λ (t : Told). t.beside.left) is;
-}
-  where
-    nothing_more : (o : Option History) → o ≡ option_map (adds_all []) o
-    nothing_more None = refl
-    nothing_more (Some h) = refl
+untouched_looks old new is = record { read = old; reads = reads_none old; noted = is }
 
 module _ (old new : Told) where
   opened_by : (ending : Ending) → OpenedLeaves ending old new → RunsOpened old new (status_at ending == 0)

@@ -15,5 +15,6 @@ real_told chip script_bytes script_faults say_faults = record {
 }
 
 -- which is consistent
-pub real_consistently : (chip : Told) (script_bytes script_faults say_faults : ℕ) → IsConsistent (real_told chip script_bytes script_faults say_faults)
+pub real_consistently : (chip : Told) (script_bytes script_faults say_faults : ℕ)
+    → IsConsistent (real_told chip script_bytes script_faults say_faults)
 real_consistently chip script_bytes script_faults say_faults = record { settled = λ x e. cc; replayed = λ h e settled. cc }

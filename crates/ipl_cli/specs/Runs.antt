@@ -24,9 +24,11 @@ pub record StartsFormatted (old : Told) (store : UnitStore) (new : Told) : Type 
   pub fits : IsGeometry old.places
   pub suits : Suits store new.places
   pub left : store.counter ≤ 2 ^ 63
-  pub lawful : (h : History) → old.history ≡ Some h → (base : Story) → IsLawful base → IsLawful (format_events old.places ++ base)
+  pub lawful : (h : History) → old.history ≡ Some h → (base : Story) → IsLawful base
+      → IsLawful (format_events old.places ++ base)
   pub history : (h : History) → old.history ≡ Some h → new.history ≡ Some (adds_all (format_events old.places) h)
-  pub keeps : (h : History) → old.history ≡ Some h → old.settled ≡ true → KeepsUnit (limits_of (old.places - 4)) store new (at_rest empty)
+  pub keeps : (h : History) → old.history ≡ Some h → old.settled ≡ true
+      → KeepsUnit (limits_of (old.places - 4)) store new (at_rest empty)
 
 -- The chip is opened, and the store keeps what was found.
 pub record StartsOpened (old : Told) (store : UnitStore) (new : Told) : Type 0 where

@@ -1,13 +1,12 @@
 -- The program as a whole: how it ends, what it says, and what it leaves on the chip.
 use Rattle.std.specs.Prelude.{◌≡◌, ◌≢◌, ◌⊎◌, ◌<◌, ◌≤◌, ℕ, ◌+◌, ◌-◌, ◌^◌, min, Bool, true, false, List, [], ◌∷◌, ◌++◌, codes, length, Option, Some, None, Result, Ok, Err}
-use Rattle.std.specs.Option.{option_map}
 use Rattle.std.specs.FinMap.{empty}
 use Rattle.chip_trait.specs.declared.event.Event.TheVariants.{Said}
 use Rattle.chip_trait.specs.Chart.{says}
 use Rattle.chip_trait.specs.Story.{Story, Contents, pieces, said}
 use Rattle.chip_trait.specs.Moment.{AtEachMoment, Leaves}
 use Rattle.chip_trait.specs.Lawful.{IsLawful}
-use Rattle.chip_trait.specs.Told.{History, Told, Grew, IsPrefix, Rose, adds_all}
+use Rattle.chip_trait.specs.Told.{History, Told, Counts, Grew, IsPrefix, Rose, adds_all}
 use Rattle.ipl_base.specs.Places.{IsGeometry}
 use Rattle.ipl_base.specs.declared.fault.ChipFault.TheVariants.{ReadFault, Stopped, Damaged, Malformed}
 use Rattle.ipl_base.specs.declared.fault.FormatFault.{FormatFault}
@@ -27,7 +26,8 @@ use Rattle.opening_rules.specs.Faults.{greatest_found}
 use Rattle.store_trait.specs.Onward.{Unrisen}
 use Rattle.script_run.specs.Run.{SaysLines}
 use Rattle.restart.specs.Events.{format_events}
-use Rattle.restart.specs.Looks.{only_reads}
+use Rattle.restart.specs.Fresh.{Formats}
+use Rattle.restart.specs.Looks.{OnlyReads}
 use Rattle.unit_store.specs.Bare.{HasNoLog}
 use Rattle.unit_store.specs.Keeps.{limits_of}
 use Rattle.unit_store.specs.Opens.{opening_fault, StandsWithNumbersLeft}
@@ -55,6 +55,16 @@ abbrev pub note_at : Ending → List ℕ
 note_at (Ok u) = []
 note_at (Err end) = note_of end
 
+-- ---- what is noted
+
+-- nothing but the noted bytes, which are these
+abbrev pub but_noted : Told → Option (List ℕ) → Told
+but_noted t noted = record t { beside = record t.beside { noted = noted } }
+
+-- nothing was done but noted
+abbrev pub IsUntouched : Told → Told → Type 0
+IsUntouched old new = new ≡ but_noted old new.beside.noted
+
 -- ---- causes
 
 -- where the chip tells what it holds, this is the first thing that is wrong with that
@@ -68,7 +78,8 @@ OpenedCause image.NotFormatted old new = IsAtFault old image.NotFormatted
 OpenedCause (image.Missing u) old new = IsAtFault old (image.Missing u)
 OpenedCause (image.Chip ReadFault) old new = Rose old.read_faults new.read_faults
 OpenedCause (image.Chip Stopped) old new = Rose old.write_faults new.write_faults
-OpenedCause (image.Chip (Damaged p s stored computed)) old new = (stored ≢ computed) × IsAtFault old (image.Chip (Damaged p s stored computed))
+OpenedCause (image.Chip (Damaged p s stored computed)) old new = (stored ≢ computed)
+    × IsAtFault old (image.Chip (Damaged p s stored computed))
 OpenedCause (image.Chip (Malformed p s)) old new = IsAtFault old (image.Chip (Malformed p s))
 OpenedCause image.Spent old new = IsAtFault old image.Spent
 OpenedCause (image.NoSpare n) old new = IsAtFault old (image.NoSpare n)
@@ -133,44 +144,50 @@ StandsAbout places m script bytes x = IsAbout (λ s. Stands places (chart_of x) 
 -- said, or after one more. What is said is a beginning of the model's text, line by line. No sector is programmed twice
 -- between erases of its place. No log sector and no commit sector is programmed. Where no write failed, the story rests on such records at the end, and there is no log, so that
 -- the next run may begin there. Where all is done, the whole text is said.
-pub record Runs (places : ℕ) (m : Map) (script : List ℕ) (h : History) (first : Story) (old new : Told) (done : Bool) : Type 0 where
+pub record Runs (places : ℕ) (m : Map) (script : List ℕ) (h : History) (first : Story) (old new : Told)
+    (done : Bool) : Type 0 where
   pub added : Story
   pub history : new.history ≡ Some (adds_all added (adds_all first h))
-  pub each_moment : AtEachMoment (λ e. Leaves (says sector_in) (StandsAbout places m script (said e)) (adds_all first h) e) added
+  pub each_moment : AtEachMoment
+      (λ e. Leaves (says sector_in) (StandsAbout places m script (said e)) (adds_all first h) e) added
   pub replies : SaysLines (answers places m script) (pieces added)
   pub is_prefix : IsPrefix (said added) (joined (answers places m script))
   pub lawful : (base : Story) → IsLawful base → IsLawful (added ++ (first ++ base))
   pub plain : ArePlain added
-  pub rests : Unrisen old new → IsAbout (λ s. StoryRests places s.map (adds_all added (adds_all first h))) places m script (said added)
+  pub rests : Unrisen old new
+      → IsAbout (λ s. StoryRests places s.map (adds_all added (adds_all first h))) places m script (said added)
   pub bare : Unrisen old new → HasNoLog places (now (adds_all added (adds_all first h)))
   pub read : List ℕ
   pub unread : List ℕ
   pub script_is : script ≡ read ++ unread
   pub left_is : new.beside.left ≡ Some unread
-  pub all : done ≡ true → (pieces added ≡ answers places m script) × (said added ≡ joined (answers places m script)) × (unread ≡ [])
+  pub all : done ≡ true
+      → (pieces added ≡ answers places m script) × (said added ≡ joined (answers places m script)) × (unread ≡ [])
 
 -- over a settled chip that tells its history, and a script that is told
 abbrev pub OverTold : (ℕ → List ℕ → History → Type 0) → Told → Type 0
-OverTold P old = (h : History) (script : List ℕ) → old.settled ≡ true → old.history ≡ Some h → old.beside.left ≡ Some script → P old.places script h
+OverTold P old = (h : History) (script : List ℕ) → old.settled ≡ true → old.history ≡ Some h
+    → old.beside.left ≡ Some script → P old.places script h
 
 -- The chip was opened, and the script was run: from the records on which its story rests, and there is no log. All events are
 -- in this, those of the opening too.
 abbrev pub RunsOpened : Told → Told → Bool → Type 0
-RunsOpened old new done = OverTold (λ places script h. (m : Map) → StoryRests places m h → HasNoLog places (now h) → Runs places m script h [] old new done) old
+RunsOpened old new done = OverTold
+    (λ places script h. (m : Map) → StoryRests places m h → HasNoLog places (now h)
+    → Runs places m script h [] old new done) old
 
 -- the chip was formatted, and the script was run from no records on
 abbrev pub RunsFormatted : Told → Told → Bool → Type 0
-RunsFormatted old new done = OverTold (λ places script h. Runs places empty script h (format_events places) old new done) old
+RunsFormatted old new done = OverTold
+    (λ places script h. Runs places empty script h (format_events places) old new done) old
 
 -- What a format leaves that was stopped: an earlier part of its events, or all. Nothing was said, and nothing read of the script.
 pub record StopsEarly (places : ℕ) (h : History) (old new : Told) : Type 0 where
-  pub later : Story
-  pub added : Story
-  pub part : later ++ added ≡ format_events places
-  pub history : new.history ≡ Some (adds_all added h)
-  pub silent : pieces added ≡ []
-  pub lawful : (base : Story) → IsLawful base → IsLawful (added ++ base)
-  pub left_is : new.beside.left ≡ old.beside.left
+  pub stopped : Told
+  pub fault : FormatFault
+  pub formats : Formats {A = Unit {0}} places h (Err fault) stopped
+  pub counts : Counts old stopped
+  pub noted : new ≡ but_noted stopped new.beside.noted
 
 -- a format was stopped, over a chip that tells its history
 abbrev pub IsStopped : Told → Told → Type 0
@@ -178,7 +195,9 @@ IsStopped old new = (h : History) → old.history ≡ Some h → StopsEarly old.
 
 -- a write failed in the run, or before it in the format
 abbrev pub RunsOrStops : Told → Told → Type 0
-RunsOrStops old new = OverTold (λ places script h. Runs places empty script h (format_events places) old new false ⊎ StopsEarly places h old new) old
+RunsOrStops old new = OverTold
+    (λ places script h. Runs places empty script h (format_events places) old new false
+    ⊎ StopsEarly places h old new) old
 
 -- ---- a format
 
@@ -209,14 +228,6 @@ format_end format.Stopped = Chip (image.Chip Stopped)
 
 -- ---- what is left
 
--- nothing but the noted bytes, which are these
-abbrev pub but_noted : Told → Option (List ℕ) → Told
-but_noted t noted = record t { beside = record t.beside { noted = noted } }
-
--- nothing was done but noted
-abbrev pub IsUntouched : Told → Told → Type 0
-IsUntouched old new = new ≡ but_noted old new.beside.noted
-
 -- what a format leaves
 abbrev pub FormatLeaves : Ending → Told → Told → Type 0
 FormatLeaves (Ok u) old new = LaysOut old new true
@@ -239,14 +250,11 @@ FormattedLeaves (Err Script) old new = RunsFormatted old new false
 FormattedLeaves (Err Output) old new = RunsFormatted old new false
 FormattedLeaves (Err TooLong) old new = RunsFormatted old new false
 
--- nothing was written: the chip was only read, nothing was said, and nothing read of the script
+-- nothing was done but reads of the chip, and a note
 pub record OnlyLooks (old new : Told) : Type 0 where
-  pub settled : new.settled ≡ old.settled
-  pub contents : new.contents ≡ old.contents
-  pub added : Story
-  pub reads : only_reads added ≡ true
-  pub history : new.history ≡ option_map (adds_all added) old.history
-  pub left_is : new.beside.left ≡ old.beside.left
+  pub read : Told
+  pub reads : OnlyReads old read
+  pub noted : new ≡ but_noted read new.beside.noted
 
 -- what a run leaves over a chip that is opened; only a failed write ends it with a fault of the chip once it is open
 abbrev pub OpenedLeaves : Ending → Told → Told → Type 0
@@ -269,7 +277,8 @@ EndLeaves (Some (Run false)) ending old new = OpenedLeaves ending old new
 pub record Ends (asked : AskedFor) (old new : Told) (status : ℕ) : Type 0 where
   pub ending : Ending
   pub status_is : status ≡ status_at ending
-  pub noted : (bytes : List ℕ) → new.beside.noted ≡ Some bytes → (before : List ℕ) × (old.beside.noted ≡ Some before) × (bytes ≡ before ++ note_at ending)
+  pub noted : (bytes : List ℕ) → new.beside.noted ≡ Some bytes
+      → (before : List ℕ) × (old.beside.noted ≡ Some before) × (bytes ≡ before ++ note_at ending)
   pub cause : EndCause asked ending old new
   pub leaves : EndLeaves asked ending old new
 

@@ -117,7 +117,8 @@ impl MemDesk {
         ensures ok { OnOk result (Appends (Said piece.now) (desk_told self.old) (desk_told self.new)) }
         ensures err { OnErr result (FailsToSay piece.now (desk_told self.old) (desk_told self.new)) }
         ensures counts { SayCounts (desk_told self.old) (desk_told self.new) }
-        ensures cause { OnErr result (Rose (desk_told self.old).beside.say_faults (desk_told self.new).beside.say_faults) }
+        ensures cause { OnErr result
+            (Rose (desk_told self.old).beside.say_faults (desk_told self.new).beside.say_faults) }
         ensures fails { is_err result ≡ is_full (plan_of self.old.chip) }
         ensures plan { desk_plan self.new ≡ desk_plan self.old }
     {
@@ -136,7 +137,8 @@ impl MemDesk {
         ensures counts { SayCounts (desk_told self.old) (desk_told self.new) }
         ensures cause { Rose (desk_told self.old).beside.say_faults (desk_told self.new).beside.say_faults }
         ensures fails { IsErr result }
-        ensures part { told_of self.new.chip ≡ told_in_part kept piece.now (plan_of self.old.chip) (told_of self.old.chip) }
+        ensures part { told_of self.new.chip ≡ told_in_part kept piece.now (plan_of self.old.chip)
+            (told_of self.old.chip) }
         ensures plan { desk_plan self.new ≡ desk_plan self.old }
     {
         let count = piece.len().min(kept as usize);
@@ -192,11 +194,13 @@ impl Desk for MemDesk {
         ensures bound { IfOk result (λ n. n ≤ length buf.new) }
         ensures bytes { Takes (desk_told self.old).beside (desk_told self.new).beside result buf.new }
         ensures chip { IsBeside (desk_told self.old) (desk_told self.new) }
-        ensures cause { OnErr result (Rose (desk_told self.old).beside.script_faults (desk_told self.new).beside.script_faults) }
+        ensures cause { OnErr result
+            (Rose (desk_told self.old).beside.script_faults (desk_told self.new).beside.script_faults) }
 
         // exactly
         ensures fails { is_err result ≡ read_fails (desk_plan self.old) }
-        ensures count { IfOk result (λ n. n ≡ read_count (desk_plan self.old) (length buf.old) (vec_len self.old.script - self.old.at)) }
+        ensures count { IfOk result
+            (λ n. n ≡ read_count (desk_plan self.old) (length buf.old) (vec_len self.old.script - self.old.at)) }
         ensures plan { desk_plan self.new ≡ record (desk_plan self.old) { reads = counted (desk_plan self.old).reads } }
     {
         if self.failing_reads.contains(&self.reads) {
@@ -219,12 +223,16 @@ impl Desk for MemDesk {
         ensures ok { OnOk result (Appends (Said piece.now) (desk_told self.old) (desk_told self.new)) }
         ensures err { OnErr result (FailsToSay piece.now (desk_told self.old) (desk_told self.new)) }
         ensures counts { SayCounts (desk_told self.old) (desk_told self.new) }
-        ensures cause { OnErr result (Rose (desk_told self.old).beside.say_faults (desk_told self.new).beside.say_faults) }
+        ensures cause { OnErr result
+            (Rose (desk_told self.old).beside.say_faults (desk_told self.new).beside.say_faults) }
 
         // exactly
-        ensures fails { is_err result ≡ (is_some (kept_at (desk_plan self.old).failing_says (desk_plan self.old).says) || is_full (plan_of self.old.chip)) }
+        ensures fails { is_err result
+            ≡ (is_some (kept_at (desk_plan self.old).failing_says (desk_plan self.old).says)
+            || is_full (plan_of self.old.chip)) }
         ensures part { IfSome (kept_at (desk_plan self.old).failing_says (desk_plan self.old).says)
-            (λ kept. told_of self.new.chip ≡ told_in_part kept piece.now (plan_of self.old.chip) (told_of self.old.chip)) }
+            (λ kept. told_of self.new.chip ≡ told_in_part kept piece.now (plan_of self.old.chip)
+            (told_of self.old.chip)) }
         ensures plan { desk_plan self.new ≡ record (desk_plan self.old) { says = counted (desk_plan self.old).says } }
     {
         let kept = kept_of(&self.failing_says, self.says);

@@ -166,16 +166,21 @@ pub fn top<D: Desk>(alloc: Global, words: &[String], desk: &mut D) -> u8
     ensures ends { Ends (requested (map string_bytes words.now)) (D.told desk.old) (D.told desk.new) result }
 
     // The headline, over a chip that is opened: wherever the program ends. At 0 the whole script was run.
-    ensures opened { requested (map string_bytes words.now) ≡ Some (Run false) → RunsOpened (D.told desk.old) (D.told desk.new) (result == 0) }
+    ensures opened { requested (map string_bytes words.now) ≡ Some (Run false)
+        → RunsOpened (D.told desk.old) (D.told desk.new) (result == 0) }
 
     // The same over a chip that is formatted first. At 6, 7 and 8 a part of the script was run; at 3 too, or the format was
     // stopped.
-    ensures formatted { requested (map string_bytes words.now) ≡ Some (Run true) → result ≡ 0 → RunsFormatted (D.told desk.old) (D.told desk.new) true }
-    ensures part { requested (map string_bytes words.now) ≡ Some (Run true) → (result ≡ 6) ⊎ (result ≡ 7) ⊎ (result ≡ 8) → RunsFormatted (D.told desk.old) (D.told desk.new) false }
-    ensures stops { requested (map string_bytes words.now) ≡ Some (Run true) → result ≡ 3 → RunsOrStops (D.told desk.old) (D.told desk.new) }
+    ensures formatted { requested (map string_bytes words.now) ≡ Some (Run true) → result ≡ 0
+        → RunsFormatted (D.told desk.old) (D.told desk.new) true }
+    ensures part { requested (map string_bytes words.now) ≡ Some (Run true)
+        → (result ≡ 6) ⊎ (result ≡ 7) ⊎ (result ≡ 8) → RunsFormatted (D.told desk.old) (D.told desk.new) false }
+    ensures stops { requested (map string_bytes words.now) ≡ Some (Run true) → result ≡ 3
+        → RunsOrStops (D.told desk.old) (D.told desk.new) }
 
     // A format says its line at 0, and the chip has no record then, whatever moment the power is cut at.
-    ensures formats { requested (map string_bytes words.now) ≡ Some Format → result ≡ 0 → LaysOut (D.told desk.old) (D.told desk.new) true }
+    ensures formats { requested (map string_bytes words.now) ≡ Some Format → result ≡ 0
+        → LaysOut (D.told desk.old) (D.told desk.new) true }
 
     // At 2 and 5 nothing was asked of the chip, said or read; at 4 and 9 nothing but reads of the chip.
     ensures early { (result ≡ 2) ⊎ (result ≡ 5) → IsUntouched (D.told desk.old) (D.told desk.new) }
@@ -183,17 +188,24 @@ pub fn top<D: Desk>(alloc: Global, words: &[String], desk: &mut D) -> u8
 
     // Each status but 0 and 5 comes only for its cause.
     ensures words { result ≡ 2 → requested (map string_bytes words.now) ≡ None }
-    ensures chip { result ≡ 3 → Rose (D.told desk.old).read_faults (D.told desk.new).read_faults ⊎ Rose (D.told desk.old).write_faults (D.told desk.new).write_faults }
-    ensures image { result ≡ 4 → ¬ IsGeometry (D.told desk.old).places ⊎ ((requested (map string_bytes words.now) ≡ Some (Run false)) × IsStray (D.told desk.old)) }
+    ensures chip { result ≡ 3
+        → Rose (D.told desk.old).read_faults (D.told desk.new).read_faults
+        ⊎ Rose (D.told desk.old).write_faults (D.told desk.new).write_faults }
+    ensures image { result ≡ 4
+        → ¬ IsGeometry (D.told desk.old).places
+        ⊎ ((requested (map string_bytes words.now) ≡ Some (Run false)) × IsStray (D.told desk.old)) }
     ensures script { result ≡ 6 → Rose (D.told desk.old).beside.script_faults (D.told desk.new).beside.script_faults }
     ensures output { result ≡ 7 → Rose (D.told desk.old).beside.say_faults (D.told desk.new).beside.say_faults }
-    ensures too_long { result ≡ 8 → Grew (D.told desk.old).beside.script_bytes 4294967295 (D.told desk.new).beside.script_bytes }
-    ensures spent { result ≡ 9 → (requested (map string_bytes words.now) ≡ Some (Run false)) × IsSpent (D.told desk.old) }
+    ensures too_long { result ≡ 8
+        → Grew (D.told desk.old).beside.script_bytes 4294967295 (D.told desk.new).beside.script_bytes }
+    ensures spent { result ≡ 9
+        → (requested (map string_bytes words.now) ≡ Some (Run false)) × IsSpent (D.told desk.old) }
 
     // Words that aren't valid give 2, or 5. Where they are, the chip is such as they ask for, no count rises and the script ends
     // in time, the answer is 0, or 5.
     ensures invalid { requested (map string_bytes words.now) ≡ None → (result ≡ 2) ⊎ (result ≡ 5) }
-    ensures completes { (request : Request) → requested (map string_bytes words.now) ≡ Some request → Suffices request (D.told desk.old)
+    ensures completes { (request : Request) → requested (map string_bytes words.now) ≡ Some request
+        → Suffices request (D.told desk.old)
         → IsCalm (D.told desk.old) (D.told desk.new) → EndsInTime (D.told desk.old) (D.told desk.new) → (result ≡ 0) ⊎ (result ≡ 5) }
 {
     let ending = run(alloc, words, desk);
