@@ -1,5 +1,5 @@
 -- What a chip and its desk tell, and what their calls do to that.
-use Rattle.std.specs.Prelude.{◌≡◌, ◌⊎◌, ◌≤◌, ◌+◌, ◌-◌, ◌^◌, min, ℕ, Bool, true, false, List, [], ◌∷◌, ◌++◌, length, take, drop, Option, Some, None, Result, MatchResult}
+use Rattle.std.specs.Prelude.{◌≡◌, ◌⊎◌, ◌≤◌, ◌<◌, ◌+◌, ◌-◌, ◌^◌, min, ℕ, Bool, true, false, List, [], ◌∷◌, ◌++◌, length, take, drop, Option, Some, None, Result, MatchResult}
 use Rattle.std.specs.Option.{option_map}
 use Rattle.chip_trait.specs.declared.event.Event.{Event}
 use Rattle.chip_trait.specs.declared.event.Event.TheVariants.{Said}
@@ -80,6 +80,10 @@ pub record Halts (old new : Told) : Type 0 where
 -- the count has risen, or it stands at its last value
 abbrev pub Rose : ℕ → ℕ → Type 0
 Rose before now = min (before + 1) (2 ^ 64 - 1) ≤ now
+
+-- no write fault was counted
+abbrev pub Unrisen : Told → Told → Type 0
+Unrisen old new = new.write_faults < min (old.write_faults + 1) (2 ^ 64 - 1)
 
 -- after a chip call: the places are as many, no count falls, and what stands beside the chip is as it was
 pub record Counts (old new : Told) : Type 0 where

@@ -9,7 +9,7 @@ use Rattle.chip_trait.specs.Chart.{says}
 use Rattle.chip_trait.specs.Image.{IsNoChanceImage}
 use Rattle.chip_trait.specs.Moment.{AtEachMoment, Leaves}
 use Rattle.chip_trait.specs.Lawful.{IsLawful}
-use Rattle.chip_trait.specs.Told.{History, Told, Beside, Counts, SayCounts, Appends, FailsToSay, IsPrefix, adds_all}
+use Rattle.chip_trait.specs.Told.{History, Told, Beside, Counts, SayCounts, Appends, FailsToSay, IsPrefix, adds_all, Unrisen}
 use Rattle.chip_trait.proofs.MomentLemmas.{at_both, at_weaker}
 use Rattle.chip_trait.proofs.SaidLemmas.{pieces-append, said-append, silent-part}
 use Rattle.ipl_base.specs.Places.{IsGeometry}
@@ -26,7 +26,7 @@ use Rattle.ipl_meaning.specs.Stands.{Stands}
 use Rattle.ipl_meaning.specs.Rests.{now, StoryRests}
 use Rattle.ipl_meaning.proofs.StoryLemmas.{says_keep}
 use Rattle.script_run.specs.declared.fault.Stop.{Stop}
-use Rattle.store_trait.specs.Onward.{Further, Unrisen}
+use Rattle.store_trait.specs.Onward.{Further}
 use Rattle.unit_io.specs.Plain.{IsPlainEvent, ArePlain}
 use Rattle.unit_io.proofs.PlainLemmas.{are_plain_both}
 use Rattle.store_trait.specs.Keeping.{AllOf, Stays}

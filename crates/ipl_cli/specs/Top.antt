@@ -6,7 +6,7 @@ use Rattle.chip_trait.specs.Chart.{says}
 use Rattle.chip_trait.specs.Story.{Story, Contents, pieces, said}
 use Rattle.chip_trait.specs.Moment.{AtEachMoment, Leaves}
 use Rattle.chip_trait.specs.Lawful.{IsLawful}
-use Rattle.chip_trait.specs.Told.{History, Told, Counts, Grew, IsPrefix, Rose, adds_all}
+use Rattle.chip_trait.specs.Told.{History, Told, Counts, Grew, IsPrefix, Rose, adds_all, Unrisen}
 use Rattle.ipl_base.specs.Places.{IsGeometry}
 use Rattle.ipl_base.specs.declared.fault.ChipFault.TheVariants.{ReadFault, Stopped, Damaged, Malformed}
 use Rattle.ipl_base.specs.declared.fault.FormatFault.{FormatFault}
@@ -23,7 +23,6 @@ use Rattle.ipl_meaning.specs.Rests.{now, StoryRests}
 use Rattle.unit_io.specs.Reads.{OfContents}
 use Rattle.unit_io.specs.Plain.{ArePlain}
 use Rattle.opening_rules.specs.Faults.{greatest_found}
-use Rattle.store_trait.specs.Onward.{Unrisen}
 use Rattle.script_run.specs.Run.{SaysLines}
 use Rattle.restart.specs.Events.{format_events}
 use Rattle.restart.specs.Fresh.{Formats}

@@ -3,8 +3,8 @@ use Rattle.std.proofs.Common.{◌≡◌, inl, inr, ℕ, ◌≤◌, List, [], ◌
 use Rattle.std.specs.Option.{option_map}
 use Rattle.chip_trait.specs.declared.event.Event.TheVariants.{Said}
 use Rattle.chip_trait.specs.Story.{Contents}
-use Rattle.chip_trait.specs.Told.{History, Told, Beside, Counts, SayCounts, IsBeside, Appends, FailsToSay, adds_all}
-use Rattle.store_trait.specs.Onward.{Onward, Further, Still, Unrisen}
+use Rattle.chip_trait.specs.Told.{History, Told, Beside, Counts, SayCounts, IsBeside, Appends, FailsToSay, adds_all, Unrisen}
+use Rattle.store_trait.specs.Onward.{Onward, Further, Still}
 
 pub onward_none : (t : Told) → Onward t t
 onward_none t = record { places = refl; reads = omega arith; writes = omega arith; says = omega arith; keeps = refl }

@@ -10,9 +10,9 @@ use Rattle.chip_trait.specs.declared.event.Event.{Event}
 use Rattle.chip_trait.specs.Story.{Story, Contents, pieces}
 use Rattle.chip_trait.specs.Moment.{AtEachMoment, Leaves}
 use Rattle.chip_trait.specs.Lawful.{IsLawfulAfter, LeavesClean}
-use Rattle.chip_trait.specs.Told.{History, Told, adds_all}
+use Rattle.chip_trait.specs.Told.{History, Told, adds_all, Unrisen}
 use Rattle.store_trait.specs.declared.fault.Fault.{Fault}
-use Rattle.store_trait.specs.Onward.{Further, Still, Unrisen}
+use Rattle.store_trait.specs.Onward.{Further, Still}
 
 -- each of these events is so
 abbrev pub AllOf : (Event → Type 0) → Story → Type 0

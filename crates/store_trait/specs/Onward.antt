@@ -1,5 +1,5 @@
 -- What goes on beside the chip: counts that never fall, and causes.
-use Rattle.std.specs.Prelude.{◌≡◌, ◌≤◌, ◌<◌, ◌+◌, ◌-◌, ◌^◌, min, ℕ, List, map}
+use Rattle.std.specs.Prelude.{ℕ, ◌≡◌, ◌≤◌, List, map}
 use Rattle.std.specs.Option.{option_map}
 use Rattle.chip_trait.specs.declared.event.Event.TheVariants.{Said}
 use Rattle.chip_trait.specs.Story.{Story}
@@ -22,10 +22,6 @@ pub record Further (old new : Told) : Type 0 where
   pub script : old.beside.script_faults ≤ new.beside.script_faults
   pub bytes : old.beside.script_bytes ≤ new.beside.script_bytes
   pub noted : new.beside.noted ≡ old.beside.noted
-
--- no write fault was counted
-abbrev pub Unrisen : Told → Told → Type 0
-Unrisen old new = new.write_faults < min (old.write_faults + 1) (2 ^ 64 - 1)
 
 -- pieces as events
 abbrev pub sayings : List (List ℕ) → Story

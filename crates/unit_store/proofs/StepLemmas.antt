@@ -6,7 +6,7 @@ use Rattle.std.specs.FinMap.{get, insert}
 use Rattle.std.specs.Option.{option_map_or}
 use Rattle.chip_trait.specs.Story.{Story}
 use Rattle.chip_trait.specs.Moment.{Leaves}
-use Rattle.chip_trait.specs.Told.{History, Told, adds_all}
+use Rattle.chip_trait.specs.Told.{History, Told, adds_all, Unrisen}
 use Rattle.chip_trait.proofs.LawfulLemmas.{lawful_none, clean_none}
 use Rattle.chip_trait.proofs.MomentLemmas.{at_start}
 use Rattle.ipl_base.specs.declared.fault.Refusal.{Refusal}
@@ -26,7 +26,6 @@ use Rattle.memory_store.specs.Fits.{Fits, is_writing}
 use Rattle.memory_store.proofs.StandingLemmas.{commit_below, commit_above, quiet_commit}
 use Rattle.store_trait.specs.declared.fault.Fault.{Fault}
 use Rattle.store_trait.specs.declared.fault.Fault.TheVariants.{Chip, Image, Spent}
-use Rattle.store_trait.specs.Onward.{Unrisen}
 use Rattle.store_trait.specs.Keeping.{AllOf, IsSingle, WorkLeaves, WorksFor, Works, LooksUpFor, LooksUp}
 use Rattle.unit_io.specs.Plain.{IsPlainEvent, ArePlain}
 use Rattle.unit_io.specs.Leads.{Leads}
