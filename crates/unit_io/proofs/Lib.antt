@@ -10,3 +10,4 @@ pub mod PiecesLemmas
 pub mod TextLemmas
 pub mod HeldLemmas
 pub mod PlainLemmas
+pub mod ReadsAtLemmas

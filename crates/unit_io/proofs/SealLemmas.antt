@@ -29,44 +29,44 @@ programs_after p Spot done then later earlier first second = programs_then p (λ
 programs_before : (p : ℕ) (Spot : ℕ → Type 0) (done then : Bool) (later earlier : Story) → Programs p Spot done earlier → Programs p (λ s. ⊥) then later → Programs p Spot then (later ++ earlier)
 programs_before p Spot done then later earlier first second = programs_then p Spot (λ s. ⊥) Spot done then later earlier (λ s is none. none) (λ s is. is) (λ s none. absurd none) first second
 
-module _ (places : ℕ) (m n : Map) (h : History) (p : ℕ) (bytes : List ℕ) (head : Sector) (says : sector_in bytes ≡ Some head) (rests : StoryRests places m h)
-    (clean : age h.story p 0 ≡ Clean) (stands : Stands places (with_sector (now h) p 0 head) n) where
+module _ (places : ℕ) (m n : Map) (h : History) (p t : ℕ) (bytes : List ℕ) (head : Sector) (says : sector_in bytes ≡ Some head) (rests : StoryRests places m h)
+    (clean : age h.story p t ≡ Clean) (stands : Stands places (with_sector (now h) p t head) n) where
   Sealed : Unit {0} → History → Type 0
-  Sealed done then = StoryRests places n then × Gains p 0 head (now h) (now then)
+  Sealed done then = StoryRests places n then × Gains p t head (now h) (now then)
 
   module _ (closed : IsClosed h.story) where
-    header_leads : (old mid : Told) (result : Result (Unit {0}) ChipFault) → IsSteady h old → Did (Program p 0 bytes) result old mid
-        → Leads (EachStandsEither places m n) (Programs p (IsSpot 0)) (λ done then. then ≡ adds (Program p 0 bytes) h) h result mid
+    header_leads : (old mid : Told) (result : Result (Unit {0}) ChipFault) → IsSteady h old → Did (Program p t bytes) result old mid
+        → Leads (EachStandsEither places m n) (Programs p (IsSpot t)) (λ done then. then ≡ adds (Program p t bytes) h) h result mid
     header_leads old mid result steady did =
-        leads_did (EachStandsEither places m n) (Programs p (IsSpot 0)) h old mid steady (λ done then. then ≡ adds (Program p 0 bytes) h) (Program p 0 bytes) result did
-        (λ x is. inl (rests.each x is)) (programs_lead places m n h p 0 bytes head rests closed (untouched h p 0 clean) says stands).0
-        (programs_one p 0 bytes) (programs_none p (IsSpot 0) false) refl
+        leads_did (EachStandsEither places m n) (Programs p (IsSpot t)) h old mid steady (λ done then. then ≡ adds (Program p t bytes) h) (Program p t bytes) result did
+        (λ x is. inl (rests.each x is)) (programs_lead places m n h p t bytes head rests closed (untouched h p t clean) says stands).0
+        (programs_one p t bytes) (programs_none p (IsSpot t) false) refl
 
     -- the header and the barrier behind it
-    pub added_leads : (old mid new : Told) (result : Result (Unit {0}) ChipFault) → IsSteady h old → Did (Program p 0 bytes) (Ok tt) old mid → Waited result mid new
-        → SwitchesMap places m n (Programs p (IsSpot 0)) (λ done. Gains p 0 head) h result new
+    pub added_leads : (old mid new : Told) (result : Result (Unit {0}) ChipFault) → IsSteady h old → Did (Program p t bytes) (Ok tt) old mid → Waited result mid new
+        → SwitchesMap places m n (Programs p (IsSpot t)) (λ done. Gains p t head) h result new
     added_leads old mid new result steady program wait =
-        let k : History = adds (Program p 0 bytes) h in
+        let k : History = adds (Program p t bytes) h in
         let first = header_leads old mid (Ok tt) steady program in
-        let (either, after_it) = programs_lead places m n h p 0 bytes head rests closed (untouched h p 0 clean) says stands in
+        let (either, after_it) = programs_lead places m n h p t bytes head rests closed (untouched h p t clean) says stands in
         let at : adds_all first.added h ≡ k = first.ends.1 in
-        let here : IsSteady k mid = subst (λ (j : History). IsSteady j mid) at (steady_after (EachStandsEither places m n) (Programs p (IsSpot 0)) (λ done then. then ≡ adds (Program p 0 bytes) h) h tt mid first) in
+        let here : IsSteady k mid = subst (λ (j : History). IsSteady j mid) at (steady_after (EachStandsEither places m n) (Programs p (IsSpot t)) (λ done then. then ≡ adds (Program p t bytes) h) h tt mid first) in
         let second : Leads (EachStandsEither places m n) (Programs p (λ s. ⊥)) (λ done then. then ≡ adds Barrier k) k result new =
         leads_waited (EachStandsEither places m n) (Programs p (λ s. ⊥)) k mid new here (λ done then. then ≡ adds Barrier k) result wait
         either (barriers_keep_either places m n k either) (programs_barrier p (λ s. ⊥) true) (programs_none p (λ s. ⊥) false) refl in
-        leads_then (EachStandsEither places m n) (Programs p (IsSpot 0)) (Programs p (λ s. ⊥)) (Programs p (IsSpot 0)) (λ done then. then ≡ adds (Program p 0 bytes) h)
-        (λ done then. then ≡ adds Barrier k) (RestsWith places n (λ done. Gains p 0 head) h) h tt mid new result first
+        leads_then (EachStandsEither places m n) (Programs p (IsSpot t)) (Programs p (λ s. ⊥)) (Programs p (IsSpot t)) (λ done then. then ≡ adds (Program p t bytes) h)
+        (λ done then. then ≡ adds Barrier k) (RestsWith places n (λ done. Gains p t head) h) h tt mid new result first
         (subst (λ (j : History). Leads (EachStandsEither places m n) (Programs p (λ s. ⊥)) (λ done then. then ≡ adds Barrier k) j result new) (sym at) second)
-        (λ a b one two. programs_before p (IsSpot 0) true (is_ok result) b a one two)
-        (λ w j is. subst (λ (i : History). StoryRests places n i × Gains p 0 head (now h) (now i)) (sym is)
-        (barriers_rest places n k after_it, held_program sector_in h.start h.story p 0 bytes head says))
+        (λ a b one two. programs_before p (IsSpot t) true (is_ok result) b a one two)
+        (λ w j is. subst (λ (i : History). StoryRests places n i × Gains p t head (now h) (now i)) (sym is)
+        (barriers_rest places n k after_it, held_program sector_in h.start h.story p t bytes head says))
 
     -- the header failed
-    pub added_fails : {F : Type 0} (old new : Told) (f : F) → IsSteady h old → Breaks (Program p 0 bytes) old new
-        → SwitchesMap {T = Unit {0}} {E = F} places m n (Programs p (IsSpot 0)) (λ done. Gains p 0 head) h (Err f) new
+    pub added_fails : {F : Type 0} (old new : Told) (f : F) → IsSteady h old → Breaks (Program p t bytes) old new
+        → SwitchesMap {T = Unit {0}} {E = F} places m n (Programs p (IsSpot t)) (λ done. Gains p t head) h (Err f) new
     added_fails old new f steady broke =
-        leads_failed (EachStandsEither places m n) (Programs p (IsSpot 0)) (Programs p (IsSpot 0)) (λ done then. then ≡ adds (Program p 0 bytes) h)
-        (RestsWith places n (λ done. Gains p 0 head) h) h Stopped f new (header_leads old new (Err Stopped) steady broke) (λ a one. one)
+        leads_failed (EachStandsEither places m n) (Programs p (IsSpot t)) (Programs p (IsSpot t)) (λ done then. then ≡ adds (Program p t bytes) h)
+        (RestsWith places n (λ done. Gains p t head) h) h Stopped f new (header_leads old new (Err Stopped) steady broke) (λ a one. one)
 
 -- the barrier before the header, and what is known of the story behind it
 pub settled_rests : (places : ℕ) (m : Map) (h : History) → StoryRests places m h → StoryRests places m (adds Barrier h)
@@ -100,11 +100,11 @@ module _ (places : ℕ) (m n : Map) (h : History) (p : ℕ) (head : Sector) (res
       (λ a one. programs_wider p (λ s. ⊥) (IsSpot 0) false false a (λ s none. absurd none) one)
 
 -- what is told of the contents
-pub added_tells : (p : ℕ) (bytes : List ℕ) (head : Sector) (old mid new : Told) (result : Result (Unit {0}) ChipFault) → sector_in bytes ≡ Some head
-    → Did (Program p 0 bytes) (Ok tt) old mid → Waited result mid new → OnOk result (Charts (Gains p 0 head) old new)
-added_tells p bytes head old mid new (Ok v) says program wait = λ x told.
-    (after (Program p 0 bytes) x, wait.contents ∙ ap (option_map (after Barrier)) (program.contents ∙ ap (option_map (after (Program p 0 bytes))) told), programmed_chart p 0 bytes head x says)
-added_tells p bytes head old mid new (Err e) says program wait = tt
+pub added_tells : (p t : ℕ) (bytes : List ℕ) (head : Sector) (old mid new : Told) (result : Result (Unit {0}) ChipFault) → sector_in bytes ≡ Some head
+    → Did (Program p t bytes) (Ok tt) old mid → Waited result mid new → OnOk result (Charts (Gains p t head) old new)
+added_tells p t bytes head old mid new (Ok v) says program wait = λ x told.
+    (after (Program p t bytes) x, wait.contents ∙ ap (option_map (after Barrier)) (program.contents ∙ ap (option_map (after (Program p t bytes))) told), programmed_chart p t bytes head x says)
+added_tells p t bytes head old mid new (Err e) says program wait = tt
 
 pub seal_tells : (p : ℕ) (head : Sector) (old mid new : Told) (result : Result (Unit {0}) ChipFault) → Waited (Ok tt) old mid → OnOk result (Charts (Gains p 0 head) mid new) → OnOk result (Charts (Gains p 0 head) old new)
 seal_tells p head old mid new (Ok v) wait tells = λ x told. tells x (wait.contents ∙ ap (option_map (after Barrier)) told)

@@ -7,3 +7,4 @@ pub mod Kinds
 pub mod Faults
 pub mod Laws
 pub mod Plain
+pub mod ReadsAt

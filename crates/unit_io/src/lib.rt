@@ -5,6 +5,7 @@
 #![tactic(auto)]
 
 mod calls;
+mod commits;
 mod laws;
 mod page_reading;
 mod pages;
@@ -12,6 +13,7 @@ mod places;
 mod reading;
 mod sectors;
 
+pub use commits::{add_commit, prepare_commit};
 pub use laws::page_laws;
 pub use page_reading::read_page;
 pub use pages::program_page;

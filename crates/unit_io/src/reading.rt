@@ -90,6 +90,7 @@ fn read_of_kinds<C: Chip>(
     requires sector { spot.sector < 256 }
     ensures exact { IfOk result (λ o. OfContents (C.told chip.old) (λ x.
         sector_named into.new o ≡ of_kinds first last (chart_of x spot.place spot.sector))) }
+    ensures bytes { OnOk result (OfContents (C.told chip.old) (λ x. into.new ≡ x spot.place spot.sector)) }
     ensures kind { IfOk result (λ o. IfSome o (λ found. (first ≤ found.0.kind) × (found.0.kind ≤ last))) }
     ensures fits { IfOk result (λ o. IfSome o (λ found. found.1 ≤ 480)) }
     ensures asks { Asked (Read spot.place spot.sector) result (C.told chip.old) (C.told chip.new) }
@@ -153,6 +154,7 @@ pub fn read_commit<C: Chip>(
     requires sector { spot.sector < 256 }
     ensures exact { IfOk result (λ o. OfContents (C.told chip.old) (λ x.
         sector_named into.new o ≡ commit_only (chart_of x spot.place spot.sector))) }
+    ensures bytes { OnOk result (OfContents (C.told chip.old) (λ x. into.new ≡ x spot.place spot.sector)) }
     ensures kind { IfOk result (λ o. IfSome o (λ found. found.0.kind ≡ 6)) }
     ensures fits { IfOk result (λ o. IfSome o (λ found. found.1 ≤ 480)) }
     ensures asks { Asked (Read spot.place spot.sector) result (C.told chip.old) (C.told chip.new) }

@@ -1,0 +1,84 @@
+-- What calls leave, one after another.
+use Rattle.std.proofs.Common.{◌≡◌, ◌≢◌, ◌≤◌, ℕ, Bool, true, false, [], ◌∷◌, ◌++◌, Some, Result, Ok, Err, MatchResult, is_ok, IfErr, refl, sym, ◌∙◌, ap, subst, arith}
+use Rattle.std.specs.Option.{option_map}
+use Rattle.std.specs.List.{All}
+use Rattle.std.proofs.lemmas.List.Elements.{All-tail}
+use Rattle.chip_trait.specs.Story.{Story}
+use Rattle.chip_trait.specs.Moment.{AtEachMoment}
+use Rattle.chip_trait.specs.Told.{History, Told, Counts, adds_all}
+use Rattle.chip_trait.proofs.MomentLemmas.{at_start, at_next, at_both}
+use Rattle.ipl_base.specs.declared.fault.ChipFault.{ChipFault}
+use Rattle.ipl_rules.specs.State.{Map}
+use Rattle.ipl_meaning.specs.Rests.{EachStands, StoryRests}
+use Rattle.unit_io.specs.Leads.{IsSteady, Leads, IsStopped}
+use Rattle.unit_io.specs.ReadsAt.{IsReadAt, ReadsAt}
+use Rattle.unit_io.proofs.LeadsLemmas.{twice_added}
+use Rattle.unit_io.proofs.ReadsAtLemmas.{at_told, at_rests}
+use Rattle.steps.specs.Steps.{Settled, EndsWith, Outcome}
+use Rattle.steps.specs.Laws.{NothingIsDone, PartsAreJoined, LessIsSaid, WritesAreOutcomes, ReadsAreOutcomes, FailuresSettle}
+
+pub outcome_none : NothingIsDone
+outcome_none Each Does Settles Then h t steady each does then_is = record {
+  added = [];
+  history = steady.told;
+  each_moment = at_start (λ e. Each (adds_all e h)) each;
+  does = does;
+  settled = λ _. steady.settled;
+  ends = λ _. then_is;
+}
+
+pub outcome_then : PartsAreJoined
+outcome_then Each D1 D2 D3 A B T1 T2 h mid new first done second both =
+    let same = twice_added second.added first.added h in record {
+      added = second.added ++ first.added;
+      history = second.history ∙ ap Some same;
+      each_moment = at_both (λ e. Each (adds_all e h)) second.added first.added first.each_moment
+          (λ later e split. subst Each (twice_added e first.added h) (second.each_moment later e split));
+      does = both first.added second.added first.does second.does;
+      settled = second.settled;
+      ends = λ b. subst T2 same (second.ends b);
+    }
+
+pub outcome_weaker : LessIsSaid
+outcome_weaker P Q D1 D2 A B T1 T2 h new each does less then_is did = record {
+  added = did.added;
+  history = did.history;
+  each_moment = λ later e split. each _ (did.each_moment later e split);
+  does = does did.added did.does;
+  settled = λ b. did.settled (less b);
+  ends = λ b. then_is b _ (did.ends (less b));
+}
+
+-- where it stands then
+pub outcome_steady : (Each : History → Type 0) (Does : Story → Type 0) (Settles : Type 0) (Then : History → Type 0) (h : History) (new : Told) → (did : Outcome Each Does Settles Then h new) → Settles → IsSteady (adds_all did.added h) new
+outcome_steady Each Does Settles Then h new did done = record { told = did.history; settled = did.settled done }
+
+pub outcome_written : WritesAreOutcomes
+outcome_written T Each Does Then Else h old new (Ok v) did stopped = record { added = did.added; history = did.history; each_moment = did.each_moment; does = did.does; settled = λ _. did.ends.0; ends = λ _. did.ends.1 }
+outcome_written T Each Does Then Else h old new (Err e) did stopped = record {
+  added = did.added;
+  history = did.history;
+  each_moment = did.each_moment;
+  does = did.does;
+  settled = λ unrisen. absurd (omega (arith, stopped.1, unrisen));
+  ends = λ unrisen. absurd (omega (arith, stopped.1, unrisen));
+}
+
+-- reads keep what the story rests on at each moment
+at_moments : (At : ℕ → ℕ → Type 0) (places : ℕ) (m : Map) (h : History) (added : Story) → All (IsReadAt At) added → StoryRests places m h → AtEachMoment (λ e. EachStands places m (adds_all e h)) added
+at_moments At places m h [] each rests = at_start (λ e. EachStands places m (adds_all e h)) rests.each
+at_moments At places m h (e ∷ added) each rests =
+    at_next (λ f. EachStands places m (adds_all f h)) e added (at_moments At places m h added (All-tail (IsReadAt At) e added each) rests) ((at_rests At places m h (e ∷ added) each rests).each)
+
+pub outcome_reads : ReadsAreOutcomes
+outcome_reads At places m Does Settles Then h old new steady rests did does then_is = record {
+  added = did.added;
+  history = at_told At old new h did steady.told;
+  each_moment = at_moments At places m h did.added did.each rests;
+  does = does;
+  settled = λ _. did.settled ∙ steady.settled;
+  ends = λ _. then_is;
+}
+
+pub failures_settle : FailuresSettle
+failures_settle T U E F e f old mid new counts unrisen = omega (arith, counts.writes, unrisen)

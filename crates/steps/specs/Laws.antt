@@ -1,0 +1,101 @@
+-- How what calls leave is joined.
+use Rattle.std.specs.Prelude.{◌≡◌, ◌≢◌, ◌⊎◌, ◌≤◌, ℕ, Bool, true, [], ◌++◌, All, Result, Ok, Err, MatchResult, is_ok, IfErr}
+use Rattle.chip_trait.specs.Story.{Story, pieces}
+use Rattle.chip_trait.specs.Lawful.{IsLawful, LeavesClean}
+use Rattle.chip_trait.specs.Told.{History, Told, Counts, Rose, adds_all}
+use Rattle.ipl_base.specs.declared.fault.ChipFault.{ChipFault}
+use Rattle.ipl_base.specs.declared.fault.ChipFault.TheVariants.{Stopped}
+use Rattle.ipl_rules.specs.State.{Map}
+use Rattle.ipl_meaning.specs.Rests.{EachStands, StoryRests}
+use Rattle.ipl_meaning.specs.Tables.{Tables, IsCountedClean}
+use Rattle.unit_io.specs.Leads.{IsSteady, Leads, IsStopped}
+use Rattle.unit_io.specs.ReadsAt.{ReadsAt}
+use Rattle.unit_io.specs.Spots.{Programs}
+use Rattle.steps.specs.Steps.{Settled, EndsWith, Outcome, TidyWork, Steps}
+
+-- ---- what was left
+
+-- nothing was done
+abbrev pub NothingIsDone : Type 1
+NothingIsDone = (Each : History → Type 0) (Does : Story → Type 0) (Settles : Type 0) (Then : History → Type 0) (h : History) (t : Told)
+    → IsSteady h t → Each h → Does [] → Then h → Outcome Each Does Settles Then h t
+
+-- one part of it, which settled, and then another
+abbrev pub PartsAreJoined : Type 1
+PartsAreJoined = (Each : History → Type 0) (D1 D2 D3 : Story → Type 0) (A B : Type 0) (T1 T2 : History → Type 0) (h : History) (mid new : Told)
+    → (first : Outcome Each D1 A T1 h mid) → A → Outcome Each D2 B T2 (adds_all first.added h) new
+    → ((a b : Story) → D1 a → D2 b → D3 (b ++ a)) → Outcome Each D3 B T2 h new
+
+-- the same, said less of
+abbrev pub LessIsSaid : Type 1
+LessIsSaid = (P Q : History → Type 0) (D1 D2 : Story → Type 0) (A B : Type 0) (T1 T2 : History → Type 0) (h : History) (new : Told)
+    → ((k : History) → P k → Q k) → ((a : Story) → D1 a → D2 a) → (B → A) → (B → (k : History) → T1 k → T2 k)
+    → Outcome P D1 A T1 h new → Outcome Q D2 B T2 h new
+
+-- a call that writes fails only where a write failed: so whatever is said of other ends
+abbrev pub WritesAreOutcomes : Type 1
+WritesAreOutcomes = (T : Type 0) (Each : History → Type 0) (Does : Bool → Story → Type 0) (Then : T → History → Type 0) (Else : History → Type 0)
+    (h : History) (old new : Told) (result : Result T ChipFault)
+    → Leads Each Does Then h result new → IfErr result (λ fault. IsStopped fault old new)
+    → Outcome Each (Does (is_ok result)) (Settled result old new) (EndsWith result Then Else) h new
+
+-- what a call left that only reads
+abbrev pub ReadsAreOutcomes : Type 1
+ReadsAreOutcomes = (At : ℕ → ℕ → Type 0) (places : ℕ) (m : Map) (Does : Story → Type 0) (Settles : Type 0) (Then : History → Type 0) (h : History) (old new : Told)
+    → IsSteady h old → StoryRests places m h → (did : ReadsAt At old new) → Does did.added → Then (adds_all did.added h)
+    → Outcome (EachStands places m) Does Settles Then h new
+
+-- ---- the events
+
+abbrev pub ReadsAreTidy : Type 1
+ReadsAreTidy = (At before : ℕ → ℕ → Type 0) (Settles : Type 0) (old new : Told) → (did : ReadsAt At old new) → TidyWork before before Settles did.added
+
+abbrev pub TidyWorkIsJoined : Type 1
+TidyWorkIsJoined = (s0 s1 s2 : ℕ → ℕ → Type 0) (A B : Type 0) (a b : Story) → TidyWork s0 s1 A a → A → TidyWork s1 s2 B b → TidyWork s0 s2 B (b ++ a)
+
+-- programs of clean sectors, which don't count as clean then
+abbrev pub ProgramsAreTidy : Type 1
+ProgramsAreTidy = (p : ℕ) (Spot : ℕ → Type 0) (done : Bool) (before after : ℕ → ℕ → Type 0) (Settles : Type 0) (added : Story) → Programs p Spot done added
+    → ((s : ℕ) → Spot s → before p s) → (Settles → (q s : ℕ) → after q s → before q s × (q ≡ p → Spot s → ⊥)) → TidyWork before after Settles added
+
+-- what a store hands to a run
+abbrev pub TidyWorkLeavesClean : Type 1
+TidyWorkLeavesClean = (before after : ℕ → ℕ → Type 0) (Settles : Type 0) (added : Story) → TidyWork before after Settles added → Settles → LeavesClean before after added
+
+-- ---- at the exit of a function
+
+-- it settles where the call that failed did
+abbrev pub FailuresSettle : Type 1
+FailuresSettle = (T U E F : Type 0) (e : E) (f : F) (old mid new : Told) → Counts old mid → Settled {T = U} {E = F} (Err f) old new → Settled {T = T} {E = E} (Err e) mid new
+
+-- ---- calls that keep what a chip stands for
+
+-- a call that keeps a map, however it ends
+abbrev pub Preserves : {T E : Type 0} → ℕ → Map → Tables → Tables → History → Result T E → Told → Told → Type 0
+Preserves places m t after h result old new = Steps (EachStands places m) t after (λ v k. StoryRests places m k) (λ k. StoryRests places m k) h result old new
+
+abbrev pub NothingKeeps : Type 0
+NothingKeeps = (places : ℕ) (m : Map) (t : Tables) (h : History) (old : Told) → IsSteady h old → StoryRests places m h → Preserves {T = Unit {0}} {E = ChipFault} places m t t h (Ok tt) old old
+
+-- reads of a place keep it, done or not
+abbrev pub ReadsKeep : Type 0
+ReadsKeep = (place : ℕ) (places : ℕ) (m : Map) (t : Tables) (h : History) (result : Result (Unit {0}) ChipFault) (old new : Told) → IsSteady h old → StoryRests places m h → ReadsAt (λ p s. p ≡ place) old new
+    → Preserves places m t t h result old new
+
+-- one call that was done, and then another
+abbrev pub CallsKeep : Type 0
+CallsKeep = (places : ℕ) (m : Map) (t between after : Tables) (h : History) (result : Result (Unit {0}) ChipFault) (old mid new : Told) → Counts old mid
+    → (first : Preserves {T = Unit {0}} {E = ChipFault} places m t between h (Ok tt) old mid) → Preserves places m between after (adds_all first.added h) result mid new
+    → Preserves places m t after h result old new
+
+-- a call that failed, where nothing else is done then
+abbrev pub FailuresKeep : Type 0
+FailuresKeep = (places : ℕ) (m : Map) (t after : Tables) (h : History) (e : ChipFault) (old new : Told)
+    → Preserves {T = ℕ} {E = ChipFault} places m t after h (Err e) old new → Preserves {T = Unit {0}} {E = ChipFault} places m t after h (Err e) old new
+
+-- a call of unit_io that writes sectors which count as clean before, and no more then
+abbrev pub WritesKeep : Type 0
+WritesKeep = (places : ℕ) (m : Map) (t after : Tables) (p s : ℕ) (h : History) (result : Result (Unit {0}) ChipFault) (old new : Told)
+    → Leads (EachStands places m) (Programs p (λ r. r ≡ s)) (λ v k. StoryRests places m k) h result new → IfErr result (λ fault. IsStopped fault old new)
+    → IsCountedClean t p s → ((q r : ℕ) → IsCountedClean after q r → IsCountedClean t q r × (q ≡ p → r ≢ s))
+    → Preserves places m t after h result old new

@@ -1,0 +1,43 @@
+-- What a call leaves that works on a chip, however it ends.
+use Rattle.std.specs.Prelude.{◌≡◌, ℕ, [], ◌++◌, true, Some, Result, MatchResult}
+use Rattle.chip_trait.specs.Story.{Story, pieces}
+use Rattle.chip_trait.specs.Moment.{AtEachMoment}
+use Rattle.chip_trait.specs.Lawful.{AreClean, IsLawfulAfter}
+use Rattle.chip_trait.specs.Told.{History, Told, Unrisen, adds_all}
+use Rattle.ipl_meaning.specs.Tables.{Tables, IsCountedClean}
+
+-- ---- the end of a call
+
+-- no write failed: the call was done, or no write fault was counted
+abbrev pub Settled : {T E : Type 0} → Result T E → Told → Told → Type 0
+Settled result old new = MatchResult result (λ _. Unit {0}) (λ _. Unrisen old new)
+
+-- done, the one holds of the answer and the history; else the other does of the history
+abbrev pub EndsWith : {T E : Type 0} → Result T E → (T → History → Type 0) → (History → Type 0) → History → Type 0
+EndsWith result Then Else k = MatchResult result (λ v. Then v k) (λ _. Else k)
+
+-- ---- what it left
+
+-- What was left since a history. At each moment of it Each holds of the history then, and Does holds of the events that were
+-- added. Where it settled, no write has failed, and Then holds of the history.
+pub record Outcome (Each : History → Type 0) (Does : Story → Type 0) (Settles : Type 0) (Then : History → Type 0) (h : History) (new : Told) : Type 0 where
+  pub added : Story
+  pub history : new.history ≡ Some (adds_all added h)
+  pub each_moment : AtEachMoment (λ e. Each (adds_all e h)) added
+  pub does : Does added
+  pub settled : Settles → new.settled ≡ true
+  pub ends : Settles → Then (adds_all added h)
+
+-- The events say nothing. They are lawful after any lawful events that leave the one set of sectors clean; and where all settled,
+-- after any events that leave it clean, the other set is clean too.
+pub record TidyWork (before after : ℕ → ℕ → Type 0) (Settles : Type 0) (added : Story) : Type 0 where
+  pub silent : pieces added ≡ []
+  pub lawful : IsLawfulAfter before added
+  pub clean : Settles → (base : Story) → AreClean before base → AreClean after (added ++ base)
+
+-- ---- the clause of a call
+
+-- What a call leaves that turns these tables into those.
+abbrev pub Steps : {T E : Type 0} → (History → Type 0) → Tables → Tables → (T → History → Type 0) → (History → Type 0) → History → Result T E → Told → Told → Type 0
+Steps Each t after Then Else h result old new =
+    Outcome Each (TidyWork (IsCountedClean t) (IsCountedClean after) (Settled result old new)) (Settled result old new) (EndsWith result Then Else) h new

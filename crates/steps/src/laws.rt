@@ -1,0 +1,11 @@
+//! The laws of what calls leave, proved: a body that does nothing, and a contract that is the law.
+ghost use Rattle.steps.specs.Laws.{NothingKeeps, ReadsKeep, CallsKeep, FailuresKeep, WritesKeep};
+
+/// Calls that keep what a chip stands for: none, reads, one call after another, one that failed, and a sector written.
+pub fn step_laws()
+    ensures none { NothingKeeps }
+    ensures reads { ReadsKeep }
+    ensures both { CallsKeep }
+    ensures failed { FailuresKeep }
+    ensures written { WritesKeep }
+{}

@@ -1,0 +1,9 @@
+//! The one relation of what a call leaves that works on a chip and turns some tables into others, however the call ends; and
+//! the laws by which what calls leave is joined. It stands on what a story rests on (`ipl_meaning`) and on what the calls of
+//! `unit_io` leave. A contract sees `Steps`: at each moment of the call a predicate of the history, the events lawful and
+//! tidy, and where no write failed what the answer says of the history and of the tables.
+#![tactic(auto)]
+
+mod laws;
+
+pub use laws::step_laws;

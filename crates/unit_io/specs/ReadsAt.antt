@@ -1,0 +1,34 @@
+-- Calls that only read, and which sectors.
+use Rattle.std.specs.Prelude.{ℕ, ◌≡◌, All}
+use Rattle.std.specs.Option.{option_map}
+use Rattle.chip_trait.specs.declared.event.Event.{Event}
+use Rattle.chip_trait.specs.declared.event.Event.TheVariants.{Read, Program, Erase, Barrier, Said}
+use Rattle.chip_trait.specs.Story.{Story}
+use Rattle.chip_trait.specs.Told.{Told, Counts, Rose, adds_all}
+use Rattle.ipl_base.specs.declared.fault.ChipFault.{ChipFault}
+use Rattle.ipl_base.specs.declared.fault.ChipFault.TheVariants.{ReadFault, Stopped, Damaged, Malformed}
+
+-- one of these sectors was read
+abbrev pub IsReadAt : (ℕ → ℕ → Type 0) → Event → Type 0
+IsReadAt At (Read p s) = At p s
+IsReadAt At (Program p s bytes) = ⊥
+IsReadAt At (Erase p) = ⊥
+IsReadAt At Barrier = ⊥
+IsReadAt At (Said piece) = ⊥
+
+-- nothing but reads of these sectors was added, and no count fell
+pub record ReadsAt (At : ℕ → ℕ → Type 0) (old new : Told) : Type 0 where
+  pub settled : new.settled ≡ old.settled
+  pub contents : new.contents ≡ old.contents
+  pub added : Story
+  pub each : All (IsReadAt At) added
+  pub history : new.history ≡ option_map (adds_all added) old.history
+  pub counts : Counts old new
+
+-- why sectors of these aren't read, whatever the chip tells: a read failed and its count rose; or one of these sectors isn't
+-- what it must be
+abbrev pub IsCauseAt : (ℕ → ℕ → Type 0) → ChipFault → Told → Told → Type 0
+IsCauseAt At ReadFault old new = Rose old.read_faults new.read_faults
+IsCauseAt At Stopped old new = ⊥
+IsCauseAt At (Damaged p s stored computed) old new = ⊥
+IsCauseAt At (Malformed p s) old new = At p s

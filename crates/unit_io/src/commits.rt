@@ -1,0 +1,72 @@
+//! Commit sectors, programmed.
+ghost use Rattle.std.specs.Prelude.{◌≡◌, ◌≢◌, ◌<◌, ◌≤◌, ℕ, length, OnOk, None};
+ghost use Rattle.chip_trait.specs.Image.{IsClosed};
+ghost use Rattle.chip_trait.specs.Lawful.{Clean, age};
+ghost use Rattle.chip_trait.specs.Chart.{with_sector};
+ghost use Rattle.chip_trait.specs.Told.{Told, History};
+ghost use Rattle.ipl_rules.specs.State.{Map};
+ghost use Rattle.sector_format.specs.Decode.{sector_of};
+ghost use Rattle.ipl_meaning.specs.Stands.{Stands};
+ghost use Rattle.ipl_meaning.specs.Rests.{now, StoryRests};
+ghost use Rattle.unit_io.specs.Accounts.{Accounts};
+ghost use Rattle.unit_io.specs.Leads.{IsSteady, KeepsMap, SwitchesMap, IsStopped};
+ghost use Rattle.unit_io.specs.Spots.{Programs, IsSpot};
+ghost use Rattle.unit_io.specs.Charts.{Charts, Gains};
+
+use crate::calls::{barrier, program};
+use crate::sectors::program_aside;
+use chip_trait::Chip;
+use ipl_base::{ChipFault, Spot};
+use sector_format::{Head, encode};
+
+/// Programs a commit sector (1 to 255 of its place) into a place that has no header yet: whatever a power cut leaves of it
+/// counts for nothing. Nothing makes sure of it: that is for the barrier before the header.
+pub fn prepare_commit<C: Chip>(
+    chip: &mut C,
+    spot: Spot,
+    head: &Head,
+    payload: &[u8],
+) -> Result<(), ChipFault>
+    requires place { spot.place < (C.told chip.old).places }
+    requires sector { spot.sector < 256 }
+    requires kind { head.now.kind ≡ 6 }
+    requires fits { length payload.now ≤ 480 }
+    ensures aside { (m : Map) (h : History) → IsSteady h (C.told chip.old) → StoryRests (C.told chip.old).places m h
+        → now h spot.place 0 ≡ None → spot.sector ≢ 0 → age h.story spot.place spot.sector ≡ Clean
+        → KeepsMap (C.told chip.old).places m (Programs spot.place (IsSpot spot.sector))
+        (λ done. Gains spot.place spot.sector (sector_of head.now payload.now)) h result (C.told chip.new) }
+    ensures tells { OnOk result (Charts (Gains spot.place spot.sector (sector_of head.now payload.now)) (C.told chip.old) (C.told chip.new)) }
+    ensures accounts { Accounts IsStopped result (C.told chip.old) (C.told chip.new) }
+{
+    let mut bytes = [0; 512];
+    encode(head, payload, &mut bytes);
+    program_aside(chip, spot.place, spot.sector, &bytes)
+}
+
+/// Programs a commit sector (1 to 255 of its place) where nothing is open, and makes sure of it.
+///
+/// A power cut leaves what stood before or what stands with its numbers, and done, the story rests on what stands with them.
+pub fn add_commit<C: Chip>(
+    chip: &mut C,
+    spot: Spot,
+    head: &Head,
+    payload: &[u8],
+) -> Result<(), ChipFault>
+    requires place { spot.place < (C.told chip.old).places }
+    requires sector { spot.sector < 256 }
+    requires kind { head.now.kind ≡ 6 }
+    requires fits { length payload.now ≤ 480 }
+    ensures leads { (m n : Map) (h : History) → IsSteady h (C.told chip.old)
+        → StoryRests (C.told chip.old).places m h → IsClosed h.story → age h.story spot.place spot.sector ≡ Clean
+        → Stands (C.told chip.old).places (with_sector (now h) spot.place spot.sector (sector_of head.now payload.now)) n
+        → SwitchesMap (C.told chip.old).places m n (Programs spot.place (IsSpot spot.sector))
+        (λ done. Gains spot.place spot.sector (sector_of head.now payload.now)) h result (C.told chip.new) }
+    ensures tells { OnOk result (Charts (Gains spot.place spot.sector (sector_of head.now payload.now)) (C.told chip.old) (C.told chip.new)) }
+    ensures accounts { Accounts IsStopped result (C.told chip.old) (C.told chip.new) }
+{
+    let mut bytes = [0; 512];
+    encode(head, payload, &mut bytes);
+    program(chip, spot.place, spot.sector, &bytes)?;
+    // The numbers have to last before anybody is told of them.
+    barrier(chip)
+}
