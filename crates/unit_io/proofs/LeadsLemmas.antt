@@ -116,3 +116,23 @@ leads_weaker E1 E2 D1 D2 T1 T2 h result new each does then did = record {
   does = does (is_ok result) did.added did.does;
   ends = ends_by new.settled (λ v. T1 v (adds_all did.added h)) (λ v. T2 v (adds_all did.added h)) result (λ v is. then v _ is) did.ends;
 }
+
+-- the same call, where what it did and what holds then say together what else holds
+pub leads_and : {T E : Type 0} (Each : History → Type 0) (Does : Bool → Story → Type 0)
+    (T1 T2 : T → History → Type 0) (h : History) (result : Result T E) (new : Told)
+    → ((v : T) (a : Story) → Does true a → T1 v (adds_all a h) → T2 v (adds_all a h))
+    → Leads Each Does T1 h result new → Leads Each Does T2 h result new
+leads_and Each Does T1 T2 h (Ok v) new then did = record {
+  added = did.added;
+  history = did.history;
+  each_moment = did.each_moment;
+  does = did.does;
+  ends = (did.ends.0, then v did.added did.does did.ends.1);
+}
+leads_and Each Does T1 T2 h (Err e) new then did = record {
+  added = did.added;
+  history = did.history;
+  each_moment = did.each_moment;
+  does = did.does;
+  ends = tt;
+}

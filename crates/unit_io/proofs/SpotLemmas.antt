@@ -1,12 +1,12 @@
 -- Programs and erases, one after another.
-use Rattle.std.proofs.Common.{◌≡◌, ℕ, List, Bool, true, false, [], ◌∷◌, ◌++◌, ◌&&◌, eqb, inl, inr, refl, sym, ◌∙◌, ap, subst, append_assoc}
+use Rattle.std.proofs.Common.{◌≡◌, ◌≢◌, ◌≤◌, ℕ, List, Bool, true, false, [], ◌∷◌, ◌++◌, ◌&&◌, eqb, inl, inr, refl, sym, ◌∙◌, ap, subst, append_assoc}
 use Rattle.std.proofs.lemmas.Bool.{cases_Bool, and_parts, eqb-true, eq-eqb, ne_eqb, false≢true}
 use Rattle.chip_trait.specs.declared.event.Event.TheVariants.{Program, Erase, Barrier}
 use Rattle.chip_trait.specs.Story.{Story, pieces}
 use Rattle.chip_trait.specs.Lawful.{Clean, settled, age, IsLawful}
 use Rattle.chip_trait.proofs.AgeLemmas.{age_apart}
 use Rattle.chip_trait.proofs.SaidLemmas.{pieces-append}
-use Rattle.unit_io.specs.Spots.{Programs, Clears, IsSpot}
+use Rattle.unit_io.specs.Spots.{Programs, Clears, Rewrites, IsSpot}
 
 not_both : (p s q t : ℕ) → (q ≡ p → t ≡ s → ⊥) → (eqb p q && eqb s t) ≡ false
 not_both p s q t apart = elim (cases_Bool (eqb p q && eqb s t)) [
@@ -80,5 +80,70 @@ cleared_then p Spot then later earlier first second = record {
   lawful = λ base lawful. subst IsLawful (sym (append_assoc later earlier base)) (second.lawful (earlier ++ base) (first.lawful base lawful) (λ s is. first.fresh refl base s));
   others = λ base q s apart clean. subst (λ (story : Story). age story q s ≡ Clean) (sym (append_assoc later earlier base))
       (second.others (earlier ++ base) q s (λ same is. apart same) (first.others base q s apart clean));
+  fresh = λ done. absurd (false≢true done);
+}
+
+-- ---- a place that was erased, and then programmed
+
+-- at these spots: the others are clean
+pub record Refills (p : ℕ) (Spot : ℕ → Type 0) (added : Story) : Type 0 where
+  pub silent : pieces added ≡ []
+  pub lawful : (base : Story) → IsLawful base → IsLawful (added ++ base)
+  pub others : (base : Story) (q s : ℕ) → q ≢ p → age base q s ≡ Clean
+      → age (added ++ base) q s ≡ Clean
+  pub fresh : (base : Story) (s : ℕ) → (Spot s → ⊥) → age (added ++ base) p s ≡ Clean
+
+pub refills_from : (p : ℕ) (Spot : ℕ → Type 0) (then : Bool) (later earlier : Story)
+    → Clears p true earlier → Programs p Spot then later → Refills p Spot (later ++ earlier)
+refills_from p Spot then later earlier first second = record {
+  silent = silent_both later earlier second.silent first.silent;
+  lawful = λ base lawful. subst IsLawful (sym (append_assoc later earlier base))
+      (second.lawful (earlier ++ base) (first.lawful base lawful) (λ s is. first.fresh refl base s));
+  others = λ base q s apart clean.
+      subst (λ (story : Story). age story q s ≡ Clean) (sym (append_assoc later earlier base))
+      (second.others (earlier ++ base) q s (λ same is. apart same)
+      (first.others base q s apart clean));
+  fresh = λ base s none.
+      subst (λ (story : Story). age story p s ≡ Clean) (sym (append_assoc later earlier base))
+      (second.others (earlier ++ base) p s (λ same is. none is) (first.fresh refl base s));
+}
+
+-- at some spots, and then at others, all below this one
+pub rewrites_then : (p from : ℕ) (First Second : ℕ → Type 0) (then done : Bool)
+    (later earlier : Story) → ((s : ℕ) → Second s → First s → ⊥)
+    → ((s : ℕ) → from ≤ s → First s → ⊥) → ((s : ℕ) → from ≤ s → Second s → ⊥)
+    → Refills p First earlier → Programs p Second then later
+    → Rewrites p from done (later ++ earlier)
+rewrites_then p from First Second then done later earlier apart a b first second = record {
+  silent = silent_both later earlier second.silent first.silent;
+  lawful = λ base lawful. subst IsLawful (sym (append_assoc later earlier base))
+      (second.lawful (earlier ++ base) (first.lawful base lawful)
+      (λ s is. first.fresh base s (apart s is)));
+  others = λ base q s other clean.
+      subst (λ (story : Story). age story q s ≡ Clean) (sym (append_assoc later earlier base))
+      (second.others (earlier ++ base) q s (λ same is. other same)
+      (first.others base q s other clean));
+  fresh = λ is_done base s high.
+      subst (λ (story : Story). age story p s ≡ Clean) (sym (append_assoc later earlier base))
+      (second.others (earlier ++ base) p s (λ same is. b s high is)
+      (first.fresh base s (a s high)));
+}
+
+-- not all was done: the erase, or some of the programs behind it
+pub rewrites_cleared : (p from : ℕ) (added : Story)
+    → Clears p false added → Rewrites p from false added
+rewrites_cleared p from added did = record {
+  silent = did.silent;
+  lawful = did.lawful;
+  others = did.others;
+  fresh = λ done. absurd (false≢true done);
+}
+
+pub rewrites_refilled : (p from : ℕ) (Spot : ℕ → Type 0) (added : Story)
+    → Refills p Spot added → Rewrites p from false added
+rewrites_refilled p from Spot added did = record {
+  silent = did.silent;
+  lawful = did.lawful;
+  others = did.others;
   fresh = λ done. absurd (false≢true done);
 }

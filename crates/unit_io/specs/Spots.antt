@@ -18,6 +18,15 @@ pub record Clears (p : ℕ) (done : Bool) (added : Story) : Type 0 where
   pub others : (base : Story) (q s : ℕ) → q ≢ p → age base q s ≡ Clean → age (added ++ base) q s ≡ Clean
   pub fresh : done ≡ true → (base : Story) (s : ℕ) → age (added ++ base) p s ≡ Clean
 
+-- The events erase this place, and then program sectors of it, each once, and say nothing. They are
+-- lawful after any lawful events, and what was clean elsewhere is so after them; and where all is
+-- done, the sectors from this one on are clean.
+pub record Rewrites (p from : ℕ) (done : Bool) (added : Story) : Type 0 where
+  pub silent : pieces added ≡ []
+  pub lawful : (base : Story) → IsLawful base → IsLawful (added ++ base)
+  pub others : (base : Story) (q s : ℕ) → q ≢ p → age base q s ≡ Clean → age (added ++ base) q s ≡ Clean
+  pub fresh : done ≡ true → (base : Story) (s : ℕ) → from ≤ s → age (added ++ base) p s ≡ Clean
+
 -- the spots of the first n pieces of a page
 abbrev pub IsPieceSpot : ℕ → ℕ → ℕ → Type 0
 IsPieceSpot page n s = (1 + page * 16 ≤ s) × (s < 1 + page * 16 + n)
