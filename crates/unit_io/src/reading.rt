@@ -57,6 +57,7 @@ pub fn read_sector<C: Chip>(
     requires sector { spot.sector < 256 }
     ensures exact { IfOk result (λ o. OfContents (C.told chip.old) (λ x.
         sector_named into.new o ≡ chart_of x spot.place spot.sector)) }
+    ensures bytes { OnOk result (OfContents (C.told chip.old) (λ x. into.new ≡ x spot.place spot.sector)) }
     ensures fits { IfOk result (λ o. IfSome o (λ found. found.1 ≤ 480)) }
     ensures whole { OnOk result (OfContents (C.told chip.old) (λ x. IsWhole (x spot.place spot.sector))) }
     ensures asks { Asked (Read spot.place spot.sector) result (C.told chip.old) (C.told chip.new) }
