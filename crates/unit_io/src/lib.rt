@@ -1,7 +1,8 @@
 //! What stands in the place of a unit, written and read sector by sector: a place erased, filled,
-//! sealed with a header, and read. Whatever is programmed or erased is so here, but for a format,
-//! which `restart` writes by itself. A contract of a call that writes says what a power cut leaves
-//! at every moment of it; one of a call that reads, what it answers by what the chip holds.
+//! sealed with a header, and read. Here alone are sectors read; and whatever is programmed or erased
+//! is so here, but for a format, which `restart` writes by itself. A contract of a call that writes
+//! says what a power cut leaves at every moment of it; one of a call that reads, what it answers by
+//! what the chip holds.
 #![tactic(auto)]
 
 mod calls;

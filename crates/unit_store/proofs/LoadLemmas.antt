@@ -1,7 +1,6 @@
 -- A unit's base pages, loaded one after another.
 use Rattle.std.proofs.Common.{◌≡◌, ◌<◌, ◌+◌, ◌-◌, ◌*◌, ℕ, zero, suc, eqb, cond, true, List, [], slice_index, take, drop, Option, Some, None, Ok, Err, Result, inl, inr, refl, sym, ◌∙◌, ap, subst, arith}
 use Rattle.std.proofs.lemmas.Bool.{cases_eq, eq-eqb, ne_eqb}
-use Rattle.chip_trait.specs.declared.event.Event.TheVariants.{Read}
 use Rattle.chip_trait.specs.Story.{Contents}
 use Rattle.chip_trait.specs.Told.{Told, Counts}
 use Rattle.ipl_base.specs.declared.fault.ChipFault.{ChipFault}
@@ -16,20 +15,15 @@ use Rattle.sector_format.specs.Decode.{sector_of}
 use Rattle.unit_layout.specs.declared.header.DataHeader.{DataHeader}
 use Rattle.unit_layout.specs.Header.{SpellsHeader}
 use Rattle.unit_io.specs.Kinds.{header_only, sector_named}
-use Rattle.unit_io.specs.Reads.{Asked, PageAsked, Reads, page_reads}
-use Rattle.unit_io.specs.Faults.{first_below, page_fault, HoldsPage}
-use Rattle.unit_io.proofs.PiecesLemmas.{first_more, first_found}
+use Rattle.unit_io.specs.Reads.{PageAsked, Reads, page_reads}
+use Rattle.ipl_base.specs.First.{first_below}
+use Rattle.unit_io.specs.Faults.{page_fault, HoldsPage}
+use Rattle.ipl_base.proofs.FirstLemmas.{first_more, first_found}
 use Rattle.memory_store.specs.Kept.{record_of}
 use Rattle.restart.specs.Looks.{only_reads, OnlyReads}
-use Rattle.restart.proofs.LookLemmas.{reads_one, reads_missed}
 use Rattle.unit_store.specs.Loads.{HasHead, IsHeadOf, LoadsPage, ShowsPages, page_fault_at, unit_fault}
 
 -- ---- reads
-
--- one sector was read, or the read failed
-pub asked_reads : {T : Type 0} (p s : ℕ) (r : Result T ChipFault) {old new : Told} → Asked (Read p s) r old new → Counts old new → OnlyReads old new
-asked_reads p s (Ok v) did counts = reads_one p s did counts
-asked_reads p s (Err e) missed counts = reads_missed p s missed counts
 
 -- the reads of a page are nothing else
 page_reads_read : (p page n : ℕ) → only_reads (page_reads p page n) ≡ true
@@ -38,7 +32,6 @@ page_reads_read p page (suc n) = page_reads_read p page n
 
 some_reads : (p page n : ℕ) {old new : Told} → Reads (page_reads p page n) old new → Counts old new → OnlyReads old new
 some_reads p page n reads counts = record {
-  places = reads.places;
   settled = reads.settled;
   contents = reads.contents;
   added = page_reads p page n;
@@ -59,24 +52,23 @@ pub head_named : (c : Chart) (it : Shape) (place : ℕ) → it.home ≡ place �
 head_named c it place home has = ap (λ (p : ℕ). header_only (c p 0)) (sym home) ∙ (ap header_only has.here ∙ rw has.kind refl)
 
 -- a sector was named that is the unit's header; its payload as a slice of the bytes
-module _ (it : Shape) (units : ℕ) (found : Option (Head × ℕ)) (bytes : List ℕ) (named : sector_named bytes found ≡ Some it.head) (counts : SpellsDataHeader units it.pieces it.head.payload) (head : Head) (used : ℕ) (was : found ≡ Some (head, used)) where
-  same_sector : sector_of head (take (32 + used - 32) (drop 32 bytes)) ≡ it.head
+module _ (it : Shape) (units : ℕ) (found : Option (Head × ℕ)) (bytes : List ℕ) (named : sector_named bytes found ≡ Some it.head) (counts : SpellsDataHeader units it.pieces it.head.payload) (head : Head) (used : ℕ) (was : found ≡ Some (head, used)) (payload : List ℕ) (same : payload ≡ take used (drop 32 bytes)) where
+  same_sector : sector_of head payload ≡ it.head
   same_sector =
       let here : Some (sector_of head (take used (drop 32 bytes))) ≡ Some it.head = subst (λ (o : Option (Head × ℕ)). sector_named bytes o ≡ Some it.head) was named in
-      let same : 32 + used - 32 ≡ used = omega arith in
       let whole : sector_of head (take used (drop 32 bytes)) ≡ it.head = cc in
       rw same whole
 
   -- the payload spells the unit's counts
-  pub payload_spelled : SpellsDataHeader units it.pieces (take (32 + used - 32) (drop 32 bytes))
+  pub payload_spelled : SpellsDataHeader units it.pieces payload
   payload_spelled = subst (λ (payload : List ℕ). SpellsDataHeader units it.pieces payload) (sym (ap (λ (s : Sector). s.payload) same_sector)) counts
 
   -- and what is read of it is the unit's
-  pub head_of_unit : (header : DataHeader) → SpellsHeader header (take (32 + used - 32) (drop 32 bytes)) → IsHeadOf it head header.pieces
+  pub head_of_unit : (header : DataHeader) → SpellsHeader header payload → IsHeadOf it head header.pieces
   head_of_unit header spelled = record {
     of_unit = ap (λ (s : Sector). s.unit) same_sector;
     of_generation = ap (λ (s : Sector). s.generation) same_sector;
-    pieces_are = (data_headers_spell_once (take (32 + used - 32) (drop 32 bytes)) header.units units header.pieces it.pieces spelled.0 payload_spelled).same_pieces;
+    pieces_are = (data_headers_spell_once payload header.units units header.pieces it.pieces spelled.0 payload_spelled).same_pieces;
   }
 
 -- ---- pages
@@ -102,7 +94,7 @@ module _ (x : Contents) (place u generation : ℕ) (pieces : List ℕ) (n count 
   pub loaded_more : (before after : List (Option (List ℕ))) → AreLoaded x place u generation pieces n before → page_fault x place u generation n count ≡ None
       → LoadsPage (chart_of x) place u generation n count before after → AreLoaded x place u generation pieces (n + 1) after
   loaded_more before after so_far none it = record {
-    sound = first_more (page_fault_at x place u generation pieces) n so_far.sound ∙ fault_here None none;
+    sound = first_more (page_fault_at x place u generation pieces) n so_far.sound (fault_here None none);
     slots = λ page. cond (eqb page n) it.slots (so_far.slots page);
     held = λ page low. elim (cases_eq page n) [
       | inl same ↦ rw (eq-eqb page n same, same, ← is) it.held

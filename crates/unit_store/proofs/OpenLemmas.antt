@@ -25,7 +25,9 @@ use Rattle.ipl_meaning.specs.Tables.{Places}
 use Rattle.ipl_meaning.specs.Mirrors.{Mirrors}
 use Rattle.ipl_meaning.proofs.OnceLemmas.{laid_once}
 use Rattle.unit_io.specs.Reads.{OfContents}
-use Rattle.unit_io.specs.Faults.{HoldsPage, first_below}
+use Rattle.ipl_base.specs.First.{first_below}
+use Rattle.ipl_base.proofs.FirstLemmas.{first_none}
+use Rattle.unit_io.specs.Faults.{HoldsPage}
 use Rattle.unit_io.proofs.HeldLemmas.{sound_pages_are_held, held_pages_read_well}
 use Rattle.opening_rules.specs.Faults.{first_fault, greatest_found, is_image}
 use Rattle.opening_rules.specs.Payloads.{pieces_in}
@@ -153,10 +155,6 @@ keeps_found old new store consistent reads sized idle found m h settled told res
     }
 
 -- ---- no fault
-
-first_none : (f : ℕ → Option ChipFault) (n : ℕ) → ((k : ℕ) → k < n → f k ≡ None) → first_below f n ≡ None
-first_none f zero none = refl
-first_none f (suc n) none = rw (first_none f n (λ k low. none k (omega (arith, low)))) (none n (omega arith))
 
 -- of contents that stand for a map, unit 0 is found as it is laid out, and its pages read well
 module _ (places : ℕ) (x : Contents) (m : Map) (stands : Stands places (chart_of x) m) where

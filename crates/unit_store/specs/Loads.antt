@@ -9,7 +9,8 @@ use Rattle.ipl_format.specs.Page.{Slots, value_in}
 use Rattle.sector_format.specs.declared.sector.Head.{Head}
 use Rattle.ipl_meaning.specs.Chart.{Chart}
 use Rattle.ipl_meaning.specs.Layout.{Shape}
-use Rattle.unit_io.specs.Faults.{first_below, page_fault, HoldsPage}
+use Rattle.ipl_base.specs.First.{first_below}
+use Rattle.unit_io.specs.Faults.{page_fault, HoldsPage}
 use Rattle.memory_store.specs.Kept.{record_of}
 
 -- a unit's header stands at its home, and is spelled so

@@ -18,7 +18,7 @@ use chip_trait::Chip;
 use ipl_base::{ChipFault, Value};
 use memory_store::MemoryStore;
 use page_text::PageMap;
-use sector_format::Head;
+use sector_format::{Head, payload_in};
 use unit_io::{read_head, read_page};
 use unit_layout::{DataHeader, read_data_header};
 
@@ -107,7 +107,7 @@ fn header_in(found: Option<(Head, usize)>, bytes: &[u8; 512]) -> Option<(Head, D
     if head.kind != Head::DATA_HEADER {
         return None;
     }
-    let header = read_data_header(&bytes[32..32 + used])?;
+    let header = read_data_header(payload_in(bytes, used))?;
     Some((head, header))
 }
 

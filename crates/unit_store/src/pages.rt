@@ -1,11 +1,12 @@
 //! The pages of unit 0, as they are to be written.
-ghost use Rattle.std.specs.Prelude.{◌≡◌, ◌≢◌, ◌<◌, ◌≤◌, ℕ, None, IfErr, IfOk};
+ghost use Rattle.std.specs.Prelude.{◌≡◌, ◌≢◌, ◌<◌, ◌≤◌, ℕ, None, IfOk};
 ghost use Rattle.chip_trait.specs.Lawful.{Clean, age};
-ghost use Rattle.chip_trait.specs.Told.{Told, History, Counts};
+ghost use Rattle.chip_trait.specs.Told.{Told, History};
 ghost use Rattle.ipl_rules.specs.State.{Map};
 ghost use Rattle.ipl_format.specs.Page.{IsPage};
-ghost use Rattle.ipl_meaning.specs.Rests.{now, EachStands, StoryRests};
-ghost use Rattle.unit_io.specs.Leads.{IsSteady, Leads, IsStopped};
+ghost use Rattle.ipl_meaning.specs.Rests.{now, StoryRests};
+ghost use Rattle.unit_io.specs.Accounts.{Accounts};
+ghost use Rattle.unit_io.specs.Leads.{IsSteady, KeepsMap, IsStopped};
 ghost use Rattle.unit_io.specs.Spots.{Programs, IsPieceSpot};
 ghost use Rattle.unit_io.specs.Charts.{HasPage};
 ghost use Rattle.unit_io.specs.Plain.{AddsPlain};
@@ -53,16 +54,13 @@ fn write_page<C: Chip>(
     requires page { page < 15 }
     ensures keeps { (m : Map) (h : History) → IsSteady h (C.told chip.old) → StoryRests (C.told chip.old).places m h
         → now h place 0 ≡ None → ((s : ℕ) → IsPieceSpot page 16 s → age h.story place s ≡ Clean)
-        → Leads (EachStands (C.told chip.old).places m) (Programs place (IsPieceSpot page 16))
-        (λ n then. StoryRests (C.told chip.old).places m then
-        × HasPage place head.now.unit head.now.generation page (page_slots (seen_in memory.now) page) n (now h) (now then))
+        → KeepsMap (C.told chip.old).places m (Programs place (IsPieceSpot page 16))
+        (λ n. HasPage place head.now.unit head.now.generation page (page_slots (seen_in memory.now) page) n)
         h result (C.told chip.new) }
     ensures fits { IsPage (page_slots (seen_in memory.now) page) }
     ensures few { IfOk result (λ n. n ≤ 16) }
     ensures plain { AddsPlain (C.told chip.old) (C.told chip.new) }
-    ensures places { (C.told chip.new).places ≡ (C.told chip.old).places }
-    ensures counts { Counts (C.told chip.old) (C.told chip.new) }
-    ensures cause { IfErr result (λ fault. IsStopped fault (C.told chip.old) (C.told chip.new)) }
+    ensures accounts { Accounts IsStopped result (C.told chip.old) (C.told chip.new) }
 {
     let map = page_of(memory, page);
     program_page(chip, place, head, page, &map)
@@ -78,15 +76,12 @@ pub(crate) fn write_pages<C: Chip>(
     requires { place < (C.told chip.old).places }
     ensures keeps { (m : Map) (h : History) → IsSteady h (C.told chip.old) → StoryRests (C.told chip.old).places m h
         → now h place 0 ≡ None → ((s : ℕ) → IsBaseSpotBelow 15 s → age h.story place s ≡ Clean)
-        → Leads (EachStands (C.told chip.old).places m) (Programs place (IsBaseSpotBelow 15))
-        (λ pieces then. StoryRests (C.told chip.old).places m then
-        × HasPages place head.now.unit head.now.generation (page_slots (seen_in memory.now)) pieces 15 (now h) (now then))
+        → KeepsMap (C.told chip.old).places m (Programs place (IsBaseSpotBelow 15))
+        (λ pieces. HasPages place head.now.unit head.now.generation (page_slots (seen_in memory.now)) pieces 15)
         h result (C.told chip.new) }
     ensures few { IfOk result IsFew }
     ensures plain { AddsPlain (C.told chip.old) (C.told chip.new) }
-    ensures places { (C.told chip.new).places ≡ (C.told chip.old).places }
-    ensures counts { Counts (C.told chip.old) (C.told chip.new) }
-    ensures cause { IfErr result (λ fault. IsStopped fault (C.told chip.old) (C.told chip.new)) }
+    ensures accounts { Accounts IsStopped result (C.told chip.old) (C.told chip.new) }
 {
     let mut pieces = [0; PAGES as usize];
     for page in 0..PAGES {

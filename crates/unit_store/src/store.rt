@@ -1,11 +1,12 @@
 //! The store.
 ghost use Rattle.std.specs.Prelude.{◌≡◌, ◌<◌, ◌≤◌, ◌+◌, ◌^◌, ℕ, length, slice_index, IfOk, IfErr, OnOk, IsErrOf, IsTrue, ◌↔◌, true, false};
-ghost use Rattle.chip_trait.specs.Told.{Told, History, Counts};
+ghost use Rattle.chip_trait.specs.Told.{Told, History};
 ghost use Rattle.ipl_rules.specs.State.{State, Map};
 ghost use Rattle.ipl_meaning.specs.Tables.{IsFree};
 ghost use Rattle.ipl_meaning.specs.Rests.{EachStandsEither};
 ghost use Rattle.unit_directory.specs.Free.{free_count};
 ghost use Rattle.store_trait.specs.Keeping.{LAST_NUMBER};
+ghost use Rattle.unit_io.specs.Accounts.{Accounts};
 ghost use Rattle.unit_io.specs.Leads.{Leads};
 ghost use Rattle.unit_io.specs.Reads.{OfContents};
 
@@ -146,9 +147,7 @@ impl UnitStore {
         ensures memory { self.new.memory ≡ self.old.memory }
         ensures units { self.new.units ≡ self.old.units }
         ensures draws { self.new.counter ≡ self.old.counter + 1 }
-        ensures places { (C.told chip.new).places ≡ (C.told chip.old).places }
-        ensures counts { Counts (C.told chip.old) (C.told chip.new) }
-        ensures cause { IfErr result (λ fault. FaultCause fault (C.told chip.old) (C.told chip.new)) }
+        ensures accounts { Accounts FaultCause result (C.told chip.old) (C.told chip.new) }
         ensures never { IsErrOf result Fault.Spent → ⊥ }
     {
         let place = take_place(&mut self.directory);
@@ -181,7 +180,7 @@ impl UnitStore {
         reply
     }
 
-    /// AnswersInMemory a command in memory that draws no number.
+    /// Answers a command in memory that draws no number.
     fn answer(&mut self, command: &Command) -> Reply
         requires { IsInMemory command.now }
         ensures answers { AnswersInMemory self.old.units self.old.memory self.new.memory command.now result }
@@ -220,9 +219,7 @@ impl UnitStore {
         ensures works { Works unit_keeping (command.Commit session) self.old (C.told chip.old) result self.new (C.told chip.new) }
         ensures units { self.new.units ≡ self.old.units }
         ensures draws { self.new.counter ≤ self.old.counter + 1 }
-        ensures places { (C.told chip.new).places ≡ (C.told chip.old).places }
-        ensures counts { Counts (C.told chip.old) (C.told chip.new) }
-        ensures cause { IfErr result (λ fault. FaultCause fault (C.told chip.old) (C.told chip.new)) }
+        ensures accounts { Accounts FaultCause result (C.told chip.old) (C.told chip.new) }
         ensures never { IsErrOf result Fault.Spent → ⊥ }
     {
         if !self.memory.is_writing(session) {

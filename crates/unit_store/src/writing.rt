@@ -1,8 +1,8 @@
 //! Unit 0, written as a whole.
-ghost use Rattle.std.specs.Prelude.{◌≡◌, ◌<◌, ◌≤◌, ◌+◌, ℕ, false, IfErr, OnOk};
+ghost use Rattle.std.specs.Prelude.{◌≡◌, ◌<◌, ◌≤◌, ◌+◌, ℕ, false, OnOk};
 ghost use Rattle.chip_trait.specs.Lawful.{Clean, age};
 ghost use Rattle.chip_trait.specs.Chart.{with_sector};
-ghost use Rattle.chip_trait.specs.Told.{Told, History, Counts};
+ghost use Rattle.chip_trait.specs.Told.{Told, History};
 ghost use Rattle.ipl_rules.specs.State.{Map};
 ghost use Rattle.ipl_format.specs.Sector.{Sector};
 ghost use Rattle.ipl_meaning.specs.Layout.{Layout};
@@ -10,6 +10,7 @@ ghost use Rattle.ipl_meaning.specs.Stands.{Says, Stands};
 ghost use Rattle.ipl_meaning.specs.Rests.{now, EachStandsEither, StoryRests};
 ghost use Rattle.ipl_meaning.specs.Tables.{IsFree, Tables};
 ghost use Rattle.ipl_meaning.specs.Mirrors.{Mirrors};
+ghost use Rattle.unit_io.specs.Accounts.{Accounts};
 ghost use Rattle.unit_io.specs.Leads.{IsSteady, Leads, IsStopped};
 ghost use Rattle.unit_io.specs.Spots.{Clears, Programs, IsSpot};
 ghost use Rattle.unit_io.specs.Charts.{Gains};
@@ -44,9 +45,7 @@ fn seal_unit<C: Chip>(
         × (head : Sector) × IsUnitHead units pieces generation head × Gains place 0 head (now h) (now then))
         h result (C.told chip.new) }
     ensures plain { AddsPlain (C.told chip.old) (C.told chip.new) }
-    ensures places { (C.told chip.new).places ≡ (C.told chip.old).places }
-    ensures counts { Counts (C.told chip.old) (C.told chip.new) }
-    ensures cause { IfErr result (λ fault. IsStopped fault (C.told chip.old) (C.told chip.new)) }
+    ensures accounts { Accounts IsStopped result (C.told chip.old) (C.told chip.new) }
 {
     let mut payload = [0; 20];
     let header = DataHeader {
@@ -85,9 +84,7 @@ pub(crate) fn write_unit<C: Chip>(
         × IsRewritten (C.told chip.old).places (now then) it t place (generation + 1) n)
         h result (C.told chip.new) }
     ensures plain { AddsPlain (C.told chip.old) (C.told chip.new) }
-    ensures places { (C.told chip.new).places ≡ (C.told chip.old).places }
-    ensures counts { Counts (C.told chip.old) (C.told chip.new) }
-    ensures cause { IfErr result (λ fault. IsStopped fault (C.told chip.old) (C.told chip.new)) }
+    ensures accounts { Accounts IsStopped result (C.told chip.old) (C.told chip.new) }
 {
     begin_unit(chip, place)?;
     let head = Head {

@@ -13,7 +13,6 @@ pub loop-page-init : goal.loop-page-init
 loop-page-init g c = record {
   keeps = λ m h steady ready. filed_none _ c.args.place c.args.head.now.unit c.args.head.now.generation (page_slots (seen_in c.args.memory.now)) m h (replicate 15 0) (g.C.Chip.told c.args.chip.now) steady ready;
   plain = plain_none (g.C.Chip.told c.args.chip.now);
-  places = refl;
   counts = counts_none (g.C.Chip.told c.args.chip.now);
   few = few_none 15;
   long = refl;
@@ -28,10 +27,9 @@ loop-page-preserved g c =
       keeps = λ m h steady ready. filed_more _ c.args.place c.args.head.now.unit c.args.head.now.generation (page_slots (seen_in c.args.memory.now)) m h ready c.loop-page.page low c.loop-page.pieces (g.C.Chip.told c.loop-page.chip)
           c.in_ok-count.count (g.C.Chip.told c.write_page.new.chip) (omega (arith, low, so_far.long)) so_far.few small says.fits (so_far.keeps m h steady ready)
           (subst (λ (q : ℕ). PageSays q c.args.place c.args.head.now.unit c.args.head.now.generation c.loop-page.page (page_slots (seen_in c.args.memory.now) c.loop-page.page) (g.C.Chip.told c.loop-page.chip) (Ok c.in_ok-count.count) (g.C.Chip.told c.write_page.new.chip))
-          so_far.places says.keeps);
+          so_far.counts.places says.keeps);
       plain = plain_then (g.C.Chip.told c.args.chip.now) (g.C.Chip.told c.loop-page.chip) (g.C.Chip.told c.write_page.new.chip) so_far.plain says.plain;
-      places = says.places ∙ so_far.places;
-      counts = counts_then (g.C.Chip.told c.args.chip.now) (g.C.Chip.told c.loop-page.chip) (g.C.Chip.told c.write_page.new.chip) so_far.counts says.counts;
+      counts = counts_then (g.C.Chip.told c.args.chip.now) (g.C.Chip.told c.loop-page.chip) (g.C.Chip.told c.write_page.new.chip) so_far.counts says.accounts.counts;
       few = few_more c.loop-page.pieces c.loop-page.page c.in_ok-count.count (omega (arith, low, so_far.long)) so_far.few small;
       long = length-set c.loop-page.pieces c.loop-page.page c.in_ok-count.count ∙ so_far.long;
     }
@@ -45,7 +43,7 @@ returns-in_err-count-clause-keeps g c = λ m h steady rests bare clean.
     rw e.1 (filed_fails _ c.args.place c.args.head.now.unit c.args.head.now.generation (page_slots (seen_in c.args.memory.now)) m h ready c.loop-page.page low c.loop-page.pieces (g.C.Chip.told c.loop-page.chip) _ c.in_err-count.field-0.0 e.0 _
     (so_far.keeps m h steady ready)
     (subst (λ (q : ℕ). PageSays q c.args.place c.args.head.now.unit c.args.head.now.generation c.loop-page.page (page_slots (seen_in c.args.memory.now) c.loop-page.page) (g.C.Chip.told c.loop-page.chip) (Err c.in_err-count.field-0.0) (g.C.Chip.told c.write_page.new.chip))
-    so_far.places c.in_err-count.ensures.keeps))
+    so_far.counts.places c.in_err-count.ensures.keeps))
 
 pub returns-clause-keeps : goal.returns-clause-keeps
 returns-clause-keeps g c = λ m h steady rests bare clean.

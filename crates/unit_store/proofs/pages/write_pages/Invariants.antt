@@ -15,7 +15,6 @@ invariant-loop-page g l =
     record {
       keeps : (m : Map) (h : History) → IsSteady h first → IsOpen first.places l.place m h → Filed first.places l.place l.head.unit l.head.generation (page_slots (seen_in l.memory)) m h l.page l.pieces t;
       plain : AddsPlain first t;
-      places : t.places ≡ first.places;
       counts : Counts first t;
       few : IsFew l.pieces;
       long : length l.pieces ≡ 15;

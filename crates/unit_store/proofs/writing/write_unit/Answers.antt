@@ -18,7 +18,7 @@ returns-in_err-pieces-clause-writes g c = λ m n it t h steady rests mirrors say
     rw e.1 (pages_failed _ m n it t h c.args.place c.args.generation (seen_in c.args.memory.now) c.in_err-pieces.field-0.0 e.0 (g.C.Chip.told c.begin_unit.new.chip) _
     (c.in_ok-begin_unit.ensures.keeps m it h steady rests mirrors.laid (free_places_are_idle _ _ it t c.args.place mirrors free))
     (subst (λ (q : ℕ). PagesSay q m n it t h c.args.place c.args.generation (seen_in c.args.memory.now) (g.C.Chip.told c.begin_unit.new.chip) (Err c.in_err-pieces.field-0.0) (g.C.Chip.told c.write_pages.new.chip))
-    c.in_ok-begin_unit.ensures.places c.in_err-pieces.ensures.keeps))
+    c.in_ok-begin_unit.ensures.accounts.counts.places c.in_err-pieces.ensures.keeps))
 
 pub returns-clause-writes : goal.returns-clause-writes
 returns-clause-writes g c = λ m n it t h steady rests mirrors says free newer renamed.
@@ -26,9 +26,9 @@ returns-clause-writes g c = λ m n it t h steady rests mirrors says free newer r
     c.requires.sized c.in_ok-pieces.ensures.few mirrors says free c.requires.place newer renamed
     (c.in_ok-begin_unit.ensures.keeps m it h steady rests mirrors.laid (free_places_are_idle _ _ it t c.args.place mirrors free))
     (subst (λ (q : ℕ). PagesSay q m n it t h c.args.place c.args.generation (seen_in c.args.memory.now) (g.C.Chip.told c.begin_unit.new.chip) (Ok c.in_ok-pieces.pieces) (g.C.Chip.told c.write_pages.new.chip))
-    c.in_ok-begin_unit.ensures.places c.in_ok-pieces.ensures.keeps)
+    c.in_ok-begin_unit.ensures.accounts.counts.places c.in_ok-pieces.ensures.keeps)
     (subst (λ (q : ℕ). SealSays q m n it t h c.args.place c.args.generation (seen_in c.args.memory.now) c.args.units c.in_ok-pieces.pieces (g.C.Chip.told c.write_pages.new.chip) c.seal_unit.result (g.C.Chip.told c.seal_unit.new.chip))
-    (c.in_ok-pieces.ensures.places ∙ c.in_ok-begin_unit.ensures.places) c.seal_unit.ensures.seals)
+    (c.in_ok-pieces.ensures.accounts.counts.places ∙ c.in_ok-begin_unit.ensures.accounts.counts.places) c.seal_unit.ensures.seals)
 
 pub returns-in_err-pieces-clause-plain : goal.returns-in_err-pieces-clause-plain
 returns-in_err-pieces-clause-plain g c = plain_then (g.C.Chip.told c.args.chip.now) (g.C.Chip.told c.begin_unit.new.chip) (g.C.Chip.told c.write_pages.new.chip) c.begin_unit.ensures.plain c.write_pages.ensures.plain

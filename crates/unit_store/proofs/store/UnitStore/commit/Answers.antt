@@ -11,7 +11,7 @@ pub returns-in_err-write-clause-works : goal.returns-in_err-write-clause-works
 returns-in_err-write-clause-works g c =
     let e = err_from_is_err_and c.from_residual.result c.from_residual.ensures.1 in
     rw (e.1, e.2) (commit_fails c.args.session c.args.self.now c.write.new.self (g.C.Chip.told c.args.chip.now) (g.C.Chip.told c.write.new.chip) c.in_err-write.field-0.0 (sym c.is_writing.ensures ∙ c.if-not-is_writing.false)
-    c.in_err-write.ensures.writes c.in_err-write.ensures.cause (λ is. c.in_err-write.ensures.never (ap Err is)))
+    c.in_err-write.ensures.writes (rw c.in_err-write.was at c.write.ensures.accounts.cause) (λ is. c.in_err-write.ensures.never (ap Err is)))
 
 pub returns-clause-works : goal.returns-clause-works
 returns-clause-works g c =
