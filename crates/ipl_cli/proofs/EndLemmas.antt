@@ -10,6 +10,7 @@ use Rattle.chip_trait.specs.Image.{IsNoChanceImage}
 use Rattle.chip_trait.specs.Moment.{AtEachMoment, Leaves}
 use Rattle.chip_trait.specs.Lawful.{IsLawful}
 use Rattle.chip_trait.specs.Told.{History, Told, Beside, Counts, SayCounts, Appends, FailsToSay, IsPrefix, adds_all, Unrisen}
+use Rattle.chip_trait.proofs.HistoryLemmas.{same_history}
 use Rattle.chip_trait.proofs.MomentLemmas.{at_both, at_weaker}
 use Rattle.chip_trait.proofs.SaidLemmas.{pieces-append, said-append, silent-part}
 use Rattle.ipl_base.specs.Places.{IsGeometry}
@@ -115,12 +116,8 @@ module _ (old mid new : Told) (counts : Counts old mid) (said_counts : SayCounts
   pub said_part : FailsToSay ok_line mid new → LaysOut old new false
   said_part fails h told = elim fails.history [
     | inl (part, prefix, history) ↦ laid_out h told false (Said part ∷ []) history (inr (part, prefix, refl)) (λ is. absurd cc)
-    | inr same ↦ laid_out h told false [] (same ∙ nothing_more mid.history) (inl refl) (λ is. absurd cc)
+    | inr same ↦ laid_out h told false [] (same ∙ same_history mid.history) (inl refl) (λ is. absurd cc)
   ]
-    where
-      nothing_more : (o : Option History) → o ≡ option_map (adds_all []) o
-      nothing_more None = refl
-      nothing_more (Some k) = refl
 
 -- what a run adds programs no log sector and no commit sector
 all_are_plain : (added : Story) → AllOf (IsSaidOr IsPlainEvent) added → ArePlain added

@@ -53,7 +53,6 @@ fn start_formatted<D: Desk>(alloc: Global, desk: &mut D) -> Result<UnitStore, En
     ensures starts { IfOk result (λ store. StartsFormatted (D.told desk.old) store (D.told desk.new)) }
     ensures leaves { IfErr result (λ end. FormattedLeaves (Err end) (D.told desk.old) (D.told desk.new)) }
     ensures cause { IfErr result (λ end. RequestCause (Run true) end (D.told desk.old) (D.told desk.new)) }
-    ensures places { (D.told desk.new).places ≡ (D.told desk.old).places }
     ensures counts { Counts (D.told desk.old) (D.told desk.new) }
 {
     let Some(geometry) = Geometry::of(desk.units()) else {
@@ -74,7 +73,6 @@ fn start_opened<D: Desk>(alloc: Global, desk: &mut D) -> Result<UnitStore, End>
     ensures starts { IfOk result (λ store. StartsOpened (D.told desk.old) store (D.told desk.new)) }
     ensures leaves { IfErr result (λ end. OpenedLeaves (Err end) (D.told desk.old) (D.told desk.new)) }
     ensures cause { IfErr result (λ end. RequestCause (Run false) end (D.told desk.old) (D.told desk.new)) }
-    ensures places { (D.told desk.new).places ≡ (D.told desk.old).places }
     ensures counts { Counts (D.told desk.old) (D.told desk.new) }
 {
     match UnitStore::open(alloc, desk) {

@@ -4,6 +4,7 @@ use Rattle.std.specs.Option.{option_map}
 use Rattle.chip_trait.specs.declared.event.Event.TheVariants.{Said}
 use Rattle.chip_trait.specs.Story.{Contents}
 use Rattle.chip_trait.specs.Told.{History, Told, Beside, Counts, SayCounts, IsBeside, Appends, FailsToSay, adds_all, Unrisen}
+use Rattle.chip_trait.proofs.HistoryLemmas.{same_history}
 use Rattle.store_trait.specs.Onward.{Onward, Further, Still}
 
 pub onward_none : (t : Told) → Onward t t
@@ -62,13 +63,6 @@ further_onward old new o = record {
 same_contents : (o : Option Contents) → option_map (λ x. x) o ≡ o
 same_contents None = refl
 same_contents (Some x) = refl
-
-same_history : (o : Option History) → o ≡ option_map (adds_all []) o
-same_history None = refl
-same_history (Some h) = refl
-
-pub still_none : (t : Told) → Still t t
-still_none t = record { places = refl; settled = refl; contents = refl; pieces = []; history = same_history t.history }
 
 pub still_said : (old new : Told) (piece : List ℕ) → Appends (Said piece) old new → Still old new
 still_said old new piece did = record { places = did.places; settled = did.settled; contents = did.contents ∙ same_contents old.contents; pieces = piece ∷ []; history = did.history }

@@ -4,7 +4,7 @@ use Rattle.ipl_cli.proofs.top.start_formatted.Goals as goal
 
 pub returns-in-Ok-format-clause-starts : goal.returns-in-Ok-format-clause-starts
 returns-in-Ok-format-clause-starts g c =
-    started (g.D.Chip.told c.args.desk.now) (g.D.Chip.told c.format.new.chip) c.in-Ok.store (rw c.units.ensures at c.in-Some.ensures.some.0) (rw (c.in-Some.ensures.some.1, c.units.ensures) at c.in-Ok.ensures) c.format.ensures.places c.in-Ok-format.ensures.settled
+    started (g.D.Chip.told c.args.desk.now) (g.D.Chip.told c.format.new.chip) c.in-Ok.store (rw c.units.ensures at c.in-Some.ensures.some.0) (rw (c.in-Some.ensures.some.1, c.units.ensures) at c.in-Ok.ensures) c.format.ensures.counts.places c.in-Ok-format.ensures.settled
     (λ h told. c.in-Ok-format.ensures.formats h told)
 
 pub returns-in-Err-clause-leaves : goal.returns-in-Err-clause-leaves
