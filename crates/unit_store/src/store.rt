@@ -18,8 +18,8 @@ use chip_trait::Chip;
 use ipl_base::{Counter, Geometry, ImageFault, OpenFault, OutOfMemory, Refusal, Value};
 use ipl_model::{Command, Reply};
 use memory_store::{MemoryStore, NAMES};
-use store_trait::{Fault, Store};
 use std::alloc::Global;
+use store_trait::{Fault, Store};
 use unit_directory::Directory;
 
 /// Numbers above this aren't drawn any more.

@@ -8,8 +8,8 @@ use chip_mem::MemChip;
 use chip_trait::{Chip, Event};
 use ipl_base::{Geometry, Value};
 use ipl_model::{Command, PutBytes, Reply};
-use store_trait::{Fault, Store};
 use std::test::Fail;
+use store_trait::{Fault, Store};
 
 /// What an event was, and at which place and sector.
 fn named(event: &Event) -> (&'static str, u32, u32) {
