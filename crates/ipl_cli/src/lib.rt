@@ -8,9 +8,8 @@
 mod failing;
 mod mem_desk;
 mod real_desk;
-mod top;
+pub mod top;
 
 pub use failing::FailingSay;
 pub use mem_desk::MemDesk;
 pub use real_desk::RealDesk;
-pub use top::top;

@@ -1,7 +1,8 @@
 //! The program over desks in memory. Of each case it is known what is said, what is noted and how it ends.
 use chip_mem::MemChip;
 use chip_trait::Event;
-use ipl_cli::{FailingSay, MemDesk, top};
+use ipl_cli::top::top;
+use ipl_cli::{FailingSay, MemDesk};
 use restart::format;
 use std::alloc::Global;
 use std::test::Fail;
