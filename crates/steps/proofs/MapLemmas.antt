@@ -1,15 +1,18 @@
 -- Calls that keep what a chip stands for.
-use Rattle.std.proofs.Common.{◌≡◌, ◌≢◌, ℕ, Bool, true, [], ◌++◌, Result, Ok, Err, is_ok, IfErr}
-use Rattle.chip_trait.specs.Story.{Story}
+use Rattle.std.proofs.Common.{◌≡◌, ℕ, Result, Ok, Err, MatchResult, is_ok}
 use Rattle.chip_trait.specs.Told.{History, Told, Counts, adds_all}
 use Rattle.ipl_base.specs.declared.fault.ChipFault.{ChipFault}
 use Rattle.ipl_rules.specs.State.{Map}
 use Rattle.ipl_meaning.specs.Rests.{EachStands, StoryRests}
+use Rattle.ipl_meaning.specs.Layout.{Layout}
 use Rattle.ipl_meaning.specs.Tables.{Tables, IsCountedClean}
+use Rattle.ipl_meaning.specs.Agrees.{Agrees}
+use Rattle.unit_io.specs.Leads.{IsSteady}
+use Rattle.unit_io.specs.ReadsAt.{ReadsAt}
 use Rattle.unit_io.specs.Spots.{Programs}
-use Rattle.unit_io.proofs.ReadsAtLemmas.{at_rests}
-use Rattle.steps.specs.Steps.{Settled, EndsWith, Outcome, TidyWork}
-use Rattle.steps.specs.Laws.{NothingKeeps, ReadsKeep, CallsKeep, FailuresKeep, WritesKeep}
+use Rattle.unit_io.proofs.ReadsAtLemmas.{at_rests, at_agrees}
+use Rattle.steps.specs.Steps.{Settled, EndsWith, TidyWork, RestsAgreeing, KeepsTables}
+use Rattle.steps.specs.Laws.{NothingKeeps, ReadsKeep, ReadsKeepTables, CallsKeep, FailuresKeep, WritesKeep}
 use Rattle.steps.proofs.StepLemmas.{outcome_none, outcome_then, outcome_weaker, outcome_written, outcome_reads, failures_settle}
 use Rattle.steps.proofs.TidyLemmas.{tidy_none, tidy_reads, tidy_then, tidy_weaker, tidy_programs}
 
@@ -31,6 +34,32 @@ reads_keep place places m t h result old new steady rests did =
     let At : ℕ → ℕ → Type 0 = λ p s. p ≡ place in
     outcome_reads At places m (TidyWork (IsCountedClean t) (IsCountedClean t) (Settled result old new)) (Settled result old new) (EndsWith result (λ v k. StoryRests places m k) (λ k. StoryRests places m k)) h old new steady rests did
     (tidy_reads At (IsCountedClean t) (Settled result old new) old new did) (rests_at_end places m (adds_all did.added h) result (at_rests At places m h did.added did.each rests))
+
+-- whatever sectors they are of, and whatever is answered
+pub reads_keep_tables : {T : Type 0} (At : ℕ → ℕ → Type 0) (places : ℕ) (m : Map) (it : Layout)
+    (t : Tables) (h : History) (result : Result T ChipFault) (old new : Told)
+    → IsSteady h old → StoryRests places m h → Agrees places h it t
+    → ReadsAt At old new → KeepsTables places m it t h result old new
+reads_keep_tables At places m it t h result old new steady rests agrees did =
+    let then_is : RestsAgreeing places m it t (adds_all did.added h) = record {
+      rests = at_rests At places m h did.added did.each rests;
+      agrees = at_agrees At places h it t did.added did.each agrees;
+    } in
+    outcome_reads At places m
+    (TidyWork (IsCountedClean t) (IsCountedClean t) (Settled result old new))
+    (Settled result old new)
+    (EndsWith result (λ v k. RestsAgreeing places m it t k)
+    (λ k. RestsAgreeing places m it t k)) h old new steady rests did
+    (tidy_reads At (IsCountedClean t) (Settled result old new) old new did)
+    (at_either_end result then_is)
+  where
+    at_either_end : {T : Type 0} {X : Type 0} (result : Result T ChipFault) → X
+        → MatchResult result (λ _. X) (λ _. X)
+    at_either_end (Ok v) x = x
+    at_either_end (Err e) x = x
+
+pub reads_of_place_keep_tables : ReadsKeepTables
+reads_of_place_keep_tables place = reads_keep_tables (λ p s. p ≡ place)
 
 pub calls_keep : CallsKeep
 calls_keep places m t between after h result old mid new counts first second =

@@ -1,21 +1,19 @@
 -- What calls leave, one after another.
-use Rattle.std.proofs.Common.{◌≡◌, ◌≢◌, ◌≤◌, ℕ, Bool, true, false, [], ◌∷◌, ◌++◌, Some, Result, Ok, Err, MatchResult, is_ok, IfErr, refl, sym, ◌∙◌, ap, subst, arith}
-use Rattle.std.specs.Option.{option_map}
+use Rattle.std.proofs.Common.{ℕ, true, false, [], ◌∷◌, ◌++◌, Some, Ok, Err, ◌∙◌, ap, subst, arith}
 use Rattle.std.specs.List.{All}
 use Rattle.std.proofs.lemmas.List.Elements.{All-tail}
 use Rattle.chip_trait.specs.Story.{Story}
 use Rattle.chip_trait.specs.Moment.{AtEachMoment}
-use Rattle.chip_trait.specs.Told.{History, Told, Counts, adds_all}
+use Rattle.chip_trait.specs.Told.{History, Told, adds_all}
 use Rattle.chip_trait.proofs.MomentLemmas.{at_start, at_next, at_both}
-use Rattle.ipl_base.specs.declared.fault.ChipFault.{ChipFault}
 use Rattle.ipl_rules.specs.State.{Map}
 use Rattle.ipl_meaning.specs.Rests.{EachStands, StoryRests}
-use Rattle.unit_io.specs.Leads.{IsSteady, Leads, IsStopped}
-use Rattle.unit_io.specs.ReadsAt.{IsReadAt, ReadsAt}
+use Rattle.unit_io.specs.Leads.{IsSteady}
+use Rattle.unit_io.specs.ReadsAt.{IsReadAt}
 use Rattle.unit_io.proofs.LeadsLemmas.{twice_added}
 use Rattle.unit_io.proofs.ReadsAtLemmas.{at_told, at_rests}
-use Rattle.steps.specs.Steps.{Settled, EndsWith, Outcome}
-use Rattle.steps.specs.Laws.{NothingIsDone, PartsAreJoined, LessIsSaid, WritesAreOutcomes, ReadsAreOutcomes, FailuresSettle}
+use Rattle.steps.specs.Steps.{Outcome}
+use Rattle.steps.specs.Laws.{NothingIsDone, PartsAreJoined, LessIsSaid, WritesAreOutcomes, FailedWritesAreSteps, WritesAreSteps, ReadsAreOutcomes, FailuresSettle}
 
 pub outcome_none : NothingIsDone
 outcome_none Each Does Settles Then h t steady each does then_is = record {
@@ -63,6 +61,38 @@ outcome_written T Each Does Then Else h old new (Err e) did stopped = record {
   settled = λ unrisen. absurd (omega (arith, stopped.1, unrisen));
   ends = λ unrisen. absurd (omega (arith, stopped.1, unrisen));
 }
+
+pub failed_writes_are_steps : FailedWritesAreSteps
+failed_writes_are_steps T U Each Does Then Holds t after h old new e f did stopped orderly =
+    let done = orderly did.added did.does in record {
+      added = did.added;
+      history = did.history;
+      each_moment = did.each_moment;
+      does = record {
+        silent = done.0;
+        lawful = done.1;
+        clean = λ unrisen. absurd (omega (arith, stopped.1, unrisen));
+      };
+      settled = λ unrisen. absurd (omega (arith, stopped.1, unrisen));
+      ends = λ unrisen. absurd (omega (arith, stopped.1, unrisen));
+    }
+
+pub writes_are_steps : WritesAreSteps
+writes_are_steps T Each Does Then Holds t after h old new (Ok v) did stopped orderly clean holds =
+    let done = orderly true did.added did.does in record {
+      added = did.added;
+      history = did.history;
+      each_moment = did.each_moment;
+      does = record {
+        silent = done.0;
+        lawful = done.1;
+        clean = λ _. clean v did.added did.does did.ends.1;
+      };
+      settled = λ _. did.ends.0;
+      ends = λ _. holds v did.added did.does did.ends.1;
+    }
+writes_are_steps T Each Does Then Holds t after h old new (Err e) did stopped orderly clean holds =
+    failed_writes_are_steps T T Each Does Then Holds t after h old new e e did stopped (orderly false)
 
 -- reads keep what the story rests on at each moment
 at_moments : (At : ℕ → ℕ → Type 0) (places : ℕ) (m : Map) (h : History) (added : Story) → All (IsReadAt At) added → StoryRests places m h → AtEachMoment (λ e. EachStands places m (adds_all e h)) added

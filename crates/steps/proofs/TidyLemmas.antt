@@ -1,11 +1,10 @@
 -- The events of calls, one after another.
-use Rattle.std.proofs.Common.{◌≡◌, ◌≢◌, ℕ, Bool, true, false, List, [], ◌∷◌, ◌++◌, refl, sym, ◌∙◌, ap, subst, append_assoc}
+use Rattle.std.proofs.Common.{◌≡◌, ℕ, List, [], ◌∷◌, ◌++◌, refl, sym, ◌∙◌, ap, subst, append_assoc}
 use Rattle.std.specs.List.{All}
 use Rattle.std.proofs.lemmas.List.Elements.{All-head, All-tail}
-use Rattle.chip_trait.specs.declared.event.Event.{Event}
 use Rattle.chip_trait.specs.declared.event.Event.TheVariants.{Read, Program, Erase, Barrier, Said}
 use Rattle.chip_trait.specs.Story.{Story, pieces}
-use Rattle.chip_trait.specs.Lawful.{Clean, age, IsLawful, AreClean}
+use Rattle.chip_trait.specs.Lawful.{age, IsLawful, AreClean}
 use Rattle.chip_trait.proofs.SaidLemmas.{pieces-append}
 use Rattle.unit_io.specs.ReadsAt.{IsReadAt}
 use Rattle.steps.specs.Steps.{TidyWork}

@@ -1,17 +1,18 @@
 -- How what calls leave is joined.
-use Rattle.std.specs.Prelude.{◌≡◌, ◌≢◌, ◌⊎◌, ◌≤◌, ℕ, Bool, true, [], ◌++◌, All, Result, Ok, Err, MatchResult, is_ok, IfErr}
+use Rattle.std.specs.Prelude.{◌≡◌, ◌≢◌, ℕ, Bool, true, false, [], ◌++◌, Result, Ok, Err, is_ok, IfErr}
 use Rattle.chip_trait.specs.Story.{Story, pieces}
-use Rattle.chip_trait.specs.Lawful.{IsLawful, LeavesClean}
-use Rattle.chip_trait.specs.Told.{History, Told, Counts, Rose, adds_all}
+use Rattle.chip_trait.specs.Lawful.{AreClean, IsLawfulAfter, LeavesClean}
+use Rattle.chip_trait.specs.Told.{History, Told, Counts, adds_all}
 use Rattle.ipl_base.specs.declared.fault.ChipFault.{ChipFault}
-use Rattle.ipl_base.specs.declared.fault.ChipFault.TheVariants.{Stopped}
 use Rattle.ipl_rules.specs.State.{Map}
+use Rattle.ipl_meaning.specs.Layout.{Layout}
 use Rattle.ipl_meaning.specs.Rests.{EachStands, StoryRests}
 use Rattle.ipl_meaning.specs.Tables.{Tables, IsCountedClean}
+use Rattle.ipl_meaning.specs.Agrees.{Agrees}
 use Rattle.unit_io.specs.Leads.{IsSteady, Leads, IsStopped}
 use Rattle.unit_io.specs.ReadsAt.{ReadsAt}
 use Rattle.unit_io.specs.Spots.{Programs}
-use Rattle.steps.specs.Steps.{Settled, EndsWith, Outcome, TidyWork, Steps}
+use Rattle.steps.specs.Steps.{Settled, NoOtherEnd, EndsWith, Outcome, TidyWork, Steps, KeepsTables}
 
 -- ---- what was left
 
@@ -38,6 +39,29 @@ WritesAreOutcomes = (T : Type 0) (Each : History → Type 0) (Does : Bool → St
     (h : History) (old new : Told) (result : Result T ChipFault)
     → Leads Each Does Then h result new → IfErr result (λ fault. IsStopped fault old new)
     → Outcome Each (Does (is_ok result)) (Settled result old new) (EndsWith result Then Else) h new
+
+-- A call that writes and fails only where a write failed. Its events are lawful, and what was done
+-- and holds then says which sectors are clean, and what holds besides.
+abbrev pub WritesAreSteps : Type 1
+WritesAreSteps = (T : Type 0) (Each : History → Type 0) (Does : Bool → Story → Type 0)
+    (Then Holds : T → History → Type 0) (t after : Tables) (h : History) (old new : Told)
+    (result : Result T ChipFault)
+    → Leads Each Does Then h result new → IfErr result (λ fault. IsStopped fault old new)
+    → ((done : Bool) (a : Story) → Does done a
+    → (pieces a ≡ []) × IsLawfulAfter (IsCountedClean t) a)
+    → ((v : T) (a : Story) → Does true a → Then v (adds_all a h) → (base : Story)
+    → AreClean (IsCountedClean t) base → AreClean (IsCountedClean after) (a ++ base))
+    → ((v : T) (a : Story) → Does true a → Then v (adds_all a h) → Holds v (adds_all a h))
+    → Steps Each t after Holds NoOtherEnd h result old new
+
+-- a call that fails as such a call did, and does nothing else then
+abbrev pub FailedWritesAreSteps : Type 1
+FailedWritesAreSteps = (T U : Type 0) (Each : History → Type 0) (Does : Bool → Story → Type 0)
+    (Then : T → History → Type 0) (Holds : U → History → Type 0) (t after : Tables) (h : History)
+    (old new : Told) (e f : ChipFault)
+    → Leads Each Does Then h (Err e) new → IsStopped e old new
+    → ((a : Story) → Does false a → (pieces a ≡ []) × IsLawfulAfter (IsCountedClean t) a)
+    → Steps Each t after Holds NoOtherEnd h (Err f) old new
 
 -- what a call left that only reads
 abbrev pub ReadsAreOutcomes : Type 1
@@ -76,6 +100,13 @@ Preserves places m t after h result old new = Steps (EachStands places m) t afte
 
 abbrev pub NothingKeeps : Type 0
 NothingKeeps = (places : ℕ) (m : Map) (t : Tables) (h : History) (old : Told) → IsSteady h old → StoryRests places m h → Preserves {T = Unit {0}} {E = ChipFault} places m t t h (Ok tt) old old
+
+-- reads of a place keep it and the tables, done or not: a read fault leaves what was there
+abbrev pub ReadsKeepTables : Type 0
+ReadsKeepTables = (place : ℕ) (places : ℕ) (m : Map) (it : Layout) (t : Tables) (h : History)
+    (result : Result (Unit {0}) ChipFault) (old new : Told)
+    → IsSteady h old → StoryRests places m h → Agrees places h it t
+    → ReadsAt (λ p s. p ≡ place) old new → KeepsTables places m it t h result old new
 
 -- reads of a place keep it, done or not
 abbrev pub ReadsKeep : Type 0

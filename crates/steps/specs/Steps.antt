@@ -4,13 +4,21 @@ use Rattle.chip_trait.specs.Story.{Story, pieces}
 use Rattle.chip_trait.specs.Moment.{AtEachMoment}
 use Rattle.chip_trait.specs.Lawful.{AreClean, IsLawfulAfter}
 use Rattle.chip_trait.specs.Told.{History, Told, Unrisen, adds_all}
+use Rattle.ipl_rules.specs.State.{Map}
+use Rattle.ipl_meaning.specs.Layout.{Layout}
+use Rattle.ipl_meaning.specs.Rests.{EachStands, StoryRests}
 use Rattle.ipl_meaning.specs.Tables.{Tables, IsCountedClean}
+use Rattle.ipl_meaning.specs.Agrees.{Agrees}
 
 -- ---- the end of a call
 
 -- no write failed: the call was done, or no write fault was counted
 abbrev pub Settled : {T E : Type 0} → Result T E → Told → Told → Type 0
 Settled result old new = MatchResult result (λ _. Unit {0}) (λ _. Unrisen old new)
+
+-- no write failed only where all was done, as for a call that fails only where a write did
+abbrev pub NoOtherEnd : History → Type 0
+NoOtherEnd k = ⊥
 
 -- done, the one holds of the answer and the history; else the other does of the history
 abbrev pub EndsWith : {T E : Type 0} → Result T E → (T → History → Type 0) → (History → Type 0) → History → Type 0
@@ -41,3 +49,15 @@ pub record TidyWork (before after : ℕ → ℕ → Type 0) (Settles : Type 0) (
 abbrev pub Steps : {T E : Type 0} → (History → Type 0) → Tables → Tables → (T → History → Type 0) → (History → Type 0) → History → Result T E → Told → Told → Type 0
 Steps Each t after Then Else h result old new =
     Outcome Each (TidyWork (IsCountedClean t) (IsCountedClean after) (Settled result old new)) (Settled result old new) (EndsWith result Then Else) h new
+
+-- the story rests on the map, and the tables agree
+pub record RestsAgreeing (places : ℕ) (m : Map) (it : Layout) (t : Tables) (k : History) : Type 0 where
+  pub rests : StoryRests places m k
+  pub agrees : Agrees places k it t
+
+-- What a call leaves that keeps a map and the tables, however it ends.
+abbrev pub KeepsTables : {T E : Type 0} → ℕ → Map → Layout → Tables → History → Result T E
+    → Told → Told → Type 0
+KeepsTables places m it t h result old new =
+    Steps (EachStands places m) t t (λ v k. RestsAgreeing places m it t k)
+    (λ k. RestsAgreeing places m it t k) h result old new
