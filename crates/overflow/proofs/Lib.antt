@@ -1,0 +1,6 @@
+mod ElementLemmas
+mod SpotLemmas
+mod AddedLemmas
+mod DroppedLemmas
+mod SoundLemmas
+mod FillLemmas

@@ -1,0 +1,40 @@
+use Rattle.std.proofs.Common.{◌≡◌, ◌+◌, [], ◌∷◌, ◌++◌, ◌<◌, map, length, sym, ◌∙◌, ap, subst, arith}
+use Rattle.std.specs.List.{refill}
+use Rattle.std.proofs.lemmas.List.{get_or_read}
+use Rattle.ipl_meaning.specs.Tables.{OverflowLists}
+use Rattle.overflow.specs.Lists.{first_of, clean_behind, spots_in}
+use Rattle.overflow.proofs.FillLemmas.{refilled}
+use Rattle.overflow.proofs.SoundLemmas.{sound_after}
+use Rattle.overflow.proofs.overflow.Overflow.add.Goals as goal
+
+pub invariant_of-self : goal.invariant_of-self
+invariant_of-self c =
+    let inside = c.self.inside in
+    let it : OverflowLists = record {
+      spots = inside.spots.items;
+      in_use = map first_of inside.in_use.items;
+    } in
+    let u = c.args.unit in
+    let s = c.args.spot in
+    let low : u < length inside.spots.items =
+    omega (arith, ap (λ (v : OverflowLists). length v.spots) c.self.view_is, c.requires.unit) in
+    let place : s.place < length inside.spots.items + 4 =
+    omega (
+      arith,
+      ap (λ (v : OverflowLists). length v.spots) c.self.view_is,
+      c.requires.place,
+    ) in
+    let few : length (spots_in it u) < 16 =
+    subst (λ (v : OverflowLists). length (spots_in v u) < 16)
+    (sym c.self.view_is) c.requires.few in
+    let places : map first_of (refill (length inside.in_use.items) inside.in_use.items c.use_spot.new.places)
+    ≡ map (clean_behind s.place s.sector) it.in_use =
+    ap (map first_of) (refilled inside.in_use.items c.use_spot.new.places
+    (c.use_spot.auto.places ∙ ap length c.as_mut_slice.ensures.value))
+    ∙ c.use_spot.ensures
+    ∙ ap (λ l. map (clean_behind s.place s.sector) (map first_of l)) c.as_mut_slice.ensures.value in
+    let list : c.push.new.self ≡ spots_in it u ++ (s.place, s.sector) ∷ [] =
+    c.push.ensures ∙ ap (λ l. l ++ (s.place, s.sector) ∷ [])
+    (get_or_read inside.spots.items u c.index_mut-list.result.now low
+    c.index_mut-list.ensures.value []) in
+    sound_after it u s.place s.sector _ _ c.self.invariant low few place c.requires.sector list places

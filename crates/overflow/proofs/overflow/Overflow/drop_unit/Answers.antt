@@ -1,0 +1,17 @@
+use Rattle.std.proofs.Common.{ℕ, List, map, set, ◌∙◌, ap}
+use Rattle.std.specs.List.{filter}
+use Rattle.ipl_meaning.specs.Tables.{OverflowLists}
+use Rattle.overflow.specs.Lists.{first_of, is_kept}
+use Rattle.overflow.proofs.SoundLemmas.{sound_left}
+use Rattle.overflow.proofs.overflow.Overflow.drop_unit.Goals as goal
+
+pub invariant_of-self : goal.invariant_of-self
+invariant_of-self c =
+    let it : OverflowLists = record {
+      spots = c.self.inside.spots.items;
+      in_use = map first_of c.self.inside.in_use.items;
+    } in
+    sound_left it c.args.unit _ _ c.self.invariant c.clear.ensures
+    (c.keep_named.ensures.named
+    ∙ ap (λ (l : List (List (ℕ × ℕ))). filter (is_kept l) it.in_use)
+    (c.deref-2.ensures.value ∙ ap (set c.self.inside.spots.items c.args.unit) c.clear.ensures))

@@ -1,0 +1,123 @@
+-- What the calls on overflow places make of the table, and what always holds of it.
+use Rattle.std.specs.Prelude.{ℕ, ◌<◌, ◌≤◌, ◌+◌, ◌==◌, Bool, not, max, nat_le, List, [], ◌∷◌, ◌++◌, map, length, slice_index_or, slice_set, replicate, Option, Some, None, All, if◌then◌else◌}
+use Rattle.std.specs.List.{list_any, filter}
+use Rattle.ipl_base.specs.declared.spot.Spot.{Spot}
+use Rattle.overflow.specs.declared.places.PlaceInUse.{PlaceInUse}
+use Rattle.ipl_meaning.specs.Tables.{OverflowLists, place_of}
+
+-- a spot, as its place and its sector
+abbrev pub pair_of : Spot → ℕ × ℕ
+pair_of spot = (spot.place, spot.sector)
+
+-- an overflow place in use, as the place and its first clean sector
+abbrev pub first_of : PlaceInUse → ℕ × ℕ
+first_of it = (it.place, it.first)
+
+-- the unit's spots
+abbrev pub spots_in : OverflowLists → ℕ → List (ℕ × ℕ)
+spots_in it u = slice_index_or it.spots u []
+
+-- one of the spots stands in the place
+abbrev pub names_place : ℕ → List (ℕ × ℕ) → Bool
+names_place p spots = list_any (λ spot. spot.0 == p) spots
+
+-- a spot of some unit does
+abbrev pub is_named : List (List (ℕ × ℕ)) → ℕ → Bool
+is_named spots p = list_any (names_place p) spots
+
+-- ---- what the calls do
+
+-- no unit of so many has spots, and no place is in use
+abbrev pub empty_lists : ℕ → OverflowLists
+empty_lists units = record { spots = replicate units []; in_use = [] }
+
+-- one more place is in use, clean from this sector on
+abbrev pub with_place : OverflowLists → ℕ → ℕ → OverflowLists
+with_place it p first = record it { in_use = it.in_use ++ (p, first) ∷ [] }
+
+-- the place in use, of which no sector up to the spot is clean any more, where the spot is in it
+abbrev pub clean_behind : ℕ → ℕ → ℕ × ℕ → ℕ × ℕ
+clean_behind p s it = if it.0 == p then (it.0, max it.1 (s + 1)) else it
+
+-- the spot is the unit's, behind its others, and isn't clean any more
+abbrev pub after_add : OverflowLists → ℕ → ℕ → ℕ → OverflowLists
+after_add it u p s = record {
+  spots = slice_set it.spots u (spots_in it u ++ (p, s) ∷ []);
+  in_use = map (clean_behind p s) it.in_use;
+}
+
+-- the unit has no spots any more
+abbrev pub without_unit : OverflowLists → ℕ → List (List (ℕ × ℕ))
+without_unit it u = slice_set it.spots u []
+
+-- the place in use is one that a spot names
+abbrev pub is_kept : List (List (ℕ × ℕ)) → ℕ × ℕ → Bool
+is_kept spots place = is_named spots place.0
+
+-- the unit has no spots any more, and a place that no spot names then isn't in use any more
+abbrev pub after_drop : OverflowLists → ℕ → OverflowLists
+after_drop it u = record {
+  spots = without_unit it u;
+  in_use = filter (is_kept (without_unit it u)) it.in_use;
+}
+
+-- no spot names the place
+abbrev pub is_left : List (List (ℕ × ℕ)) → ℕ → Bool
+is_left spots p = not (is_named spots p)
+
+-- the places that were in use and aren't any more, in their order
+abbrev pub places_left : OverflowLists → ℕ → List ℕ
+places_left it u = filter (is_left (without_unit it u)) (map place_of it.in_use)
+
+-- the place, where no spot names it
+abbrev pub left_of : List (List (ℕ × ℕ)) → Option ℕ → Option ℕ
+left_of spots None = None
+left_of spots (Some p) = if is_named spots p then None else Some p
+
+-- those of some places that are there
+abbrev pub listed : List (Option ℕ) → List ℕ
+listed [] = []
+listed (None ∷ rest) = listed rest
+listed (Some p ∷ rest) = p ∷ listed rest
+
+-- ---- the next spot
+
+-- the lower of two spots, by their places, where the second is clean
+abbrev pub lower_spot : Option (ℕ × ℕ) → ℕ × ℕ → Option (ℕ × ℕ)
+lower_spot None place = if nat_le 256 place.1 then None else Some place
+lower_spot (Some best) place =
+    if nat_le 256 place.1 then Some best
+    else if nat_le best.0 place.0 then Some best
+    else Some place
+
+-- the first clean sector of the lowest of these places that has one, or the spot from before,
+-- where that is lower
+abbrev pub first_spot : Option (ℕ × ℕ) → List (ℕ × ℕ) → Option (ℕ × ℕ)
+first_spot best [] = best
+first_spot best (place ∷ places) = first_spot (lower_spot best place) places
+
+-- ---- what always holds
+
+-- a place's first clean sector is one of 1 to 255, or 256 where it has none
+abbrev pub IsFirst : ℕ × ℕ → Type 0
+IsFirst place = (1 ≤ place.1) × (place.1 ≤ 256)
+
+-- a unit has so few spots
+abbrev pub AreFew : List (ℕ × ℕ) → Type 0
+AreFew spots = length spots ≤ 16
+
+-- a sector of a chip with so many places
+abbrev pub IsWithin : ℕ → ℕ × ℕ → Type 0
+IsWithin places spot = (spot.0 < places) × (spot.1 < 256)
+
+abbrev pub AreWithin : ℕ → List (ℕ × ℕ) → Type 0
+AreWithin places spots = All (IsWithin places) spots
+
+-- at most 1024 units have at most 16 spots each, and at most two places are in use; all spots are
+-- sectors of the chip, which has four places more than units
+pub record IsSoundOverflow (it : OverflowLists) : Type 0 where
+  pub units : length it.spots ≤ 1024
+  pub few : All AreFew it.spots
+  pub two : length it.in_use ≤ 2
+  pub firsts : All IsFirst it.in_use
+  pub within : All (AreWithin (length it.spots + 4)) it.spots

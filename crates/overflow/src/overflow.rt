@@ -1,0 +1,160 @@
+//! The table of overflow places.
+ghost use Rattle.std.specs.Prelude.{◌≡◌, ◌≤◌, ◌<◌, ◌+◌, ◌-◌, ℕ, map, length, nat_lt, Contains, IfOk, IfSome, IfNone, None};
+ghost use Rattle.std.specs.Option.{option_map};
+ghost use Rattle.overflow.specs.Lists.{pair_of, spots_in, empty_lists, with_place, after_add, after_drop, places_left, listed, first_spot, AreWithin, IsSoundOverflow};
+
+use crate::places::{PlaceInUse, first_spot, keep_named, places_left, use_spot};
+use crate::spots::SpotList;
+use arrayvec::ArrayVec;
+use ipl_base::{Geometry, OVERFLOW_PLACES, OutOfMemory, SECTORS, Spot};
+use std::alloc::Global;
+use std::marker::Model;
+
+/// Where the log sectors in overflow places stand, by unit, at most 16 of each; and which places
+/// are overflow places in use, at most two, each with its first clean sector. A contract sees the
+/// spots as pairs of place and sector. Memory is taken by `new` alone, for all units at once.
+#[derive(Drop)]
+pub struct Overflow {
+    spots: Vec<SpotList>,
+    in_use: ArrayVec<PlaceInUse, OVERFLOW_PLACES>,
+}
+
+impl Model for Overflow {
+    ghost use Rattle.std.specs.Prelude.{map};
+    ghost use Rattle.ipl_meaning.specs.Tables.{OverflowLists};
+    ghost use Rattle.overflow.specs.Lists.{first_of, IsSoundOverflow};
+
+    ghost Value = { OverflowLists };
+
+    ghost view = { λ o. record { spots = o.spots.items; in_use = map first_of o.in_use.items } };
+
+    ghost invariant = { λ o. IsSoundOverflow (record {
+      spots = o.spots.items;
+      in_use = map first_of o.in_use.items;
+    }) };
+}
+
+impl Overflow {
+    /// No unit has a log sector in an overflow place, and no place is in use.
+    pub fn new(alloc: Global, geometry: Geometry) -> Result<Overflow, OutOfMemory>
+        ensures { IfOk result (λ overflow. overflow ≡ empty_lists (geometry - 4)) }
+    {
+        let units = geometry.units() as usize;
+        let mut spots = Vec::with_capacity(alloc, units)?;
+        for _ in 0..units {
+            spots.push_reserved(SpotList::new());
+        }
+        Ok(Overflow {
+            spots,
+            in_use: ArrayVec::new(),
+        })
+    }
+
+    /// Makes it as `new` does. It takes no memory.
+    pub fn reset(&mut self)
+        ensures { self.new ≡ empty_lists (length self.old.spots) }
+    {
+        for spots in self.spots.iter_mut() {
+            spots.clear();
+        }
+        self.in_use = ArrayVec::new();
+    }
+
+    /// What always holds: there are at most 1024 units, each with at most 16 spots, and at most two
+    /// places in use.
+    pub fn facts(&self)
+        ensures { IsSoundOverflow self.now }
+    {
+        let _ = &self.spots;
+    }
+
+    /// Where the unit's log sectors in overflow places stand, the oldest first, at most 16.
+    pub fn list(&self, unit: u32) -> &[Spot]
+        requires { unit < length self.now.spots }
+        ensures spots { map pair_of result.now ≡ spots_in self.now unit }
+        ensures few { length result.now ≤ 16 }
+        ensures within { AreWithin (length self.now.spots + 4) (spots_in self.now unit) }
+    {
+        let list = &self.spots[unit as usize];
+        list.as_slice()
+    }
+
+    /// How many these are.
+    pub fn count(&self, unit: u32) -> u32
+        requires { unit < length self.now.spots }
+        ensures count { result ≡ length (spots_in self.now unit) }
+        ensures few { result ≤ 16 }
+    {
+        let list = &self.spots[unit as usize];
+        list.len()
+    }
+
+    /// The first clean sector of the lowest overflow place that has one.
+    pub fn spot(&self) -> Option<Spot>
+        ensures spot { option_map pair_of result ≡ first_spot None self.now.in_use }
+
+        // What that comes to.
+        ensures some { IfSome result (λ spot. Contains self.now.in_use (pair_of spot)) }
+        ensures in_range { IfSome result (λ spot. (1 ≤ spot.sector) × (spot.sector < 256)) }
+        ensures lowest { IfSome result (λ spot.
+            (p first : ℕ) → Contains self.now.in_use (p, first) → first < 256 → spot.place ≤ p) }
+        ensures none { IfNone result
+            ((p first : ℕ) → Contains self.now.in_use (p, first) → 256 ≤ first) }
+    {
+        first_spot(self.in_use.as_slice())
+    }
+
+    /// Whether one more place may be taken: fewer than two are in use.
+    pub fn may_add(&self) -> bool
+        ensures { result ≡ nat_lt (length self.now.in_use) 2 }
+    {
+        self.in_use.len() < OVERFLOW_PLACES
+    }
+
+    /// A place is an overflow place in use, as one that was taken and erased before: its sectors 1
+    /// to 255 are clean. That one more may be taken is a condition, which `may_add` tests.
+    pub fn add_place(&mut self, place: u32)
+        requires { length self.old.in_use < 2 }
+        ensures { self.new ≡ with_place self.old place 1 }
+    {
+        self.in_use.push(PlaceInUse { place, first: 1 });
+    }
+
+    /// A place is an overflow place in use, as one that was found on a chip: none of its sectors is
+    /// known clean. That one more may be taken is a condition, which `may_add` tests.
+    pub fn adopt_place(&mut self, place: u32)
+        requires { length self.old.in_use < 2 }
+        ensures { self.new ≡ with_place self.old place 256 }
+    {
+        let first = SECTORS;
+        self.in_use.push(PlaceInUse { place, first });
+    }
+
+    /// Puts a spot behind the unit's others, of which there are fewer than 16. It isn't clean any
+    /// more, nor is any before it in its place.
+    pub fn add(&mut self, unit: u32, spot: Spot)
+        requires unit { unit < length self.old.spots }
+        requires few { length (spots_in self.old unit) < 16 }
+        requires place { spot.place < length self.old.spots + 4 }
+        requires sector { spot.sector < 256 }
+        ensures { self.new ≡ after_add self.old unit spot.place spot.sector }
+    {
+        use_spot(self.in_use.as_mut_slice(), spot);
+        let list = &mut self.spots[unit as usize];
+        list.push(spot);
+    }
+
+    /// The unit has no spots any more, and a place that no spot of another unit names isn't in use
+    /// any more. Answers these places, in the order in which they came into use.
+    pub fn drop_unit(&mut self, unit: u32) -> [Option<u32>; 2]
+        requires { unit < length self.old.spots }
+        ensures dropped { self.new ≡ after_drop self.old unit }
+        ensures left { listed result ≡ places_left self.old unit }
+    {
+        let list = &mut self.spots[unit as usize];
+        list.clear();
+        let left = places_left(&self.spots, self.in_use.as_slice());
+        keep_named(&self.spots, &mut self.in_use);
+        left
+    }
+}
