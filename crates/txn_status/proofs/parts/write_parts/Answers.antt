@@ -1,0 +1,92 @@
+use Rattle.std.proofs.Common.{◌≡◌, ◌<◌, ◌+◌, ℕ, List, Result, Ok, Err, subst, arith, ap, ◌∙◌}
+use Rattle.std.proofs.lemmas.Result.{err_from_is_err_and}
+use Rattle.chip_trait.specs.Told.{Told}
+use Rattle.chip_trait.proofs.CountsLemmas.{counts_none, counts_then}
+use Rattle.ipl_base.specs.declared.fault.ChipFault.{ChipFault}
+use Rattle.ipl_format.specs.Sector.{Sector}
+use Rattle.unit_io.specs.Charts.{Charts, Gains}
+use Rattle.txn_status.specs.Commits.{commit_sector, part_of}
+use Rattle.txn_status.specs.Status.{parts_of}
+use Rattle.txn_status.specs.Writing.{LeadsPart, KeepsParts}
+use Rattle.txn_status.proofs.KeptLemmas.{keeps_none, keeps_more, keeps_failed, told_none, told_more}
+use Rattle.txn_status.proofs.parts.write_parts.Goals as goal
+
+-- the sector that was programmed is the next part
+next_part : (generation a b : ℕ) (xs ys : List ℕ) → a ≡ b → xs ≡ ys
+    → commit_sector generation a xs ≡ commit_sector generation b ys
+next_part generation a b xs ys same also_same =
+    ap (λ (n : ℕ). commit_sector generation n xs) same
+    ∙ ap (λ (l : List ℕ). commit_sector generation b l) also_same
+
+-- what its call says, of a chip with as many places as at first
+next_leads : (q places p s : ℕ) (own sector : Sector) (mid new : Told)
+    (result : Result (Unit {0}) ChipFault) → q ≡ places → own ≡ sector
+    → LeadsPart q p s own mid result new → LeadsPart places p s sector mid result new
+next_leads q places p s own sector mid new result at same says =
+    subst (λ (z : Sector). LeadsPart places p s z mid result new) same
+    (subst (λ (n : ℕ). LeadsPart n p s own mid result new) at says)
+
+pub loop-i-init : goal.loop-i-init
+loop-i-init g c =
+    let told = g.C.Chip.told c.args.chip.now in record {
+      keeps = λ m h steady rests bare clean.
+          keeps_none told.places c.args.place c.args.generation c.args.counter.now
+          c.args.numbers.now m h told steady rests;
+      tells = told_none c.args.place c.args.generation c.args.counter.now c.args.numbers.now told;
+      counts = counts_none told;
+      drawn = omega arith;
+    }
+
+pub loop-i-preserved : goal.loop-i-preserved
+loop-i-preserved g c =
+    let so = c.loop-i.invariant in
+    let w = c.in_ok-write_part.ensures in
+    let i = c.loop-i.i in
+    let numbers = c.args.numbers.now in
+    let old = g.C.Chip.told c.args.chip.now in
+    let mid = g.C.Chip.told c.loop-i.chip in
+    let new = g.C.Chip.told c.write_part.new.chip in
+    let low : i < parts_of numbers =
+    omega (arith, c.part_count-count.ensures.parts, c.loop-i-test.true) in
+    let same = next_part c.args.generation _ (c.args.counter.now + i) _ (part_of numbers i)
+    (c.draw-serial.ensures.drawn ∙ so.drawn) c.part_of.ensures.part in record {
+      keeps = λ m h steady rests bare clean.
+          keeps_more old.places c.args.place c.args.generation c.args.counter.now numbers m h
+          (parts_of numbers) i low bare clean mid new (Ok tt) (so.keeps m h steady rests bare clean)
+          (next_leads mid.places old.places c.args.place (1 + i) _ _ mid new (Ok tt)
+          so.counts.places same w.aside);
+      tells = told_more c.args.place c.args.generation c.args.counter.now numbers i old mid new
+          so.tells (subst (λ (z : Sector). Charts (Gains c.args.place (1 + i) z) mid new) same
+          w.tells);
+      counts = counts_then old mid new so.counts w.accounts.counts;
+      drawn = omega (arith, c.draw-serial.ensures.next, so.drawn);
+    }
+
+pub returns-in_err-write_part-clause-keeps : goal.returns-in_err-write_part-clause-keeps
+returns-in_err-write_part-clause-keeps g c = λ m h steady rests bare clean.
+    let so = c.loop-i.invariant in
+    let i = c.loop-i.i in
+    let numbers = c.args.numbers.now in
+    let old = g.C.Chip.told c.args.chip.now in
+    let mid = g.C.Chip.told c.loop-i.chip in
+    let new = g.C.Chip.told c.write_part.new.chip in
+    let fault = c.in_err-write_part.field-0.0 in
+    let low : i < parts_of numbers =
+    omega (arith, c.part_count-count.ensures.parts, c.loop-i-test.true) in
+    let same = next_part c.args.generation _ (c.args.counter.now + i) _ (part_of numbers i)
+    (c.draw-serial.ensures.drawn ∙ so.drawn) c.part_of.ensures.part in
+    let e = err_from_is_err_and c.from_residual.result c.from_residual.ensures.1 in
+    rw e.1 (keeps_failed old.places c.args.place c.args.generation c.args.counter.now numbers m h
+    (i + 1) (parts_of numbers) fault e.0 new (omega (arith, low))
+    (keeps_more old.places c.args.place c.args.generation c.args.counter.now numbers m h
+    (parts_of numbers) i low bare clean mid new (Err fault) (so.keeps m h steady rests bare clean)
+    (next_leads mid.places old.places c.args.place (1 + i) _ _ mid new (Err fault)
+    so.counts.places same c.in_err-write_part.ensures.aside)))
+
+pub returns-clause-keeps : goal.returns-clause-keeps
+returns-clause-keeps g c = λ m h steady rests bare clean.
+    let done : c.loop-i.i ≡ parts_of c.args.numbers.now =
+    omega (arith, c.part_count-count.ensures.parts) in
+    subst (λ (n : ℕ). KeepsParts (g.C.Chip.told c.args.chip.now).places c.args.place
+    c.args.generation c.args.counter.now c.args.numbers.now n m h (Ok tt)
+    (g.C.Chip.told c.loop-i.chip)) done (c.loop-i.invariant.keeps m h steady rests bare clean)

@@ -1,0 +1,27 @@
+use Rattle.std.proofs.Common.{◌≡◌, ◌+◌, ℕ, List, None, Ok}
+use Rattle.chip_trait.specs.Lawful.{Clean, age}
+use Rattle.chip_trait.specs.Told.{Told, History, Counts}
+use Rattle.ipl_rules.specs.State.{Map}
+use Rattle.ipl_meaning.specs.Rests.{now, StoryRests}
+use Rattle.unit_io.specs.Leads.{IsSteady}
+use Rattle.unit_io.specs.Charts.{Charts}
+use Rattle.txn_status.specs.Status.{parts_of}
+use Rattle.txn_status.specs.Switching.{HasParts, IsPartSpot}
+use Rattle.txn_status.specs.Writing.{KeepsParts}
+use Rattle.txn_status.proofs.parts.write_parts.Given as goal
+
+-- what is so after some parts
+pub record AreWritten (first t : Told) (place generation serial : ℕ) (numbers : List ℕ)
+    (counter n : ℕ) : Type 0 where
+  pub keeps : (m : Map) (h : History) → IsSteady h first → StoryRests first.places m h
+      → now h place 0 ≡ None
+      → ((s : ℕ) → IsPartSpot (parts_of numbers) s → age h.story place s ≡ Clean)
+      → KeepsParts first.places place generation serial numbers n m h (Ok tt) t
+  pub tells : Charts (HasParts place generation serial numbers n) first t
+  pub counts : Counts first t
+  pub drawn : counter ≡ serial + n
+
+abbrev pub invariant-loop-i : goal.invariant-loop-i
+invariant-loop-i g l =
+    AreWritten (g.C.Chip.told l.fn.chip) (g.C.Chip.told l.chip) l.place l.generation l.fn.counter
+    l.numbers l.counter l.i

@@ -1,0 +1,109 @@
+use Rattle.std.proofs.Common.{◌<◌, ℕ, List, Ok, Err, length, sym, ap, subst, arith}
+use Rattle.std.proofs.lemmas.Result.{err_from_is_err_and}
+use Rattle.ipl_meaning.specs.Tables.{Status}
+use Rattle.unit_io.specs.Charts.{Charts, Gains}
+use Rattle.number_set.specs.Numbers.{Numbers, AreRising}
+use Rattle.number_set.proofs.NumberLemmas.{length_with_numbers, rising_with_numbers}
+use Rattle.txn_status.specs.Commits.{commit_sector}
+use Rattle.txn_status.specs.Adding.{Adds, AddsInSteps}
+use Rattle.txn_status.specs.Writing.{LeadsCommit}
+use Rattle.txn_status.proofs.AddLemmas.{AreSpelled, spelled_from, added_in_steps, adds_told}
+use Rattle.txn_status.proofs.status.Status.add.Goals as goal
+
+pub returns-in_err-write_commit-clause-steps : goal.returns-in_err-write_commit-clause-steps
+returns-in_err-write_commit-clause-steps g c =
+    let inside = c.self.inside in
+    let st : Status = record {
+      place = inside.place;
+      generation = inside.generation;
+      numbers = inside.numbers.list;
+      first = inside.first;
+    } in
+    let tids = c.args.tids.now in
+    let are : AreSpelled tids = spelled_from tids c.requires.some c.requires.few
+    (λ i. omega (arith, c.type_inv.tids i)) in
+    let room : inside.first < 256 =
+    omega (arith, c.requires.room, ap (λ (s : Status). s.first) c.self.view_is) in
+    let fault = c.in_err-write_commit.field-0.0 in
+    let old = g.C.Chip.told c.args.chip.now in
+    let new = g.C.Chip.told c.write_commit.new.chip in
+    let e = err_from_is_err_and c.from_residual.result c.from_residual.ensures.1 in
+    rw e.1
+    (subst (λ (s : Status). AddsInSteps old.places s c.args.counter.now tids (Err fault) old new)
+    c.self.view_is
+    (added_in_steps old.places st c.args.counter.now tids (Err fault) old new are
+    c.self.invariant.0.least room
+    (subst (λ (k : ℕ). LeadsCommit old.places inside.place inside.first
+    (commit_sector inside.generation k tids) old (Err fault) new) c.draw-serial.ensures.drawn
+    c.in_err-write_commit.ensures.leads) c.in_err-write_commit.ensures.accounts.cause))
+
+pub invariant_of-self : goal.invariant_of-self
+invariant_of-self g c =
+    let was = c.self.invariant.0 in
+    let numbers = c.self.inside.numbers.list in
+    let tids = c.args.tids.now in
+    let list = ap (λ (n : Numbers). n.list) c.add_all.ensures in
+    let room : c.self.inside.first < 256 =
+    omega (arith, c.requires.room, ap (λ (s : Status). s.first) c.self.view_is) in (
+      record {
+        rising = subst AreRising (sym list) (rising_with_numbers tids numbers was.rising);
+        least = omega (arith, was.least);
+        most = omega (arith, room);
+        few = omega (
+          arith,
+          was.few,
+          c.requires.few,
+          ap (λ (l : List ℕ). length l) list,
+          length_with_numbers tids numbers,
+        );
+      },
+      omega (arith, ap (λ (n : Numbers). n.most) c.add_all.ensures, c.self.invariant.1),
+    )
+
+pub returns-clause-adds : goal.returns-clause-adds
+returns-clause-adds g c =
+    let inside = c.self.inside in
+    let st : Status = record {
+      place = inside.place;
+      generation = inside.generation;
+      numbers = inside.numbers.list;
+      first = inside.first;
+    } in
+    let tids = c.args.tids.now in
+    let are : AreSpelled tids = spelled_from tids c.requires.some c.requires.few
+    (λ i. omega (arith, c.type_inv.tids i)) in
+    let room : inside.first < 256 =
+    omega (arith, c.requires.room, ap (λ (s : Status). s.first) c.self.view_is) in
+    let old = g.C.Chip.told c.args.chip.now in
+    let new = g.C.Chip.told c.write_commit.new.chip in
+    subst (λ (s : Status). Charts (Adds old.places s c.args.counter.now tids) old new)
+    c.self.view_is
+    (adds_told old.places st c.args.counter.now tids (Ok tt) old new are
+    c.self.invariant.0.least room
+    (subst (λ (k : ℕ). Charts (Gains inside.place inside.first
+    (commit_sector inside.generation k tids)) old new) c.draw-serial.ensures.drawn
+    c.in_ok-write_commit.ensures.tells))
+
+pub returns-clause-steps : goal.returns-clause-steps
+returns-clause-steps g c =
+    let inside = c.self.inside in
+    let st : Status = record {
+      place = inside.place;
+      generation = inside.generation;
+      numbers = inside.numbers.list;
+      first = inside.first;
+    } in
+    let tids = c.args.tids.now in
+    let are : AreSpelled tids = spelled_from tids c.requires.some c.requires.few
+    (λ i. omega (arith, c.type_inv.tids i)) in
+    let room : inside.first < 256 =
+    omega (arith, c.requires.room, ap (λ (s : Status). s.first) c.self.view_is) in
+    let old = g.C.Chip.told c.args.chip.now in
+    let new = g.C.Chip.told c.write_commit.new.chip in
+    subst (λ (s : Status). AddsInSteps old.places s c.args.counter.now tids (Ok tt) old new)
+    c.self.view_is
+    (added_in_steps old.places st c.args.counter.now tids (Ok tt) old new are
+    c.self.invariant.0.least room
+    (subst (λ (k : ℕ). LeadsCommit old.places inside.place inside.first
+    (commit_sector inside.generation k tids) old (Ok tt) new) c.draw-serial.ensures.drawn
+    c.in_ok-write_commit.ensures.leads) tt)

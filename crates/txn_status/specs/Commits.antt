@@ -1,0 +1,24 @@
+-- Commit sectors, as they are written.
+use Rattle.std.specs.Prelude.{ℕ, ◌*◌, List, take, drop}
+use Rattle.std.specs.List.{flat_map}
+use Rattle.ipl_format.specs.Numbers.{long}
+use Rattle.ipl_format.specs.Sector.{Sector}
+
+-- the payload of a commit sector: eight bytes for each number
+abbrev pub commit_bytes : List ℕ → List ℕ
+commit_bytes numbers = flat_map long numbers
+
+-- a commit sector of these numbers
+abbrev pub commit_sector : ℕ → ℕ → List ℕ → Sector
+commit_sector generation serial numbers = record {
+  kind = 6;
+  version = 1;
+  unit = 0;
+  generation = generation;
+  serial = serial;
+  payload = commit_bytes numbers;
+}
+
+-- the numbers of the i-th of several commit sectors: 60, or fewer in the last one
+abbrev pub part_of : List ℕ → ℕ → List ℕ
+part_of numbers i = take 60 (drop (60 * i) numbers)

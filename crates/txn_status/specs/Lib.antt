@@ -1,0 +1,7 @@
+pub mod Commits
+pub mod Status
+pub mod Adding
+pub mod Switching
+pub mod Writing
+pub mod Laws
+pub mod ReadingIn

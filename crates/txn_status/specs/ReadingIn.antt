@@ -1,0 +1,84 @@
+-- What the commit sectors of a place make of the status.
+use Rattle.std.specs.Prelude.{ℕ, ◌≡◌, ◌≤◌, ◌<◌, ◌+◌, true, false, length, [], Option, Some, Result, MatchResult, Ok, Err, IfOk, OnOk}
+use Rattle.ipl_base.specs.declared.fault.ChipFault.{ChipFault}
+use Rattle.ipl_base.specs.declared.fault.ChipFault.TheVariants.{ReadFault}
+use Rattle.ipl_base.specs.declared.fault.ImageFault.{ImageFault}
+use Rattle.ipl_base.specs.declared.fault.ImageFault.TheVariants.{Chip}
+use Rattle.ipl_format.specs.Sector.{Sector}
+use Rattle.ipl_meaning.specs.Chart.{Chart}
+use Rattle.ipl_meaning.specs.Tables.{Status}
+use Rattle.ipl_base.specs.First.{first_below}
+use Rattle.opening_rules.specs.Chosen.{Winner}
+use Rattle.opening_rules.specs.Live.{sectors}
+use Rattle.opening_rules.specs.LaidOut.{committed_numbers}
+use Rattle.opening_rules.specs.Faults.{TellsImageFault, commit_fault, greatest_of_commits}
+use Rattle.number_set.specs.Numbers.{Numbers, with_numbers}
+
+-- ---- which sectors
+
+-- this sector
+abbrev pub IsAt : ℕ → ℕ → ℕ → ℕ → Type 0
+IsAt place sector p s = (p ≡ place) × (s ≡ sector)
+
+-- where commit sectors may stand in a place
+abbrev pub IsCommitSpot : ℕ → ℕ → ℕ → Type 0
+IsCommitSpot place p s = (p ≡ place) × (1 ≤ s) × (s < 256)
+
+-- a sector of the place
+abbrev pub IsOfPlace : ℕ → ℕ → ℕ → Type 0
+IsOfPlace place p s = (p ≡ place) × (s < 256)
+
+-- The commit sectors that count are those of this place with this generation. Of a header the rules
+-- of commit sectors look at no more.
+abbrev pub under : ℕ → ℕ → Option Winner
+under place generation = Some (record {
+  place = place;
+  head = record {
+    kind = 2;
+    unit = 0;
+    generation = generation;
+    serial = generation;
+    foreign = false;
+    well = true;
+  };
+})
+
+-- ---- the header
+
+-- a status header stands at the place
+abbrev pub IsStatusAt : Chart → ℕ → Sector → Type 0
+IsStatusAt c place head = (c place 0 ≡ Some head) × (head.kind ≡ 2)
+
+-- its generation is answered, unless the read failed
+abbrev pub IsHeadRead : Sector → Result ℕ ChipFault → Type 0
+IsHeadRead head result = MatchResult result (λ n. n ≡ head.generation) (λ e. e ≡ ReadFault)
+
+-- ---- the numbers
+
+-- at most so many came, and there is room for as many as before
+pub record GrowsBy (n : ℕ) (old new : Numbers) : Type 0 where
+  pub few : length new.list ≤ length old.list + n
+  pub most : new.most ≡ old.most
+
+-- the status with the numbers of those sectors, none known clean
+abbrev pub status_in : Chart → ℕ → ℕ → Status
+status_in c place generation = record {
+  place = place;
+  generation = generation;
+  numbers = with_numbers (committed_numbers c (under place generation)) [];
+  first = 256;
+}
+
+-- a fault of a chip, as one of an image
+abbrev pub of_image : {T : Type 0} → Result T ChipFault → Result T ImageFault
+of_image (Ok v) = Ok v
+of_image (Err e) = Err (Chip e)
+
+-- The sectors were read in: the answer tells the first that is malformed, unless a read failed; and
+-- where none is, it is the greatest number found, and the status has their numbers.
+pub record IsReadIn (c : Chart) (place generation : ℕ) (result : Result ℕ ChipFault)
+    (status : Status) : Type 0 where
+  pub fault : TellsImageFault (first_below (commit_fault c (under place generation)) sectors)
+      (of_image result)
+  pub greatest : IfOk result (λ n. n ≡ greatest_of_commits 0 c (under place generation) sectors)
+  pub status_is : OnOk result (status ≡ status_in c place generation)

@@ -1,0 +1,34 @@
+-- What the calls on the status make of it, and what always holds of it.
+use Rattle.std.specs.Prelude.{ℕ, ◌≤◌, ◌+◌, ◌-◌, ◌*◌, ◌/◌, List, [], length}
+use Rattle.ipl_meaning.specs.Tables.{Status}
+use Rattle.number_set.specs.Numbers.{with_numbers, AreRising}
+
+-- no number is committed, and no sector of place 0 is known clean
+abbrev pub empty_status : Status
+empty_status = record { place = 0; generation = 0; numbers = []; first = 256 }
+
+-- how many sectors of the status place are known clean
+abbrev pub room_of : Status → ℕ
+room_of it = 256 - it.first
+
+-- a commit sector of these numbers was written
+abbrev pub after_add : Status → List ℕ → Status
+after_add it numbers =
+    record it { numbers = with_numbers numbers it.numbers; first = it.first + 1 }
+
+-- how many commit sectors these numbers fill
+abbrev pub parts_of : List ℕ → ℕ
+parts_of numbers = (length numbers + 59) / 60
+
+-- the status stands at a new place, with exactly these numbers
+abbrev pub switched_to : ℕ → ℕ → List ℕ → Status
+switched_to place generation kept =
+    record { place = place; generation = generation; numbers = kept; first = 1 + parts_of kept }
+
+-- What always holds: the numbers rise, and are at most 60 for each sector of the place that is not
+-- known clean, but for its header; and the first clean one is one of 1 to 255, or there is none.
+pub record IsSoundStatus (it : Status) : Type 0 where
+  pub rising : AreRising it.numbers
+  pub least : 1 ≤ it.first
+  pub most : it.first ≤ 256
+  pub few : length it.numbers + 60 ≤ 60 * it.first

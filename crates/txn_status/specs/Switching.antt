@@ -1,0 +1,117 @@
+-- What a new status place makes of a chart, of the tables, and of what a power cut leaves.
+use Rattle.std.specs.Prelude.{ℕ, ◌≡◌, ◌<◌, ◌≤◌, ◌+◌, ◌-◌, List, Some, All, Contains, Result}
+use Rattle.chip_trait.specs.Told.{History, Told}
+use Rattle.ipl_base.specs.declared.fault.ChipFault.{ChipFault}
+use Rattle.ipl_format.specs.Header.{SpellsUnits}
+use Rattle.ipl_format.specs.Sector.{Sector}
+use Rattle.ipl_rules.specs.State.{Map}
+use Rattle.ipl_meaning.specs.Chart.{Chart}
+use Rattle.ipl_meaning.specs.Layout.{Layout}
+use Rattle.ipl_meaning.specs.Stands.{Says}
+use Rattle.ipl_meaning.specs.Rests.{now, EachStands, StoryRests}
+use Rattle.ipl_meaning.specs.Steps.{KeepsPages, KeepsNumbers, with_status, IsIdle}
+use Rattle.ipl_meaning.specs.Tables.{IsFree, Status, Tables, overflow_places}
+use Rattle.ipl_meaning.specs.TableSteps.{IsRenewed}
+use Rattle.ipl_meaning.specs.Mirrors.{Mirrors}
+use Rattle.ipl_meaning.specs.Agrees.{Agrees}
+use Rattle.unit_io.specs.Leads.{IsSteady}
+use Rattle.steps.specs.Steps.{NoOtherEnd, Steps, RestsAgreeing}
+use Rattle.number_set.specs.Numbers.{among}
+use Rattle.txn_status.specs.Commits.{commit_sector, part_of}
+use Rattle.txn_status.specs.Status.{parts_of, switched_to}
+use Rattle.txn_status.specs.Adding.{HasStatus}
+
+-- ---- what is written
+
+-- the first n parts of the numbers stand in commit sectors of the place, from sector 1 on and with
+-- rising serials, and elsewhere the chart is as it was
+pub record HasParts (p generation serial : ℕ) (numbers : List ℕ) (n : ℕ)
+    (c y : Chart) : Type 0 where
+  pub here : (i : ℕ) → i < n
+      → y p (1 + i) ≡ Some (commit_sector generation (serial + i) (part_of numbers i))
+  pub others : (q s : ℕ) → (q ≡ p → 1 ≤ s → s < 1 + n → ⊥) → y q s ≡ c q s
+
+-- the spots of the first n parts
+abbrev pub IsPartSpot : ℕ → ℕ → Type 0
+IsPartSpot n s = (1 ≤ s) × (s < 1 + n)
+
+-- a status header for so many units
+pub record IsStatusHead (units generation : ℕ) (head : Sector) : Type 0 where
+  pub kind : head.kind ≡ 2
+  pub generation_is : head.generation ≡ generation
+  pub serial : head.serial ≡ generation
+  pub counts : SpellsUnits units head.payload
+
+-- ---- tables
+
+-- the place was taken for this: it isn't free, and nothing that counts stands there
+pub record IsTaken (places : ℕ) (c : Chart) (it : Layout) (t : Tables) (p : ℕ) : Type 0 where
+  pub idle : IsIdle places c it p
+  pub not_overflow : ¬ Contains (overflow_places t) p
+  pub in_use : ¬ IsFree t.places p
+
+-- the numbers may be kept: they were drawn, and none is of an open session
+pub record MayKeep (t : Tables) (kept : List ℕ) : Type 0 where
+  pub below : All (λ n. n < t.next) kept
+  pub waits : All (λ n. ¬ Contains kept n) t.active
+
+-- the tables with the new status, and with as many numbers drawn as sectors were written
+pub record IsSwitched (t after : Tables) (p generation : ℕ) (kept : List ℕ) : Type 0 where
+  pub renewed : IsRenewed t after p generation (1 + parts_of kept)
+  pub has : HasStatus after (switched_to p generation kept) (generation + 1 + parts_of kept)
+
+-- ---- what the chip holds
+
+-- The tables with the new status mirror the new chart; and where of the numbers in live log sectors
+-- exactly the committed ones are kept, it has the pages of the old one.
+pub record Switched (places : ℕ) (c y : Chart) (it : Layout) (after : Tables)
+    (p generation : ℕ) (kept : List ℕ) : Type 0 where
+  pub head : Sector
+  pub is_head : IsStatusHead (places - 4) generation head
+  pub mirrors : Mirrors places y (with_status it p head (among kept)) after
+  pub pages : KeepsNumbers places it (among kept)
+      → KeepsPages places c it y (with_status it p head (among kept))
+
+-- whatever tables of this status and counter mirrored the old chart
+abbrev pub Switches : ℕ → Status → ℕ → ℕ → List ℕ → Chart → Chart → Type 0
+Switches places status next p kept c y = (it : Layout) (t after : Tables)
+    → Mirrors places c it t → HasStatus t status next
+    → IsTaken places c it t p → MayKeep t kept → IsSwitched t after p next kept
+    → Switched places c y it after p next kept
+
+-- ---- what a power cut leaves
+
+-- the tables agree with a chip whose story rests on a map, and the place may take these numbers
+pub record IsReadyToSwitch (places : ℕ) (h : History) (it : Layout) (t : Tables) (m : Map)
+    (p : ℕ) (kept : List ℕ) : Type 0 where
+  pub rests : StoryRests places m h
+  pub agrees : Agrees places h it t
+  pub says : Says places (now h) it m
+  pub taken : IsTaken places (now h) it t p
+  pub may : MayKeep t kept
+  pub keeps : KeepsNumbers places it (among kept)
+
+-- the story rests on the same map, and the tables with the new status agree
+pub record RestsSwitched (places : ℕ) (m : Map) (it : Layout) (after : Tables)
+    (p generation : ℕ) (kept : List ℕ) (k : History) : Type 0 where
+  pub head : Sector
+  pub is_head : IsStatusHead (places - 4) generation head
+  pub stands : RestsAgreeing places m (with_status it p head (among kept)) after k
+
+-- At each moment a power cut leaves the map, and done, the story rests on it and the tables with
+-- the new status agree. It fails only where a write failed.
+abbrev pub StepsSwitching : ℕ → Layout → Tables → Tables → Map → ℕ → ℕ → List ℕ
+    → History → Result (Unit {0}) ChipFault → Told → Told → Type 0
+StepsSwitching places it t after m p generation kept h result old new =
+    Steps (EachStands places m) t after
+    (λ done k. RestsSwitched places m it after p generation kept k)
+    NoOtherEnd h result old new
+
+-- whatever layout, tables and map it began with
+abbrev pub SwitchesInSteps : ℕ → Status → ℕ → ℕ → List ℕ → Result (Unit {0}) ChipFault
+    → Told → Told → Type 0
+SwitchesInSteps places status next p kept result old new =
+    (h : History) (it : Layout) (t after : Tables) (m : Map)
+    → IsSteady h old → HasStatus t status next → IsReadyToSwitch places h it t m p kept
+    → IsSwitched t after p next kept
+    → StepsSwitching places it t after m p next kept h result old new

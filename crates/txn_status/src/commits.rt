@@ -1,0 +1,104 @@
+//! Commit sectors, encoded and programmed.
+ghost use Rattle.std.specs.Prelude.{◌≡◌, ◌≤◌, ◌<◌, ◌+◌, ◌++◌, length, OnOk};
+ghost use Rattle.ipl_format.specs.Numbers.{long};
+ghost use Rattle.unit_io.specs.Accounts.{Accounts};
+ghost use Rattle.unit_io.specs.Leads.{IsStopped};
+ghost use Rattle.unit_io.specs.Charts.{Charts, Gains};
+ghost use Rattle.txn_status.specs.Commits.{commit_bytes, commit_sector};
+ghost use Rattle.txn_status.specs.Writing.{LeadsCommit, LeadsPart};
+
+use arrayvec::ArrayVec;
+use chip_trait::Chip;
+use ipl_base::{ChipFault, PAYLOAD_LEN, Spot};
+use sector_format::Head;
+use unit_io::{add_commit, prepare_commit};
+
+/// Puts the eight bytes of a number behind others.
+#[tactic(auto, unfolding(ipl_format::specs::Numbers::long))]
+fn put(bytes: &mut ArrayVec<u8, PAYLOAD_LEN>, number: u64)
+    requires { length bytes.old.items + 8 ≤ 480 }
+    ensures bytes { bytes.new.items ≡ bytes.old.items ++ long number }
+    ensures len { length bytes.new.items ≡ length bytes.old.items + 8 }
+{
+    let _ = bytes.try_extend_from_slice(&number.to_be_bytes());
+}
+
+/// The payload of a commit sector of these numbers, at most 60.
+fn payload_of(numbers: &[u64]) -> ArrayVec<u8, PAYLOAD_LEN>
+    requires { length numbers.now ≤ 60 }
+    ensures bytes { result.items ≡ commit_bytes numbers.now }
+    ensures fits { length result.items ≤ 480 }
+{
+    let mut bytes = ArrayVec::new();
+    for number in numbers {
+        put(&mut bytes, *number);
+    }
+    bytes
+}
+
+/// The head of a commit sector.
+fn commit_head(generation: u64, serial: u64) -> Head
+    ensures { result ≡ record { kind = 6; unit = 0; generation = generation; serial = serial } }
+{
+    Head {
+        kind: Head::COMMIT,
+        unit: 0,
+        generation,
+        serial,
+    }
+}
+
+/// Programs a commit sector of these numbers, at most 60, where nothing is open, and makes sure of
+/// it.
+pub fn write_commit<C: Chip>(
+    chip: &mut C,
+    spot: Spot,
+    generation: u64,
+    serial: u64,
+    numbers: &[u64],
+) -> Result<(), ChipFault>
+    requires place { spot.place < (C.told chip.old).places }
+    requires sector { spot.sector < 256 }
+    requires few { length numbers.now ≤ 60 }
+    ensures leads { LeadsCommit (C.told chip.old).places spot.place spot.sector
+        (commit_sector generation serial numbers.now) (C.told chip.old) result (C.told chip.new) }
+    ensures tells { OnOk result (Charts
+        (Gains spot.place spot.sector (commit_sector generation serial numbers.now))
+        (C.told chip.old) (C.told chip.new)) }
+    ensures accounts { Accounts IsStopped result (C.told chip.old) (C.told chip.new) }
+{
+    let payload = payload_of(numbers);
+    add_commit(
+        chip,
+        spot,
+        &commit_head(generation, serial),
+        payload.as_slice(),
+    )
+}
+
+/// Programs a commit sector of these numbers, at most 60, into a place without a header.
+pub fn write_part<C: Chip>(
+    chip: &mut C,
+    spot: Spot,
+    generation: u64,
+    serial: u64,
+    numbers: &[u64],
+) -> Result<(), ChipFault>
+    requires place { spot.place < (C.told chip.old).places }
+    requires sector { spot.sector < 256 }
+    requires few { length numbers.now ≤ 60 }
+    ensures aside { LeadsPart (C.told chip.old).places spot.place spot.sector
+        (commit_sector generation serial numbers.now) (C.told chip.old) result (C.told chip.new) }
+    ensures tells { OnOk result (Charts
+        (Gains spot.place spot.sector (commit_sector generation serial numbers.now))
+        (C.told chip.old) (C.told chip.new)) }
+    ensures accounts { Accounts IsStopped result (C.told chip.old) (C.told chip.new) }
+{
+    let payload = payload_of(numbers);
+    prepare_commit(
+        chip,
+        spot,
+        &commit_head(generation, serial),
+        payload.as_slice(),
+    )
+}

@@ -1,0 +1,18 @@
+//! The status of transactions: which numbers are committed, in memory and in the commit sectors of
+//! the status place. Numbers are committed by one more commit sector there, or the status moves to
+//! a new place with those that are kept. It stands on `unit_io`, which writes and reads the sectors,
+//! on `number_set` for the numbers in memory, and on `opening_rules` for which commit sectors count.
+//! A contract sees the `Status` of `ipl_meaning`, the committed numbers as a list in rising order.
+#![tactic(auto)]
+
+mod commits;
+mod laws;
+mod parts;
+mod payloads;
+mod reading;
+mod status;
+#[cfg(test)]
+mod tests;
+
+pub use laws::status_laws;
+pub use status::Status;

@@ -1,0 +1,262 @@
+//! The status of transactions.
+ghost use Rattle.std.specs.Prelude.{◌≡◌, ◌≤◌, ◌<◌, ◌+◌, ◌^◌, ◌↔◌, ℕ, length, Contains, IfOk, IfErr, IsTrue, OnOk, OnErr};
+ghost use Rattle.ipl_base.specs.Places.{IsGeometry};
+ghost use Rattle.ipl_format.specs.Sector.{Sector};
+ghost use Rattle.ipl_meaning.specs.Chart.{chart_of};
+ghost use Rattle.unit_io.specs.Accounts.{Accounts};
+ghost use Rattle.unit_io.specs.Leads.{IsStopped};
+ghost use Rattle.unit_io.specs.Charts.{Charts};
+ghost use Rattle.unit_io.specs.Reads.{OfContents};
+ghost use Rattle.unit_io.specs.ReadsAt.{ReadsAt, IsCauseAt};
+ghost use Rattle.ipl_format.specs.Whole.{IsWhole};
+ghost use Rattle.number_set.specs.Numbers.{AreRising};
+ghost use Rattle.txn_status.specs.ReadingIn.{IsReadIn, IsCommitSpot, IsOfPlace, IsStatusAt};
+ghost use Rattle.txn_status.specs.Status.{empty_status, room_of, after_add, parts_of, switched_to, IsSoundStatus};
+ghost use Rattle.txn_status.specs.Adding.{Adds, AddsInSteps};
+ghost use Rattle.txn_status.specs.Switching.{Switches, SwitchesInSteps};
+
+use crate::commits::write_commit;
+use crate::parts::{part_count, seal_status, write_parts};
+use crate::reading::{read_commits, read_generation};
+use chip_trait::Chip;
+use ipl_base::{ChipFault, Counter, Geometry, OutOfMemory, SECTORS, Spot};
+use number_set::NumberSet;
+use std::alloc::Global;
+use std::marker::Model;
+use unit_io::begin_unit;
+
+/// As many numbers as the commit sectors of a place have room for: 60 in each of 255.
+const MOST: usize = 15_300;
+
+/// The committed numbers, the status place with its generation, and the first of its sectors that
+/// is known clean (1 to 255, or 256 where none is). A contract sees the numbers as a list in rising
+/// order. Memory is taken by `new` alone.
+#[derive(Drop)]
+pub struct Status {
+    place: u32,
+    generation: u64,
+    numbers: NumberSet,
+    first: u32,
+}
+
+impl Model for Status {
+    ghost use Rattle.std.specs.Prelude.{◌≡◌};
+    ghost use Rattle.ipl_meaning.specs.Tables.{Status};
+    ghost use Rattle.txn_status.specs.Status.{IsSoundStatus};
+
+    ghost Value = { Status };
+
+    ghost view = { λ s. record {
+      place = s.place;
+      generation = s.generation;
+      numbers = s.numbers.list;
+      first = s.first;
+    } };
+
+    // That the numbers have room follows from the facts: no call asks whether there is.
+    ghost invariant = { λ s. IsSoundStatus (record {
+      place = s.place;
+      generation = s.generation;
+      numbers = s.numbers.list;
+      first = s.first;
+    }) × (s.numbers.most ≡ 15300) };
+}
+
+impl Status {
+    /// No number is committed. Until a place is read in or switched to, the status place is place
+    /// 0, with no clean sector. However many places the chip has, 15,300 numbers have room.
+    pub fn new(alloc: Global, _geometry: Geometry) -> Result<Status, OutOfMemory>
+        ensures { IfOk result (λ status. status ≡ empty_status) }
+    {
+        let numbers = NumberSet::new(alloc, MOST)?;
+        Ok(Status {
+            place: 0,
+            generation: 0,
+            numbers,
+            first: SECTORS,
+        })
+    }
+
+    /// Makes it as `new` does. It takes no memory.
+    pub fn reset(&mut self)
+        ensures { self.new ≡ empty_status }
+    {
+        self.place = 0;
+        self.generation = 0;
+        self.numbers.clear();
+        self.first = SECTORS;
+    }
+
+    /// What always holds: the numbers rise, and are at most 60 for each sector of the place, 1 to
+    /// 255, before the first clean one.
+    pub fn facts(&self)
+        ensures { IsSoundStatus self.now }
+    {
+        let _ = &self.place;
+    }
+
+    /// Whether a number is committed.
+    pub fn is_committed(&self, tid: u64) -> bool
+        ensures { IsTrue result ↔ Contains self.now.numbers tid }
+    {
+        let numbers = &self.numbers;
+        numbers.has(tid)
+    }
+
+    /// The status place.
+    pub fn place(&self) -> u32
+        ensures { result ≡ self.now.place }
+    {
+        self.place
+    }
+
+    /// How many of its sectors are known clean, 0 to 255.
+    pub fn room(&self) -> u32
+        ensures { result ≡ room_of self.now }
+    {
+        SECTORS - self.first
+    }
+
+    /// Takes in the numbers of the commit sectors of this generation at a place (below the number
+    /// of places), which is the status place then; none of its sectors is known clean. Answers the
+    /// greatest number found in them, generation and serial among these, and 0 for none. After a
+    /// fault it has any numbers.
+    ///
+    /// Fails with the first of them that is malformed, or where a read failed.
+    pub fn read_under<C: Chip>(
+        &mut self,
+        chip: &mut C,
+        place: u32,
+        generation: u64,
+    ) -> Result<u64, ChipFault>
+        requires place { place < (C.told chip.old).places }
+        ensures exact { OfContents (C.told chip.old) (λ x.
+            IsReadIn (chart_of x) place generation result self.new) }
+        ensures whole { OnOk result (OfContents (C.told chip.old) (λ x.
+            (s : ℕ) → 1 ≤ s → s < 256 → IsWhole (x place s))) }
+        ensures placed { OnOk result ((self.new.place ≡ place)
+            × (self.new.generation ≡ generation) × (self.new.first ≡ 256)) }
+
+        // What it does to the chip, and why it fails.
+        ensures reads { ReadsAt (IsCommitSpot place) (C.told chip.old) (C.told chip.new) }
+        ensures cause { IfErr result (λ e.
+            IsCauseAt (IsCommitSpot place) e (C.told chip.old) (C.told chip.new)) }
+    {
+        // With any numbers there is room only where no sector is known clean.
+        self.first = SECTORS;
+        let answer = read_commits(chip, place, generation, &mut self.numbers);
+        self.numbers.rises();
+        let greatest = answer?;
+        self.place = place;
+        self.generation = generation;
+        Ok(greatest)
+    }
+
+    /// Reads the status header of a place (below the number of places), and takes in the numbers of
+    /// its generation as `read_under` does. Where no status header stands there, sector 0 is
+    /// malformed.
+    pub fn read_in<C: Chip>(&mut self, chip: &mut C, place: u32) -> Result<u64, ChipFault>
+        requires place { place < (C.told chip.old).places }
+        ensures exact { OfContents (C.told chip.old) (λ x. (head : Sector)
+            → IsStatusAt (chart_of x) place head
+            → IsReadIn (chart_of x) place head.generation result self.new) }
+        ensures there { OnOk result (OfContents (C.told chip.old) (λ x.
+            (head : Sector) × IsStatusAt (chart_of x) place head)) }
+        ensures placed { OnOk result ((self.new.place ≡ place) × (self.new.first ≡ 256)) }
+
+        // What it does to the chip, and why it fails.
+        ensures reads { ReadsAt (IsOfPlace place) (C.told chip.old) (C.told chip.new) }
+        ensures cause { IfErr result (λ e.
+            IsCauseAt (IsOfPlace place) e (C.told chip.old) (C.told chip.new)) }
+    {
+        let generation = read_generation(chip, place)?;
+        self.read_under(chip, place, generation)
+    }
+
+    /// Commits 1 to 60 numbers: one commit sector, with a serial that is drawn for it, and then a
+    /// barrier. That there is room, and a number left to draw, are conditions.
+    ///
+    /// Where nothing was open, a power cut leaves what stood before or what stands with the
+    /// numbers; done, the chip stands for what stands with them. It fails only where a write
+    /// failed, and the status is as it was then.
+    pub fn add<C: Chip>(
+        &mut self,
+        chip: &mut C,
+        counter: &mut Counter,
+        tids: &[u64],
+    ) -> Result<(), ChipFault>
+        requires place { self.old.place < (C.told chip.old).places }
+        requires room { 0 < room_of self.old }
+        requires some { 1 ≤ length tids.now }
+        requires few { length tids.now ≤ 60 }
+        requires left { counter.old + 1 < 2 ^ 64 }
+        ensures added { OnOk result (self.new ≡ after_add self.old tids.now) }
+        ensures same { OnErr result (self.new ≡ self.old) }
+        ensures drawn { counter.new ≡ counter.old + 1 }
+
+        // What the chip holds then, and what a power cut leaves.
+        ensures adds { OnOk result (Charts
+            (Adds (C.told chip.old).places self.old counter.old tids.now)
+            (C.told chip.old) (C.told chip.new)) }
+        ensures steps { AddsInSteps (C.told chip.old).places self.old counter.old tids.now
+            result (C.told chip.old) (C.told chip.new) }
+        ensures accounts { Accounts IsStopped result (C.told chip.old) (C.told chip.new) }
+    {
+        let serial = counter.draw();
+        let spot = Spot {
+            place: self.place,
+            sector: self.first,
+        };
+        write_commit(chip, spot, self.generation, serial, tids)?;
+        // Only now: where the write failed nobody knows which numbers are committed.
+        self.numbers.add_all(tids);
+        self.first += 1;
+        Ok(())
+    }
+
+    /// Writes a new status place with exactly these numbers, at most 3,840, in rising order: a
+    /// generation is drawn, the place is erased, the numbers are programmed, 60 to a commit sector
+    /// and with a serial drawn for each sector, and the status header makes them count. That the
+    /// place was taken for this, and 65 numbers are left to draw, are conditions.
+    ///
+    /// Where of the numbers in live log sectors exactly the committed ones are kept, whatever a
+    /// power cut leaves at any moment stands for the map on which the story rested. It fails only
+    /// where a write failed, and the status is as it was then.
+    pub fn switch<C: Chip>(
+        &mut self,
+        chip: &mut C,
+        counter: &mut Counter,
+        place: u32,
+        kept: &[u64],
+    ) -> Result<(), ChipFault>
+        requires size { IsGeometry (C.told chip.old).places }
+        requires place { place < (C.told chip.old).places }
+        requires rising { AreRising kept.now }
+        requires few { length kept.now ≤ 3840 }
+        requires left { counter.old + 65 < 2 ^ 64 }
+        ensures switched { OnOk result (self.new ≡ switched_to place counter.old kept.now) }
+        ensures same { OnErr result (self.new ≡ self.old) }
+        ensures drawn { OnOk result (counter.new ≡ counter.old + 1 + parts_of kept.now) }
+        ensures draws { (counter.old < counter.new) × (counter.new ≤ counter.old + 65) }
+
+        // What the chip holds then, and what a power cut leaves.
+        ensures switches { OnOk result (Charts
+            (Switches (C.told chip.old).places self.old counter.old place kept.now)
+            (C.told chip.old) (C.told chip.new)) }
+        ensures steps { SwitchesInSteps (C.told chip.old).places self.old counter.old place kept.now
+            result (C.told chip.old) (C.told chip.new) }
+        ensures accounts { Accounts IsStopped result (C.told chip.old) (C.told chip.new) }
+    {
+        let generation = counter.draw();
+        let units = chip.units() - 4;
+        begin_unit(chip, place)?;
+        write_parts(chip, counter, place, generation, kept)?;
+        seal_status(chip, place, generation, units)?;
+        // Only now: until the header is made sure of, the old place counts.
+        self.place = place;
+        self.generation = generation;
+        self.numbers.take(kept);
+        self.first = 1 + part_count(kept);
+        Ok(())
+    }
+}
