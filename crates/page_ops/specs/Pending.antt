@@ -1,0 +1,25 @@
+-- Changes of a page's slots that are pending: their transactions aren't committed yet.
+use Rattle.std.specs.Prelude.{ℕ, ◌==◌, List, Option, Some, None, if◌then◌else◌}
+use Rattle.ipl_format.specs.Record.{Change}
+
+-- a change, with the number of its transaction
+abbrev pub Pending : Type 0
+Pending = ℕ × Change
+
+-- for each slot at most one
+abbrev pub Pendings : Type 0
+Pendings = ℕ → Option Pending
+
+-- what a session of this number sees: its own change, where it has one, or else the committed value
+abbrev pub seen_by : ℕ → Option (List ℕ) → Option Pending → Option (List ℕ)
+seen_by tid value None = value
+seen_by tid value (Some p) = if p.0 == tid then p.1 else value
+
+-- the change is dropped where it is of this number
+abbrev pub without_pending : ℕ → Option Pending → Option Pending
+without_pending tid None = None
+without_pending tid (Some p) = if p.0 == tid then None else Some p
+
+-- a slot has this change now, in the place of the one it had
+abbrev pub with_pending : Pendings → ℕ → Pending → Pendings
+with_pending pending slot p k = if k == slot then Some p else pending k
