@@ -1,0 +1,127 @@
+-- What a pool keeps, seen from inside and by its callers.
+use Rattle.std.proofs.Common.{◌≡◌, ℕ, ◌<◌, ◌+◌, cond, List, length, Option, Some, None, IsSome, is_some, IfSome, IfNone, refl, sym, ◌∙◌, ap, subst, arith}
+use Rattle.std.proofs.lemmas.List.Sums.{sum_by-set}
+use Rattle.slab.specs.Slab.{Slab, get, slab_len, with_value, Updates}
+use Rattle.slab.proofs.SlabLemmas.{ContainsKey-within, Updates-with_value}
+use Rattle.buffer_pool.specs.declared.pool.Buffer.{Buffer}
+use Rattle.buffer_pool.specs.declared.pool.Pool.TheInside.{Inside}
+use Rattle.buffer_pool.specs.Index.{page_number, key_of, with_key}
+use Rattle.buffer_pool.specs.Pools.{PoolView, view_of, HasPage, IsAbsent, IsSound, IsSoundPool, Changes}
+use Rattle.buffer_pool.proofs.IndexedLemmas.{told, are_once, none_listed, index_stays, index_added, index_removed}
+
+module _ (p : Inside) (v : PoolView) (sound : IsSound p) (same : view_of p ≡ v) where
+  pub sound_pool : IsSoundPool v
+  sound_pool = subst IsSoundPool same (record {
+    once = are_once p.index p.buffers sound.indexed;
+    pages = sound.indexed.pages;
+    holds = sound.holds;
+    few = sound.few;
+  })
+
+  -- what a search in the index says
+  pub told_of : (u page : ℕ) (r : Option ℕ) → page < 15 → r ≡ key_of p.index (page_number u page)
+      → IfSome r (λ key. HasPage v.buffers u page key) × IfNone r (IsAbsent v.buffers u page)
+  told_of u page r low is =
+      subst (λ (w : PoolView). IfSome r (λ key. HasPage w.buffers u page key)
+      × IfNone r (IsAbsent w.buffers u page)) same
+      (told p.index p.buffers sound.indexed u page r low is)
+
+  -- a page that isn't there isn't listed
+  pub is_not_listed : (u page : ℕ) → page < 15 → IsAbsent v.buffers u page
+      → key_of p.index (page_number u page) ≡ None
+  is_not_listed u page low absent =
+      none_listed p.index p.buffers sound.indexed u page low
+      (subst (λ (w : PoolView). IsAbsent w.buffers u page) (sym same) absent)
+
+  -- the page under a key, inside
+  pub has_inside : (u page key : ℕ) → HasPage v.buffers u page key → HasPage p.buffers u page key
+  has_inside u page key has = subst (λ (w : PoolView). HasPage w.buffers u page key) (sym same) has
+
+  -- a page is brought in
+  pub sound_added : (new : Slab Buffer) (more : List (ℕ × ℕ)) (key u page number clock : ℕ)
+      (added : Buffer) → added.unit ≡ u → added.page ≡ page → number ≡ page_number u page
+      → page < 15 → IsAbsent v.buffers u page → slab_len v.buffers < v.limit
+      → get p.buffers key ≡ None → Updates p.buffers new key (Some added)
+      → ((n : ℕ) → key_of more n ≡ with_key (key_of p.index) number (Some key) n)
+      → length more ≡ length p.index + 1 → slab_len new ≡ slab_len p.buffers + 1
+      → new.capacity ≡ p.buffers.capacity
+      → IsSound (record { buffers = new; index = more; limit = p.limit; clock = clock })
+  sound_added new more key u page number clock added unit_is page_is number_is low absent free empty did adds longer len room =
+      let here = subst (λ (w : PoolView). IsAbsent w.buffers u page) (sym same) absent in
+      let is_free : slab_len p.buffers < p.limit =
+      subst (λ (w : PoolView). slab_len w.buffers < w.limit) (sym same) free in
+      let reserved = sound.reserved in record {
+        holds = omega (arith, is_free, len);
+        reserved = omega (arith, reserved, room);
+        few = sound.few;
+        indexed = index_added p.index more p.buffers new key u page added unit_is page_is
+            sound.indexed low here empty did
+            (λ n. adds n ∙ ap (λ (m : ℕ). with_key (key_of p.index) m (Some key) n) number_is)
+            longer len;
+      }
+
+  -- a page leaves
+  pub sound_removed : (new : Slab Buffer) (less : List (ℕ × ℕ)) (key u page number clock : ℕ)
+      → number ≡ page_number u page → HasPage v.buffers u page key → Updates p.buffers new key None
+      → ((n : ℕ) → key_of less n ≡ with_key (key_of p.index) number None n)
+      → length less + 1 ≡ length p.index → slab_len new + 1 ≡ slab_len p.buffers
+      → new.capacity ≡ p.buffers.capacity
+      → IsSound (record { buffers = new; index = less; limit = p.limit; clock = clock })
+  sound_removed new less key u page number clock number_is has did removes shorter len room =
+      let holds = sound.holds in
+      let reserved = sound.reserved in record {
+        holds = omega (arith, holds, len);
+        reserved = omega (arith, reserved, room);
+        few = sound.few;
+        indexed = index_removed p.index less p.buffers new key u page sound.indexed
+            (has_inside u page key has) did
+            (λ n. removes n ∙ ap (λ (m : ℕ). with_key (key_of p.index) m None n) number_is)
+            shorter len;
+      }
+
+-- a buffer is changed, and has its page still
+pub sound_stays : (p : Inside) (new : Slab Buffer) (key clock : ℕ) (was now : Buffer) → IsSound p
+    → get p.buffers key ≡ Some was → Updates p.buffers new key (Some now)
+    → now.unit ≡ was.unit → now.page ≡ was.page → slab_len new ≡ slab_len p.buffers
+    → new.capacity ≡ p.buffers.capacity
+    → IsSound (record { buffers = new; index = p.index; limit = p.limit; clock = clock })
+sound_stays p new key clock was now sound there did unit page len room =
+    let holds = sound.holds in
+    let reserved = sound.reserved in record {
+      holds = omega (arith, holds, len);
+      reserved = omega (arith, reserved, room);
+      few = sound.few;
+      indexed = index_stays p.index p.buffers new key was now sound.indexed there did unit page len;
+    }
+
+-- by a change of it alone
+pub sound_changed : (p : Inside) (new : Slab Buffer) (key clock : ℕ) (change : Buffer → Buffer)
+    (was : Buffer) → IsSound p → get p.buffers key ≡ Some was → Changes p.buffers new key change
+    → (change was).unit ≡ was.unit → (change was).page ≡ was.page
+    → slab_len new ≡ slab_len p.buffers → new.capacity ≡ p.buffers.capacity
+    → IsSound (record { buffers = new; index = p.index; limit = p.limit; clock = clock })
+sound_changed p new key clock change was sound there did unit page len room =
+    let updates : Updates p.buffers new key (Some (change was)) =
+    record { changed = did.here was there; others = did.others } in
+    sound_stays p new key clock was (change was) sound there updates unit page len room
+
+-- a write counts no buffer more
+same_count : (buffers : Slab Buffer) (key : ℕ) (was now : Buffer) → get buffers key ≡ Some was
+    → slab_len (with_value buffers key now) ≡ slab_len buffers
+same_count buffers key was now there =
+    let within = ContainsKey-within buffers key (subst IsSome (sym there) refl) in
+    let sums : slab_len (with_value buffers key now) + cond (is_some (get buffers key)) 1 0
+    ≡ slab_len buffers + 1 =
+    sum_by-set (λ (o : Option Buffer). cond (is_some o) 1 0) buffers.slots key (Some now) None within in
+    let one : ◌≡◌ {A = ℕ} (cond (is_some (get buffers key)) 1 0) 1 =
+    ap (λ (o : Option Buffer). cond (is_some o) 1 0) there in
+    omega (arith, sums, one)
+
+-- whatever is written through a part of it that was lent
+pub sound_lent : (p : Inside) (key : ℕ) (was now : Buffer) → IsSound p
+    → get p.buffers key ≡ Some was → now.unit ≡ was.unit → now.page ≡ was.page
+    → IsSound (record { buffers = with_value p.buffers key now; index = p.index; limit = p.limit; clock = p.clock })
+sound_lent p key was now sound there unit page =
+    let did = Updates-with_value p.buffers key now (subst IsSome (sym there) refl) in
+    sound_stays p (with_value p.buffers key now) key p.clock was now sound there did unit page
+    (same_count p.buffers key was now there) refl

@@ -1,0 +1,17 @@
+use Rattle.std.proofs.Common.{refl}
+use Rattle.buffer_pool.specs.Pools.{with_pin}
+use Rattle.buffer_pool.proofs.SoundLemmas.{has_inside, sound_changed}
+use Rattle.buffer_pool.proofs.pool.Pool.pin.Goals as goal
+
+pub invariant_of-self : goal.invariant_of-self
+invariant_of-self c =
+    let p = c.self.inside in
+    let key = c.in-Some.key in
+    let did = c.add_pin.ensures in
+    let has = has_inside p c.args.self.now c.self.invariant c.self.view_is c.args.unit c.args.page key
+    c.in-Some.ensures.found in
+    sound_changed p c.add_pin.new.buffers key c.saturating_add-self-inside.result (with_pin p.clock)
+    has.buffer c.self.invariant has.stored did.changes refl refl did.len did.capacity
+
+pub unreachable-requires : goal.unreachable-requires
+unreachable-requires c = c.in-None.ensures.none c.requires.there.key c.requires.there.has

@@ -1,0 +1,42 @@
+-- Which buffer has which page: the pages' numbers in rising order, each with a key.
+use Rattle.std.specs.Prelude.{ℕ, ◌≡◌, ◌<◌, ◌≤◌, ◌+◌, ◌*◌, ◌==◌, List, [], ◌∷◌, length, slice_index_or, Option, Some, None, if◌then◌else◌}
+
+-- the number of a page among all pages of a chip
+abbrev pub page_number : ℕ → ℕ → ℕ
+page_number unit page = 15 * unit + page
+
+-- the key of the number, if it is listed
+abbrev pub key_of : List (ℕ × ℕ) → ℕ → Option ℕ
+key_of [] n = None
+key_of ((number, key) ∷ rest) n = if number == n then Some key else key_of rest n
+
+-- the number has this key now, or none
+abbrev pub with_key : (ℕ → Option ℕ) → ℕ → Option ℕ → ℕ → Option ℕ
+with_key keys number o n = if number == n then o else keys n
+
+-- all numbers are above this one
+abbrev pub IsAbove : ℕ → List (ℕ × ℕ) → Type 0
+IsAbove low [] = Unit {0}
+IsAbove low ((number, key) ∷ rest) = (low < number) × IsAbove low rest
+
+-- the numbers rise
+abbrev pub IsRising : List (ℕ × ℕ) → Type 0
+IsRising [] = Unit {0}
+IsRising ((number, key) ∷ rest) = IsAbove number rest × IsRising rest
+
+-- ---- a search among them
+
+-- the number at place i
+abbrev pub number_at : List (ℕ × ℕ) → ℕ → ℕ
+number_at l i = (slice_index_or l i (0, 0)).0
+
+-- the page at place i has the number
+pub record IsAt (l : List (ℕ × ℕ)) (number i : ℕ) : Type 0 where
+  pub within : i < length l
+  pub number_is : number_at l i ≡ number
+
+-- the number would go to place i: those before it are below it, and those from there on above
+pub record IsGapFor (l : List (ℕ × ℕ)) (number i : ℕ) : Type 0 where
+  pub within : i ≤ length l
+  pub below : (k : ℕ) → k < i → number_at l k < number
+  pub above : (k : ℕ) → i ≤ k → k < length l → number < number_at l k

@@ -1,0 +1,5 @@
+pub mod Index
+pub mod Pools
+pub mod Rooms
+pub mod Lending
+pub mod Laws

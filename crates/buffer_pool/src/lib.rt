@@ -1,0 +1,14 @@
+//! Frames for pages, in a slab whose room is reserved at the start. A pinned page stays in its frame,
+//! and no page has two.
+#![tactic(auto)]
+
+mod index;
+mod laws;
+mod pool;
+mod room;
+#[cfg(test)]
+mod tests;
+
+pub use laws::pool_laws;
+pub use pool::{Pin, Pool};
+pub use room::Room;
