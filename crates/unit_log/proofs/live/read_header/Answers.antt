@@ -1,0 +1,47 @@
+use Rattle.std.proofs.Common.{refl, sym, ◌∙◌}
+use Rattle.std.proofs.lemmas.Result.{err_from_is_err_and}
+use Rattle.ipl_meaning.specs.Chart.{chart_of}
+use Rattle.unit_log.proofs.HeadLemmas.{head_named, head_stands}
+use Rattle.unit_log.proofs.LooksLemmas.{looks_read, looks_missed}
+use Rattle.unit_log.proofs.live.read_header.Goals as goal
+
+pub returns-in_err-found-clause-looks : goal.returns-in_err-found-clause-looks
+returns-in_err-found-clause-looks g c =
+    let e = err_from_is_err_and c.from_residual.result c.from_residual.ensures.1 in
+    looks_missed c.args.place 0 _ e.0 _ (g.C.Chip.told c.args.chip.now)
+    (g.C.Chip.told c.read_head.new.chip) e.1 e.2 c.in_err-found.ensures.asks
+    c.in_err-found.ensures.accounts
+
+pub returns-in-Some-clause-looks : goal.returns-in-Some-clause-looks
+returns-in-Some-clause-looks g c =
+    looks_read c.args.place 0 _ _ (g.C.Chip.told c.args.chip.now)
+    (g.C.Chip.told c.read_head.new.chip) c.in_ok-found.ensures.asks
+    c.in_ok-found.ensures.accounts tt
+
+pub returns-in-None-clause-looks : goal.returns-in-None-clause-looks
+returns-in-None-clause-looks g c =
+    looks_read c.args.place 0 _ _ (g.C.Chip.told c.args.chip.now)
+    (g.C.Chip.told c.read_head.new.chip) c.in_ok-found.ensures.asks
+    c.in_ok-found.ensures.accounts refl
+
+pub returns-in-Some-clause-exact : goal.returns-in-Some-clause-exact
+returns-in-Some-clause-exact g c = λ x told head pieces has.
+    c.in-Some.ensures.some head has.units (c.in_ok-found.ensures.exact x told
+    ∙ head_named (chart_of x) c.args.place c.args.unit head pieces has) has.kind has.unit pieces
+    has.spelled
+
+pub returns-in-None-clause-exact : goal.returns-in-None-clause-exact
+returns-in-None-clause-exact g c = λ x told head pieces has.
+    absurd (c.in-None.ensures.some head has.units (c.in_ok-found.ensures.exact x told
+    ∙ head_named (chart_of x) c.args.place c.args.unit head pieces has) has.kind has.unit pieces
+    has.spelled)
+
+pub returns-in-Some-clause-header : goal.returns-in-Some-clause-header
+returns-in-Some-clause-header g c = λ x told.
+    let found = c.in-Some.ensures.found in
+    record {
+      sector = found.0;
+      here = head_stands (chart_of x c.args.place 0) found.0
+          (sym (c.in_ok-found.ensures.exact x told) ∙ found.1);
+      says = found.2;
+    }

@@ -1,0 +1,162 @@
+//! Log sectors are read, and those of the unit are kept.
+ghost use Rattle.std.specs.Prelude.{◌≡◌, ◌≤◌, ◌<◌, ◌+◌, ◌-◌, [], ◌∷◌, length, map, Some, IfErr, IfSome, OnOk};
+ghost use Rattle.chip_trait.specs.Told.{Told};
+ghost use Rattle.ipl_base.specs.declared.fault.ChipFault.TheVariants.{Malformed};
+ghost use Rattle.overflow.specs.Lists.{pair_of, AreWithin};
+ghost use Rattle.unit_io.specs.Kinds.{sector_named};
+ghost use Rattle.unit_log.specs.Kept.{kept_if, with_found, IsUnfit};
+ghost use Rattle.unit_log.specs.Live.{spots_from, log_spots, Gathers};
+ghost use Rattle.unit_log.specs.Looks.{IsAt, IsFrom, IsListed, IsLogRead, LooksAt};
+
+use crate::scratch::Scratch;
+use chip_trait::Chip;
+use ipl_base::{ChipFault, FIRST_LOG_SECTOR, Spot};
+use log_records::{Payload, is_list};
+use sector_format::Head;
+use unit_io::read_log;
+
+/// Keeps a log sector with this payload, or tells why it can't be one of the unit's.
+fn keep(scratch: &mut Scratch, spot: Spot, serial: u64, payload: &[u8]) -> Result<(), ChipFault>
+    requires room { length scratch.old < 31 }
+    requires fits { length payload.now ≤ 480 }
+    ensures kept { OnOk result (scratch.new
+        ≡ with_found (Some (record { serial = serial; payload = payload.now })) scratch.old) }
+    ensures unfit { IfErr result (λ fault.
+        IsUnfit (Some (record { serial = serial; payload = payload.now })) scratch.old) }
+    ensures fault { IfErr result (λ fault. fault ≡ Malformed spot.place spot.sector) }
+    ensures count { length scratch.new ≤ length scratch.old + 1 }
+{
+    let malformed = ChipFault::Malformed {
+        place: spot.place,
+        sector: spot.sector,
+    };
+    if !is_list(payload) {
+        return Err(malformed);
+    }
+    if !scratch.insert(serial, Payload::of(payload)) {
+        return Err(malformed);
+    }
+    Ok(())
+}
+
+/// Keeps what was found, where it is a log sector of the unit and the generation.
+fn take_found(
+    scratch: &mut Scratch,
+    spot: Spot,
+    unit: u32,
+    generation: u64,
+    found: Option<(Head, usize)>,
+    bytes: &[u8; 512],
+) -> Result<(), ChipFault>
+    requires room { length scratch.old < 31 }
+    requires fits { IfSome found (λ it. it.1 ≤ 480) }
+    ensures kept { OnOk result (scratch.new
+        ≡ with_found (kept_if unit generation (sector_named bytes.now found)) scratch.old) }
+    ensures unfit { IfErr result (λ fault.
+        IsUnfit (kept_if unit generation (sector_named bytes.now found)) scratch.old) }
+    ensures fault { IfErr result (λ fault. fault ≡ Malformed spot.place spot.sector) }
+    ensures count { length scratch.new ≤ length scratch.old + 1 }
+{
+    match found {
+        Some((head, used)) => {
+            if head.unit != unit || head.generation != generation {
+                return Ok(());
+            }
+            keep(scratch, spot, head.serial, &bytes[32..32 + used])
+        }
+        None => Ok(()),
+    }
+}
+
+/// Reads a spot where a log sector of the unit may stand.
+fn read_spot<C: Chip>(
+    chip: &mut C,
+    spot: Spot,
+    unit: u32,
+    generation: u64,
+    scratch: &mut Scratch,
+) -> Result<(), ChipFault>
+    requires place { spot.place < (C.told chip.old).places }
+    requires sector { spot.sector < 256 }
+    requires room { length scratch.old < 31 }
+    ensures gathers { Gathers (C.told chip.old) unit generation (pair_of spot ∷ [])
+        scratch.old scratch.new result }
+    ensures count { length scratch.new ≤ length scratch.old + 1 }
+    ensures looks { LooksAt (IsAt spot.place spot.sector) result
+        (C.told chip.old) (C.told chip.new) }
+{
+    let mut bytes = [0; 512];
+    let found = read_log(chip, spot, &mut bytes)?;
+    take_found(scratch, spot, unit, generation, found, &bytes)
+}
+
+/// Reads the sectors of a place from 241 up to this one (241 to 256).
+fn read_home<C: Chip>(
+    chip: &mut C,
+    place: u32,
+    end: u32,
+    unit: u32,
+    generation: u64,
+    scratch: &mut Scratch,
+) -> Result<(), ChipFault>
+    requires place { place < (C.told chip.old).places }
+    requires least { 241 ≤ end }
+    requires most { end ≤ 256 }
+    requires room { length scratch.old ≤ 16 }
+    ensures gathers { Gathers (C.told chip.old) unit generation (spots_from place 241 (end - 241))
+        scratch.old scratch.new result }
+    ensures count { length scratch.new ≤ length scratch.old + 15 }
+    ensures looks { LooksAt (IsFrom place 241) result (C.told chip.old) (C.told chip.new) }
+{
+    for sector in FIRST_LOG_SECTOR..end {
+        read_spot(chip, Spot { place, sector }, unit, generation, scratch)?;
+    }
+    Ok(())
+}
+
+/// Reads these spots, at most 16.
+fn read_listed<C: Chip>(
+    chip: &mut C,
+    spots: &[Spot],
+    unit: u32,
+    generation: u64,
+    scratch: &mut Scratch,
+) -> Result<(), ChipFault>
+    requires within { AreWithin (C.told chip.old).places (map pair_of spots.now) }
+    requires few { length spots.now ≤ 16 }
+    requires room { length scratch.old ≤ 15 }
+    ensures gathers { Gathers (C.told chip.old) unit generation (map pair_of spots.now)
+        scratch.old scratch.new result }
+    ensures looks { LooksAt (IsListed (map pair_of spots.now)) result
+        (C.told chip.old) (C.told chip.new) }
+{
+    for spot in spots {
+        read_spot(chip, *spot, unit, generation, scratch)?;
+    }
+    Ok(())
+}
+
+/// Reads the sectors of a place from 241 up to this one (241 to 256), then these spots, at most 16.
+pub fn read_sectors<C: Chip>(
+    chip: &mut C,
+    place: u32,
+    end: u32,
+    spots: &[Spot],
+    unit: u32,
+    generation: u64,
+    scratch: &mut Scratch,
+) -> Result<(), ChipFault>
+    requires place { place < (C.told chip.old).places }
+    requires least { 241 ≤ end }
+    requires most { end ≤ 256 }
+    requires within { AreWithin (C.told chip.old).places (map pair_of spots.now) }
+    requires few { length spots.now ≤ 16 }
+    requires none { scratch.old ≡ [] }
+    ensures gathers { Gathers (C.told chip.old) unit generation
+        (log_spots place end (map pair_of spots.now)) scratch.old scratch.new result }
+    ensures looks { LooksAt (IsLogRead place (map pair_of spots.now)) result
+        (C.told chip.old) (C.told chip.new) }
+{
+    read_home(chip, place, end, unit, generation, scratch)?;
+    read_listed(chip, spots, unit, generation, scratch)
+}

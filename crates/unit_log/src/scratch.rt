@@ -1,0 +1,118 @@
+//! Log sectors, kept in memory.
+ghost use Rattle.std.specs.Prelude.{◌≡◌, ◌≤◌, ◌<◌, ◌+◌, [], ◌∷◌, not, length, IfOk, Bool};
+ghost use Rattle.std.specs.Bool.{OnTrue, OnFalse};
+ghost use Rattle.unit_log.specs.Kept.{has_serial, with_kept, rank_of, AreRising};
+
+use ipl_base::OutOfMemory;
+use log_records::Payload;
+use std::alloc::Global;
+use std::marker::Model;
+
+/// The most log sectors that a unit has: 15 at home, and 16 elsewhere.
+const MOST: usize = 31;
+
+/// A log sector: its serial, and its records.
+#[derive(Drop)]
+pub struct LogSector {
+    pub serial: u64,
+    pub payload: Payload,
+}
+
+/// At most 31 log sectors, in rising order of their serials. A contract sees the list. Memory is
+/// taken by `new` alone.
+#[derive(Drop)]
+pub struct Scratch {
+    sectors: Vec<LogSector>,
+}
+
+impl Model for Scratch {
+    ghost use Rattle.std.specs.Prelude.{List, length, vec_capacity, ◌≤◌};
+    ghost use Rattle.unit_log.specs.declared.scratch.LogSector.{LogSector};
+    ghost use Rattle.unit_log.specs.Kept.{AreRising};
+
+    ghost Value = { List LogSector };
+
+    ghost view = { λ s. s.sectors.items };
+
+    ghost invariant = { λ s. (length s.sectors.items ≤ 31)
+        × (31 ≤ vec_capacity s.sectors)
+        × AreRising s.sectors.items };
+}
+
+/// Whether one of these log sectors has a serial.
+fn has_serial(sectors: &[LogSector], serial: u64) -> bool
+    ensures { result ≡ has_serial serial sectors.now }
+{
+    for sector in sectors {
+        if sector.serial == serial {
+            return true;
+        }
+    }
+    false
+}
+
+/// How many of these stand before the first whose serial isn't below this.
+fn rank_of(sectors: &[LogSector], serial: u64) -> usize
+    ensures rank { result ≡ rank_of serial sectors.now }
+    ensures within { result ≤ length sectors.now }
+{
+    let mut rank = 0;
+    for sector in sectors {
+        if sector.serial >= serial {
+            return rank;
+        }
+        rank += 1;
+    }
+    rank
+}
+
+impl Scratch {
+    /// No log sectors, and room for 31.
+    pub fn new(alloc: Global) -> Result<Scratch, OutOfMemory>
+        ensures { IfOk result (λ scratch. scratch ≡ []) }
+    {
+        let sectors = Vec::with_capacity(alloc, MOST)?;
+        Ok(Scratch { sectors })
+    }
+
+    /// Takes all log sectors away.
+    pub fn clear(&mut self)
+        ensures { self.new ≡ [] }
+    {
+        self.sectors.clear();
+    }
+
+    /// The log sectors, in rising order of their serials.
+    pub fn sectors(&self) -> &[LogSector]
+        ensures sectors { result.now ≡ self.now }
+        ensures few { length result.now ≤ 31 }
+        ensures rising { AreRising result.now }
+    {
+        self.sectors.as_slice()
+    }
+
+    /// What always holds: there are at most 31, and their serials rise.
+    pub fn facts(&self)
+        ensures few { length self.now ≤ 31 }
+        ensures rising { AreRising self.now }
+    {
+        let _ = &self.sectors;
+    }
+
+    /// Puts a log sector in, unless one has its serial. There must be room.
+    pub(crate) fn insert(&mut self, serial: u64, payload: Payload) -> bool
+        requires { length self.old < 31 }
+        ensures told { result ≡ not (has_serial serial self.old) }
+        ensures done { OnTrue result
+            (self.new ≡ with_kept (record { serial = serial; payload = payload }) self.old) }
+        ensures kept { OnFalse result (self.new ≡ self.old) }
+        ensures count { length self.new ≤ length self.old + 1 }
+    {
+        if has_serial(&self.sectors, serial) {
+            return false;
+        }
+        let at = rank_of(&self.sectors, serial);
+        let _ = self.sectors.insert(at, LogSector { serial, payload });
+        true
+    }
+}
