@@ -1,12 +1,11 @@
 -- What a commit sector makes of a chart, of the tables, and of what a power cut leaves.
-use Rattle.std.proofs.Common.{◌≡◌, ℕ, ◌<◌, ◌≤◌, ◌+◌, Bool, true, List, [], ◌∷◌, length, Result, Ok, Err, IfErr, OnOk, ◌++◌, inl, inr, refl, sym, ◌∙◌, ap, subst, arith, get_or, ◌^◌}
+use Rattle.std.proofs.Common.{◌≡◌, ℕ, ◌<◌, ◌≤◌, ◌+◌, Bool, true, List, [], length, Result, Ok, Err, IfErr, OnOk, ◌++◌, inl, inr, refl, sym, ◌∙◌, ap, subst, arith, get_or, ◌^◌}
 use Rattle.std.specs.List.{All, Contains}
 use Rattle.std.proofs.lemmas.List.Elements.{All-contains, Contains-append_cases, Contains-append_left, Contains-append_right, All-from_get_or}
 use Rattle.chip_trait.specs.Chart.{with_sector}
-use Rattle.chip_trait.specs.Image.{IsClosed}
 use Rattle.chip_trait.specs.Lawful.{Clean, age, AreClean}
 use Rattle.chip_trait.specs.Story.{Story}
-use Rattle.chip_trait.specs.Told.{History, Told, adds_all}
+use Rattle.chip_trait.specs.Told.{Told, adds_all}
 use Rattle.ipl_base.specs.declared.fault.ChipFault.{ChipFault}
 use Rattle.ipl_format.specs.Sector.{Sector}
 use Rattle.ipl_format.specs.Commit.{SpellsCommit, IsLong}
@@ -18,7 +17,6 @@ use Rattle.ipl_meaning.specs.Stands.{Says, Stands}
 use Rattle.ipl_meaning.specs.Rests.{now, EachStandsEither, StoryRests}
 use Rattle.ipl_meaning.specs.Steps.{with_committed, MayCommit}
 use Rattle.ipl_meaning.specs.Found.{MentionsBelow}
-use Rattle.ipl_meaning.specs.Last.{is_number}
 use Rattle.ipl_meaning.specs.Tables.{Status, Tables, IsCountedClean}
 use Rattle.ipl_meaning.specs.TableSteps.{after_commit, CountedShrink}
 use Rattle.ipl_meaning.specs.Mirrors.{Mirrors}
@@ -36,7 +34,7 @@ use Rattle.number_set.specs.Numbers.{with_numbers, also}
 use Rattle.number_set.proofs.NumberLemmas.{numbers_are_a_union}
 use Rattle.number_set.proofs.AmongLemmas.{also_is_a_union}
 use Rattle.txn_status.specs.Commits.{commit_sector}
-use Rattle.txn_status.specs.Adding.{HasStatus, MayAdd, with_added, layout_added, Added, Adds, IsReadyToAdd, AddsInSteps}
+use Rattle.txn_status.specs.Adding.{HasStatus, MayAdd, with_added, layout_added, Added, Adds, AddsInSteps}
 use Rattle.txn_status.specs.Writing.{LeadsCommit}
 use Rattle.txn_status.proofs.SetLemmas.{mirrors_looks_at_the_set}
 

@@ -1,5 +1,5 @@
 -- Commit sectors, one after another.
-use Rattle.std.proofs.Common.{◌≡◌, take, ◌&&◌, inl, inr, ◌≤◌, ◌<◌, ◌+◌, ◌*◌, ℕ, zero, suc, max, List, [], ◌∷◌, ◌++◌, Option, Some, None, drop, refl, sym, ◌∙◌, ap, subst, arith, add-one, length, length-append, append_assoc, ◌/◌, ◌%◌, ◌==◌, true, false, Bool, nat_le, nat_lt}
+use Rattle.std.proofs.Common.{◌≡◌, take, ◌&&◌, inl, inr, ◌≤◌, ◌<◌, ◌+◌, ◌*◌, ℕ, zero, suc, max, List, [], ◌∷◌, ◌++◌, Option, Some, None, drop, refl, sym, ◌∙◌, ap, subst, arith, add-one, length, ◌/◌, ◌%◌, ◌==◌, true, nat_le}
 use Rattle.std.proofs.lemmas.List.{drop-drop}
 use Rattle.std.proofs.lemmas.Bool.{le-leb, leb-true, cases_eq, and_parts, cases_Bool, eqb-true}
 use Rattle.ipl_format.specs.Numbers.{long_at}
@@ -14,7 +14,7 @@ use Rattle.sector_format.specs.declared.sector.Head.{Head}
 use Rattle.sector_format.specs.Decode.{sector_of}
 use Rattle.unit_io.specs.ReadsAt.{IsCauseAt}
 use Rattle.opening_rules.specs.First.{greatest_of, joined_below}
-use Rattle.opening_rules.specs.Payloads.{numbers_within, numbers_in, is_commit_payload}
+use Rattle.opening_rules.specs.Payloads.{numbers_within, is_commit_payload}
 use Rattle.opening_rules.specs.Live.{kept, is_commit_of, commit_at}
 use Rattle.opening_rules.specs.LaidOut.{numbers_of}
 use Rattle.opening_rules.specs.Faults.{commit_number, greatest_of_commits}
@@ -22,7 +22,7 @@ use Rattle.ipl_format.specs.Whole.{IsWhole}
 use Rattle.opening_rules.proofs.FirstLemmas.{greatest_step, joined_step}
 use Rattle.opening_rules.proofs.BelowLemmas.{greatest_of-push}
 use Rattle.number_set.specs.Numbers.{Numbers, with_list, with_number, with_numbers}
-use Rattle.txn_status.specs.ReadingIn.{under, IsCommitSpot, IsAt, IsOfPlace, IsStatusAt, IsReadIn}
+use Rattle.txn_status.specs.ReadingIn.{under, IsCommitSpot, IsAt, IsStatusAt}
 
 -- ---- the numbers of a payload
 

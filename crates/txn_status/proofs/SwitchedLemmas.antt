@@ -1,6 +1,5 @@
 -- What a switch leaves: the erase, the parts and the header.
-use Rattle.std.proofs.Common.{◌≡◌, ◌≢◌, ℕ, ◌<◌, ◌≤◌, ◌+◌, ◌-◌, Bool, true, false, List, [], ◌++◌, length, None, Result, Ok, Err, IfErr, is_ok, inl, inr, refl, sym, ◌∙◌, subst, arith, append_assoc}
-use Rattle.std.proofs.lemmas.Bool.{false≢true}
+use Rattle.std.proofs.Common.{◌≡◌, ℕ, ◌<◌, ◌≤◌, ◌+◌, ◌-◌, Bool, true, false, List, [], ◌++◌, length, Result, Ok, Err, IfErr, is_ok, inl, inr, refl, sym, ◌∙◌, subst, arith}
 use Rattle.chip_trait.specs.Chart.{with_sector}
 use Rattle.chip_trait.specs.Lawful.{Clean, age, AreClean, IsLawfulAfter}
 use Rattle.chip_trait.specs.Story.{Story, pieces}
@@ -10,12 +9,10 @@ use Rattle.ipl_format.specs.Sector.{Sector}
 use Rattle.ipl_rules.specs.State.{Map}
 use Rattle.ipl_meaning.specs.Chart.{Chart, chart_of}
 use Rattle.ipl_meaning.specs.Layout.{Layout, Laid}
-use Rattle.ipl_meaning.specs.Stands.{Stands}
 use Rattle.ipl_meaning.specs.Steps.{IsIdle, with_status}
 use Rattle.ipl_meaning.specs.Rests.{now, EachStands, StoryRests}
 use Rattle.ipl_meaning.specs.Tables.{Tables, Status, IsCountedClean}
 use Rattle.ipl_meaning.specs.Mirrors.{Mirrors}
-use Rattle.ipl_meaning.specs.Agrees.{Agrees}
 use Rattle.ipl_meaning.proofs.MirrorLemmas.{map_contains}
 use Rattle.unit_io.specs.Leads.{IsSteady, IsStopped, Leads, KeepsMap}
 use Rattle.unit_io.specs.Spots.{Clears, Programs, Rewrites, IsSpot}

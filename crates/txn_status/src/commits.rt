@@ -3,6 +3,7 @@ ghost use Rattle.std.specs.Prelude.{◌≡◌, ◌≤◌, ◌<◌, ◌+◌, ◌+
 ghost use Rattle.ipl_format.specs.Numbers.{long};
 ghost use Rattle.unit_io.specs.Accounts.{Accounts};
 ghost use Rattle.unit_io.specs.Leads.{IsStopped};
+ghost use Rattle.unit_io.specs.Costs.{ProgramsAt, Spends};
 ghost use Rattle.unit_io.specs.Charts.{Charts, Gains};
 ghost use Rattle.txn_status.specs.Commits.{commit_bytes, commit_sector};
 ghost use Rattle.txn_status.specs.Writing.{LeadsCommit, LeadsPart};
@@ -65,6 +66,7 @@ pub fn write_commit<C: Chip>(
     ensures tells { OnOk result (Charts
         (Gains spot.place spot.sector (commit_sector generation serial numbers.now))
         (C.told chip.old) (C.told chip.new)) }
+    ensures costs { Spends (ProgramsAt spot.place 1 1 6) (C.told chip.old) (C.told chip.new) }
     ensures accounts { Accounts IsStopped result (C.told chip.old) (C.told chip.new) }
 {
     let payload = payload_of(numbers);
@@ -92,6 +94,7 @@ pub fn write_part<C: Chip>(
     ensures tells { OnOk result (Charts
         (Gains spot.place spot.sector (commit_sector generation serial numbers.now))
         (C.told chip.old) (C.told chip.new)) }
+    ensures costs { Spends (ProgramsAt spot.place 1 0 6) (C.told chip.old) (C.told chip.new) }
     ensures accounts { Accounts IsStopped result (C.told chip.old) (C.told chip.new) }
 {
     let payload = payload_of(numbers);

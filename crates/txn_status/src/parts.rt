@@ -2,6 +2,7 @@
 ghost use Rattle.std.specs.Prelude.{◌≡◌, ◌≤◌, ◌<◌, ◌+◌, ◌*◌, ◌^◌, length, OnOk};
 ghost use Rattle.unit_io.specs.Accounts.{Accounts};
 ghost use Rattle.unit_io.specs.Leads.{IsStopped};
+ghost use Rattle.unit_io.specs.Costs.{ProgramsAt, Spends};
 ghost use Rattle.unit_io.specs.Charts.{Charts};
 ghost use Rattle.txn_status.specs.Commits.{part_of};
 ghost use Rattle.txn_status.specs.Status.{parts_of};
@@ -54,6 +55,7 @@ pub fn write_parts<C: Chip>(
         (C.told chip.old) (C.told chip.new)) }
     ensures drawn { OnOk result (counter.new ≡ counter.old + parts_of numbers.now) }
     ensures draws { (counter.old ≤ counter.new) × (counter.new ≤ counter.old + 64) }
+    ensures costs { Spends (ProgramsAt place 64 0 6) (C.told chip.old) (C.told chip.new) }
     ensures accounts { Accounts IsStopped result (C.told chip.old) (C.told chip.new) }
 {
     let count = part_count(numbers);
@@ -81,6 +83,7 @@ pub fn seal_status<C: Chip>(
         (C.told chip.old) result (C.told chip.new) }
     ensures tells { OnOk result (Charts (IsHeaded place units generation)
         (C.told chip.old) (C.told chip.new)) }
+    ensures costs { Spends (ProgramsAt place 1 2 2) (C.told chip.old) (C.told chip.new) }
     ensures accounts { Accounts IsStopped result (C.told chip.old) (C.told chip.new) }
 {
     let mut payload = [0; 4];

@@ -1,10 +1,11 @@
 //! The status of transactions.
-ghost use Rattle.std.specs.Prelude.{◌≡◌, ◌≤◌, ◌<◌, ◌+◌, ◌^◌, ◌↔◌, ℕ, length, Contains, IfOk, IfErr, IsTrue, OnOk, OnErr};
+ghost use Rattle.std.specs.Prelude.{◌≡◌, ◌≤◌, ◌<◌, ◌+◌, ◌^◌, ◌↔◌, ℕ, length, Contains, IfOk, IfErr, IsTrue, OnOk, OnErr, is_ok};
 ghost use Rattle.ipl_base.specs.Places.{IsGeometry};
 ghost use Rattle.ipl_format.specs.Sector.{Sector};
 ghost use Rattle.ipl_meaning.specs.Chart.{chart_of};
 ghost use Rattle.unit_io.specs.Accounts.{Accounts};
 ghost use Rattle.unit_io.specs.Leads.{IsStopped};
+ghost use Rattle.unit_io.specs.Costs.{ProgramsAt, ErasesOnce, Spends};
 ghost use Rattle.unit_io.specs.Charts.{Charts};
 ghost use Rattle.unit_io.specs.Reads.{OfContents};
 ghost use Rattle.unit_io.specs.ReadsAt.{ReadsAt, IsCauseAt};
@@ -200,6 +201,9 @@ impl Status {
             (C.told chip.old) (C.told chip.new)) }
         ensures steps { AddsInSteps (C.told chip.old).places self.old counter.old tids.now
             result (C.told chip.old) (C.told chip.new) }
+        // One program and a barrier.
+        ensures costs { Spends (ProgramsAt self.old.place 1 1 6)
+            (C.told chip.old) (C.told chip.new) }
         ensures accounts { Accounts IsStopped result (C.told chip.old) (C.told chip.new) }
     {
         let serial = counter.draw();
@@ -245,6 +249,9 @@ impl Status {
             (C.told chip.old) (C.told chip.new)) }
         ensures steps { SwitchesInSteps (C.told chip.old).places self.old counter.old place kept.now
             result (C.told chip.old) (C.told chip.new) }
+        // One erase, then programs of the place alone, and three barriers.
+        ensures costs { Spends (ErasesOnce place 3 (is_ok result))
+            (C.told chip.old) (C.told chip.new) }
         ensures accounts { Accounts IsStopped result (C.told chip.old) (C.told chip.new) }
     {
         let generation = counter.draw();

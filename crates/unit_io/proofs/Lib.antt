@@ -11,3 +11,4 @@ pub mod TextLemmas
 pub mod HeldLemmas
 pub mod PlainLemmas
 pub mod ReadsAtLemmas
+pub mod CostLemmas

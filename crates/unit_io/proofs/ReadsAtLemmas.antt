@@ -1,5 +1,5 @@
 -- Calls that only read, one after another, and what they leave.
-use Rattle.std.proofs.Common.{◌≡◌, ℕ, [], ◌∷◌, ◌++◌, append_assoc, Option, Some, None, Result, Ok, Err, inl, inr, refl, sym, ◌∙◌, ap, arith}
+use Rattle.std.proofs.Common.{◌≡◌, ℕ, [], ◌∷◌, ◌++◌, append_assoc, Option, Some, None, Result, Ok, Err, inl, inr, refl, sym, ◌∙◌, ap}
 use Rattle.std.specs.Option.{option_map}
 use Rattle.std.specs.List.{All}
 use Rattle.std.proofs.lemmas.Iterator.Adapters.{option_map_id}
@@ -20,11 +20,11 @@ use Rattle.chip_trait.proofs.CountsLemmas.{counts_none, counts_then}
 use Rattle.unit_io.specs.Reads.{Asked}
 use Rattle.unit_io.specs.ReadsAt.{IsReadAt, ReadsAt}
 
-none_added : (o : Option History) → o ≡ option_map (adds_all []) o
+pub none_added : (o : Option History) → o ≡ option_map (adds_all []) o
 none_added None = refl
 none_added (Some h) = refl
 
-history_then : (later earlier : Story) (o : Option History) → option_map (adds_all later) (option_map (adds_all earlier) o) ≡ option_map (adds_all (later ++ earlier)) o
+pub history_then : (later earlier : Story) (o : Option History) → option_map (adds_all later) (option_map (adds_all earlier) o) ≡ option_map (adds_all (later ++ earlier)) o
 history_then later earlier None = refl
 history_then later earlier (Some h) = ap Some (twice later earlier h)
   where

@@ -8,3 +8,4 @@ pub mod Faults
 pub mod Laws
 pub mod Plain
 pub mod ReadsAt
+pub mod Costs

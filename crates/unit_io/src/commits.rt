@@ -11,6 +11,7 @@ ghost use Rattle.ipl_meaning.specs.Rests.{now, StoryRests};
 ghost use Rattle.unit_io.specs.Accounts.{Accounts};
 ghost use Rattle.unit_io.specs.Leads.{IsSteady, KeepsMap, SwitchesMap, IsStopped};
 ghost use Rattle.unit_io.specs.Spots.{Programs, IsSpot};
+ghost use Rattle.unit_io.specs.Costs.{ProgramsAt, Spends};
 ghost use Rattle.unit_io.specs.Charts.{Charts, Gains};
 
 use crate::calls::{barrier, program};
@@ -36,6 +37,7 @@ pub fn prepare_commit<C: Chip>(
         → KeepsMap (C.told chip.old).places m (Programs spot.place (IsSpot spot.sector))
         (λ done. Gains spot.place spot.sector (sector_of head.now payload.now)) h result (C.told chip.new) }
     ensures tells { OnOk result (Charts (Gains spot.place spot.sector (sector_of head.now payload.now)) (C.told chip.old) (C.told chip.new)) }
+    ensures costs { Spends (ProgramsAt spot.place 1 0 6) (C.told chip.old) (C.told chip.new) }
     ensures accounts { Accounts IsStopped result (C.told chip.old) (C.told chip.new) }
 {
     let mut bytes = [0; 512];
@@ -62,6 +64,7 @@ pub fn add_commit<C: Chip>(
         → SwitchesMap (C.told chip.old).places m n (Programs spot.place (IsSpot spot.sector))
         (λ done. Gains spot.place spot.sector (sector_of head.now payload.now)) h result (C.told chip.new) }
     ensures tells { OnOk result (Charts (Gains spot.place spot.sector (sector_of head.now payload.now)) (C.told chip.old) (C.told chip.new)) }
+    ensures costs { Spends (ProgramsAt spot.place 1 1 6) (C.told chip.old) (C.told chip.new) }
     ensures accounts { Accounts IsStopped result (C.told chip.old) (C.told chip.new) }
 {
     let mut bytes = [0; 512];

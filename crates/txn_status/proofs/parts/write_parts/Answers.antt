@@ -9,6 +9,8 @@ use Rattle.txn_status.specs.Commits.{commit_sector, part_of}
 use Rattle.txn_status.specs.Status.{parts_of}
 use Rattle.txn_status.specs.Writing.{LeadsPart, KeepsParts}
 use Rattle.txn_status.proofs.KeptLemmas.{keeps_none, keeps_more, keeps_failed, told_none, told_more}
+use Rattle.unit_io.specs.Costs.{ProgramsAt}
+use Rattle.unit_io.proofs.CostLemmas.{spends_none, spends_at_then, spends_at_most, nothing_at}
 use Rattle.txn_status.proofs.parts.write_parts.Goals as goal
 
 -- the sector that was programmed is the next part
@@ -33,6 +35,7 @@ loop-i-init g c =
           keeps_none told.places c.args.place c.args.generation c.args.counter.now
           c.args.numbers.now m h told steady rests;
       tells = told_none c.args.place c.args.generation c.args.counter.now c.args.numbers.now told;
+      costs = spends_none (ProgramsAt c.args.place 0 0 6) told (nothing_at c.args.place 0 0 6);
       counts = counts_none told;
       drawn = omega arith;
     }
@@ -58,6 +61,7 @@ loop-i-preserved g c =
       tells = told_more c.args.place c.args.generation c.args.counter.now numbers i old mid new
           so.tells (subst (λ (z : Sector). Charts (Gains c.args.place (1 + i) z) mid new) same
           w.tells);
+      costs = spends_at_then c.args.place i 1 0 0 6 old mid new so.costs w.costs;
       counts = counts_then old mid new so.counts w.accounts.counts;
       drawn = omega (arith, c.draw-serial.ensures.next, so.drawn);
     }
@@ -90,3 +94,19 @@ returns-clause-keeps g c = λ m h steady rests bare clean.
     subst (λ (n : ℕ). KeepsParts (g.C.Chip.told c.args.chip.now).places c.args.place
     c.args.generation c.args.counter.now c.args.numbers.now n m h (Ok tt)
     (g.C.Chip.told c.loop-i.chip)) done (c.loop-i.invariant.keeps m h steady rests bare clean)
+
+pub returns-in_err-write_part-clause-costs : goal.returns-in_err-write_part-clause-costs
+returns-in_err-write_part-clause-costs g c =
+    let old = g.C.Chip.told c.args.chip.now in
+    let mid = g.C.Chip.told c.loop-i.chip in
+    let new = g.C.Chip.told c.write_part.new.chip in
+    let few : c.loop-i.i < 64 =
+    omega (arith, c.part_count-count.ensures.few, c.loop-i-test.true) in
+    spends_at_most c.args.place (c.loop-i.i + 1) 64 0 0 6 old new (omega (arith, few)) (omega arith)
+    (spends_at_then c.args.place c.loop-i.i 1 0 0 6 old mid new c.loop-i.invariant.costs
+    c.in_err-write_part.ensures.costs)
+
+pub returns-clause-costs : goal.returns-clause-costs
+returns-clause-costs g c =
+    spends_at_most c.args.place c.loop-i.i 64 0 0 6 _ _
+    (omega (arith, c.part_count-count.ensures.few)) (omega arith) c.loop-i.invariant.costs

@@ -4,6 +4,7 @@ use Rattle.chip_trait.specs.Told.{Told, History, Counts}
 use Rattle.ipl_rules.specs.State.{Map}
 use Rattle.ipl_meaning.specs.Rests.{now, StoryRests}
 use Rattle.unit_io.specs.Leads.{IsSteady}
+use Rattle.unit_io.specs.Costs.{ProgramsAt, Spends}
 use Rattle.unit_io.specs.Charts.{Charts}
 use Rattle.txn_status.specs.Status.{parts_of}
 use Rattle.txn_status.specs.Switching.{HasParts, IsPartSpot}
@@ -18,6 +19,7 @@ pub record AreWritten (first t : Told) (place generation serial : ℕ) (numbers 
       → ((s : ℕ) → IsPartSpot (parts_of numbers) s → age h.story place s ≡ Clean)
       → KeepsParts first.places place generation serial numbers n m h (Ok tt) t
   pub tells : Charts (HasParts place generation serial numbers n) first t
+  pub costs : Spends (ProgramsAt place n 0 6) first t
   pub counts : Counts first t
   pub drawn : counter ≡ serial + n
 

@@ -1,7 +1,7 @@
-use Rattle.std.proofs.Common.{◌≡◌, ◌∙◌, ◌≤◌, ◌<◌, ◌+◌, ℕ, List, [], Some, None, ap, subst, arith, refl}
+use Rattle.std.proofs.Common.{◌≡◌, ◌∙◌, ◌≤◌, ◌<◌, ℕ, [], None, ap, subst, arith}
 use Rattle.std.proofs.lemmas.Result.{err_from_is_err_and}
 use Rattle.ipl_meaning.specs.Chart.{chart_of}
-use Rattle.unit_io.proofs.ReadsAtLemmas.{at_none, at_then, at_wider}
+use Rattle.unit_io.proofs.ReadsAtLemmas.{at_then, at_wider}
 use Rattle.ipl_base.specs.First.{first_below}
 use Rattle.opening_rules.specs.First.{joined_below}
 use Rattle.opening_rules.specs.LaidOut.{numbers_of}
@@ -9,7 +9,7 @@ use Rattle.opening_rules.specs.Live.{sectors, commit_at}
 use Rattle.opening_rules.specs.Faults.{commit_fault, greatest_of_commits}
 use Rattle.ipl_base.proofs.FirstLemmas.{first_more, first_found}
 use Rattle.opening_rules.proofs.LiveLemmas.{sectors_are}
-use Rattle.number_set.specs.Numbers.{Numbers, with_numbers}
+use Rattle.number_set.specs.Numbers.{with_numbers}
 use Rattle.txn_status.specs.ReadingIn.{under, IsAt, IsCommitSpot}
 use Rattle.txn_status.proofs.ReadLemmas.{number_more, numbers_more, whole_more, cause_wider, in_place}
 use Rattle.txn_status.proofs.reading.read_commits.Goals as goal

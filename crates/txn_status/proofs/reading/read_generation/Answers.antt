@@ -1,4 +1,4 @@
-use Rattle.std.proofs.Common.{refl, ◌∙◌}
+use Rattle.std.proofs.Common.{refl}
 use Rattle.ipl_meaning.specs.Chart.{chart_of}
 use Rattle.unit_io.proofs.ReadsAtLemmas.{at_asked}
 use Rattle.txn_status.specs.ReadingIn.{IsAt}

@@ -1,4 +1,4 @@
-use Rattle.std.proofs.Common.{refl, List, ℕ, subst, sym}
+use Rattle.std.proofs.Common.{refl, List, ℕ, subst}
 use Rattle.ipl_format.specs.Whole.{IsWhole}
 use Rattle.unit_io.proofs.ReadsAtLemmas.{at_asked}
 use Rattle.txn_status.specs.ReadingIn.{IsAt}

@@ -1,5 +1,7 @@
 use Rattle.std.proofs.lemmas.Result.{err_from_is_err_and}
 use Rattle.unit_io.proofs.SealLemmas.{added_leads, added_fails}
+use Rattle.std.proofs.Common.{Ok, Err, arith}
+use Rattle.unit_io.proofs.CostLemmas.{spends_at_most, spends_at_then, spends_of_kind, spends_programmed, spends_barred}
 use Rattle.unit_io.proofs.commits.add_commit.Goals as goal
 
 pub returns-in_err-program-clause-leads : goal.returns-in_err-program-clause-leads
@@ -10,3 +12,14 @@ returns-in_err-program-clause-leads g c = λ m n h steady rests closed clean sta
 pub returns-clause-leads : goal.returns-clause-leads
 returns-clause-leads g c = λ m n h steady rests closed clean stands.
     added_leads _ m n h c.args.spot.place c.args.spot.sector _ _ c.encode.ensures.said rests clean stands closed _ _ _ _ steady c.in_ok-program.ensures.did c.barrier.ensures.did
+
+pub returns-in_err-program-clause-costs : goal.returns-in_err-program-clause-costs
+returns-in_err-program-clause-costs g c =
+    spends_at_most c.args.spot.place 1 1 0 1 6 _ _ (omega arith) (omega arith)
+    (spends_of_kind c.args.spot.place 1 0 _ 6 _ _ c.requires.kind (spends_programmed c.args.spot.place c.args.spot.sector _ _ _ _ (Err c.in_err-program.field-0.0) c.encode.ensures.said c.in_err-program.ensures.did))
+
+pub returns-clause-costs : goal.returns-clause-costs
+returns-clause-costs g c =
+    spends_at_then c.args.spot.place 1 0 0 1 6 _ (g.C.Chip.told c.program.new.chip) _
+    (spends_of_kind c.args.spot.place 1 0 _ 6 _ _ c.requires.kind (spends_programmed c.args.spot.place c.args.spot.sector _ _ _ _ (Ok tt) c.encode.ensures.said c.in_ok-program.ensures.did))
+    (spends_barred c.args.spot.place 6 _ _ _ c.barrier.ensures.did)

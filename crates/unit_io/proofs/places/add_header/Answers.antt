@@ -1,6 +1,8 @@
 use Rattle.std.proofs.lemmas.Result.{err_from_is_err_and}
 use Rattle.unit_io.proofs.SealLemmas.{added_leads, added_fails}
 use Rattle.unit_io.proofs.PlainLemmas.{plain_then, plain_did, plain_waited}
+use Rattle.std.proofs.Common.{Ok, Err, arith}
+use Rattle.unit_io.proofs.CostLemmas.{spends_at_most, spends_at_then, spends_programmed, spends_barred}
 use Rattle.unit_io.proofs.places.add_header.Goals as goal
 
 pub returns-in_err-program-clause-leads : goal.returns-in_err-program-clause-leads
@@ -20,3 +22,14 @@ returns-clause-plain g c = λ plain.
     plain_then (g.C.Chip.told c.args.chip.now) (g.C.Chip.told c.program.new.chip) (g.C.Chip.told c.barrier.new.chip)
     (plain_did _ (g.C.Chip.told c.args.chip.now) (g.C.Chip.told c.program.new.chip) plain c.program.result c.program.ensures.did)
     (plain_waited (g.C.Chip.told c.program.new.chip) (g.C.Chip.told c.barrier.new.chip) c.barrier.result c.barrier.ensures.did)
+
+pub returns-in_err-program-clause-costs : goal.returns-in_err-program-clause-costs
+returns-in_err-program-clause-costs g c = λ said says.
+    spends_at_most c.args.place 1 1 0 1 said.kind _ _ (omega arith) (omega arith)
+    (spends_programmed c.args.place 0 _ said _ _ (Err c.in_err-program.field-0.0) says c.in_err-program.ensures.did)
+
+pub returns-clause-costs : goal.returns-clause-costs
+returns-clause-costs g c = λ said says.
+    spends_at_then c.args.place 1 0 0 1 said.kind _ (g.C.Chip.told c.program.new.chip) _
+    (spends_programmed c.args.place 0 _ said _ _ (Ok tt) says c.in_ok-program.ensures.did)
+    (spends_barred c.args.place said.kind _ _ _ c.barrier.ensures.did)

@@ -1,6 +1,9 @@
 use Rattle.std.proofs.lemmas.Result.{err_from_is_err_and}
 use Rattle.unit_io.proofs.PlaceLemmas.{begin_leads, begin_fails, begin_tells}
 use Rattle.unit_io.proofs.PlainLemmas.{plain_then, plain_did, plain_waited}
+use Rattle.std.proofs.Common.{Ok, Err, false, arith}
+use Rattle.std.specs.Prelude.{is_ok}
+use Rattle.unit_io.proofs.CostLemmas.{spends_once_at_most, spends_once_then, spends_erased, spends_barred}
 use Rattle.unit_io.proofs.places.begin_unit.Goals as goal
 
 pub returns-in_err-erase-clause-keeps : goal.returns-in_err-erase-clause-keeps
@@ -23,3 +26,14 @@ returns-clause-plain g c =
     plain_then (g.C.Chip.told c.args.chip.now) (g.C.Chip.told c.erase.new.chip) (g.C.Chip.told c.barrier.new.chip)
     (plain_did _ (g.C.Chip.told c.args.chip.now) (g.C.Chip.told c.erase.new.chip) tt c.erase.result c.erase.ensures.did)
     (plain_waited (g.C.Chip.told c.erase.new.chip) (g.C.Chip.told c.barrier.new.chip) c.barrier.result c.barrier.ensures.did)
+
+pub returns-in_err-erase-clause-costs : goal.returns-in_err-erase-clause-costs
+returns-in_err-erase-clause-costs g c =
+    let e = err_from_is_err_and c.from_residual.result c.from_residual.ensures.1 in
+    rw e.1 (spends_once_at_most c.args.place 0 1 false _ _ (omega arith) (spends_erased c.args.place (g.C.Chip.told c.args.chip.now) (g.C.Chip.told c.erase.new.chip) (Err e.0) c.in_err-erase.ensures.did))
+
+pub returns-clause-costs : goal.returns-clause-costs
+returns-clause-costs g c =
+    spends_once_then c.args.place 0 0 1 0 (is_ok c.barrier.result) _ (g.C.Chip.told c.erase.new.chip) _
+    (spends_erased c.args.place (g.C.Chip.told c.args.chip.now) (g.C.Chip.told c.erase.new.chip) (Ok tt) c.in_ok-erase.ensures.did)
+    (spends_barred c.args.place 0 _ _ _ c.barrier.ensures.did)

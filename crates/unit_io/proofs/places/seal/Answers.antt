@@ -3,6 +3,8 @@ use Rattle.std.proofs.lemmas.Result.{err_from_is_err_and}
 use Rattle.chip_trait.specs.Lawful.{settled}
 use Rattle.unit_io.proofs.SealLemmas.{seal_leads, seal_fails, settled_rests, steady_settled}
 use Rattle.unit_io.proofs.PlainLemmas.{plain_then, plain_waited, plain_said}
+use Rattle.std.proofs.Common.{Ok, Err, arith}
+use Rattle.unit_io.proofs.CostLemmas.{spends_at_most, spends_at_then, spends_barred}
 use Rattle.unit_io.proofs.places.seal.Goals as goal
 
 pub returns-in_err-barrier-clause-leads : goal.returns-in_err-barrier-clause-leads
@@ -25,3 +27,14 @@ returns-clause-plain g c = λ plain.
     plain_then (g.C.Chip.told c.args.chip.now) (g.C.Chip.told c.barrier.new.chip) (g.C.Chip.told c.add_header.new.chip)
     (plain_waited (g.C.Chip.told c.args.chip.now) (g.C.Chip.told c.barrier.new.chip) c.barrier.result c.barrier.ensures.did)
     (c.add_header.ensures.plain (plain_said _ _ c.encode.ensures.said plain))
+
+pub returns-in_err-barrier-clause-costs : goal.returns-in_err-barrier-clause-costs
+returns-in_err-barrier-clause-costs g c =
+    spends_at_most c.args.place 0 1 1 2 c.args.head.now.kind _ _ (omega arith) (omega arith)
+    (spends_barred c.args.place c.args.head.now.kind _ _ (Err c.in_err-barrier.field-0.0) c.in_err-barrier.ensures.did)
+
+pub returns-clause-costs : goal.returns-clause-costs
+returns-clause-costs g c =
+    spends_at_then c.args.place 0 1 1 1 c.args.head.now.kind _ (g.C.Chip.told c.barrier.new.chip) _
+    (spends_barred c.args.place c.args.head.now.kind _ _ (Ok tt) c.in_ok-barrier.ensures.did)
+    (c.add_header.ensures.costs _ c.encode.ensures.said)

@@ -1,5 +1,6 @@
 use Rattle.unit_io.proofs.SectorLemmas.{aside_leads}
 use Rattle.unit_io.proofs.PlainLemmas.{plain_did}
+use Rattle.unit_io.proofs.CostLemmas.{spends_programmed}
 use Rattle.unit_io.proofs.sectors.program_aside.Goals as goal
 
 pub returns-clause-aside : goal.returns-clause-aside
@@ -8,3 +9,6 @@ returns-clause-aside g c = λ m h said says steady rests bare other clean.
 
 pub returns-clause-plain : goal.returns-clause-plain
 returns-clause-plain g c = λ plain. plain_did _ (g.C.Chip.told c.args.chip.now) (g.C.Chip.told c.program.new.chip) plain c.program.result c.program.ensures.did
+
+pub returns-clause-costs : goal.returns-clause-costs
+returns-clause-costs g c = λ said says. spends_programmed c.args.place c.args.sector _ said _ _ _ says c.program.ensures.did

@@ -1,4 +1,5 @@
 use Rattle.unit_io.proofs.SectorLemmas.{aside_leads, log_leads}
+use Rattle.unit_io.proofs.CostLemmas.{spends_of_kind, spends_programmed}
 use Rattle.unit_io.proofs.sectors.program_log.Goals as goal
 
 pub returns-clause-keeps : goal.returns-clause-keeps
@@ -8,3 +9,8 @@ returns-clause-keeps g c = λ m it h u records steady rests laid may clean.
 pub returns-clause-aside : goal.returns-clause-aside
 returns-clause-aside g c = λ m h steady rests bare other clean.
     aside_leads _ c.args.spot.place c.args.spot.sector _ _ (rw c.bytes.ensures.value at c.encode.ensures.said) m h _ _ _ steady c.program.ensures.did rests clean bare other
+
+pub returns-clause-costs : goal.returns-clause-costs
+returns-clause-costs g c =
+    spends_of_kind c.args.spot.place 1 0 _ 5 _ _ c.requires.kind
+    (spends_programmed c.args.spot.place c.args.spot.sector _ _ _ _ _ c.encode.ensures.said c.program.ensures.did)

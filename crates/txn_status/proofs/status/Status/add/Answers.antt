@@ -8,6 +8,7 @@ use Rattle.txn_status.specs.Commits.{commit_sector}
 use Rattle.txn_status.specs.Adding.{Adds, AddsInSteps}
 use Rattle.txn_status.specs.Writing.{LeadsCommit}
 use Rattle.txn_status.proofs.AddLemmas.{AreSpelled, spelled_from, added_in_steps, adds_told}
+use Rattle.unit_io.specs.Costs.{ProgramsAt, Spends}
 use Rattle.txn_status.proofs.status.Status.add.Goals as goal
 
 pub returns-in_err-write_commit-clause-steps : goal.returns-in_err-write_commit-clause-steps
@@ -107,3 +108,15 @@ returns-clause-steps g c =
     (subst (λ (k : ℕ). LeadsCommit old.places inside.place inside.first
     (commit_sector inside.generation k tids) old (Ok tt) new) c.draw-serial.ensures.drawn
     c.in_ok-write_commit.ensures.leads) tt)
+
+pub returns-in_err-write_commit-clause-costs : goal.returns-in_err-write_commit-clause-costs
+returns-in_err-write_commit-clause-costs g c =
+    subst (λ (s : Status). Spends (ProgramsAt s.place 1 1 6)
+    (g.C.Chip.told c.args.chip.now) (g.C.Chip.told c.write_commit.new.chip)) c.self.view_is
+    c.in_err-write_commit.ensures.costs
+
+pub returns-clause-costs : goal.returns-clause-costs
+returns-clause-costs g c =
+    subst (λ (s : Status). Spends (ProgramsAt s.place 1 1 6)
+    (g.C.Chip.told c.args.chip.now) (g.C.Chip.told c.write_commit.new.chip)) c.self.view_is
+    c.in_ok-write_commit.ensures.costs

@@ -1,4 +1,4 @@
-use Rattle.std.proofs.Common.{ℕ, ◌≡◌, ◌∙◌, subst, refl, arith}
+use Rattle.std.proofs.Common.{ℕ, ◌∙◌, subst, arith}
 use Rattle.ipl_meaning.specs.Chart.{chart_of}
 use Rattle.unit_io.proofs.ReadsAtLemmas.{at_then, at_wider}
 use Rattle.txn_status.specs.ReadingIn.{IsAt, IsCommitSpot, IsOfPlace, IsReadIn}

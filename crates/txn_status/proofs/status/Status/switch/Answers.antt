@@ -1,4 +1,4 @@
-use Rattle.std.proofs.Common.{◌≡◌, ◌-◌, ◌+◌, ℕ, List, Result, Ok, Err, ◌∙◌, ap, subst, arith}
+use Rattle.std.proofs.Common.{true, false, ◌≡◌, ◌-◌, ◌+◌, ℕ, List, Result, Ok, Err, ◌∙◌, ap, subst, arith}
 use Rattle.std.proofs.lemmas.Result.{err_from_is_err_and}
 use Rattle.std.proofs.lemmas.List.Elements.{All-from_get_or}
 use Rattle.chip_trait.specs.Told.{Told}
@@ -11,6 +11,7 @@ use Rattle.txn_status.specs.Switching.{HasParts}
 use Rattle.txn_status.specs.Writing.{LeadsParts, LeadsHeader, IsHeaded}
 use Rattle.txn_status.proofs.SwitchLemmas.{AreLong}
 use Rattle.txn_status.proofs.SwitchedLemmas.{erase_failed, parts_failed, switched_in_steps, switches_told}
+use Rattle.unit_io.proofs.CostLemmas.{spends_once_at_most, spends_once_then}
 use Rattle.txn_status.proofs.status.Status.switch.Goals as goal
 
 -- the clauses of the calls, at the numbers that were drawn and the places of the first chip
@@ -152,3 +153,46 @@ returns-clause-switches g c =
     c.in_ok-seal_status.ensures.tells) in
     switches_told old.places c.args.self.now next place kept c.requires.place each c.requires.few
     old mid1 mid2 new c.in_ok-begin_unit.ensures.tells parts seal
+
+pub returns-in_err-begin_unit-clause-costs : goal.returns-in_err-begin_unit-clause-costs
+returns-in_err-begin_unit-clause-costs g c =
+    let old = g.C.Chip.told c.args.chip.now in
+    let mid1 = g.C.Chip.told c.begin_unit.new.chip in
+    let e = err_from_is_err_and c.from_residual.result c.from_residual.ensures.1 in
+    rw e.1 (spends_once_at_most c.args.place 1 3 false old mid1 (omega arith)
+    c.in_err-begin_unit.ensures.costs)
+
+pub returns-in_err-write_parts-clause-costs : goal.returns-in_err-write_parts-clause-costs
+returns-in_err-write_parts-clause-costs g c =
+    let old = g.C.Chip.told c.args.chip.now in
+    let mid1 = g.C.Chip.told c.begin_unit.new.chip in
+    let mid2 = g.C.Chip.told c.write_parts.new.chip in
+    let e = err_from_is_err_and c.from_residual-in_err-write_parts.result
+    c.from_residual-in_err-write_parts.ensures.1 in
+    rw e.1 (spends_once_at_most c.args.place 1 3 false old mid2 (omega arith)
+    (spends_once_then c.args.place 64 1 0 6 false old mid1 mid2
+    c.in_ok-begin_unit.ensures.costs c.in_err-write_parts.ensures.costs))
+
+pub returns-in_err-seal_status-clause-costs : goal.returns-in_err-seal_status-clause-costs
+returns-in_err-seal_status-clause-costs g c =
+    let old = g.C.Chip.told c.args.chip.now in
+    let mid1 = g.C.Chip.told c.begin_unit.new.chip in
+    let mid2 = g.C.Chip.told c.write_parts.new.chip in
+    let new = g.C.Chip.told c.seal_status.new.chip in
+    let e = err_from_is_err_and c.from_residual-in_err-seal_status.result
+    c.from_residual-in_err-seal_status.ensures.1 in
+    rw e.1 (spends_once_then c.args.place 1 1 2 2 false old mid2 new
+    (spends_once_then c.args.place 64 1 0 6 true old mid1 mid2
+    c.in_ok-begin_unit.ensures.costs c.in_ok-write_parts.ensures.costs)
+    c.in_err-seal_status.ensures.costs)
+
+pub returns-clause-costs : goal.returns-clause-costs
+returns-clause-costs g c =
+    let old = g.C.Chip.told c.args.chip.now in
+    let mid1 = g.C.Chip.told c.begin_unit.new.chip in
+    let mid2 = g.C.Chip.told c.write_parts.new.chip in
+    let new = g.C.Chip.told c.seal_status.new.chip in
+    spends_once_then c.args.place 1 1 2 2 true old mid2 new
+    (spends_once_then c.args.place 64 1 0 6 true old mid1 mid2
+    c.in_ok-begin_unit.ensures.costs c.in_ok-write_parts.ensures.costs)
+    c.in_ok-seal_status.ensures.costs
