@@ -144,7 +144,7 @@ laid_once places c it jt one other = record {
 -- ---- One map
 
 -- the base sectors of a page read as one page
-reads_once : (c : Chart) (u : ℕ) (it : Shape) (page : ℕ) (a b : Slots) → ReadsWell c u it page a → ReadsWell c u it page b → a ≡ b
+pub reads_once : (c : Chart) (u : ℕ) (it : Shape) (page : ℕ) (a b : Slots) → ReadsWell c u it page a → ReadsWell c u it page b → a ≡ b
 reads_once c u it page a b one other =
     let text : page_text a ≡ page_text b = pieces_say_once (slice_index it.pieces page) (page_text a) (page_text b) one.cut other.cut (λ i within.
     let both : Some (base_sector u it.head.generation page i (page_text a)) ≡ Some (base_sector u it.head.generation page i (page_text b)) = sym (one.here i within) ∙ other.here i within in
@@ -153,7 +153,7 @@ reads_once c u it page a b one other =
     pages_spell_once (page_text a) a b (record { slots = one.fits; text = refl }) (record { slots = other.fits; text = text })
 
 -- two showings of a page are the same
-shows_once : (c : Chart) (committed other : ℕ → Bool) (u : ℕ) (it : Shape) (page : ℕ) (now after : Values) → ((tid : ℕ) → committed tid ≡ other tid) → Shows c committed u it page now → Shows c other u it page after
+pub shows_once : (c : Chart) (committed other : ℕ → Bool) (u : ℕ) (it : Shape) (page : ℕ) (now after : Values) → ((tid : ℕ) → committed tid ≡ other tid) → Shows c committed u it page now → Shows c other u it page after
     → (slot : ℕ) → slot < 64 → now slot ≡ after slot
 shows_once c committed other u it page now after same one two slot low =
     one.says slot low

@@ -1,5 +1,5 @@
 -- The tables in memory say what the chip's sectors say.
-use Rattle.std.specs.Prelude.{ℕ, ◌≡◌, ◌≢◌, ◌↔◌, ◌<◌, ◌≤◌, ◌-◌, false, IsTrue, length, slice_index, None, All, AllPairs, Contains}
+use Rattle.std.specs.Prelude.{ℕ, ◌≡◌, ◌≢◌, ◌↔◌, ◌⊎◌, ◌<◌, ◌≤◌, ◌-◌, false, IsTrue, length, slice_index, None, All, AllPairs, Contains}
 use Rattle.ipl_format.specs.Sector.{Sector}
 use Rattle.ipl_meaning.specs.Chart.{Chart, IsOverflow}
 use Rattle.ipl_meaning.specs.Layout.{Layout, Laid, IsLiveIn}
@@ -46,6 +46,11 @@ pub record MirrorsNumbers (places : ℕ) (c : Chart) (it : Layout) (t : Tables) 
   pub below : All (λ n. n < t.next) t.active
   pub once : AllPairs AreApart t.active
   pub waits : All (λ n. it.committed n ≡ false) t.active
+
+-- no place is lost: each that is in use is a unit's, the status place or an overflow place
+abbrev pub NoneIsLost : ℕ → Tables → Type 0
+NoneIsLost places t = (p : ℕ) → p < places → ¬ IsFree t.places p
+    → Contains t.places.current p ⊎ (p ≡ t.status.place) ⊎ Contains (overflow_places t) p
 
 -- the tables say what the chart is laid out as
 pub record Mirrors (places : ℕ) (c : Chart) (it : Layout) (t : Tables) : Type 0 where

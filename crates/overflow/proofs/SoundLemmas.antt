@@ -6,12 +6,18 @@ use Rattle.std.proofs.lemmas.List.{length-set, length-map, length_push}
 use Rattle.std.proofs.lemmas.List.Elements.{All-nil, All-push, All-get_or, All-set, All-map, All-filter, All-weaker}
 use Rattle.std.proofs.lemmas.List.Sums.{length-filter, count_by-le-length}
 use Rattle.ipl_meaning.specs.Tables.{OverflowLists}
-use Rattle.overflow.specs.Lists.{IsSoundOverflow, IsFirst, AreFew, IsWithin, AreWithin, clean_behind, after_add, after_drop, is_kept, spots_in, without_unit}
+use Rattle.overflow.specs.Lists.{IsSoundOverflow, IsFirst, AreFew, IsWithin, AreWithin, IsPlaceOf, clean_behind, after_add, after_drop, is_kept, spots_in, without_unit}
 
 first_still : (p s : ℕ) → s < 256 → (o : ℕ × ℕ) → IsFirst o → IsFirst (clean_behind p s o)
 first_still p s low o (least, most) = elim (cases_Bool (eqb o.0 p)) [
   | inl here ↦ rw here (omega arith, omega arith)
   | inr apart ↦ rw apart (least, most)
+]
+
+place_still : (p s places : ℕ) (o : ℕ × ℕ) → IsPlaceOf places o → IsPlaceOf places (clean_behind p s o)
+place_still p s places o low = elim (cases_Bool (eqb o.0 p)) [
+  | inl here ↦ rw here low
+  | inr apart ↦ rw apart low
 ]
 
 pub sound_added : (it : OverflowLists) (u p s : ℕ) → IsSoundOverflow it → u < length it.spots
@@ -32,6 +38,12 @@ sound_added it u p s sound unit few place low = record {
       (All-push (IsWithin (length it.spots + 4)) (spots_in it u) (p, s)
       (All-get_or (AreWithin (length it.spots + 4)) it.spots u [] unit sound.within)
       (place, low)) sound.within);
+  placed = subst (λ (k : ℕ). All (IsPlaceOf (k + 4)) (map (clean_behind p s) it.in_use))
+      (sym (length-set it.spots u (spots_in it u ++ (p, s) ∷ [])))
+      (All-map (IsPlaceOf (length it.spots + 4)) (clean_behind p s) it.in_use
+      (All-weaker (IsPlaceOf (length it.spots + 4))
+      (λ o. IsPlaceOf (length it.spots + 4) (clean_behind p s o))
+      (place_still p s (length it.spots + 4)) it.in_use sound.placed));
 }
 
 pub sound_dropped : (it : OverflowLists) (u : ℕ) → IsSoundOverflow it
@@ -50,6 +62,9 @@ sound_dropped it u sound = record {
       (sym (length-set it.spots u []))
       (All-set (AreWithin (length it.spots + 4)) it.spots u []
       (All-nil (IsWithin (length it.spots + 4))) sound.within);
+  placed = subst (λ (k : ℕ). All (IsPlaceOf (k + 4)) (filter (is_kept (without_unit it u)) it.in_use))
+      (sym (length-set it.spots u []))
+      (All-filter (is_kept (without_unit it u)) (IsPlaceOf (length it.spots + 4)) it.in_use sound.placed);
 }
 
 -- ---- the fields after a call

@@ -5,7 +5,7 @@ use Rattle.std.proofs.lemmas.Bool.{cases_Bool, leb-true}
 use Rattle.std.proofs.lemmas.List.Elements.{All-contains}
 use Rattle.std.specs.Option.{option_map, IfSome, IfNone}
 use Rattle.ipl_base.specs.declared.spot.Spot.{Spot}
-use Rattle.overflow.specs.Lists.{pair_of, IsFirst, lower_spot, first_spot}
+use Rattle.overflow.specs.Lists.{pair_of, IsFirst, lower_spot, first_spot, IsPlaceOf}
 use Rattle.overflow.specs.Laws.{OffersSpots}
 use Rattle.overflow.proofs.ElementLemmas.{contains_cons, contains_here, contains_there, contains_nil, leb_false}
 
@@ -172,6 +172,14 @@ spot_in_range places None firsts is = tt
 spot_in_range places (Some spot) firsts is =
     let (there, low) = (spots_are_clean_ones places).some spot.place spot.sector (sym is) in
     ((All-contains IsFirst places (spot.place, spot.sector) firsts there).0, low)
+
+pub spot_placed : (places : List (ℕ × ℕ)) (all : ℕ) (r : Option Spot) → All (IsPlaceOf all) places
+    → option_map pair_of r ≡ first_spot None places
+    → IfSome r (λ spot. spot.place < all)
+spot_placed places all None placed is = tt
+spot_placed places all (Some spot) placed is =
+    let (there, low) = (spots_are_clean_ones places).some spot.place spot.sector (sym is) in
+    All-contains (IsPlaceOf all) places (spot.place, spot.sector) placed there
 
 pub spot_lowest : (places : List (ℕ × ℕ)) (r : Option Spot)
     → option_map pair_of r ≡ first_spot None places

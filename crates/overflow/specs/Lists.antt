@@ -113,11 +113,16 @@ IsWithin places spot = (spot.0 < places) × (spot.1 < 256)
 abbrev pub AreWithin : ℕ → List (ℕ × ℕ) → Type 0
 AreWithin places spots = All (IsWithin places) spots
 
+-- it is a place of a chip with so many
+abbrev pub IsPlaceOf : ℕ → ℕ × ℕ → Type 0
+IsPlaceOf places it = it.0 < places
+
 -- at most 1024 units have at most 16 spots each, and at most two places are in use; all spots are
--- sectors of the chip, which has four places more than units
+-- sectors of the chip, and all places in use places of it: it has four places more than units
 pub record IsSoundOverflow (it : OverflowLists) : Type 0 where
   pub units : length it.spots ≤ 1024
   pub few : All AreFew it.spots
   pub two : length it.in_use ≤ 2
   pub firsts : All IsFirst it.in_use
   pub within : All (AreWithin (length it.spots + 4)) it.spots
+  pub placed : All (IsPlaceOf (length it.spots + 4)) it.in_use

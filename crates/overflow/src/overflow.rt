@@ -61,7 +61,7 @@ impl Overflow {
     }
 
     /// What always holds: there are at most 1024 units, each with at most 16 spots, and at most two
-    /// places in use.
+    /// places in use; all these are sectors and places of a chip with four places more than units.
     pub fn facts(&self)
         ensures { IsSoundOverflow self.now }
     {
@@ -96,6 +96,7 @@ impl Overflow {
         // What that comes to.
         ensures some { IfSome result (λ spot. Contains self.now.in_use (pair_of spot)) }
         ensures in_range { IfSome result (λ spot. (1 ≤ spot.sector) × (spot.sector < 256)) }
+        ensures placed { IfSome result (λ spot. spot.place < length self.now.spots + 4) }
         ensures lowest { IfSome result (λ spot.
             (p first : ℕ) → Contains self.now.in_use (p, first) → first < 256 → spot.place ≤ p) }
         ensures none { IfNone result
@@ -114,7 +115,8 @@ impl Overflow {
     /// A place is an overflow place in use, as one that was taken and erased before: its sectors 1
     /// to 255 are clean. That one more may be taken is a condition, which `may_add` tests.
     pub fn add_place(&mut self, place: u32)
-        requires { length self.old.in_use < 2 }
+        requires few { length self.old.in_use < 2 }
+        requires place { place < length self.old.spots + 4 }
         ensures { self.new ≡ with_place self.old place 1 }
     {
         self.in_use.push(PlaceInUse { place, first: 1 });
@@ -123,7 +125,8 @@ impl Overflow {
     /// A place is an overflow place in use, as one that was found on a chip: none of its sectors is
     /// known clean. That one more may be taken is a condition, which `may_add` tests.
     pub fn adopt_place(&mut self, place: u32)
-        requires { length self.old.in_use < 2 }
+        requires few { length self.old.in_use < 2 }
+        requires place { place < length self.old.spots + 4 }
         ensures { self.new ≡ with_place self.old place 256 }
     {
         let first = SECTORS;

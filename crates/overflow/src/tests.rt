@@ -36,11 +36,11 @@ fn run(rt: &impl Abort, overflow: &mut Overflow, call: Call) -> [Option<u32>; 2]
 {
     match call {
         Call::AddPlace(place) => {
-            assert!(rt; overflow.may_add());
+            assert!(rt; overflow.may_add() && place < 7);
             overflow.add_place(place);
         }
         Call::AdoptPlace(place) => {
-            assert!(rt; overflow.may_add());
+            assert!(rt; overflow.may_add() && place < 7);
             overflow.adopt_place(place);
         }
         Call::Add(unit, spot) => {

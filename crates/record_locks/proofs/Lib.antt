@@ -1,7 +1,7 @@
-mod NameLemmas
-mod SlotLemmas
-mod StandingLemmas
-mod TotalLemmas
-mod CallLemmas
-mod SameLemmas
-mod KeepLemmas
+pub mod NameLemmas
+pub mod SlotLemmas
+pub mod StandingLemmas
+pub mod TotalLemmas
+pub mod CallLemmas
+pub mod SameLemmas
+pub mod KeepLemmas

@@ -1,5 +1,5 @@
 mod ReadLemmas
-mod LineLemmas
+pub mod LineLemmas
 pub mod RunLemmas
 mod AnswerLemmas
 mod GoesLemmas

@@ -9,5 +9,6 @@ mod buffer;
 mod fault;
 mod run;
 
+pub use buffer::LineBuffer;
 pub use fault::Stop;
 pub use run::run_script;
