@@ -35,11 +35,11 @@ faults_consistently places faults = record { settled = λ x e. cc; replayed = λ
 
 -- what a chip in a file tells
 abbrev pub file_told_of : FileChip → Told
-file_told_of chip = telling_faults chip.units chip.faults
+file_told_of chip = telling_faults chip.places chip.faults
 
 -- what a chip tells that isn't there
 abbrev pub absent_told_of : NoChip → Told
-absent_told_of chip = telling_faults chip.units chip.faults
+absent_told_of chip = telling_faults chip.places chip.faults
 
 -- a failed read is counted, and nothing else has changed
 pub record CountsRead (old new : Told) : Type 0 where

@@ -20,15 +20,15 @@ pub(crate) fn open_or_make<R: Files<File = File>>(
     files: &R,
     alloc: Global,
     path: &str,
-    units: u32,
+    places: u32,
     blank: &[u8],
 ) -> Result<File, AttachFault>
     ensures { IfOk result IsApart }
 {
     match File::options().read(true).write(true).open(files, path) {
-        Ok(file) => take(files, file, path, units),
+        Ok(file) => take(files, file, path, places),
         Err(fault) if fault.kind() == ErrorKind::NotFound => {
-            make(files, alloc, path, units, blank)
+            make(files, alloc, path, places, blank)
         }
         Err(_) => Err(AttachFault::NoFile),
     }
@@ -39,12 +39,12 @@ fn take<R: Files<File = File>>(
     files: &R,
     file: File,
     path: &str,
-    units: u32,
+    places: u32,
 ) -> Result<File, AttachFault>
     ensures { IfOk result IsApart }
 {
     let file = reserve(file)?;
-    if file.metadata()?.len() != length_of(units) {
+    if file.metadata()?.len() != length_of(places) {
         return Err(AttachFault::NoFile);
     }
     // What a run wrote that was killed before its barrier is in the system's cache alone.
@@ -74,7 +74,7 @@ fn make<R: Files<File = File>>(
     files: &R,
     alloc: Global,
     path: &str,
-    units: u32,
+    places: u32,
     blank: &[u8],
 ) -> Result<File, AttachFault>
     ensures { IfOk result IsApart }
@@ -89,7 +89,7 @@ fn make<R: Files<File = File>>(
     if !stands_at(files, &file, unfinished)? {
         return Err(AttachFault::NoFile);
     }
-    if let Err(fault) = finish(files, &file, unfinished, path, units, blank) {
+    if let Err(fault) = finish(files, &file, unfinished, path, places, blank) {
         // Whoever makes the file next removes what can't be removed now.
         let _ = fs::remove_file(files, unfinished);
         return Err(AttachFault::from(fault));
@@ -104,7 +104,7 @@ fn finish<R: Files<File = File>>(
     file: &File,
     unfinished: &str,
     path: &str,
-    units: u32,
+    places: u32,
     blank: &[u8],
 ) -> io::Result<()> {
     // Another run may have made it meanwhile; and a link that leads nowhere would be replaced.
@@ -113,13 +113,13 @@ fn finish<R: Files<File = File>>(
         Err(fault) => return Err(fault),
         Ok(_) => return Err(io::Error::from(ErrorKind::AlreadyExists)),
     }
-    fill(file, units, blank)?;
+    fill(file, places, blank)?;
     fs::rename(files, unfinished, path)
 }
 
 /// Writes the erased places, and waits until they are sure to last.
-fn fill(mut file: &File, units: u32, blank: &[u8]) -> io::Result<()> {
-    for _ in 0..units {
+fn fill(mut file: &File, places: u32, blank: &[u8]) -> io::Result<()> {
+    for _ in 0..places {
         file.write_all(blank)?;
     }
     file.sync_all()

@@ -43,7 +43,7 @@ impl From<io::Error> for AttachFault {
 /// A chip in a file. It counts what fails, and tells nothing of what it holds.
 #[derive(Drop)]
 pub struct FileChip {
-    units: u32,
+    places: u32,
     file: File,
     // What an erased place holds.
     blank: Vec<u8>,
@@ -68,16 +68,16 @@ impl FileChip {
         files: &R,
         alloc: Global,
         path: &str,
-        units: u32,
+        places: u32,
     ) -> Result<FileChip, AttachFault>
-        ensures tells { IfOk result (λ chip. file_told_of chip ≡ telling_faults units none_yet) }
+        ensures tells { IfOk result (λ chip. file_told_of chip ≡ telling_faults places none_yet) }
         // Its file is none of the standard streams.
         ensures apart { IfOk result HasFileApart }
     {
         let blank = blank_bytes(alloc, PLACE)?;
-        let file = open_or_make(files, alloc, path, units, &blank)?;
+        let file = open_or_make(files, alloc, path, places, &blank)?;
         Ok(FileChip {
-            units,
+            places,
             file,
             blank,
             faults: Faults::new(),
@@ -91,10 +91,10 @@ impl Chip for FileChip {
 
     ghost told = { file_told_of };
 
-    ghost consistent = { λ chip. faults_consistently chip.units chip.faults };
+    ghost consistent = { λ chip. faults_consistently chip.places chip.faults };
 
     fn units(&self) -> u32 {
-        self.units
+        self.places
     }
 
     fn read(&mut self, p: u32, s: u32, into: &mut [u8; 512]) -> Result<(), Failed>

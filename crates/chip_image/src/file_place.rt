@@ -11,10 +11,10 @@ use std::io::{Read, Seek, SeekFrom, Write};
 pub(crate) const PLACE: usize = 131072;
 
 /// The bytes of a chip.
-pub(crate) fn length_of(units: u32) -> u64
-    ensures { result ≡ chip_length units }
+pub(crate) fn length_of(places: u32) -> u64
+    ensures { result ≡ chip_length places }
 {
-    u64::from(units) * PLACE as u64
+    u64::from(places) * PLACE as u64
 }
 
 /// So many bytes FF.

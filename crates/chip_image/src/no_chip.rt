@@ -7,7 +7,7 @@ use chip_trait::{Chip, Failed};
 /// A chip of which no call succeeds: each one is counted as failed.
 #[derive(Drop)]
 pub struct NoChip {
-    units: u32,
+    places: u32,
     faults: Faults,
 }
 
@@ -15,11 +15,11 @@ impl NoChip {
     ghost use Rattle.chip_image.specs.Tells.{absent_told_of, telling_faults, none_yet};
 
     /// A chip of so many places that was asked nothing yet.
-    pub fn of(units: u32) -> NoChip
-        ensures { absent_told_of result ≡ telling_faults units none_yet }
+    pub fn of(places: u32) -> NoChip
+        ensures { absent_told_of result ≡ telling_faults places none_yet }
     {
         NoChip {
-            units,
+            places,
             faults: Faults::new(),
         }
     }
@@ -31,10 +31,10 @@ impl Chip for NoChip {
 
     ghost told = { absent_told_of };
 
-    ghost consistent = { λ chip. faults_consistently chip.units chip.faults };
+    ghost consistent = { λ chip. faults_consistently chip.places chip.faults };
 
     fn units(&self) -> u32 {
-        self.units
+        self.places
     }
 
     /// It always fails.

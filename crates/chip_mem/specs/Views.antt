@@ -24,8 +24,8 @@ plan_of chip = record {
 
 -- all that a chip with a story tells
 abbrev pub told_of : MemChip → Told
-told_of chip = telling_all chip.units chip.settled (history_of chip) (contents_of chip.sectors.items) chip.read_faults chip.write_faults
+told_of chip = telling_all chip.places chip.settled (history_of chip) (contents_of chip.sectors.items) chip.read_faults chip.write_faults
 
 -- all that a chip without one tells
 abbrev pub plain_told_of : PlainChip → Told
-plain_told_of chip = telling_contents chip.units (contents_of chip.sectors.items)
+plain_told_of chip = telling_contents chip.places (contents_of chip.sectors.items)

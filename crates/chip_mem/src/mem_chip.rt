@@ -19,7 +19,7 @@ use std::alloc::Global;
 /// A chip in memory that tells what it holds and its story. It has room for so many events.
 #[derive(Drop)]
 pub struct MemChip {
-    units: u32,
+    places: u32,
     start: Vec<[u8; 512]>,
     sectors: Vec<[u8; 512]>,
     events: Vec<Event>,
@@ -28,11 +28,11 @@ pub struct MemChip {
     settled: bool,
     read_faults: u64,
     write_faults: u64,
-    ghost start_sized: { length start.items ≡ units * 256 },
-    ghost sized: { length sectors.items ≡ units * 256 },
+    ghost start_sized: { length start.items ≡ places * 256 },
+    ghost sized: { length sectors.items ≡ places * 256 },
     ghost fits: { vec_len events ≤ room },
     ghost reserved: { room ≤ vec_capacity events },
-    ghost inside: { AllPass (is_inside units) events.items } by { Prim.hlevel props },
+    ghost inside: { AllPass (is_inside places) events.items } by { Prim.hlevel props },
     ghost replayed: { IsReplayed start.items events.items sectors.items } by { Prim.hlevel props },
 }
 
@@ -48,12 +48,12 @@ impl MemChip {
     ghost use Rattle.chip_mem.specs.Views.{history_of, plan_of, told_of};
 
     /// An erased chip of so many places, with room for so many events. Of its calls only `image` takes memory.
-    pub fn new(alloc: Global, units: u32, room: u64) -> Result<MemChip, OutOfMemory>
-        ensures told { IfOk result (λ chip. told_of chip ≡ starting units erased) }
+    pub fn new(alloc: Global, places: u32, room: u64) -> Result<MemChip, OutOfMemory>
+        ensures told { IfOk result (λ chip. told_of chip ≡ starting places erased) }
         ensures plan { IfOk result (λ chip. plan_of chip ≡ new_plan room) }
     {
-        let sectors = erased_sectors(alloc, units as usize * SECTORS)?;
-        MemChip::starting(alloc, units, room, sectors)
+        let sectors = erased_sectors(alloc, places as usize * SECTORS)?;
+        MemChip::starting(alloc, places, room, sectors)
     }
 
     /// What a power cut leaves after the first `at` events, or after all where there are fewer, as a new chip with as much
@@ -75,7 +75,7 @@ impl MemChip {
     {
         let count = self.events.len().min(at as usize);
         let sectors = image_sectors(alloc, &self.start, &self.events[..count], picks)?;
-        MemChip::starting(alloc, self.units, self.room, sectors)
+        MemChip::starting(alloc, self.places, self.room, sectors)
     }
 
     /// Sets a sector of what is held. That is a new start, after which nothing was asked for yet.
@@ -146,17 +146,17 @@ impl MemChip {
     // A chip with these sectors that was asked nothing yet.
     fn starting(
         alloc: Global,
-        units: u32,
+        places: u32,
         room: u64,
         sectors: Vec<[u8; 512]>,
     ) -> Result<MemChip, OutOfMemory>
-        requires { length sectors.items ≡ units * 256 }
-        ensures told { IfOk result (λ chip. told_of chip ≡ starting units (contents_of sectors.items)) }
+        requires { length sectors.items ≡ places * 256 }
+        ensures told { IfOk result (λ chip. told_of chip ≡ starting places (contents_of sectors.items)) }
         ensures plan { IfOk result (λ chip. plan_of chip ≡ new_plan room) }
         ensures fits { HasWholeSectors (contents_of sectors.items) }
     {
         Ok(MemChip {
-            units,
+            places,
             start: copy_sectors(alloc, &sectors)?,
             sectors,
             events: Vec::with_capacity(alloc, room as usize)?,
@@ -220,11 +220,11 @@ impl Chip for MemChip {
 
     ghost told = { told_of };
 
-    ghost consistent = { λ chip. all_consistently chip.units chip.settled (history_of chip) (contents_of chip.sectors.items)
+    ghost consistent = { λ chip. all_consistently chip.places chip.settled (history_of chip) (contents_of chip.sectors.items)
         chip.read_faults chip.write_faults chip.replayed };
 
     fn units(&self) -> u32 {
-        self.units
+        self.places
     }
 
     /// It fails exactly where it is told to or has no room for the event, and then changes nothing but its counts.

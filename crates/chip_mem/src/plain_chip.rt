@@ -9,9 +9,9 @@ use std::alloc::Global;
 /// A chip in memory that never fails. It tells what it holds, and no story.
 #[derive(Drop)]
 pub struct PlainChip {
-    units: u32,
+    places: u32,
     sectors: Vec<[u8; 512]>,
-    ghost sized: { length sectors.items ≡ units * 256 },
+    ghost sized: { length sectors.items ≡ places * 256 },
 }
 
 impl PlainChip {
@@ -20,12 +20,12 @@ impl PlainChip {
     ghost use Rattle.chip_mem.specs.Views.{plain_told_of};
 
     /// An erased chip of so many places.
-    pub fn new(alloc: Global, units: u32) -> Result<PlainChip, OutOfMemory>
-        ensures { IfOk result (λ chip. plain_told_of chip ≡ telling_contents units erased) }
+    pub fn new(alloc: Global, places: u32) -> Result<PlainChip, OutOfMemory>
+        ensures { IfOk result (λ chip. plain_told_of chip ≡ telling_contents places erased) }
     {
         Ok(PlainChip {
-            units,
-            sectors: erased_sectors(alloc, units as usize * SECTORS)?,
+            places,
+            sectors: erased_sectors(alloc, places as usize * SECTORS)?,
         })
     }
 }
@@ -40,10 +40,10 @@ impl Chip for PlainChip {
 
     ghost told = { plain_told_of };
 
-    ghost consistent = { λ chip. contents_consistently chip.units (contents_of chip.sectors.items) };
+    ghost consistent = { λ chip. contents_consistently chip.places (contents_of chip.sectors.items) };
 
     fn units(&self) -> u32 {
-        self.units
+        self.places
     }
 
     /// It never fails.

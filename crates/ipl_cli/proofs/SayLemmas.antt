@@ -24,7 +24,7 @@ fails_part piece count old new true said unsaid = record {
   contents = ap (λ (t : Told). t.contents) said ∙ same_contents (take count piece) (told_of old).contents;
 }
 fails_part piece count old new false said unsaid = record {
-  places = ap (λ (chip : MemChip). chip.units) unsaid;
+  places = ap (λ (chip : MemChip). chip.places) unsaid;
   settled = ap (λ (chip : MemChip). chip.settled) unsaid;
   history = inr (ap (λ (chip : MemChip). (told_of chip).history) unsaid);
   contents = ap (λ (chip : MemChip). (told_of chip).contents) unsaid;

@@ -27,7 +27,7 @@ desk_told d = record (told_of d.chip) { beside = beside_of d }
 -- which is consistent, since its chip is
 pub desk_consistently : (d : MemDesk) → IsConsistent (desk_told d)
 desk_consistently d =
-    let chip = all_consistently d.chip.units d.chip.settled (history_of d.chip)
+    let chip = all_consistently d.chip.places d.chip.settled (history_of d.chip)
     (contents_of d.chip.sectors.items) d.chip.read_faults d.chip.write_faults d.chip.replayed in
     record { settled = chip.settled; replayed = chip.replayed }
 

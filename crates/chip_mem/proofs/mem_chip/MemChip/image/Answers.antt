@@ -14,9 +14,9 @@ pub returns-clause-told : goal.returns-clause-told
 returns-clause-told c =
     let self = c.args.self.now in
     let cut : length self.events.items - c.min-count.result ≡ length self.events.items - c.args.at = omega (arith, c.min-count.ensures, c.len.ensures) in
-    image_moves (λ xs story. IfOk c.starting.result (λ chip. told_of chip ≡ starting self.units (image_of (contents_of xs) story c.args.picks.now)))
+    image_moves (λ xs story. IfOk c.starting.result (λ chip. told_of chip ≡ starting self.places (image_of (contents_of xs) story c.args.picks.now)))
     self.start.items c.deref.result.now self.events.items c.deref-2.result.now c.args.at c.min-count.result c.deref.ensures.value c.deref-2.ensures.value cut
-    (subst (λ (x : Contents). IfOk c.starting.result (λ chip. told_of chip ≡ starting self.units x)) c.in_ok-sectors.ensures.value c.starting.ensures.told)
+    (subst (λ (x : Contents). IfOk c.starting.result (λ chip. told_of chip ≡ starting self.places x)) c.in_ok-sectors.ensures.value c.starting.ensures.told)
 
 pub returns-clause-image : goal.returns-clause-image
 returns-clause-image c =

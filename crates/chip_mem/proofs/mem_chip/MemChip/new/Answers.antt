@@ -7,4 +7,4 @@ use Rattle.chip_mem.proofs.mem_chip.MemChip.new.Goals as goal
 
 pub returns-clause-told : goal.returns-clause-told
 returns-clause-told c =
-    subst (λ (x : Contents). IfOk c.starting.result (λ chip. told_of chip ≡ starting c.args.units x)) (erased_contents c.in_ok-sectors.sectors.items _ c.in_ok-sectors.ensures) c.starting.ensures.told
+    subst (λ (x : Contents). IfOk c.starting.result (λ chip. told_of chip ≡ starting c.args.places x)) (erased_contents c.in_ok-sectors.sectors.items _ c.in_ok-sectors.ensures) c.starting.ensures.told

@@ -26,5 +26,5 @@ invariant_of-self-clause-sized c =
 pub invariant_of-self-clause-inside : goal.invariant_of-self-clause-inside
 invariant_of-self-clause-inside c =
     let self = c.breaks.new.self in
-    let there = erase_is_inside self.units c.args.p (rw (ap (λ (t : Told). t.places) c.if-breaks.ensures.told) c.requires) in
-    inside_next self.units self.events.items c.push_reserved.new.self.items _ self.inside c.push_reserved.ensures.items there
+    let there = erase_is_inside self.places c.args.p (rw (ap (λ (t : Told). t.places) c.if-breaks.ensures.told) c.requires) in
+    inside_next self.places self.events.items c.push_reserved.new.self.items _ self.inside c.push_reserved.ensures.items there
