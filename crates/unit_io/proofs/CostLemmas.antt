@@ -395,3 +395,9 @@ spends_once_at_most place a b done old new more =
 pub spends_of_kind : (place n b kind other : ℕ) (old new : Told) → kind ≡ other → Spends (ProgramsAt place n b kind) old new
     → Spends (ProgramsAt place n b other) old new
 spends_of_kind place n b kind other old new same did = rw (sym same) did
+
+pub spends_wait : (old new : Told) (result : Result (Unit {0}) ChipFault) → Waited result old new → Spends (Costs 0 0 1 []) old new
+spends_wait old new result did =
+    spends_waited (Costs 0 0 1 []) old new result
+    (record { erased = omega arith; programmed = omega arith; barred = omega arith; only = tt })
+    (record { erased = omega arith; programmed = omega arith; barred = omega arith; only = tt }) did

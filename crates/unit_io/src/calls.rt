@@ -1,9 +1,10 @@
 //! The calls of a chip, with the faults of this crate.
-ghost use Rattle.std.specs.Prelude.{◌≡◌, ◌<◌, OnOk};
+ghost use Rattle.std.specs.Prelude.{◌≡◌, ◌<◌, [], OnOk};
 ghost use Rattle.chip_trait.specs.declared.event.Event.TheVariants.{Read, Program, Erase};
 ghost use Rattle.chip_trait.specs.Told.{Told};
 ghost use Rattle.unit_io.specs.Accounts.{Accounts};
 ghost use Rattle.unit_io.specs.Leads.{Did, Waited, IsStopped};
+ghost use Rattle.unit_io.specs.Costs.{Costs, Spends};
 ghost use Rattle.unit_io.specs.Reads.{Asked, OfContents, IsReadFault};
 
 use chip_trait::Chip;
@@ -39,9 +40,10 @@ pub(crate) fn program<C: Chip>(
     }
 }
 
-/// Waits until all that was written is sure to last.
-pub(crate) fn barrier<C: Chip>(chip: &mut C) -> Result<(), ChipFault>
+/// Waits until all that was written is sure to last. It fails only where a write failed.
+pub fn barrier<C: Chip>(chip: &mut C) -> Result<(), ChipFault>
     ensures did { Waited result (C.told chip.old) (C.told chip.new) }
+    ensures costs { Spends (Costs 0 0 1 []) (C.told chip.old) (C.told chip.new) }
     ensures accounts { Accounts IsStopped result (C.told chip.old) (C.told chip.new) }
 {
     match chip.barrier() {

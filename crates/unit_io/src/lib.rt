@@ -14,6 +14,7 @@ mod places;
 mod reading;
 mod sectors;
 
+pub use calls::barrier;
 pub use commits::{add_commit, prepare_commit};
 pub use laws::page_laws;
 pub use page_reading::read_page;
