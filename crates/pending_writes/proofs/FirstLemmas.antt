@@ -1,0 +1,83 @@
+-- A chip that was just formatted, with its first tables and no session.
+use Rattle.std.proofs.Common.{Bool, None, Option, ap, arith, false, get_or, inl, inr, refl, replicate, sym, true, ℕ, ◌+◌, ◌-◌, ◌/◌, ◌==◌, ◌∙◌, ◌≡◌, ◌≤◌}
+use Rattle.std.specs.FinMap.{empty, get-empty}
+use Rattle.std.specs.Option.{option_map}
+use Rattle.std.specs.Ordering.{nat_cmp}
+use Rattle.std.proofs.lemmas.Bool.{cases_eq, cases_lt}
+use Rattle.std.proofs.lemmas.List.{get_or-append_right, get_or-replicate, get_or_past, length-replicate}
+use Rattle.std.proofs.lemmas.List.FromFn.{get_or-range_with_len, length-range_with_len}
+use Rattle.ipl_rules.specs.State.{at_rest}
+use Rattle.record_locks.specs.Held.{Held}
+use Rattle.record_locks.specs.Locks.{AreSoundSlots, total}
+use Rattle.record_locks.specs.Names.{names_of, SameNames}
+use Rattle.record_locks.specs.Standing.{slot_of, state_of}
+use Rattle.record_locks.proofs.StandingLemmas.{session_at}
+use Rattle.record_locks.proofs.TotalLemmas.{few_pending, one_writer}
+use Rattle.ipl_meaning.specs.FirstTables.{first_layout, first_tables}
+use Rattle.ipl_meaning.specs.Formatted.{formatted}
+use Rattle.ipl_meaning.specs.Mirrors.{NoneIsLost}
+use Rattle.ipl_meaning.proofs.FirstTableLemmas.{first_tables_mirror}
+use Rattle.pending_writes.specs.Fits.{LocksHold}
+use Rattle.pending_writes.specs.FittingLaws.{EmptySlotsAreAtRest, FirstStoresFit}
+use Rattle.pending_writes.proofs.MemoryFitLemmas.{openings_fit}
+
+-- ---- no session
+
+abbrev no_one : Option Held
+no_one = None
+
+none_at : (n s : ℕ) → get_or (replicate n None) s None ≡ no_one
+none_at n s = elim (cases_lt s n) [
+  | inl low ↦ get_or-replicate n s no_one no_one low
+  | inr past ↦ get_or_past (replicate n no_one) s no_one (omega (arith, past, length-replicate n no_one))
+]
+
+none_counted : (p : ℕ → Bool) → total p (replicate 32 None) ≡ 0
+none_counted p = refl
+
+sound : AreSoundSlots (replicate 32 None)
+sound = record {
+  all = length-replicate 32 no_one;
+  once = λ n. omega (arith, none_counted (λ k. k == n));
+  few = λ unit. omega (arith, none_counted (λ k. k / 960 == unit));
+}
+
+pub empty_slots_are_at_rest : EmptySlotsAreAtRest
+empty_slots_are_at_rest m = record { names = names; locked = locked }
+  where
+    names : SameNames (state_of (replicate 32 None)) (at_rest m)
+    names s =
+        ap (option_map names_of)
+        (session_at (replicate 32 None) s ∙ ap slot_of (none_at 32 s) ∙ sym (get-empty nat_cmp s))
+
+    locked : LocksHold (replicate 32 None)
+    locked = record {
+      all = length-replicate 32 no_one;
+      one_writer = one_writer (replicate 32 None) sound;
+      few = few_pending (replicate 32 None) sound;
+    }
+
+-- ---- the first tables
+
+none_lost : (places : ℕ) → 5 ≤ places → NoneIsLost places (first_tables places)
+none_lost places least p low used = elim (cases_lt p (places - 4)) [
+  | inl unit ↦ inl (
+    p,
+    omega (arith, unit, length-range_with_len 0 (places - 4)),
+    get_or-range_with_len 0 (places - 4) p p unit ∙ omega arith,
+  )
+  | inr past ↦ elim (cases_eq p (places - 4)) [
+    | inl status ↦ inr (inl status)
+    | inr later ↦ absurd (used (
+        let front = length-replicate (places - 4 + 1) true in
+        get_or-append_right (replicate (places - 4 + 1) true) (replicate 3 false) (places - 4 + 1) p true front
+        (omega (arith, past, later))
+        ∙ get_or-replicate 3 (p - (places - 4 + 1)) false true (omega (arith, low, past, later))))
+  ]
+]
+
+pub first_stores_fit : FirstStoresFit
+first_stores_fit places least most =
+    openings_fit places (formatted places) (first_layout places) (first_tables places) (replicate 32 None) empty
+    (first_tables_mirror places least most) (none_lost places least) refl
+    (λ s. ap (option_map (λ (h : Held). h.number)) (none_at 32 s)) (empty_slots_are_at_rest empty)

@@ -1,0 +1,12 @@
+use Rattle.pending_writes.proofs.ChipFitLemmas.{log_sectors_fit, merges_fit, other_steps_fit, renewals_fit}
+use Rattle.pending_writes.proofs.EndFitLemmas.{commits_fit}
+use Rattle.pending_writes.proofs.laws.chip_laws.Goals as goal
+
+pub returns : goal.returns
+returns c = record {
+  log_sectors = log_sectors_fit;
+  merges = merges_fit;
+  others = other_steps_fit;
+  renewals = renewals_fit;
+  commits = commits_fit;
+}

@@ -1,0 +1,15 @@
+use Rattle.pending_writes.proofs.MemoryFitLemmas.{begins_fit, shares_fit, writes_fit, loads_fit, evictions_fit, openings_fit}
+use Rattle.pending_writes.proofs.EndFitLemmas.{aborts_fit, empty_commits_fit}
+use Rattle.pending_writes.proofs.laws.memory_laws.Goals as goal
+
+pub returns : goal.returns
+returns c = record {
+  begins = begins_fit;
+  shares = shares_fit;
+  writes = writes_fit;
+  aborts = aborts_fit;
+  empty_commits = empty_commits_fit;
+  loads = loads_fit;
+  evictions = evictions_fit;
+  openings = openings_fit;
+}

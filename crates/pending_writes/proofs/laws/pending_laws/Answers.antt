@@ -1,0 +1,30 @@
+use Rattle.pending_writes.proofs.FollowLemmas.{records_are_writes, changed_pages_suffice}
+use Rattle.pending_writes.proofs.InMemoryLemmas.{records_stay_pending}
+use Rattle.pending_writes.proofs.SessionLemmas.{begins_keep_pending, shares_keep_pending, restarts_leave_none}
+use Rattle.pending_writes.proofs.WriteLemmas.{writes_keep_pending}
+use Rattle.pending_writes.proofs.CommitLemmas.{commits_keep_pending, aborts_keep_pending}
+use Rattle.pending_writes.proofs.SayLemmas.{commits_say_writes}
+use Rattle.pending_writes.proofs.LogSectorLemmas.{log_sectors_keep_pending}
+use Rattle.pending_writes.proofs.MergeLemmas.{merges_keep_pending, same_logs_keep_pending}
+use Rattle.pending_writes.proofs.RenewLemmas.{renewals_keep_pending}
+use Rattle.pending_writes.proofs.FewLemmas.{few_are_pending}
+use Rattle.pending_writes.proofs.laws.pending_laws.Goals as goal
+
+pub returns : goal.returns
+returns c = record {
+  begins = begins_keep_pending;
+  shares = shares_keep_pending;
+  writes = writes_keep_pending;
+  log_sectors = log_sectors_keep_pending;
+  merges = merges_keep_pending;
+  same_logs = same_logs_keep_pending;
+  renewals = renewals_keep_pending;
+  commits = commits_keep_pending;
+  says = commits_say_writes;
+  aborts = aborts_keep_pending;
+  restarts = restarts_leave_none;
+  in_memory = records_stay_pending;
+  written = records_are_writes;
+  changed = changed_pages_suffice;
+  few = few_are_pending;
+}

@@ -1,0 +1,82 @@
+//! The laws of pending writes.
+ghost use Rattle.pending_writes.specs.PendingLaws.{BeginsKeepPending, SharesKeepPending, WritesKeepPending, LogSectorsKeepPending, MergesKeepPending, SameLogsKeepPending, RenewalsKeepPending, CommitsKeepPending, CommitsSayWrites, AbortsKeepPending, RestartsLeaveNone, RecordsStayPending, RecordsAreWrites, ChangedPagesSuffice, FewArePending};
+ghost use Rattle.pending_writes.specs.FrameLaws.{FramesTell, LoadsMakeFrames, BeginsKeepFrames, WritesKeepFrames, OtherWritesKeepFrames, LogSectorsKeepFrames, MergesKeepFrames, OtherStepsKeepFrames, CommitsKeepFrames, AbortsKeepFrames};
+ghost use Rattle.pending_writes.specs.FittingLaws.{APlaceIsFree, SessionsAreSound, MergesAreSmall, RestingPagesSay, RestingPagesKeep, FittingFramesTell, FittingContentsTell, EmptySlotsAreAtRest, FirstStoresFit};
+ghost use Rattle.pending_writes.specs.StepLaws.{BeginsFit, SharesFit, WritesFit, AbortsFit, EmptyCommitsFit, LoadsFit, EvictionsFit, OpeningsFit, LogSectorsFit, MergesFit, OtherStepsFit, RenewalsFit, CommitsFit};
+
+/// After each step of a store the records on the chip and in memory say what its open sessions
+/// wrote; a commit makes of the map what the writes of its session do; and the records of open
+/// sessions are few.
+pub fn pending_laws()
+    ensures begins { BeginsKeepPending }
+    ensures shares { SharesKeepPending }
+    ensures writes { WritesKeepPending }
+    ensures log_sectors { LogSectorsKeepPending }
+    ensures merges { MergesKeepPending }
+    ensures same_logs { SameLogsKeepPending }
+    ensures renewals { RenewalsKeepPending }
+    ensures commits { CommitsKeepPending }
+    ensures says { CommitsSayWrites }
+    ensures aborts { AbortsKeepPending }
+    ensures restarts { RestartsLeaveNone }
+
+    // of the records in memory alone
+    ensures in_memory { RecordsStayPending }
+
+    // what follows
+    ensures written { RecordsAreWrites }
+    ensures changed { ChangedPagesSuffice }
+    ensures few { FewArePending }
+{}
+
+/// A frame tells what each session sees of its page, and each step keeps it so.
+pub fn frame_laws()
+    ensures tells { FramesTell }
+    ensures loads { LoadsMakeFrames }
+    ensures begins { BeginsKeepFrames }
+    ensures writes { WritesKeepFrames }
+    ensures other_writes { OtherWritesKeepFrames }
+    ensures log_sectors { LogSectorsKeepFrames }
+    ensures merges { MergesKeepFrames }
+    ensures other_steps { OtherStepsKeepFrames }
+    ensures commits { CommitsKeepFrames }
+    ensures aborts { AbortsKeepFrames }
+{}
+
+/// What a store gives whose memory and chip stand for a state: a free place, one writer of each
+/// name, merges that have room, pages that say the map, and frames that tell it. And that there is
+/// one.
+pub fn fitting_laws()
+    ensures free { APlaceIsFree }
+    ensures sound { SessionsAreSound }
+    ensures small { MergesAreSmall }
+    ensures says { RestingPagesSay }
+    ensures keeps { RestingPagesKeep }
+    ensures tells { FittingFramesTell }
+    ensures contents_tell { FittingContentsTell }
+
+    // that it can be met
+    ensures at_rest { EmptySlotsAreAtRest }
+    ensures first { FirstStoresFit }
+{}
+
+/// Memory and chip stand for the state after each step in memory.
+pub fn memory_laws()
+    ensures begins { BeginsFit }
+    ensures shares { SharesFit }
+    ensures writes { WritesFit }
+    ensures aborts { AbortsFit }
+    ensures empty_commits { EmptyCommitsFit }
+    ensures loads { LoadsFit }
+    ensures evictions { EvictionsFit }
+    ensures openings { OpeningsFit }
+{}
+
+/// Memory and chip stand for the state after each step on the chip.
+pub fn chip_laws()
+    ensures log_sectors { LogSectorsFit }
+    ensures merges { MergesFit }
+    ensures others { OtherStepsFit }
+    ensures renewals { RenewalsFit }
+    ensures commits { CommitsFit }
+{}

@@ -1,0 +1,10 @@
+//! What open sessions wrote and haven't committed: log records on the chip and in memory, and the
+//! frames that show them; when a store's memory and a chip together stand for a state; and a law
+//! for each step of a store. It stands on what a chart means (`ipl_meaning`), on pending changes
+//! (`page_ops`) and on the names of sessions (`record_locks`). There is no code here but the laws:
+//! bodies that do nothing, with a contract that is the law.
+#![tactic(auto)]
+
+mod laws;
+
+pub use laws::{chip_laws, fitting_laws, frame_laws, memory_laws, pending_laws};
