@@ -1,4 +1,4 @@
-mod ReadLemmas
+pub mod ReadLemmas
 pub mod LineLemmas
 pub mod RunLemmas
 mod AnswerLemmas

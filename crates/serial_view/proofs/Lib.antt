@@ -1,0 +1,17 @@
+pub mod CountLemmas
+pub mod SessionLemmas
+pub mod AloneLemmas
+pub mod StepLemmas
+pub mod SessionStepLemmas
+pub mod LockLemmas
+pub mod SinceLemmas
+pub mod TurnLemmas
+pub mod MetLemmas
+pub mod ReplyLemmas
+pub mod ServeLemmas
+pub mod SerialLemmas
+pub mod FilterLemmas
+pub mod BeganLemmas
+pub mod OrderLemmas
+pub mod TransactionLemmas
+pub mod HeldLemmas

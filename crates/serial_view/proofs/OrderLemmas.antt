@@ -1,0 +1,279 @@
+-- The table holds the serial view of the commands so far.
+use Rattle.std.proofs.Common.{◌≡◌, ◌⊎◌, inl, inr, ℕ, zero, suc, ◌+◌, ◌-◌, ◌<◌, ◌≤◌, Bool, true, false, cond, ◌&&◌, List, [], ◌∷◌, ◌++◌, length, map, replicate, Option, None, refl, sym, ◌∙◌, ap, subst, arith, add-one, get_or-set_other, get_or-set_same}
+use Rattle.std.specs.Prelude.{filter, is_some, slice_index, slice_index_or, slice_set, if◌then◌else◌}
+use Rattle.std.specs.List.{range_with_len, list_any}
+use Rattle.std.specs.FinMap.{empty}
+use Rattle.std.proofs.lemmas.Bool.{cases_eq, eq-eqb, ne_eqb, and_left, not-true, not-false}
+use Rattle.std.proofs.lemmas.List.{length-set, get_or-replicate}
+use Rattle.std.proofs.lemmas.List.FromFn.{get_or-map-range_with_len, map-range_with_len_more, length-map-range_with_len}
+use Rattle.ipl_rules.specs.State.{State, Limits, at_rest}
+use Rattle.ipl_model.specs.declared.command.Command.{Command}
+use Rattle.ipl_model.specs.declared.command.Command.TheVariants as command
+use Rattle.ipl_model.specs.Step.{step, refusal_of}
+use Rattle.ipl_model.specs.Run.{after_all}
+use Rattle.ipl_model.specs.declared.plain_model.PlainModel.{PlainModel}
+use Rattle.ipl_model.specs.Plain.{state_of}
+use Rattle.serial_view.specs.declared.turn_table.TurnTable.{TurnTable}
+use Rattle.serial_view.specs.Serial.{command_at, met_at, is_accepted, session_of, committer, is_begin, is_turn, turns, committed_at, serial}
+use Rattle.serial_view.specs.Laws.{IsSerialView, picked, replies, reply_at, is_unlocked}
+use Rattle.serial_view.specs.Turns.{KeptTurns, is_turn_of, turns_from, begun_after, order_after, after_refused, after_accepted, HasSlot, kept_of, RunsCommand}
+use Rattle.serial_view.proofs.SessionStepLemmas.{own, has_slot}
+use Rattle.serial_view.proofs.TurnLemmas.{turn_is, turns_on, serial_until, serial_more, serial_same, commits_turns}
+use Rattle.serial_view.proofs.MetLemmas.{met_more, passes}
+use Rattle.serial_view.proofs.SerialLemmas.{leaves_the_same, replies_the_same}
+use Rattle.serial_view.proofs.FilterLemmas.{filter_alike}
+use Rattle.serial_view.proofs.BeganLemmas as began
+use Rattle.serial_view.proofs.BeganLemmas.{goes_on, begins_here}
+
+-- ---- kinds of commands
+
+-- a command begins nothing
+record BeginsNone (c : Command) : Type 0 where
+  calm : is_begin c ≡ false
+  same : (begun : List ℕ) (k : ℕ) → begun_after begun k c ≡ begun
+
+-- a command commits nothing
+record CommitsNone (c : Command) : Type 0 where
+  calm : committer c ≡ None
+  same : (order : List ℕ) (turns : List (Option ℕ)) (begun : List ℕ) → order_after order turns begun c ≡ order
+
+begin_case : (c : Command) → BeginsNone c ⊎ ((t : ℕ) × (c ≡ command.Begin t))
+begin_case (command.Begin t) = inr (t, refl)
+begin_case other = inl (record { calm = refl; same = λ begun k. refl })
+
+commit_case : (c : Command) → CommitsNone c ⊎ ((s : ℕ) × (c ≡ command.Commit s))
+commit_case (command.Commit s) = inr (s, refl)
+commit_case other = inl (record { calm = refl; same = λ order turns begun. refl })
+
+module _ (limits : Limits) (commands : List Command) where
+  abbrev Since : ℕ → ℕ → ℕ → Type 0
+  Since = began.Since limits commands
+
+  -- ---- the turns, as the table has them
+
+  -- whose turn the command at a position is
+  abbrev turn_at : ℕ → Option ℕ
+  turn_at k = if is_accepted limits commands k then session_of (command_at commands k) else None
+
+  abbrev turns_until : ℕ → List (Option ℕ)
+  turns_until k = map turn_at (range_with_len 0 k)
+
+  turn_alike : (s j : ℕ) → is_turn_of s (turn_at j) ≡ is_turn limits commands s j
+  turn_alike s j = go (is_accepted limits commands j)
+    where
+      go : (b : Bool) → is_turn_of s (cond b (session_of (command_at commands j)) None)
+          ≡ (b && own s (command_at commands j))
+      go true = refl
+      go false = refl
+
+  turns_more : (k : ℕ) → turns_until (suc k) ≡ turns_until k ++ turn_at k ∷ []
+  turns_more k = ap turns_until (sym (add-one k)) ∙ map-range_with_len_more turn_at 0 k k (omega arith)
+
+  noted_as : (k : ℕ) (turns : List (Option ℕ)) (b : Bool) → turns ≡ turns_until k → is_accepted limits commands k ≡ b
+      → turns ++ cond b (session_of (command_at commands k)) None ∷ [] ≡ turns_until (suc k)
+  noted_as k turns b so_far e =
+      ap (λ (l : List (Option ℕ)). l ++ cond b (session_of (command_at commands k)) None ∷ []) so_far
+      ∙ ap (λ (a : Bool). turns_until k ++ cond a (session_of (command_at commands k)) None ∷ []) (sym e)
+      ∙ sym (turns_more k)
+
+  abbrev turn_in_table : ℕ → ℕ → ℕ → Bool
+  turn_in_table s k j = is_turn_of s (slice_index_or (turns_until (suc k)) j None)
+
+  -- what the code reads off its table is what the definition has
+  read_off : (s k from : ℕ) → from ≤ suc k → turns_from (turns_until (suc k)) s from
+      ≡ filter (is_turn limits commands s) (range_with_len from (suc k - from))
+  read_off s k from le =
+      ap (λ (n : ℕ). filter (turn_in_table s k) (range_with_len from (n - from)))
+      (length-map-range_with_len turn_at 0 (suc k))
+      ∙ filter_alike (turn_in_table s k) (is_turn limits commands s) from (suc k - from)
+      (λ j above below.
+      ap (is_turn_of s) (get_or-map-range_with_len turn_at 0 (suc k) j j None (omega arith) (omega arith))
+      ∙ turn_alike s j)
+
+  -- ---- the table holds the commands before position k
+
+  pub record Holds (k : ℕ) (state : State) (table : KeptTurns) : Type 0 where
+    pub runs : state ≡ met_at limits empty commands k
+    pub noted : table.turns ≡ turns_until k
+    pub view : table.order ≡ serial_until limits commands k
+    pub slots : length table.begun ≡ 32
+    pub since : (s : ℕ) → s < 32 → Since s k (slice_index table.begun s)
+
+  pub holds_none : (state : State) (table : KeptTurns) → state ≡ at_rest empty → table.turns ≡ [] → table.order ≡ []
+      → table.begun ≡ replicate 32 0 → Holds zero state table
+  holds_none state table a b c d = record {
+    runs = a;
+    noted = b;
+    view = c;
+    slots = ap length d;
+    since = λ s l.
+        let first : slice_index table.begun s ≡ 0 =
+        ap (λ (begun : List ℕ). slice_index begun s) d ∙ get_or-replicate 32 s 0 0 l in
+        subst (λ (from : ℕ). Since s zero from) (sym first) (record { within = omega arith; turns_are = refl });
+  }
+
+  module _ (k : ℕ) (state next : State) (old new : KeptTurns) (whole : limits.sessions ≡ 32)
+      (holds : Holds k state old) where
+    abbrev c : Command
+    c = command_at commands k
+
+    runs_on : next ≡ (step limits state c).0 → next ≡ met_at limits empty commands (suc k)
+    runs_on runs =
+        runs ∙ ap (λ (st : State). (step limits st c).0) holds.runs ∙ sym (met_more limits empty commands k)
+
+    at_k : length old.turns ≡ k
+    at_k = ap length holds.noted ∙ length-map-range_with_len turn_at 0 k
+
+    refused_then : is_accepted limits commands k ≡ false → next ≡ (step limits state c).0 → new ≡ after_refused old
+        → Holds (suc k) next new
+    refused_then not_ok runs is = record {
+      runs = runs_on runs;
+      noted = ap (λ (t : KeptTurns). t.turns) is ∙ noted_as k old.turns false holds.noted not_ok;
+      view = ap (λ (t : KeptTurns). t.order) is ∙ holds.view ∙ sym (serial_same limits commands k (inl not_ok));
+      slots = ap (λ (t : KeptTurns). length t.begun) is ∙ holds.slots;
+      since = λ s l.
+          subst (λ (t : KeptTurns). Since s (suc k) (slice_index t.begun s)) (sym is)
+          (goes_on limits commands s k (slice_index old.begun s) (inr (and_left _ _ not_ok)) (holds.since s l));
+    }
+
+    module _ (ok : is_accepted limits commands k ≡ true) where
+      begun_now : List ℕ
+      begun_now = begun_after old.begun (length old.turns) c
+
+      turns_now : List (Option ℕ)
+      turns_now = old.turns ++ session_of c ∷ []
+
+      noted_now : turns_now ≡ turns_until (suc k)
+      unfolding turns_now
+      noted_now = noted_as k old.turns true holds.noted ok
+
+      slots_now : length begun_now ≡ 32
+      unfolding begun_now
+      slots_now = go (begin_case c)
+        where
+          go : BeginsNone c ⊎ ((t : ℕ) × (c ≡ command.Begin t))
+              → length (begun_after old.begun (length old.turns) c) ≡ 32
+          go (inl calm) = ap length (calm.same old.begun (length old.turns)) ∙ holds.slots
+          go (inr begin) =
+              ap (λ (d : Command). length (begun_after old.begun (length old.turns) d)) begin.1
+              ∙ length-set old.begun begin.0 (length old.turns) ∙ holds.slots
+
+      -- session t begins here, and any session s is where it began, here or before
+      since_begin : (s t : ℕ) → s < 32 → c ≡ command.Begin t
+          → Since s (suc k) (slice_index (slice_set old.begun t (length old.turns)) s)
+      since_begin s t l is = go (cases_eq t s)
+        where
+          go : (t ≡ s) ⊎ (t ≡ s → ⊥) → Since s (suc k) (slice_index (slice_set old.begun t (length old.turns)) s)
+          go (inl same) =
+              let within : s < length old.begun = omega (arith, holds.slots) in
+              let read : slice_index (slice_set old.begun t (length old.turns)) s ≡ k =
+              ap (λ (t : ℕ). slice_index (slice_set old.begun t (length old.turns)) s) same
+              ∙ get_or-set_same old.begun s (length old.turns) 0 within ∙ at_k in
+              subst (λ (from : ℕ). Since s (suc k) from) (sym read)
+              (begins_here limits commands s k ok (is ∙ ap command.Begin same))
+          go (inr other) =
+              let read : slice_index (slice_set old.begun t (length old.turns)) s ≡ slice_index old.begun s =
+              get_or-set_other old.begun t s (length old.turns) 0 (λ e. other (sym e)) in
+              let no_turn = turn_is limits commands s k false ok (ap (own s) is ∙ ne_eqb t s other) in
+              subst (λ (from : ℕ). Since s (suc k) from) (sym read)
+              (goes_on limits commands s k (slice_index old.begun s) (inr no_turn) (holds.since s l))
+
+      since_now : (s : ℕ) → s < 32 → Since s (suc k) (slice_index begun_now s)
+      unfolding begun_now
+      since_now s l = go (begin_case c)
+        where
+          go : BeginsNone c ⊎ ((t : ℕ) × (c ≡ command.Begin t))
+              → Since s (suc k) (slice_index (begun_after old.begun (length old.turns) c) s)
+          go (inl calm) =
+              subst (λ (begun : List ℕ). Since s (suc k) (slice_index begun s))
+              (sym (calm.same old.begun (length old.turns)))
+              (goes_on limits commands s k (slice_index old.begun s) (inl calm.calm) (holds.since s l))
+          go (inr begin) =
+              subst (λ (d : Command). Since s (suc k) (slice_index (begun_after old.begun (length old.turns) d) s))
+              (sym begin.1) (since_begin s begin.0 l begin.1)
+
+      -- a commit appends what the definition has of its session
+      view_commit : (s : ℕ) → c ≡ command.Commit s
+          → old.order ++ turns_from turns_now s (slice_index old.begun s) ≡ serial_until limits commands (suc k)
+      view_commit s is =
+          let from = slice_index old.begun s in
+          let slot : s < 32 = subst (λ (d : Command). HasSlot d) is
+          (has_slot limits whole (met_at limits empty commands k) c (passes limits empty commands k ok)) in
+          let calm : is_begin c ≡ false = ap is_begin is in
+          let old_since = holds.since s slot in
+          let new_since = goes_on limits commands s k from (inl calm) old_since in
+          let turn = turn_is limits commands s k true ok (ap (own s) is ∙ eq-eqb s s refl) in
+          ap (λ (l : List (Option ℕ)). old.order ++ turns_from l s from) noted_now
+          ∙ ap (λ (l : List ℕ). old.order ++ l) (
+          read_off s k from (omega (arith, old_since.within))
+          ∙ sym new_since.turns_are ∙ turns_on limits commands s k calm turn
+          ∙ sym (commits_turns limits commands k s ok is))
+          ∙ ap (λ (l : List ℕ). l ++ committed_at limits commands k) holds.view
+          ∙ sym (serial_more limits commands k)
+
+      view_now : order_after old.order turns_now old.begun c ≡ serial_until limits commands (suc k)
+      view_now = go (commit_case c)
+        where
+          go : CommitsNone c ⊎ ((s : ℕ) × (c ≡ command.Commit s))
+              → order_after old.order turns_now old.begun c ≡ serial_until limits commands (suc k)
+          go (inl calm) =
+              calm.same old.order turns_now old.begun ∙ holds.view
+              ∙ sym (serial_same limits commands k (inr calm.calm))
+          go (inr end) = ap (order_after old.order turns_now old.begun) end.1 ∙ view_commit end.0 end.1
+
+      accepted_then : next ≡ (step limits state c).0 → new ≡ after_accepted old c → Holds (suc k) next new
+      unfolding begun_now turns_now
+      accepted_then runs is = record {
+        runs = runs_on runs;
+        noted = ap (λ (t : KeptTurns). t.turns) is ∙ noted_now;
+        view = ap (λ (t : KeptTurns). t.order) is ∙ view_now;
+        slots = ap (λ (t : KeptTurns). length t.begun) is ∙ slots_now;
+        since = λ s l. subst (λ (t : KeptTurns). Since s (suc k) (slice_index t.begun s)) (sym is) (since_now s l);
+      }
+
+    pub holds_more : RunsCommand limits state old c next new → Holds (suc k) next new
+    holds_more notes = go (is_accepted limits commands k) refl
+      where
+        same_refusal : refusal_of limits state c ≡ refusal_of limits (met_at limits empty commands k) c
+        same_refusal = ap (λ (st : State). refusal_of limits st c) holds.runs
+
+        after : (b : Bool) → is_some (refusal_of limits (met_at limits empty commands k) c) ≡ b
+            → new ≡ cond b (after_refused old) (after_accepted old c)
+        after b e =
+            notes.table
+            ∙ ap (λ (b : Bool). cond b (after_refused old) (after_accepted old c)) (ap is_some same_refusal ∙ e)
+
+        go : (b : Bool) → is_accepted limits commands k ≡ b → Holds (suc k) next new
+        go true ok = accepted_then ok notes.runs (after false (not-true _ ok))
+        go false not_ok = refused_then not_ok notes.runs (after true (not-false _ not_ok))
+
+  -- the model and the table hold them, and so they do one command on
+  abbrev pub AreAt : ℕ → PlainModel → TurnTable → Type 0
+  AreAt k model table = Holds k (state_of model) (kept_of table)
+
+  pub one_on : (here : Limits) (k : ℕ) (c : Command) (model next : PlainModel) (table new : TurnTable)
+      → limits.sessions ≡ 32 → here ≡ limits → c ≡ command_at commands k → AreAt k model table
+      → RunsCommand here (state_of model) (kept_of table) c (state_of next) (kept_of new) → AreAt (k + 1) next new
+  one_on here k c model next table new whole same is holds runs =
+      let here_runs = subst
+      (λ (l : Limits). RunsCommand l (state_of model) (kept_of table) c (state_of next) (kept_of new)) same runs in
+      subst (λ (n : ℕ). AreAt n next new) (sym (add-one k))
+      (holds_more k (state_of model) (state_of next) (kept_of table) (kept_of new) whole holds
+      (subst (λ (d : Command). RunsCommand limits (state_of model) (kept_of table) d (state_of next) (kept_of new))
+      is here_runs))
+
+  -- at the end the table has the view
+  pub view_of : (k : ℕ) (model : PlainModel) (table : TurnTable) (positions : List ℕ) → k ≡ length commands
+      → AreAt k model table → positions ≡ (kept_of table).order → IsSerialView limits commands positions
+  view_of k model table positions end holds is =
+      let order : positions ≡ serial limits commands = is ∙ holds.view ∙ ap (serial_until limits commands) end in
+      record {
+        order = order;
+        leaves = λ m.
+            ap (λ (l : List ℕ). after_all limits (at_rest m) (picked commands l)) order
+            ∙ leaves_the_same limits commands m;
+        says = λ m locks.
+            ap (λ (l : List ℕ). replies limits (at_rest m) (picked commands l)) order
+            ∙ replies_the_same limits commands m (ap (list_any (is_unlocked limits commands)) (sym order) ∙ locks)
+            ∙ ap (map (reply_at limits m commands)) (sym order);
+      }

@@ -1,0 +1,124 @@
+-- What a commit commits: all that its session did since it began, with no end between.
+use Rattle.std.proofs.Common.{◌≡◌, ◌⊎◌, inl, inr, ℕ, zero, suc, ◌+◌, ◌-◌, ◌<◌, ◌≤◌, Bool, true, false, cond, ◌&&◌, List, [], ◌∷◌, ◌++◌, Some, None, refl, sym, ◌∙◌, ap, subst, arith}
+use Rattle.std.specs.Prelude.{filter}
+use Rattle.std.specs.List.{range_with_len}
+use Rattle.std.specs.FinMap.{get, empty}
+use Rattle.std.proofs.lemmas.Bool.{cases_Bool, cases_lt, and_left, and_right, eq-eqb}
+use Rattle.ipl_rules.specs.State.{Session, State, Limits}
+use Rattle.ipl_model.specs.declared.command.Command.{Command}
+use Rattle.ipl_model.specs.declared.command.Command.TheVariants as command
+use Rattle.ipl_model.specs.Step.{refusal_of, accepted}
+use Rattle.serial_view.specs.Serial.{command_at, met_at, is_accepted, is_turn, begins, committed_at}
+use Rattle.serial_view.specs.Laws.{ends, IsTransaction}
+use Rattle.serial_view.proofs.SessionLemmas.{none_open}
+use Rattle.serial_view.proofs.SessionStepLemmas.{own, After, how, closed, worker_commits, committer_open}
+use Rattle.serial_view.proofs.TurnLemmas.{turn_is, begins_is, commits_turns}
+use Rattle.serial_view.proofs.MetLemmas.{met_accepted, met_refused, passes}
+use Rattle.serial_view.proofs.FilterLemmas.{filter_more}
+use Rattle.serial_view.proofs.BeganLemmas.{Since, goes_on, begins_here}
+
+-- a command after which a session is open didn't end it
+not_ended : (state : State) (c : Command) (s : ℕ) (y : Session) → get (accepted state c).0.sessions s ≡ Some y
+    → ends s c ≡ false
+not_ended state (command.Commit t) s y found = (closed state t s y found).1
+not_ended state (command.Abort t) s y found = (closed state t s y found).1
+not_ended state command.Restart s y found = absurd (none_open s y found)
+not_ended state other s y found = refl
+
+module _ (limits : Limits) (commands : List Command) where
+  abbrev c : ℕ → Command
+  c k = command_at commands k
+
+  abbrev met : ℕ → State
+  met k = met_at limits empty commands k
+
+  -- an accepted command at the position ends what session s has open
+  abbrev ends_at : ℕ → ℕ → Bool
+  ends_at s k = is_accepted limits commands k && ends s (c k)
+
+  -- where an open session began
+  record Opened (s k first : ℕ) : Type 0 where
+    before : first < k
+    begun : begins limits commands s first ≡ true
+    unended : (j : ℕ) → first < j → j < k → ends_at s j ≡ false
+    since : Since limits commands s k first
+
+  -- it goes on over a command that doesn't end it
+  longer : (s k first : ℕ) → Opened s k first → ends_at s k ≡ false → Since limits commands s (suc k) first
+      → Opened s (suc k) first
+  longer s k first old not_here since = record {
+    before = omega (arith, old.before);
+    begun = old.begun;
+    unended = λ j after_first within. go j after_first within (cases_lt j k);
+    since = since;
+  }
+    where
+      go : (j : ℕ) → first < j → j < suc k → (j < k) ⊎ (k ≤ j) → ends_at s j ≡ false
+      go j after_first within (inl earlier) = old.unended j after_first earlier
+      go j after_first within (inr later) =
+          let here : k ≡ j = omega arith in
+          subst (λ (i : ℕ). ends_at s i ≡ false) here not_here
+
+  -- each open session began somewhere
+  abbrev HasBegun : ℕ → ℕ → Type 0
+  HasBegun s k = (x : Session) → get (met k).sessions s ≡ Some x → (first : ℕ) × Opened s k first
+
+  begun_on : (k s : ℕ) → is_accepted limits commands k ≡ true → HasBegun s k → HasBegun s (suc k)
+  begun_on k s ok earlier x found = go (how (met k) (c k) s x found_now)
+    where
+      found_now : get (accepted (met k) (c k)).0.sessions s ≡ Some x
+      found_now = ap (λ (state : State). get state.sessions s) (sym (met_accepted limits empty commands k ok)) ∙ found
+
+      not_here : ends_at s k ≡ false
+      not_here = and_right _ _ (not_ended (met k) (c k) s x found_now)
+
+      go : After (met k) (c k) s x → (first : ℕ) × Opened s (suc k) first
+      go (inl a) =
+          let old = earlier x a.0 in
+          let no_turn = turn_is limits commands s k false ok a.1 in
+          (old.0, longer s k old.0 old.1 not_here (goes_on limits commands s k old.0 (inr no_turn) old.1.since))
+      go (inr (inl b)) = (
+        k,
+        record {
+          before = omega arith;
+          begun = begins_is limits commands s k ok b.0;
+          unended = λ j after_first within. absurd (omega arith);
+          since = begins_here limits commands s k ok b.0;
+        },
+      )
+      go (inr (inr w)) =
+          let old = earlier w.0 w.1 in
+          let calm = (worker_commits (c k) s w.2).1 in
+          (old.0, longer s k old.0 old.1 not_here (goes_on limits commands s k old.0 (inl calm) old.1.since))
+
+  opened : (k s : ℕ) → HasBegun s k
+  opened zero s x found = absurd (none_open s x found)
+  opened (suc k) s x found = go (cases_Bool (is_accepted limits commands k)) (opened k s)
+    where
+      go : (is_accepted limits commands k ≡ true) ⊎ (is_accepted limits commands k ≡ false) → HasBegun s k
+          → (first : ℕ) × Opened s (suc k) first
+      go (inr not_ok) earlier =
+          let same = met_refused limits empty commands k not_ok in
+          let old = earlier x (ap (λ (state : State). get state.sessions s) (sym same) ∙ found) in
+          let since = goes_on limits commands s k old.0 (inr (and_left _ _ not_ok)) old.1.since in
+          (old.0, longer s k old.0 old.1 (and_left _ _ not_ok) since)
+      go (inl ok) earlier = begun_on k s ok earlier x found
+
+  pub commits_transactions : (s last : ℕ) → is_accepted limits commands last ≡ true → c last ≡ command.Commit s
+      → (first : ℕ) × IsTransaction limits commands s first last
+      × (committed_at limits commands last
+      ≡ filter (is_turn limits commands s) (range_with_len first (last + 1 - first)))
+  commits_transactions s last ok is =
+      let passes_here = subst (λ (d : Command). refusal_of limits (met last) d ≡ None) is
+      (passes limits empty commands last ok) in
+      let open_is = committer_open limits (met last) s passes_here in
+      let o = opened last s open_is.0 open_is.1 in
+      let turn = turn_is limits commands s last true ok (ap (own s) is ∙ eq-eqb s s refl) in (
+        o.0,
+        record { before = o.1.before; begun = o.1.begun; committed = (ok, is); unended = o.1.unended },
+        commits_turns limits commands last s ok is
+            ∙ ap (λ (l : List ℕ). l ++ last ∷ []) o.1.since.turns_are
+            ∙ ap (λ (t : Bool). filter (is_turn limits commands s) (range_with_len o.0 (last - o.0))
+            ++ cond t (last ∷ []) []) (sym turn)
+            ∙ sym (filter_more (is_turn limits commands s) o.0 last (omega (arith, o.1.before))),
+      )

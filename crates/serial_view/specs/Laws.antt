@@ -1,0 +1,86 @@
+-- The laws of the serial view.
+use Rattle.std.specs.Prelude.{◌≡◌, ℕ, ◌+◌, ◌-◌, ◌<◌, ◌==◌, Bool, true, false, not, ◌&&◌, List, [], ◌∷◌, map, filter}
+use Rattle.std.specs.List.{list_any, range_with_len}
+use Rattle.std.specs.FinMap.{empty}
+use Rattle.ipl_rules.specs.State.{Map, State, Limits, at_rest}
+use Rattle.ipl_rules.specs.Refusals.{is_new_share}
+use Rattle.ipl_model.specs.declared.command.Command.{Command}
+use Rattle.ipl_model.specs.declared.command.Command.TheVariants as command
+use Rattle.ipl_model.specs.declared.reply.Reply.{Reply}
+use Rattle.ipl_model.specs.Step.{step}
+use Rattle.ipl_model.specs.Run.{after_all}
+use Rattle.serial_view.specs.Serial.{command_at, met_at, is_accepted, is_turn, begins, turns, committed_at, serial}
+
+-- the commands at these positions
+abbrev pub picked : List Command → List ℕ → List Command
+picked commands positions = map (command_at commands) positions
+
+-- the replies to each command of a run
+abbrev pub replies : Limits → State → List Command → List (List Reply)
+replies limits state [] = []
+replies limits state (c ∷ commands) = (step limits state c).1 ∷ replies limits (step limits state c).0 commands
+
+-- the replies to the command at a position, in the run from these records
+abbrev pub reply_at : Limits → Map → List Command → ℕ → List Reply
+reply_at limits m commands k = (step limits (met_at limits m commands k) (command_at commands k)).1
+
+-- a get of a name that its transaction hadn't then written or shared
+abbrev pub reads_unlocked : State → Command → Bool
+reads_unlocked state (command.Get s n) = is_new_share state s n
+reads_unlocked state other = false
+
+-- such a get stands at a position; whether it does depends on no records
+abbrev pub is_unlocked : Limits → List Command → ℕ → Bool
+is_unlocked limits commands k = reads_unlocked (met_at limits empty commands k) (command_at commands k)
+
+-- the serial view of a list of commands
+pub record IsSerialView (limits : Limits) (commands : List Command) (positions : List ℕ) : Type 0 where
+  -- it is that of the definition
+  pub order : positions ≡ serial limits commands
+  -- run by themselves, its commands leave the records of the whole run, and no session open
+  pub leaves : (m : Map) → after_all limits (at_rest m) (picked commands positions)
+      ≡ at_rest (after_all limits (at_rest m) commands).map
+  -- and where none of them gets a name that its transaction hadn't then written or shared, each has its reply
+  pub says : (m : Map) → list_any (is_unlocked limits commands) positions ≡ false
+      → replies limits (at_rest m) (picked commands positions) ≡ map (reply_at limits m commands) positions
+
+-- ---- what a transaction is
+
+-- a command ends what session s has open
+abbrev pub ends : ℕ → Command → Bool
+ends s (command.Commit t) = t == s
+ends s (command.Abort t) = t == s
+ends s command.Restart = true
+ends s other = false
+
+-- a transaction of session s: it begins at one position and is committed at another, and nothing ended it between
+pub record IsTransaction (limits : Limits) (commands : List Command) (s first last : ℕ) : Type 0 where
+  pub before : first < last
+  pub begun : begins limits commands s first ≡ true
+  pub committed : (is_accepted limits commands last ≡ true) × (command_at commands last ≡ command.Commit s)
+  pub unended : (j : ℕ) → first < j → j < last
+      → (is_accepted limits commands j && ends s (command_at commands j)) ≡ false
+
+-- an accepted commit commits a transaction, and the view has its accepted commands, from its begin to the commit
+abbrev pub CommitsTransactions : Type 0
+CommitsTransactions = (limits : Limits) (commands : List Command) (s last : ℕ)
+    → is_accepted limits commands last ≡ true → command_at commands last ≡ command.Commit s
+    → (first : ℕ) × IsTransaction limits commands s first last
+    × (committed_at limits commands last
+    ≡ filter (is_turn limits commands s) (range_with_len first (last + 1 - first)))
+
+-- ---- which gets are unlocked
+
+-- a command writes a name, or shares it
+abbrev pub holds_name : ℕ → Command → Bool
+holds_name n (command.Share s m) = m == n
+holds_name n (command.Put s m bytes) = m == n
+holds_name n (command.Del s m) = m == n
+holds_name n other = false
+
+-- an accepted get is unlocked exactly where no command of its session since that began has written or shared the name
+abbrev pub UnlockedGets : Type 0
+UnlockedGets = (limits : Limits) (commands : List Command) (k s n : ℕ)
+    → is_accepted limits commands k ≡ true → command_at commands k ≡ command.Get s n
+    → is_unlocked limits commands k
+    ≡ not (list_any (λ j. holds_name n (command_at commands j)) (turns limits commands s k))

@@ -1,0 +1,3 @@
+pub mod Serial
+pub mod Laws
+pub mod Turns

@@ -1,0 +1,69 @@
+-- What is kept while the view is made: whose turn each command was, where each session last began, and the view so far.
+use Rattle.std.specs.Prelude.{◌≡◌, ℕ, ◌-◌, ◌<◌, ◌==◌, Bool, true, false, List, [], ◌∷◌, ◌++◌, length, filter, slice_index, slice_index_or, slice_set, Option, None, is_some, if◌then◌else◌}
+use Rattle.std.specs.List.{range_with_len}
+use Rattle.std.specs.Option.{option_map_or, IfSome}
+use Rattle.ipl_rules.specs.State.{State, Limits}
+use Rattle.ipl_model.specs.Step.{step, refusal_of}
+use Rattle.ipl_model.specs.declared.command.Command.{Command}
+use Rattle.ipl_model.specs.declared.command.Command.TheVariants as command
+use Rattle.ipl_model.specs.declared.reply.Reply.{Reply}
+use Rattle.ipl_model.specs.declared.reply.Reply.TheVariants as reply
+use Rattle.serial_view.specs.declared.turn_table.TurnTable.{TurnTable}
+use Rattle.serial_view.specs.Serial.{session_of}
+
+-- a command with these replies was refused
+abbrev pub is_refusal : List Reply → Bool
+is_refusal [] = false
+is_refusal (reply.Refused refusal ∷ rest) = true
+is_refusal (other ∷ rest) = false
+
+-- the turn is that of session s
+abbrev pub is_turn_of : ℕ → Option ℕ → Bool
+is_turn_of s turn = option_map_or (λ t. t == s) turn false
+
+-- the positions from `from` on at which the turn is that of session s, rising
+abbrev pub turns_from : List (Option ℕ) → ℕ → ℕ → List ℕ
+turns_from turns s from =
+    filter (λ j. is_turn_of s (slice_index_or turns j None)) (range_with_len from (length turns - from))
+
+-- the turns, the beginnings by session, and the positions of the view
+pub record KeptTurns : Type 0 where
+  pub turns : List (Option ℕ)
+  pub begun : List ℕ
+  pub order : List ℕ
+
+-- the beginnings after a command at a position
+abbrev pub begun_after : List ℕ → ℕ → Command → List ℕ
+begun_after begun k (command.Begin s) = slice_set begun s k
+begun_after begun k other = begun
+
+-- the view after a command that stands last among the turns
+abbrev pub order_after : List ℕ → List (Option ℕ) → List ℕ → Command → List ℕ
+order_after order turns begun (command.Commit s) = order ++ turns_from turns s (slice_index begun s)
+order_after order turns begun other = order
+
+-- a command that was refused
+abbrev pub after_refused : KeptTurns → KeptTurns
+after_refused t = record t { turns = t.turns ++ None ∷ [] }
+
+-- a command that was accepted
+abbrev pub after_accepted : KeptTurns → Command → KeptTurns
+after_accepted t c = record {
+  turns = t.turns ++ session_of c ∷ [];
+  begun = begun_after t.begun (length t.turns) c;
+  order = order_after t.order (t.turns ++ session_of c ∷ []) t.begun c;
+}
+
+-- its session, where it has one, is below 32
+abbrev pub HasSlot : Command → Type 0
+HasSlot c = IfSome (session_of c) (λ s. s < 32)
+
+-- what a table holds
+abbrev pub kept_of : TurnTable → KeptTurns
+kept_of t = record { turns = t.turns.items; begun = t.begun; order = t.order.items }
+
+-- one command's run, and its turn
+pub record RunsCommand (limits : Limits) (state : State) (old : KeptTurns) (c : Command) (next : State)
+    (new : KeptTurns) : Type 0 where
+  pub runs : next ≡ (step limits state c).0
+  pub table : new ≡ (if is_some (refusal_of limits state c) then after_refused old else after_accepted old c)

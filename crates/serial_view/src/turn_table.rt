@@ -1,0 +1,110 @@
+//! What is kept of a run while its serial view is made.
+ghost use Rattle.std.specs.Prelude.{◌≡◌, ◌<◌, ◌≤◌, ◌++◌, ◌∷◌, [], ℕ, length, replicate, OnOk};
+ghost use Rattle.serial_view.specs.Serial.{session_of};
+ghost use Rattle.serial_view.specs.Turns.{KeptTurns, after_refused, after_accepted, is_turn_of, turns_from, HasSlot, kept_of};
+
+use ipl_model::Command;
+use std::alloc::{AllocError, Global};
+
+/// The session to whose transaction a command belongs.
+fn session_of(command: &Command) -> Option<u32>
+    ensures { result ≡ session_of command.now }
+{
+    match command {
+        Command::Begin(s)
+        | Command::Get(s, _)
+        | Command::Share(s, _)
+        | Command::Put(s, _, _)
+        | Command::Del(s, _)
+        | Command::Commit(s) => Some(*s),
+        Command::Abort(_)
+        | Command::List(_, _)
+        | Command::Merge(_)
+        | Command::Restart
+        | Command::Syntax => None,
+    }
+}
+
+/// The turn is that of session s.
+fn is_turn_of(s: u32, turn: Option<u32>) -> bool
+    ensures { result ≡ is_turn_of s turn }
+{
+    match turn {
+        Some(t) => t == s,
+        None => false,
+    }
+}
+
+/// Appends the positions of a session's turns from `from` on, rising.
+fn append_turns(
+    order: &mut Vec<usize>,
+    turns: &[Option<u32>],
+    s: u32,
+    from: usize,
+) -> Result<(), AllocError>
+    ensures { OnOk result (order.new.items ≡ order.old.items ++ turns_from turns.now s from) }
+{
+    for at in from..turns.len() {
+        if is_turn_of(s, turns[at]) {
+            order.push(at)?;
+        }
+    }
+    Ok(())
+}
+
+/// Whose turn each command was, none where it was refused or belongs to no transaction; where each of 32
+/// sessions last began; and the positions of the view so far. A contract sees it by `kept_of`.
+#[derive(Drop)]
+pub struct TurnTable {
+    turns: Vec<Option<u32>>,
+    begun: [usize; 32],
+    order: Vec<usize>,
+}
+
+impl TurnTable {
+    /// The table before the first command.
+    pub fn new(alloc: Global) -> TurnTable
+        ensures turns { (kept_of result).turns ≡ [] }
+        ensures order { (kept_of result).order ≡ [] }
+        ensures begun { (kept_of result).begun ≡ replicate 32 0 }
+    {
+        TurnTable {
+            turns: Vec::new(alloc),
+            begun: [0; 32],
+            order: Vec::new(alloc),
+        }
+    }
+
+    /// Keeps that a command was refused.
+    pub fn skip(&mut self) -> Result<(), AllocError>
+        ensures { OnOk result (kept_of self.new ≡ after_refused (kept_of self.old)) }
+    {
+        self.turns.push(None)?;
+        Ok(())
+    }
+
+    /// Keeps whose turn an accepted command was: at a commit its session's turns join the view.
+    pub fn take(&mut self, command: &Command) -> Result<(), AllocError>
+        requires { HasSlot command.now }
+        ensures { OnOk result (kept_of self.new ≡ after_accepted (kept_of self.old) command.now) }
+    {
+        let at = self.turns.len();
+        self.turns.push(session_of(command))?;
+        match command {
+            Command::Begin(s) => self.begun[*s as usize] = at,
+            Command::Commit(s) => {
+                let from = self.begun[*s as usize];
+                append_turns(&mut self.order, &self.turns, *s, from)?;
+            }
+            _ => {}
+        }
+        Ok(())
+    }
+
+    /// The positions of the view.
+    pub fn into_order(self) -> Vec<usize>
+        ensures { result.items ≡ (kept_of self).order }
+    {
+        self.order
+    }
+}
