@@ -1,0 +1,136 @@
+-- What a frame has that was loaded.
+use Rattle.std.proofs.Common.{◌≡◌, ◌<◌, ◌-◌, ℕ, suc, Bool, List, [], ◌∷◌, ◌++◌, length, map, replicate, slice_index, slice_index_or, Option, Some, None, refl, sym, ◌∙◌, ap, ap₂, subst, arith}
+use Rattle.std.specs.List.{All}
+use Rattle.std.specs.Option.{option_or}
+use Rattle.std.proofs.lemmas.List.{get_or-replicate}
+use Rattle.chip_trait.specs.Story.{Contents}
+use Rattle.ipl_rules.specs.State.{Map}
+use Rattle.ipl_format.specs.Page.{Slots, IsCutInto, page_text, value_in}
+use Rattle.ipl_format.specs.Place.{base_sector_of}
+use Rattle.ipl_format.specs.Record.{Record}
+use Rattle.log_records.proofs.RecordsLemmas.{records_list}
+use Rattle.ipl_meaning.specs.Chart.{Chart}
+use Rattle.ipl_meaning.specs.Values.{counts_for, after_records}
+use Rattle.ipl_meaning.specs.Last.{last_that}
+use Rattle.ipl_meaning.specs.Layout.{Entry, Shape, Layout, Laid, IsEntry, ReadsWell, base_sector, records_of as log_records_of}
+use Rattle.ipl_meaning.specs.Stands.{Shows, Stands, page_in}
+use Rattle.ipl_meaning.specs.Tables.{Places, OverflowLists, Status, Tables}
+use Rattle.ipl_meaning.proofs.OnceLemmas.{laid_once, shows_once}
+use Rattle.ipl_meaning.proofs.SwitchLemmas.{same_applied}
+use Rattle.number_set.specs.Numbers.{among}
+use Rattle.number_set.proofs.AmongLemmas.{among_from}
+use Rattle.unit_io.specs.Faults.{page_fault, HoldsPage}
+use Rattle.unit_log.specs.declared.scratch.LogSector.{LogSector}
+use Rattle.unit_log.specs.declared.live.UnitHead.{UnitHead}
+use Rattle.unit_log.specs.Kept.{kept_of, records_kept}
+use Rattle.unit_log.specs.Live.{IsLive}
+use Rattle.page_ops.specs.Frames.{FrameView, values_in, pending_in, kept_pending}
+use Rattle.page_rebuild.specs.Taken.{pending_of, pending_after, AreTaken}
+use Rattle.page_rebuild.specs.Loaded.{IsLoaded, HasPageOf, AreTables, base_fault}
+use Rattle.page_rebuild.proofs.ReadLemmas.{within, home_is}
+
+-- the records of log sectors that were kept are those of the log
+kept_records : (c : Chart) (places u home generation : ℕ) (log : List Entry)
+    → All (IsEntry c places u home generation) log
+    → records_kept (map kept_of log) ≡ log_records_of log
+kept_records c places u home generation [] each = refl
+kept_records c places u home generation (e ∷ log) each =
+    let first : IsEntry c places u home generation e = each 0 e (omega arith) in
+    ap₂ (λ (a b : List Record). a ++ b) (records_list e.records e.sector.payload first.records)
+    (kept_records c places u home generation log (λ i d low. each (suc i) d (omega (arith, low))))
+
+-- nothing is pending in a frame to which nothing was done
+none_pending : (f : FrameView) (slot : ℕ) → f.pending ≡ replicate 64 None → slot < 64
+    → pending_in f slot ≡ None
+none_pending f slot none low =
+    ap (λ p. kept_pending (slice_index_or p slot None)) none
+    ∙ ap kept_pending (get_or-replicate 64 slot None None low)
+
+or_none : {X : Type 0} (o : Option X) → option_or o None ≡ o
+or_none None = refl
+or_none (Some x) = refl
+
+module _ {places u place : ℕ} {c : Chart} {it : Layout} {t : Tables} {directory : Places}
+    {overflow : OverflowLists} {status : Status} {head : UnitHead} {kept : List LogSector}
+    (are : AreTables places c it t directory overflow status)
+    (low : u < length directory.current) (here : place ≡ slice_index directory.current u)
+    (live : IsLive it u head kept) where
+  place_is : place ≡ (it.units u).home
+  place_is = here ∙ home_is are low
+
+  pub count_is : (page : ℕ) → slice_index head.pieces page ≡ slice_index (it.units u).pieces page
+  count_is page = ap (λ (l : List ℕ). slice_index l page) live.pieces
+
+  pub fault_is : (x : Contents) (page : ℕ)
+      → page_fault x place u head.generation page (slice_index head.pieces page)
+      ≡ base_fault x it u page
+  fault_is x page = rw (place_is, live.generation, live.pieces) refl
+
+  committed_is : (tid : ℕ) → it.committed tid ≡ among status.numbers tid
+  committed_is tid =
+      among_from t.status.numbers tid (it.committed tid) (are.mirrored.mirrors.status.numbers tid)
+      ∙ ap (λ (s : Status). among s.numbers tid) are.status_is
+
+  log_is : records_kept kept ≡ log_records_of (it.units u).log
+  log_is =
+      ap records_kept live.log
+      ∙ kept_records c places u (it.units u).home (it.units u).head.generation (it.units u).log
+      (are.mirrored.mirrors.laid.each u (within are low)).log.each
+
+  reads_well : (page : ℕ) (base : Slots)
+      → HoldsPage c place u head.generation page (slice_index head.pieces page) base
+      → ReadsWell c u (it.units u) page base
+  reads_well page base held = record {
+    fits = held.fits;
+    cut = subst (IsCutInto (page_text base)) (count_is page) held.cut;
+    here = λ i less. ap (λ (p : ℕ). c p (base_sector_of page i)) (sym place_is)
+        ∙ held.here i (omega (arith, less, count_is page))
+        ∙ ap (λ (g : ℕ). Some (base_sector u g page i (page_text base))) live.generation;
+  }
+
+  -- the records of the log give the values and the pending changes
+  values_shown : (page slot : ℕ) (value : Option (List ℕ))
+      → after_records (among status.numbers) page slot (records_kept kept) value
+      ≡ after_records it.committed page slot (log_records_of (it.units u).log) value
+  values_shown page slot value =
+      let log = log_records_of (it.units u).log in
+      ap (λ (l : List Record). after_records (among status.numbers) page slot l value) log_is
+      ∙ sym (same_applied it.committed (among status.numbers) page slot log value
+      (λ i d within. sym (committed_is _)))
+
+  pending_left : (active : ℕ → Bool) (page slot : ℕ) (f : FrameView)
+      → f.pending ≡ replicate 64 None → slot < 64
+      → pending_after active page slot (records_kept kept) (pending_in f slot)
+      ≡ pending_of (last_that (counts_for active page slot) (log_records_of (it.units u).log) None)
+  pending_left active page slot f none low =
+      ap (λ (l : List Record). pending_after active page slot l (pending_in f slot)) log_is
+      ∙ ap (pending_after active page slot (log_records_of (it.units u).log))
+      (none_pending f slot none low)
+      ∙ or_none _
+
+  pub loaded : {f g : FrameView} (page : ℕ) (active : List ℕ)
+      → HoldsPage c place u head.generation page (slice_index head.pieces page) f.page
+      → f.pending ≡ replicate 64 None
+      → AreTaken (among status.numbers) (among active) page (records_kept kept) f g
+      → IsLoaded c it (among active) u page g
+  loaded {f} {g} page active held none taken = record {
+    shows = record {
+      base = f.page;
+      reads = reads_well page f.page held;
+      says = λ slot less. taken.values slot less ∙ values_shown page slot (value_in f.page slot);
+    };
+    pending = λ slot less. taken.pending slot less
+        ∙ pending_left (among active) page slot f none less;
+  }
+
+-- whatever map the chart stands for, the frame has that map's page
+pub page_of_map : {places u page : ℕ} {c : Chart} {it : Layout} {m : Map} {active : ℕ → Bool}
+    {f : FrameView} → Laid places c it → u < places - 4 → page < 15 → Stands places c m
+    → IsLoaded c it active u page f → HasPageOf m u page f
+page_of_map {places} {u} {page} {c} {it} {m} {active} {f} laid low few stands is = λ slot less.
+    let one = laid_once places c it stands.layout laid stands.laid in
+    let unit = stands.layout.units u in
+    let mine : Shows c it.committed u unit page (values_in f) =
+    subst (λ (s : Shape). Shows c it.committed u s page (values_in f)) (one.units u low) is.shows in
+    shows_once c it.committed stands.layout.committed u unit page (values_in f) (page_in m u page)
+    one.committed mine (stands.says.pages u page low few) slot less

@@ -1,0 +1,136 @@
+-- What a load reads, and the fault that it tells.
+use Rattle.std.proofs.Common.{◌≡◌, ◌<◌, ◌≤◌, ◌-◌, ◌+◌, ◌*◌, ℕ, zero, suc, List, length, slice_index, Option, Some, Result, Ok, Err, inl, inr, refl, sym, ◌∙◌, ap, subst, arith}
+use Rattle.std.specs.List.{All, Contains}
+use Rattle.std.proofs.lemmas.List.Elements.{All-nil, All-cons}
+use Rattle.chip_trait.specs.declared.event.Event.TheVariants.{Read}
+use Rattle.chip_trait.specs.Told.{Told, Counts}
+use Rattle.ipl_base.specs.declared.fault.ChipFault.{ChipFault}
+use Rattle.ipl_format.specs.Place.{base_sector_of}
+use Rattle.ipl_meaning.specs.Chart.{Chart}
+use Rattle.ipl_meaning.specs.Layout.{Layout}
+use Rattle.ipl_meaning.specs.Allowed.{IsAllowed}
+use Rattle.ipl_meaning.specs.Tables.{Places, OverflowLists, Status, Tables, spots_of}
+use Rattle.overflow.specs.Lists.{spots_in}
+use Rattle.unit_io.specs.Reads.{Reads, PageAsked, page_reads}
+use Rattle.unit_io.specs.ReadsAt.{IsReadAt, ReadsAt}
+use Rattle.unit_io.proofs.ReadsAtLemmas.{at_then, at_wider}
+use Rattle.unit_log.specs.Looks.{IsLogRead}
+use Rattle.page_rebuild.specs.Loaded.{AreTables, IsBaseRead, IsLoadRead}
+
+-- ---- base sectors that were read
+
+base_each : (place page pieces n : ℕ) → n ≤ pieces
+    → All (IsReadAt (IsBaseRead place page pieces)) (page_reads place page n)
+base_each place page pieces zero few = All-nil (IsReadAt (IsBaseRead place page pieces))
+base_each place page pieces (suc n) few =
+    All-cons (IsReadAt (IsBaseRead place page pieces)) (Read place (base_sector_of page n))
+    (page_reads place page n) (refl, (omega arith, omega (arith, few)))
+    (base_each place page pieces n (omega (arith, few)))
+
+base_done : (place page pieces n : ℕ) (old new : Told) → n ≤ pieces
+    → Reads (page_reads place page n) old new → Counts old new
+    → ReadsAt (IsBaseRead place page pieces) old new
+base_done place page pieces n old new few did counts = record {
+  settled = did.settled;
+  contents = did.contents;
+  added = page_reads place page n;
+  each = base_each place page pieces n few;
+  history = did.history;
+  counts = counts;
+}
+
+pub base_asked : (place page pieces : ℕ) (result : Result (Unit {0}) ChipFault) (old new : Told)
+    → PageAsked place page pieces result old new → Counts old new
+    → ReadsAt (IsBaseRead place page pieces) old new
+base_asked place page pieces (Ok v) old new did counts =
+    base_done place page pieces pieces old new (omega arith) did counts
+base_asked place page pieces (Err e) old new (n, less, did) counts =
+    base_done place page pieces n old new less did counts
+
+-- ---- the log, and then the base sectors
+
+log_there : (home page : ℕ) (spots : List (ℕ × ℕ)) (p s : ℕ) → IsLogRead home spots p s
+    → IsLoadRead home spots page p s
+log_there home page spots p s is = inl is
+
+base_there : (home place page pieces : ℕ) (spots : List (ℕ × ℕ)) → place ≡ home → pieces ≤ 16
+    → (p s : ℕ) → IsBaseRead place page pieces p s → IsLoadRead home spots page p s
+base_there home place page pieces spots here few p s is =
+    inr (is.0 ∙ here, (is.1.0, let end = is.1.1 in omega (arith, end, few)))
+
+pub both_read : {home place pieces : ℕ} {old mid new : Told} (spots : List (ℕ × ℕ)) (page : ℕ)
+    → place ≡ home → pieces ≤ 16 → ReadsAt (IsLogRead home spots) old mid
+    → ReadsAt (IsBaseRead place page pieces) mid new → ReadsAt (IsLoadRead home spots page) old new
+both_read {home} {place} {pieces} {old} {mid} {new} spots page here few log base =
+    at_then (IsLoadRead home spots page) old mid new
+    (at_wider (IsLogRead home spots) (IsLoadRead home spots page) old mid
+    (log_there home page spots) log)
+    (at_wider (IsBaseRead place page pieces) (IsLoadRead home spots page) mid new
+    (base_there home place page pieces spots here few) base)
+
+-- ---- the allowed sectors
+
+module _ {places u : ℕ} {c : Chart} {it : Layout} {t : Tables} {directory : Places}
+    {overflow : OverflowLists} {status : Status}
+    (are : AreTables places c it t directory overflow status)
+    (low : u < length directory.current) where
+  pub within : u < places - 4
+  within =
+      omega (
+        arith,
+        low,
+        are.mirrored.mirrors.directory.units,
+        ap (λ (d : Places). length d.current) are.mirrored.directory_is,
+      )
+
+  pub home_is : slice_index directory.current u ≡ (it.units u).home
+  home_is =
+      ap (λ (d : Places). slice_index d.current u) (sym are.mirrored.directory_is)
+      ∙ are.mirrored.mirrors.directory.current u within
+
+  spots_are : spots_in overflow u ≡ spots_of t u
+  spots_are = ap (λ (o : OverflowLists). spots_in o u) (sym are.mirrored.overflow_is)
+
+  allowed_log : (page p s : ℕ)
+      → IsLogRead (slice_index directory.current u) (spots_in overflow u) p s
+      → IsAllowed c places it u page p s
+  allowed_log page p s (inl header) = inl (header.0 ∙ home_is, inl header.1)
+  allowed_log page p s (inr (inl log)) = inl (log.0 ∙ home_is, inr (inr (log.1, log.2)))
+  allowed_log page p s (inr (inr listed)) =
+      inr (are.mirrored.mirrors.overflow.only u p s within
+      (subst (λ (l : List (ℕ × ℕ)). Contains l (p, s)) spots_are listed))
+
+  allowed_base : (page place pieces : ℕ) → place ≡ slice_index directory.current u
+      → pieces ≡ slice_index (it.units u).pieces page → (p s : ℕ) → IsBaseRead place page pieces p s
+      → IsAllowed c places it u page p s
+  allowed_base page place pieces here count p s is =
+      let least = is.1.0 in
+      let end = is.1.1 in
+      inl (
+        is.0 ∙ here ∙ home_is,
+        inr (inl (s - (1 + page * 16), omega (arith, least, end, count), omega (arith, least))),
+      )
+
+  pub log_allowed : {old new : Told} (page : ℕ)
+      → ReadsAt (IsLogRead (slice_index directory.current u) (spots_in overflow u)) old new
+      → ReadsAt (IsAllowed c places it u page) old new
+  log_allowed {old} {new} page log =
+      at_wider (IsLogRead (slice_index directory.current u) (spots_in overflow u))
+      (IsAllowed c places it u page) old new (allowed_log page) log
+
+  pub both_allowed : {place pieces : ℕ} {old mid new : Told} (page : ℕ)
+      → place ≡ slice_index directory.current u → pieces ≡ slice_index (it.units u).pieces page
+      → ReadsAt (IsLogRead (slice_index directory.current u) (spots_in overflow u)) old mid
+      → ReadsAt (IsBaseRead place page pieces) mid new
+      → ReadsAt (IsAllowed c places it u page) old new
+  both_allowed {place} {pieces} {old} {mid} {new} page here count log base =
+      at_then (IsAllowed c places it u page) old mid new (log_allowed page log)
+      (at_wider (IsBaseRead place page pieces) (IsAllowed c places it u page) mid new
+      (allowed_base page place pieces here count) base)
+
+-- ---- the fault
+
+-- the fault is handed on
+pub fault_told : {o own : Option ChipFault} {e other : ChipFault} → o ≡ own → own ≡ Some e
+    → other ≡ e → o ≡ Some other
+fault_told is told same = is ∙ told ∙ ap (λ (f : ChipFault). Some f) (sym same)

@@ -1,0 +1,13 @@
+use Rattle.std.specs.List.{All}
+use Rattle.ipl_format.specs.Record.{IsRecord}
+use Rattle.log_records.specs.Reading.{records_of}
+use Rattle.number_set.specs.Numbers.{among}
+use Rattle.page_rebuild.proofs.TakenLemmas.{AreLeft}
+use Rattle.page_rebuild.proofs.taking.take_payload.Given as goal
+
+abbrev pub invariant-loop-logged : goal.invariant-loop-logged
+invariant-loop-logged l = record {
+  left : AreLeft (among l.status.numbers) (among l.active) l.page
+      (records_of l.logged-iterator) (records_of l.payload) l.frame l.fn.frame;
+  valid : All IsRecord (records_of l.logged-iterator);
+}

@@ -1,0 +1,116 @@
+//! A page is read, and its unit's log.
+ghost use Rattle.std.specs.Prelude.{◌≡◌, ◌≤◌, ◌<◌, ℕ, length, slice_index, All, IfErr, OnOk, OnErr};
+ghost use Rattle.chip_trait.specs.Told.{Told};
+ghost use Rattle.ipl_rules.specs.State.{Map};
+ghost use Rattle.ipl_format.specs.Page.{empty_page};
+ghost use Rattle.ipl_meaning.specs.Chart.{chart_of};
+ghost use Rattle.ipl_meaning.specs.Allowed.{IsAllowed};
+ghost use Rattle.ipl_meaning.specs.Stands.{Stands};
+ghost use Rattle.overflow.specs.Lists.{spots_in};
+ghost use Rattle.number_set.specs.Numbers.{among};
+ghost use Rattle.unit_io.specs.Faults.{page_fault, TellsChipFault, HoldsPage, IsPageCause};
+ghost use Rattle.unit_io.specs.Reads.{OfContents};
+ghost use Rattle.unit_io.specs.ReadsAt.{ReadsAt};
+ghost use Rattle.page_ops.specs.Frames.{empty_frame};
+ghost use Rattle.page_rebuild.specs.Loaded.{IsLoaded, OfTables, HasPageOf, IsBaseRead, IsLoadRead, IsLoadCause, base_fault};
+ghost use Rattle.page_rebuild.specs.Keeps.{KeepsWhatRests};
+
+use crate::taking::take_sectors;
+use chip_trait::Chip;
+use ipl_base::ChipFault;
+use overflow::Overflow;
+use page_ops::Frame;
+use sector_format::Head;
+use txn_status::Status;
+use unit_directory::Directory;
+use unit_io::read_page;
+use unit_log::{Scratch, UnitHead, read_live};
+
+/// Reads the base sectors of a page (0 to 14) into a frame, as many as the header of its unit says,
+/// at most 16. After a fault the frame's page is empty.
+fn read_base<C: Chip>(
+    chip: &mut C,
+    place: u32,
+    unit: u32,
+    header: &UnitHead,
+    page: u32,
+    frame: &mut Frame,
+) -> Result<(), ChipFault>
+    requires place { place < (C.told chip.old).places }
+    requires few { All (λ n. n ≤ 16) header.now.pieces }
+    requires page { page < 15 }
+    ensures exact { OfContents (C.told chip.old) (λ x. TellsChipFault
+        (page_fault x place unit header.now.generation page (slice_index header.now.pieces page))
+        result) }
+    ensures page { OnOk result (OfContents (C.told chip.old) (λ x. HoldsPage (chart_of x)
+        place unit header.now.generation page (slice_index header.now.pieces page)
+        frame.new.page)) }
+    ensures empty { OnErr result (frame.new.page ≡ empty_page) }
+    ensures pending { frame.new.pending ≡ frame.old.pending }
+    ensures reads { ReadsAt (IsBaseRead place page (slice_index header.now.pieces page))
+        (C.told chip.old) (C.told chip.new) }
+    ensures cause { IfErr result (λ e.
+        IsPageCause place page e (C.told chip.old) (C.told chip.new)) }
+{
+    let head = Head {
+        kind: Head::DATA_HEADER,
+        unit,
+        generation: header.generation,
+        serial: header.generation,
+    };
+    let pieces = u32::from(header.pieces[page as usize]);
+    read_page(chip, place, &head, page, pieces, frame.committed_mut())
+}
+
+/// Loads a page (0 to 14) into a frame. The unit's header and log are read and then the base
+/// sectors of the page. Records of committed numbers become values; of those of active numbers the
+/// last one on each slot is pending there. What was in the frame and in the scratch memory before
+/// is gone, however the call ends, and after a fault the frame is empty.
+///
+/// Where the tables mirror what the chip holds, it fails only where a read failed or the base page
+/// reads badly. Else it may find a sector malformed that isn't what the tables say.
+pub fn load<C: Chip>(
+    chip: &mut C,
+    directory: &Directory,
+    overflow: &Overflow,
+    status: &Status,
+    active: &[u64],
+    unit: u32,
+    page: u32,
+    scratch: &mut Scratch,
+    frame: &mut Frame,
+) -> Result<(), ChipFault>
+    requires unit { unit < length directory.now.current }
+    requires size { length directory.now.in_use ≡ (C.told chip.old).places }
+    requires units { length overflow.now.spots ≡ length directory.now.current }
+    requires page { page < 15 }
+
+    // What the frame has then, and the exact fault, where the tables mirror what the chip holds.
+    ensures loads { OnOk result (OfTables (C.told chip.old) directory.now overflow.now status.now
+        (λ x it. IsLoaded (chart_of x) it (among active.now) unit page frame.new)) }
+    ensures fault { OfTables (C.told chip.old) directory.now overflow.now status.now
+        (λ x it. TellsChipFault (base_fault x it unit page) result) }
+    ensures stands { OnOk result (OfTables (C.told chip.old) directory.now overflow.now status.now
+        (λ x it. (m : Map) → Stands (C.told chip.old).places (chart_of x) m
+        → HasPageOf m unit page frame.new)) }
+    ensures empty { OnErr result (frame.new ≡ empty_frame) }
+
+    // What it reads, and why it fails.
+    ensures allowed { OfTables (C.told chip.old) directory.now overflow.now status.now
+        (λ x it. ReadsAt (IsAllowed (chart_of x) (C.told chip.old).places it unit page)
+        (C.told chip.old) (C.told chip.new)) }
+    ensures reads { ReadsAt
+        (IsLoadRead (slice_index directory.now.current unit) (spots_in overflow.now unit) page)
+        (C.told chip.old) (C.told chip.new) }
+    ensures keeps { KeepsWhatRests result (C.told chip.old) (C.told chip.new) }
+    ensures cause { IfErr result (λ e. IsLoadCause
+        (slice_index directory.now.current unit) (spots_in overflow.now unit) page e
+        (C.told chip.old) (C.told chip.new)) }
+{
+    *frame = Frame::empty();
+    let place = directory.current(unit);
+    let header = read_live(chip, directory, overflow, unit, scratch)?;
+    read_base(chip, place, unit, &header, page, frame)?;
+    take_sectors(frame, page, scratch.sectors(), status, active);
+    Ok(())
+}
