@@ -1,0 +1,11 @@
+pub mod StepLemmas
+pub mod AdvanceLemmas
+pub mod KeeperLemmas
+pub mod LeadLemmas
+pub mod SessionLemmas
+pub mod ShowLemmas
+pub mod CommitLemmas
+pub mod ViewLemmas
+pub mod NumberLemmas
+pub mod KeepLemmas
+pub mod FaultLemmas

@@ -1,0 +1,154 @@
+-- The number of a session, added between two barriers.
+use Rattle.std.specs.List.{All, Contains, filter}
+use Rattle.std.specs.Option.{option_map}
+use Rattle.std.proofs.Common.{◌≡◌, ℕ, zero, suc, ◌<◌, ◌+◌, Bool, true, false, List, [], ◌∷◌, eqb, Result, Ok, Err, OnOk, inl, refl, sym, ◌∙◌, ap, subst, arith}
+use Rattle.std.proofs.lemmas.Bool.{eq-eqb, not-true}
+use Rattle.std.proofs.lemmas.List.Elements.{All-contains, All-filter, All-contains_itself, filter_passes}
+use Rattle.std.proofs.lemmas.List.Kept.{AllPairs-filter}
+use Rattle.chip_trait.specs.declared.event.Event.TheVariants.{Barrier}
+use Rattle.chip_trait.specs.Story.{Story, after}
+use Rattle.chip_trait.specs.Told.{History, Told, Counts, Appends, adds, adds_all}
+use Rattle.ipl_base.specs.declared.fault.ChipFault.{ChipFault}
+use Rattle.ipl_rules.specs.State.{Map}
+use Rattle.ipl_meaning.specs.Chart.{Chart}
+use Rattle.ipl_meaning.specs.Layout.{Layout}
+use Rattle.ipl_meaning.specs.Rests.{EachStandsEither, StoryRests}
+use Rattle.ipl_meaning.specs.Tables.{Tables, Status, IsCountedClean}
+use Rattle.ipl_meaning.specs.Mirrors.{AreApart, Mirrors}
+use Rattle.ipl_meaning.proofs.AgreeLemmas.{barriers_agree}
+use Rattle.ipl_meaning.proofs.StoryLemmas.{held_stands, barriers_rest, barriers_keep_either}
+use Rattle.unit_io.specs.Charts.{Charts}
+use Rattle.unit_io.specs.Leads.{IsSteady, Leads, Waited, IsStopped}
+use Rattle.unit_io.proofs.LeadsLemmas.{leads_waited}
+use Rattle.steps.specs.Steps.{NoOtherEnd, TidyWork, RestsAgreeing, Steps}
+use Rattle.steps.proofs.StepLemmas.{writes_are_steps, failed_writes_are_steps}
+use Rattle.steps.proofs.TidyLemmas.{tidy_none}
+use Rattle.txn_status.specs.Adding.{MayAdd, Adds, AddsInSteps, IsReadyToAdd, with_added, layout_added}
+use Rattle.pending_writes.specs.Fits.{is_another}
+use Rattle.store_steps.specs.Numbers.{AddsNumber, AddsNumberInSteps}
+use Rattle.store_steps.proofs.StepLemmas.{steps_then, steps_weaker}
+
+-- ---- the number of an open session may be committed
+
+pub may_add : (places : ℕ) (c : Chart) (it : Layout) (t : Tables) (tid : ℕ) → Mirrors places c it t
+    → Contains t.active tid → MayAdd t (tid ∷ []) (filter (is_another tid) t.active)
+may_add places c it t tid mirrors mine = record {
+  below = one_below;
+  open_still = All-filter (is_another tid) (Contains t.active) t.active
+      (All-contains_itself t.active);
+  once = AllPairs-filter AreApart (is_another tid) t.active mirrors.numbers.once;
+  waits = waits_at (filter (is_another tid) t.active) (filter_passes (is_another tid) t.active);
+}
+  where
+    one_below : All (λ n. n < t.next) (tid ∷ [])
+    one_below zero d within = All-contains (λ n. n < t.next) t.active tid mirrors.numbers.below mine
+    one_below (suc k) d within = absurd (omega (arith, within))
+
+    is_one : (n : ℕ) → Contains (tid ∷ []) n → tid ≡ n
+    is_one n (zero, within, is) = is
+    is_one n (suc k, within, is) = absurd (omega (arith, within))
+
+    waits_at : (l : List ℕ) → All (λ n. is_another tid n ≡ true) l
+        → All (λ n. ¬ Contains (tid ∷ []) n) l
+    waits_at l passes k d within has =
+        let other = not-true (eqb _ tid) (passes k d within) in
+        let clash : true ≡ false = sym (eq-eqb _ tid (sym (is_one _ has))) ∙ other in cc clash
+
+-- ---- what the chip holds
+
+pub number_adds : (places next_places : ℕ) (status : Status) (next tid : ℕ)
+    (result : Result (Unit {0}) ChipFault) (old mid new : Told) → next_places ≡ places
+    → Appends Barrier old mid
+    → OnOk result (Charts (Adds next_places status next (tid ∷ [])) mid new)
+    → OnOk result (Charts (AddsNumber places status next tid) old new)
+number_adds places next_places status next tid (Err e) old mid new same did tells = tt
+number_adds places next_places status next tid (Ok v) old mid new same did tells = λ x told.
+    let (y, there, added) = subst (λ (n : ℕ). Charts (Adds n status next (tid ∷ [])) mid new) same
+    tells x (did.contents ∙ ap (option_map (after Barrier)) told) in (
+      y,
+      there,
+      λ it t mirrors has mine. added it t (filter (is_another tid) t.active) mirrors has
+          (may_add places _ it t tid mirrors mine),
+    )
+
+-- ---- the first barrier
+
+tidy_barrier : (before : ℕ → ℕ → Type 0) → TidyWork before before (Unit {0}) (Barrier ∷ [])
+tidy_barrier before = record {
+  silent = refl;
+  lawful = record { lawful = λ base is clean. is };
+  clean = λ _ base clean p s counted. rw (clean p s counted) refl;
+}
+
+module _ (places : ℕ) (m n : Map) (h : History) (it : Layout) (t : Tables) (old mid : Told)
+    (steady : IsSteady h old) (agreeing : RestsAgreeing places m it t h) where
+  abbrev Each : History → Type 0
+  Each = EachStandsEither places m n
+
+  abbrev Tidy : Bool → Story → Type 0
+  Tidy done a = TidyWork (IsCountedClean t) (IsCountedClean t) (Unit {0}) a
+
+  abbrev HasWaited : Unit {0} → History → Type 0
+  HasWaited done k = k ≡ adds Barrier h
+
+  at_start : Each h
+  at_start = λ x is. inl (agreeing.rests.each x is)
+
+  waited : (result : Result (Unit {0}) ChipFault) → Waited result old mid
+      → Leads Each Tidy HasWaited h result mid
+  waited result did = leads_waited Each Tidy h old mid steady HasWaited result did at_start
+      (barriers_keep_either places m n h at_start) (tidy_barrier (IsCountedClean t))
+      (tidy_none (IsCountedClean t) (Unit {0})) refl
+
+  waited_steps : Waited (Ok tt) old mid
+      → Steps {T = Unit {0}} {E = ChipFault} Each t t HasWaited NoOtherEnd h (Ok tt) old mid
+  waited_steps did = writes_are_steps (Unit {0}) Each Tidy HasWaited HasWaited t t h old mid (Ok tt)
+      (waited (Ok tt) did) tt (λ done a tidy. (tidy.silent, tidy.lawful))
+      (λ v a tidy is base clean. tidy.clean tt base clean) (λ v a tidy is. is)
+
+-- ---- what a power cut leaves
+
+pub number_in_steps : (places next_places : ℕ) (status : Status) (next tid : ℕ)
+    (result : Result (Unit {0}) ChipFault) (old mid new : Told) → next_places ≡ places
+    → Counts old mid → Waited (Ok tt) old mid
+    → AddsInSteps next_places status next (tid ∷ []) result mid new
+    → AddsNumberInSteps places status next tid result old new
+number_in_steps places next_places status next tid result old mid new same counts did steps h it t m
+    n steady has mine agreeing says =
+    let Each = EachStandsEither places m n in
+    let active = filter (is_another tid) t.active in
+    let first = waited_steps places m n h it t old mid steady agreeing did in
+    let k = adds_all first.added h in
+    let ready : IsReadyToAdd places (adds Barrier h) it t m n (tid ∷ []) active = record {
+      rests = barriers_rest places m h (held_stands places m h agreeing.rests.each);
+      closed = λ p s. refl;
+      agrees = barriers_agree places h it t agreeing.agrees;
+      may = may_add places _ it t tid agreeing.agrees.mirrors mine;
+      then_says = says;
+    } in
+    let second = subst (λ (p : ℕ). AddsInSteps p status next (tid ∷ []) result mid new) same steps k
+    it t m n active (record { told = first.history; settled = first.settled tt }) has
+    (subst (λ (j : History). IsReadyToAdd places j it t m n (tid ∷ []) active) (sym (first.ends tt))
+    ready) in
+    let after = with_added t (tid ∷ []) (1 + next) active in
+    steps_then (Unit {0}) (Unit {0}) ChipFault ChipFault Each Each Each t t after
+    (λ v j. j ≡ adds Barrier h) NoOtherEnd (λ v j. StoryRests places n j) NoOtherEnd h tt result old
+    mid new (λ j is. is) (λ j is. is) counts first
+    (steps_weaker Each Each t after
+    (λ v j. RestsAgreeing places n (layout_added it (tid ∷ [])) after j)
+    (λ v j. StoryRests places n j) NoOtherEnd NoOtherEnd k result mid new (λ j is. is)
+    (λ v j is. is.rests) (λ j is. is) second)
+
+-- where the barrier failed
+pub no_number_in_steps : (places : ℕ) (status : Status) (next tid : ℕ) (e : ChipFault)
+    (old new : Told) → Waited (Err e) old new → IsStopped e old new
+    → AddsNumberInSteps places status next tid (Err e) old new
+no_number_in_steps places status next tid e old new did stopped h it t m n steady has mine agreeing
+    says =
+    let active = filter (is_another tid) t.active in
+    failed_writes_are_steps (Unit {0}) (Unit {0}) (EachStandsEither places m n)
+    (λ done a. TidyWork (IsCountedClean t) (IsCountedClean t) (Unit {0}) a)
+    (λ done k. k ≡ adds Barrier h)
+    (λ v j. StoryRests places n j) t (with_added t (tid ∷ []) (1 + next) active) h old new e e
+    (waited places m n h it t old new steady agreeing (Err e) did) stopped
+    (λ a tidy. (tidy.silent, tidy.lawful))

@@ -1,0 +1,117 @@
+-- What commands leave that a store does in memory alone.
+use Rattle.std.specs.FinMap.{get}
+use Rattle.std.specs.Option.{option_map, option_map_or}
+use Rattle.std.proofs.Common.{◌≡◌, ℕ, ◌-◌, ◌<◌, ◌==◌, Bool, true, false, not, List, [], ◌∷◌, Option, Some, None, is_some, refl, ◌∙◌, ap, subst, if◌then◌else◌}
+use Rattle.std.proofs.lemmas.Bool.{cond-true, eq-eqb, both_ways}
+use Rattle.ipl_base.specs.declared.fault.Refusal.TheVariants.{NotOpen}
+use Rattle.ipl_rules.specs.Operations as rules
+use Rattle.ipl_rules.specs.Refusals.{is_new_share}
+use Rattle.ipl_rules.specs.State.{Session, State, Write, last_write, with_writes, writes_of}
+use Rattle.record_locks.specs.Held.{is_among, written_of}
+use Rattle.record_locks.specs.Held as held
+use Rattle.record_locks.proofs.StandingLemmas.{open_at}
+use Rattle.pending_writes.specs.Pending.{wrote, name_at}
+use Rattle.pending_writes.specs.Fits.{AreSessionsOf, with_active, without_active}
+use Rattle.pending_writes.specs.Frames.{with_frame_at}
+use Rattle.pending_writes.proofs.EndFitLemmas.{aborts_fit, empty_commits_fit}
+use Rattle.pending_writes.proofs.FitLemmas.{wrote_is}
+use Rattle.pending_writes.proofs.MemoryFitLemmas.{begins_fit, shares_fit, writes_fit}
+use Rattle.store_steps.specs.Advances.{memory_of}
+use Rattle.store_steps.specs.SessionLaws.{BeginsLead, SharesLead, WritesLead, AbortsLead, EmptyCommitsLead, OpenSessionsMayEnd}
+use Rattle.store_steps.proofs.LeadLemmas.{memory_leads}
+
+-- ---- the map stays
+
+map_with : (state : State) (o : Option Session) (f : Session → State)
+    → ((x : Session) → (f x).map ≡ state.map) → (option_map_or f o state).map ≡ state.map
+map_with state None f same = refl
+map_with state (Some x) f same = same x
+
+map_if : (b : Bool) (state next : State) → next.map ≡ state.map
+    → (if b then next else state).map ≡ state.map
+map_if true state next same = same
+map_if false state next same = refl
+
+map_shared : (state : State) (s n : ℕ) → (rules.after_share state s n).map ≡ state.map
+map_shared state s n =
+    map_if (is_new_share state s n) state _ (map_with state (get state.sessions s) _ (λ x. refl))
+
+map_written : (state : State) (s : ℕ) (w : Write)
+    → (rules.after_write state s w).map ≡ state.map
+map_written state s w = map_with state (get state.sessions s) _ (λ x. refl)
+
+-- a session that holds no written name wrote nothing
+wrote_none : (slots : held.Slots) (state : State) (s : ℕ) → AreSessionsOf slots state
+    → written_of slots s ≡ [] → (n : ℕ) → wrote state s n ≡ false
+wrote_none slots state s are none n = by_answer (wrote state s n) refl
+  where
+    by_answer : (b : Bool) → wrote state s n ≡ b → b ≡ false
+    by_answer false is = refl
+    by_answer true is =
+        let among : is_among n (written_of slots s) ≡ true = wrote_is slots state are s n is in
+        let nowhere = rw none at among in absurd (cc nowhere)
+
+no_writes : (writes : List Write) → ((n : ℕ) → is_some (last_write writes n) ≡ false)
+    → writes ≡ []
+no_writes [] none = refl
+no_writes (w ∷ older) none =
+    let here = cond-true (w.0 == w.0) (Some w.1) (last_write older w.0) (eq-eqb w.0 w.0 refl) in
+    absurd (both_ways (is_some (last_write (w ∷ older) w.0)) (none w.0) (ap is_some here))
+
+-- ---- the commands
+
+pub begins_lead : BeginsLead
+begins_lead s tid before old within closed new locked =
+    memory_leads (λ state. rules.after_begin state s) before
+    (memory_of (with_active before.tables tid) before.frames (held.after_begin before.slots s tid))
+    old
+    (λ places c it state same fits. begins_fit places c it before.tables before.frames before.slots
+    state s tid fits within closed new locked)
+    (λ places c it state fits. refl) (λ p k counted. counted)
+
+pub shares_lead : SharesLead
+shares_lead s n before old within locked =
+    memory_leads (λ state. rules.after_share state s n) before
+    (memory_of before.tables before.frames (held.after_share before.slots s n)) old
+    (λ places c it state same fits. shares_fit places c it before.tables before.frames before.slots
+    state s n fits within locked)
+    (λ places c it state fits. map_shared state s n) (λ p k counted. counted)
+
+pub writes_lead : WritesLead
+writes_lead s u r f g before old within mine low valid there written locked =
+    memory_leads (λ state. rules.after_write state s (name_at u r.page r.slot, r.change)) before
+    (memory_of before.tables (with_frame_at before.frames u r.page (Some g))
+    (held.after_write before.slots s (name_at u r.page r.slot))) old
+    (λ places c it state same fits. writes_fit places c it before.tables before.frames before.slots
+    state s u r f g fits within mine (subst (λ (n : ℕ). u < n - 4) same low) valid there written
+    locked)
+    (λ places c it state fits. map_written state s (name_at u r.page r.slot, r.change))
+    (λ p k counted. counted)
+
+pub aborts_lead : AbortsLead
+aborts_lead s tid before later old within mine all locked =
+    memory_leads (λ state. rules.after_abort state s) before
+    (memory_of (without_active before.tables tid) later (held.after_end before.slots s)) old
+    (λ places c it state same fits. aborts_fit places c it before.tables before.frames later
+    before.slots state s tid fits within mine all locked)
+    (λ places c it state fits. refl) (λ p k counted. counted)
+
+pub empty_commits_lead : EmptyCommitsLead
+empty_commits_lead s tid before old within mine none locked =
+    memory_leads (λ state. rules.after_commit state s) before
+    (memory_of (without_active before.tables tid) before.frames (held.after_end before.slots s)) old
+    (λ places c it state same fits. empty_commits_fit places c it before.tables before.frames
+    before.slots state s tid fits within mine
+    (wrote_none before.slots state s fits.sessions none) locked)
+    (λ places c it state fits. ap (λ (writes : List Write). with_writes writes state.map)
+    (no_writes (writes_of state s) (wrote_none before.slots state s fits.sessions none)))
+    (λ p k counted. counted)
+
+pub open_sessions_may_end : OpenSessionsMayEnd
+open_sessions_may_end slots s tid mine =
+    ap (λ (b : Bool). if not b then Some NotOpen else None)
+    (open_at slots s ∙ by_slot (held.held_at slots s) mine)
+  where
+    by_slot : (o : Option held.Held) → option_map (λ h. h.number) o ≡ Some tid → is_some o ≡ true
+    by_slot None no_one = absurd (cc no_one)
+    by_slot (Some h) is = refl

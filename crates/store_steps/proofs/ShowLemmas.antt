@@ -1,0 +1,48 @@
+-- What a page shows after a commit.
+use Rattle.std.specs.Option.{option_map_or}
+use Rattle.std.proofs.Common.{Bool, None, Option, Some, ap, refl, sym, ℕ, ◌<◌, ◌∙◌, ◌≡◌, List}
+use Rattle.ipl_rules.specs.Operations.{after_commit}
+use Rattle.ipl_rules.specs.State.{State, writes_of}
+use Rattle.ipl_rules.proofs.SeenLemmas.{get-with_writes}
+use Rattle.ipl_format.specs.Page.{value_in}
+use Rattle.ipl_format.specs.Record.{Change, Record}
+use Rattle.ipl_meaning.specs.Chart.{Chart}
+use Rattle.ipl_meaning.specs.Last.{applied, is_number, last_that}
+use Rattle.ipl_meaning.specs.Layout.{Layout, records_of}
+use Rattle.ipl_meaning.specs.Stands.{Shows, page_in}
+use Rattle.ipl_meaning.specs.Values.{counts_for}
+use Rattle.ipl_meaning.proofs.LastLemmas.{commits_apply_the_last}
+use Rattle.pending_writes.specs.Pending.{Logs, Numbers, name_at, change_in, HasPending, IsWrittenOut}
+use Rattle.pending_writes.specs.PendingLaws.{NumberJoins}
+use Rattle.pending_writes.proofs.SayLemmas.{on_chip}
+
+-- what a last write says of the value
+last_says : (o : Option Record) (value : Option (List ℕ))
+    → applied o value ≡ option_map_or (λ (change : Change). change) (change_in o) value
+last_says None value = refl
+last_says (Some r) value = refl
+
+-- a page that shows the map shows with the number the map after the commit
+pub commit_shows : (units : ℕ) (c : Chart) (it : Layout) (logs : Logs) (numbers : Numbers)
+    (state : State) (s tid : ℕ) (after : ℕ → Bool) → HasPending units it logs numbers state
+    → numbers s ≡ Some tid → IsWrittenOut logs tid → NumberJoins it.committed tid after
+    → (u page : ℕ) → u < units → page < 15
+    → Shows c it.committed u (it.units u) page (page_in state.map u page)
+    → Shows c after u (it.units u) page (page_in (after_commit state s).map u page)
+commit_shows units c it logs numbers state s tid after has mine out joins u page low few shows =
+    record {
+      base = shows.base;
+      reads = shows.reads;
+      says = λ slot less.
+          let test = counts_for (is_number tid) page slot in
+          let live = records_of (it.units u).log in
+          let before = page_in state.map u page slot in
+          let is_last = ap change_in (on_chip it logs tid u page slot out)
+          ∙ has.last s tid u page slot mine low few less in
+          get-with_writes (writes_of state s) state.map (name_at u page slot)
+          ∙ ap (λ (o : Option Change). option_map_or (λ change. change) o before) (sym is_last)
+          ∙ sym (last_says (last_that test live None) before)
+          ∙ ap (applied (last_that test live None)) (shows.says slot less)
+          ∙ sym (commits_apply_the_last it.committed after tid live joins
+          (has.none_behind s tid u mine low) page slot (value_in shows.base slot));
+    }

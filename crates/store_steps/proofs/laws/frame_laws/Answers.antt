@@ -1,0 +1,10 @@
+use Rattle.store_steps.proofs.ViewLemmas.{frames_tell_state, settled_frames_are_committed, dropped_frames_are_aborted, changed_frames_are_written}
+use Rattle.store_steps.proofs.laws.frame_laws.Goals as goal
+
+pub returns : goal.returns
+returns c = record {
+  commits = settled_frames_are_committed;
+  aborts = dropped_frames_are_aborted;
+  writes = changed_frames_are_written;
+  tells = frames_tell_state;
+}

@@ -1,0 +1,16 @@
+use Rattle.store_steps.proofs.LeadLemmas.{memory_leads, keepers_then_lead, failed_keepers_lead, next_states_are_alike, answers_are_alike, restarts_lead}
+use Rattle.store_steps.proofs.CommitLemmas.{names_out_suffice, numbers_lead, failed_numbers_lead}
+use Rattle.store_steps.proofs.laws.leading_laws.Goals as goal
+
+pub returns : goal.returns
+returns c = record {
+  memory = memory_leads;
+  joined = keepers_then_lead;
+  failed = failed_keepers_lead;
+  alike = next_states_are_alike;
+  answers = answers_are_alike;
+  restarts = restarts_lead;
+  out = names_out_suffice;
+  numbers = numbers_lead;
+  failed_numbers = failed_numbers_lead;
+}

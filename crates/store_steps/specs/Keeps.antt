@@ -1,0 +1,265 @@
+-- How a store keeps a state on a chip, as a run over a script asks for it.
+use Rattle.std.specs.Prelude.{ℕ, ◌≡◌, ◌≢◌, ◌<◌, ◌≤◌, ◌+◌, ◌*◌, Bool, true, false, [], ◌∷◌, ◌++◌, List, Option, Some, None, refl, Result, Err, IfOk}
+use Rattle.std.specs.Option.{option_map}
+use Rattle.std.specs.FinMap.{get}
+use Rattle.std.proofs.Common.{sym, ◌∙◌, subst, arith}
+use Rattle.chip_trait.specs.Chart.{says}
+use Rattle.chip_trait.specs.Moment.{Leaves}
+use Rattle.chip_trait.specs.Story.{Contents}
+use Rattle.chip_trait.specs.Told.{History, Told, Rose, IsConsistent, adds_all}
+use Rattle.ipl_base.specs.declared.fault.ChipFault.{ChipFault}
+use Rattle.ipl_base.specs.declared.fault.ChipFault.TheVariants.{ReadFault, Stopped, Damaged, Malformed}
+use Rattle.ipl_base.specs.declared.fault.ImageFault.{ImageFault}
+use Rattle.ipl_base.specs.declared.fault.ImageFault.TheVariants as image
+use Rattle.ipl_rules.specs.State.{Map, State, Limits, at_rest}
+use Rattle.ipl_model.specs.declared.command.Command.{Command}
+use Rattle.ipl_model.specs.declared.reply.Reply.{Reply}
+use Rattle.ipl_model.specs.Step.{step}
+use Rattle.ipl_format.specs.Sector.{sector_in}
+use Rattle.record_locks.specs.Held.{Slots, number_of}
+use Rattle.ipl_meaning.specs.Chart.{chart_of}
+use Rattle.ipl_meaning.specs.Layout.{Layout}
+use Rattle.ipl_meaning.specs.Stands.{Says, Stands}
+use Rattle.ipl_meaning.specs.Rests.{StoryRests}
+use Rattle.ipl_meaning.specs.Tables.{Tables, IsCountedClean}
+use Rattle.ipl_meaning.specs.Mirrors.{Mirrors, NoneIsLost}
+use Rattle.ipl_meaning.specs.Agrees.{IsTidy}
+use Rattle.ipl_meaning.proofs.StoryLemmas.{says_keep}
+use Rattle.unit_io.specs.Leads.{IsSteady}
+use Rattle.unit_io.specs.Reads.{OfContents}
+use Rattle.steps.specs.Laws.{Preserves}
+use Rattle.pending_writes.specs.Fits.{AreSessionsOf}
+use Rattle.store_trait.specs.declared.fault.Fault.{Fault}
+use Rattle.store_trait.specs.declared.fault.Fault.TheVariants.{Chip, Image, Spent}
+use Rattle.store_trait.specs.Onward.{Still, Further, sayings}
+use Rattle.store_trait.specs.Keeping.{Keeping, Works, LooksUp}
+use Rattle.store_steps.specs.Advances.{Memory, memory_of, MemoryFits, MemoryFitsStory, KeepsState, LeadsTo}
+
+-- ---- what a store keeps
+
+-- A store, as contracts see it: what it has in memory, the number of units, and whether it is down.
+-- One that is down does nothing until its chip is opened again.
+pub record View : Type 0 where
+  pub memory : Memory
+  pub units : ℕ
+  pub down : Bool
+
+-- 32 sessions, the names of all units, and as many units as the chip has
+abbrev pub limits_of : ℕ → Limits
+limits_of units = record { sessions = 32; names = 960 * units; units = units }
+
+-- the memory fits what the chip holds, and the pages say the map
+pub record ShowsState (store : View) (state : State) (x : Contents) : Type 0 where
+  pub layout : Layout
+  pub fits : MemoryFits (store.units + 4) (chart_of x) layout store.memory state
+  pub says : Says (store.units + 4) (chart_of x) layout state.map
+
+-- What a store keeps that isn't down. The sessions are the state's; where the chip tells what it
+-- holds, that shows the state; and where it tells its history, what is counted as clean is clean.
+pub record IsUp (store : View) (t : Told) (state : State) : Type 0 where
+  pub sessions : AreSessionsOf store.memory.slots state
+  pub contents : OfContents t (ShowsState store state)
+  pub tidy : (h : History) → t.history ≡ Some h → IsTidy h.story store.memory.tables
+
+-- no write has failed, and the story rests on the map
+pub record RestsOnMap (store : View) (t : Told) (m : Map) (h : History) : Type 0 where
+  pub settled : t.settled ≡ true
+  pub rests : StoryRests (store.units + 4) m h
+
+-- Where the chip tells its history, its story rests on the state's map; and a store that isn't down
+-- keeps the rest.
+pub record KeepsStore (limits : Limits) (store : View) (t : Told) (state : State) : Type 0 where
+  pub limits_are : limits ≡ limits_of store.units
+  pub story : (h : History) → t.history ≡ Some h → RestsOnMap store t state.map h
+  pub up : store.down ≡ false → IsUp store t state
+
+-- the store of a chip that was opened: no page is in a frame
+abbrev pub opened_with : ℕ → Tables → Slots → View
+opened_with units t slots =
+    record { memory = memory_of t (λ u page. None) slots; units = units; down = false }
+
+-- ---- causes
+
+-- when a chip fails so
+abbrev pub ChipCause : ChipFault → Told → Told → Type 0
+ChipCause ReadFault old new = Rose old.read_faults new.read_faults
+ChipCause Stopped old new = Rose old.write_faults new.write_faults
+ChipCause (Damaged p s stored computed) old new = stored ≢ computed
+ChipCause (Malformed p s) old new = Unit {0}
+
+-- when an image isn't opened again
+abbrev pub ImageCause : ImageFault → Told → Told → Type 0
+ImageCause image.Geometry old new = Unit {0}
+ImageCause image.NotFormatted old new = Unit {0}
+ImageCause (image.Missing u) old new = Unit {0}
+ImageCause (image.Chip e) old new = ChipCause e old new
+ImageCause image.Spent old new = Unit {0}
+ImageCause (image.NoSpare n) old new = Unit {0}
+
+-- when each fault comes
+abbrev pub StoreCause : Fault → Told → Told → Type 0
+StoreCause (Chip e) old new = ChipCause e old new
+StoreCause (Image e) old new = ImageCause e old new
+StoreCause Spent old new = Unit {0}
+
+rose_longer : (first old new last : ℕ) → first ≤ old → Rose old new → new ≤ last → Rose first last
+rose_longer first old new last before rose after = omega (arith, before, rose, after)
+
+chip_longer : (e : ChipFault) (first old new last : Told) → Further first old → ChipCause e old new
+    → Further new last → ChipCause e first last
+chip_longer ReadFault first old new last before cause after =
+    rose_longer first.read_faults old.read_faults new.read_faults last.read_faults before.reads
+    cause after.reads
+chip_longer Stopped first old new last before cause after =
+    rose_longer first.write_faults old.write_faults new.write_faults last.write_faults
+    before.writes cause after.writes
+chip_longer (Damaged p s stored computed) first old new last before cause after = cause
+chip_longer (Malformed p s) first old new last before cause after = tt
+
+image_longer : (e : ImageFault) (first old new last : Told) → Further first old
+    → ImageCause e old new → Further new last → ImageCause e first last
+image_longer image.Geometry first old new last before cause after = tt
+image_longer image.NotFormatted first old new last before cause after = tt
+image_longer (image.Missing u) first old new last before cause after = tt
+image_longer (image.Chip e) first old new last before cause after =
+    chip_longer e first old new last before cause after
+image_longer image.Spent first old new last before cause after = tt
+image_longer (image.NoSpare n) first old new last before cause after = tt
+
+-- a cause is one for a longer time too
+pub cause_longer : (fault : Fault) (first old new last : Told) → Further first old
+    → StoreCause fault old new → Further new last → StoreCause fault first last
+cause_longer (Chip e) first old new last before cause after =
+    chip_longer e first old new last before cause after
+cause_longer (Image e) first old new last before cause after =
+    image_longer e first old new last before cause after
+cause_longer Spent first old new last before cause after = tt
+
+-- ---- what is said and what is read of a script
+
+-- a story that rests goes on resting, whatever is said
+said_rests : (places : ℕ) (m : Map) (pieces : List (List ℕ)) (h : History) → StoryRests places m h
+    → StoryRests places m (adds_all (sayings pieces) h)
+said_rests places m [] h rests = rests
+said_rests places m (piece ∷ pieces) h rests =
+    says_keep places m (adds_all (sayings pieces) h) piece (said_rests places m pieces h rests)
+
+-- and what was clean is clean
+said_tidy : (t : Tables) (pieces : List (List ℕ)) (h : History) → IsTidy h.story t
+    → IsTidy (sayings pieces ++ h.story) t
+said_tidy t [] h tidy = tidy
+said_tidy t (piece ∷ pieces) h tidy = said_tidy t pieces h tidy
+
+said_before : (pieces : List (List ℕ)) (before : Option History) (h : History)
+    → Some h ≡ option_map (adds_all (sayings pieces)) before
+    → (k : History) × (before ≡ Some k) × (h ≡ adds_all (sayings pieces) k)
+said_before pieces None h is = absurd (never is)
+  where
+    never : Some h ≡ None → ⊥
+    never e = cc
+said_before pieces (Some k) h is = (k, refl, cc)
+
+pub keeps_still : (limits : Limits) (store : View) (old new : Told) (state : State)
+    → Still old new → KeepsStore limits store old state → KeepsStore limits store new state
+keeps_still limits store old new state still keeps = record {
+  limits_are = keeps.limits_are;
+  story = λ h told.
+      let before = said_before still.pieces old.history h (sym told ∙ still.history) in
+      let on = keeps.story before.0 before.1 in record {
+        settled = still.settled ∙ on.settled;
+        rests = subst (StoryRests (store.units + 4) state.map) (sym before.2)
+            (said_rests (store.units + 4) state.map still.pieces before.0 on.rests);
+      };
+  up = λ runs.
+      let was = keeps.up runs in record {
+        sessions = was.sessions;
+        contents = λ x told. was.contents x (sym still.contents ∙ told);
+        tidy = λ h told.
+            let before = said_before still.pieces old.history h (sym told ∙ still.history) in
+            subst (λ (k : History). IsTidy k.story store.memory.tables) (sym before.2)
+            (said_tidy store.memory.tables still.pieces before.0 (was.tidy before.0 before.1));
+      };
+}
+
+pub keeps_each : (limits : Limits) (store : View) (t : Told) (state : State) (h : History)
+    → KeepsStore limits store t state → t.history ≡ Some h
+    → Leaves (says sector_in) (λ x. Stands (limits.units + 4) (chart_of x) state.map) h []
+keeps_each limits store t state h keeps told =
+    subst (λ (l : Limits). Leaves (says sector_in)
+    (λ x. Stands (l.units + 4) (chart_of x) state.map) h []) (sym keeps.limits_are)
+    (keeps.story h told).rests.each
+
+-- ---- the seam
+
+-- such a store, as a run knows it
+abbrev pub store_keeping : Keeping View
+store_keeping = record {
+  checks = says sector_in;
+  stands = λ limits x m. Stands (limits.units + 4) (chart_of x) m;
+  holds = KeepsStore;
+  suits = λ store places. store.units + 4 ≡ places;
+  clean = λ store p s. IsCountedClean store.memory.tables p s;
+  counter = λ store. store.memory.tables.next;
+  does = λ e. Unit {0};
+  cause = StoreCause;
+  each = keeps_each;
+  still = keeps_still;
+  caused = cause_longer;
+}
+
+-- a store whose chip was opened keeps the state at rest of the map that the chip stands for
+abbrev pub OpenedStoresKeep : Type 0
+OpenedStoresKeep = (units : ℕ) (t : Tables) (slots : Slots) (told : Told) (m : Map)
+    → NoneIsLost (units + 4) t → t.active ≡ [] → ((s : ℕ) → number_of slots s ≡ None)
+    → AreSessionsOf slots (at_rest m)
+    → OfContents told (λ x. (it : Layout) × Mirrors (units + 4) (chart_of x) it t
+    × Says (units + 4) (chart_of x) it m)
+    → ((h : History) → told.history ≡ Some h
+    → RestsOnMap (opened_with units t slots) told m h × IsTidy h.story t)
+    → KeepsStore (limits_of units) (opened_with units t slots) told (at_rest m)
+
+-- What a call leaves that leads to the model's next state, and answers the model's reply, is the
+-- work of the command.
+abbrev pub LeadsAreWork : Type 0
+LeadsAreWork = (c : Command) (before after : View) (result : Result Reply Fault) (old new : Told)
+    → IsConsistent old → before.units + 4 ≡ old.places → after.units ≡ before.units
+    → before.down ≡ false
+    → LeadsTo (λ state. (step (limits_of before.units) state c).0) before.memory old result
+    after.memory new
+    → IfOk result (λ reply. (state : State) → KeepsStore (limits_of before.units) before old state
+    → (step (limits_of before.units) state c).1 ≡ reply ∷ [])
+    → Works store_keeping c before old result after new
+
+-- What a call leaves that keeps each state, and answers a record of its map, looks the record up.
+abbrev pub KeepersLookUp : Type 0
+KeepersLookUp = (n : ℕ) (before after : View) (result : Result (Option (List ℕ)) Fault)
+    (old new : Told)
+    → IsConsistent old → before.units + 4 ≡ old.places → after.units ≡ before.units
+    → before.down ≡ false → after.memory.slots ≡ before.memory.slots
+    → KeepsState before.memory.tables before.memory.frames old result after.memory.tables
+    after.memory.frames new
+    → IfOk result (λ found. (state : State) → KeepsStore (limits_of before.units) before old state
+    → n < 960 * before.units → found ≡ get state.map n)
+    → LooksUp store_keeping n before old result after new
+
+-- ---- faults
+
+-- a fault before anything was done: the numbers are used up, or the store is down
+abbrev pub IdleFaultsAreWork : Type 0
+IdleFaultsAreWork = (c : Command) (store : View) (fault : Fault) (told : Told)
+    → Works store_keeping c store told (Err fault) store told
+
+abbrev pub IdleFaultsLookUp : Type 0
+IdleFaultsLookUp = (n : ℕ) (store : View) (fault : Fault) (told : Told)
+    → LooksUp store_keeping n store told (Err fault) store told
+
+-- a fault that leaves the store down, where the call kept the map on which the story rested
+abbrev pub FaultsThatLeaveDown : Type 0
+FaultsThatLeaveDown = (c : Command) (before after : View) (fault : Fault) (old new : Told)
+    → IsConsistent old → before.units + 4 ≡ old.places → after.units ≡ before.units
+    → before.down ≡ false → after.down ≡ true
+    → ((h : History) (it : Layout) (state : State) → IsSteady h old
+    → MemoryFitsStory (before.units + 4) h it before.memory state
+    → Preserves {T = Reply} (before.units + 4) state.map before.memory.tables after.memory.tables h
+    (Err fault) old new)
+    → Works store_keeping c before old (Err fault) after new

@@ -1,0 +1,6 @@
+pub mod Advances
+pub mod Numbers
+pub mod Views
+pub mod Laws
+pub mod SessionLaws
+pub mod Keeps

@@ -1,0 +1,50 @@
+-- A session's number that is added to the committed ones, between two barriers.
+use Rattle.std.specs.Prelude.{ℕ, ◌≡◌, ◌+◌, [], ◌∷◌, Contains, Result, filter}
+use Rattle.chip_trait.specs.Told.{History, Told}
+use Rattle.ipl_base.specs.Places.{home_of}
+use Rattle.ipl_base.specs.declared.fault.ChipFault.{ChipFault}
+use Rattle.ipl_rules.specs.State.{Map}
+use Rattle.ipl_meaning.specs.Chart.{Chart}
+use Rattle.ipl_meaning.specs.Layout.{Layout}
+use Rattle.ipl_meaning.specs.Stands.{Says}
+use Rattle.ipl_meaning.specs.Rests.{now, EachStandsEither, StoryRests}
+use Rattle.ipl_meaning.specs.Mirrors.{Mirrors}
+use Rattle.ipl_meaning.specs.Tables.{Status, Tables}
+use Rattle.unit_io.specs.Leads.{IsSteady}
+use Rattle.steps.specs.Steps.{NoOtherEnd, Steps, RestsAgreeing}
+use Rattle.txn_status.specs.Adding.{HasStatus, with_added, layout_added, Added}
+use Rattle.pending_writes.specs.Frames.{Frames, logs_of}
+use Rattle.pending_writes.specs.Fits.{is_another}
+
+-- ---- before it
+
+-- the page of the name has no records in memory
+abbrev pub IsOut : Frames → ℕ → Type 0
+IsOut frames n = logs_of frames (home_of n).unit (home_of n).page ≡ []
+
+-- ---- what it leaves
+
+-- the tables once the number is committed: its session is closed, and one number was drawn
+abbrev pub added_to : Tables → ℕ → Tables
+added_to t tid = with_added t (tid ∷ []) (1 + t.next) (filter (is_another tid) t.active)
+
+-- Whatever tables of this status and this counter mirrored the old chart, with the number among
+-- those of open sessions: with the number committed they mirror the new one, and its pages are
+-- kept, which the old chart has with the records of the number.
+abbrev pub AddsNumber : ℕ → Status → ℕ → ℕ → Chart → Chart → Type 0
+AddsNumber places status next tid c y = (it : Layout) (t : Tables) → Mirrors places c it t
+    → HasStatus t status next → Contains t.active tid
+    → Added places c y it t (tid ∷ []) (1 + next) (filter (is_another tid) t.active)
+
+-- Over a story that rests on a map, with which such tables agree: at each moment a power cut leaves
+-- the old map or the one with the records of the number; done, the story rests on the new one. It
+-- fails only where a write failed.
+abbrev pub AddsNumberInSteps : ℕ → Status → ℕ → ℕ → Result (Unit {0}) ChipFault → Told → Told
+    → Type 0
+AddsNumberInSteps places status next tid result old new =
+    (h : History) (it : Layout) (t : Tables) (m n : Map) → IsSteady h old
+    → HasStatus t status next → Contains t.active tid → RestsAgreeing places m it t h
+    → Says places (now h) (layout_added it (tid ∷ [])) n
+    → Steps (EachStandsEither places m n) t
+    (with_added t (tid ∷ []) (1 + next) (filter (is_another tid) t.active))
+    (λ done k. StoryRests places n k) NoOtherEnd h result old new

@@ -1,0 +1,61 @@
+-- What commands leave that a store does in memory alone.
+use Rattle.std.specs.Prelude.{ℕ, ◌≡◌, ◌<◌, ◌≤◌, ◌-◌, [], length, Some, None, Ok}
+use Rattle.chip_trait.specs.Told.{Told}
+use Rattle.ipl_base.specs.declared.fault.ChipFault.{ChipFault}
+use Rattle.ipl_rules.specs.Operations as rules
+use Rattle.ipl_format.specs.Record.{Record, IsRecord}
+use Rattle.record_locks.specs.Held.{Slots, number_of, written_of, after_begin, after_share, after_write, after_end}
+use Rattle.record_locks.specs.Locks.{refuses_end}
+use Rattle.pending_writes.specs.Pending.{name_at}
+use Rattle.pending_writes.specs.Frames.{Frame, Frames, with_frame_at, IsWrittenFrame, IsAbortedFrame, EachFrameChanges}
+use Rattle.pending_writes.specs.Fits.{LocksHold, with_active, without_active}
+use Rattle.store_steps.specs.Advances.{Memory, memory_of, LeadsTo}
+
+-- a session is opened, under a number that the counter gave
+abbrev pub BeginsLead : Type 0
+BeginsLead = (s tid : ℕ) (before : Memory) (old : Told) → s < length before.slots
+    → number_of before.slots s ≡ None → before.tables.next ≤ tid
+    → LocksHold (after_begin before.slots s tid)
+    → LeadsTo {T = Unit {0}} {E = ChipFault} (λ state. rules.after_begin state s) before old (Ok tt)
+    (memory_of (with_active before.tables tid) before.frames (after_begin before.slots s tid)) old
+
+-- a session shares a name
+abbrev pub SharesLead : Type 0
+SharesLead = (s n : ℕ) (before : Memory) (old : Told) → s < length before.slots
+    → LocksHold (after_share before.slots s n)
+    → LeadsTo {T = Unit {0}} {E = ChipFault} (λ state. rules.after_share state s n) before old
+    (Ok tt) (memory_of before.tables before.frames (after_share before.slots s n)) old
+
+-- a session puts or deletes a name: the record stands behind those of its page
+abbrev pub WritesLead : Type 0
+WritesLead = (s u : ℕ) (r : Record) (f g : Frame) (before : Memory) (old : Told)
+    → s < length before.slots → number_of before.slots s ≡ Some r.tid → u < old.places - 4
+    → IsRecord r → before.frames u r.page ≡ Some f → IsWrittenFrame r f g
+    → LocksHold (after_write before.slots s (name_at u r.page r.slot))
+    → LeadsTo {T = Unit {0}} {E = ChipFault}
+    (λ state. rules.after_write state s (name_at u r.page r.slot, r.change)) before old (Ok tt)
+    (memory_of before.tables (with_frame_at before.frames u r.page (Some g))
+    (after_write before.slots s (name_at u r.page r.slot))) old
+
+-- a session is aborted: its changes are dropped from all frames
+abbrev pub AbortsLead : Type 0
+AbortsLead = (s tid : ℕ) (before : Memory) (later : Frames) (old : Told) → s < length before.slots
+    → number_of before.slots s ≡ Some tid
+    → EachFrameChanges (IsAbortedFrame tid) before.frames later
+    → LocksHold (after_end before.slots s)
+    → LeadsTo {T = Unit {0}} {E = ChipFault} (λ state. rules.after_abort state s) before old (Ok tt)
+    (memory_of (without_active before.tables tid) later (after_end before.slots s)) old
+
+-- one that wrote nothing is committed without the chip
+abbrev pub EmptyCommitsLead : Type 0
+EmptyCommitsLead = (s tid : ℕ) (before : Memory) (old : Told) → s < length before.slots
+    → number_of before.slots s ≡ Some tid → written_of before.slots s ≡ []
+    → LocksHold (after_end before.slots s)
+    → LeadsTo {T = Unit {0}} {E = ChipFault} (λ state. rules.after_commit state s) before old
+    (Ok tt) (memory_of (without_active before.tables tid) before.frames (after_end before.slots s))
+    old
+
+-- a session that has a number is open, and may be closed
+abbrev pub OpenSessionsMayEnd : Type 0
+OpenSessionsMayEnd = (slots : Slots) (s tid : ℕ) → number_of slots s ≡ Some tid
+    → refuses_end slots s ≡ None

@@ -1,0 +1,99 @@
+//! The laws of what calls of a store leave, proved: a body that does nothing, and a contract that
+//! is the law.
+ghost use Rattle.store_steps.specs.Laws.{
+  NothingKeepsStates,
+  KeepersAreJoined,
+  FailedKeepersKeep,
+  ReadsKeepStates,
+  LoadsKeepStates,
+  EvictionsKeepStates,
+  LogSectorsKeepStates,
+  TableCallsKeepStates,
+  MemoryLeads,
+  KeepersThenLead,
+  FailedKeepersLead,
+  NextStatesAreAlike,
+  AnswersAreAlike,
+  RestartsLead,
+  FramesTellState,
+  NamesOutSuffice,
+  NumbersLead,
+  FailedNumbersLead,
+};
+ghost use Rattle.store_steps.specs.SessionLaws.{
+  BeginsLead,
+  SharesLead,
+  WritesLead,
+  AbortsLead,
+  EmptyCommitsLead,
+  OpenSessionsMayEnd,
+};
+ghost use Rattle.store_steps.specs.Views.{
+  SettledFramesAreCommitted,
+  DroppedFramesAreAborted,
+  ChangedFramesAreWritten,
+};
+ghost use Rattle.store_steps.specs.Keeps.{LeadsAreWork, KeepersLookUp, OpenedStoresKeep, IdleFaultsAreWork, IdleFaultsLookUp, FaultsThatLeaveDown};
+
+/// Calls that keep each state: none, one after another, one that failed, reads, a page read into a
+/// frame, a page that left its frame or was written to a log sector, and calls that turn the tables
+/// alone.
+pub fn keeper_laws()
+    ensures none { NothingKeepsStates }
+    ensures joined { KeepersAreJoined }
+    ensures failed { FailedKeepersKeep }
+    ensures reads { ReadsKeepStates }
+    ensures loads { LoadsKeepStates }
+    ensures evictions { EvictionsKeepStates }
+    ensures log_sectors { LogSectorsKeepStates }
+    ensures tables { TableCallsKeepStates }
+{}
+
+/// Calls that lead to a next state: calls in memory, a call that keeps each state and then one that
+/// leads on, a restart, and the end of a commit.
+pub fn leading_laws()
+    ensures memory { MemoryLeads }
+    ensures joined { KeepersThenLead }
+    ensures failed { FailedKeepersLead }
+    ensures alike { NextStatesAreAlike }
+    ensures answers { AnswersAreAlike }
+    ensures restarts { RestartsLead }
+
+    // a commit
+    ensures out { NamesOutSuffice }
+    ensures numbers { NumbersLead }
+    ensures failed_numbers { FailedNumbersLead }
+{}
+
+/// Commands in memory alone lead to the model's next state: begin, share, a write, an abort, and the
+/// commit of a session that wrote nothing. An open session may be closed.
+pub fn session_laws()
+    ensures begins { BeginsLead }
+    ensures shares { SharesLead }
+    ensures writes { WritesLead }
+    ensures aborts { AbortsLead }
+    ensures empty_commits { EmptyCommitsLead }
+    ensures may_end { OpenSessionsMayEnd }
+{}
+
+/// What calls on a frame make of it is what the condition of a store asks.
+pub fn frame_laws()
+    ensures commits { SettledFramesAreCommitted }
+    ensures aborts { DroppedFramesAreAborted }
+    ensures writes { ChangedFramesAreWritten }
+    ensures tells { FramesTellState }
+{}
+
+/// What calls of a store leave is the work of a command, and looks a record up, as a run over a
+/// script asks for it; so are faults that come before anything was done, and those that leave the
+/// store down. A store whose chip was opened keeps a state.
+pub fn keeping_laws()
+    ensures work { LeadsAreWork }
+    ensures looks_up { KeepersLookUp }
+    ensures opened { OpenedStoresKeep }
+
+    // faults
+    ensures idle { IdleFaultsAreWork }
+    ensures idle_looks { IdleFaultsLookUp }
+    ensures down { FaultsThatLeaveDown }
+{}

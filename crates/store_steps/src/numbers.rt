@@ -1,0 +1,49 @@
+//! The number of a session that is committed.
+ghost use Rattle.std.specs.Prelude.{◌≡◌, ◌<◌, ◌≤◌, ◌+◌, ◌^◌, [], ◌∷◌, OnOk, OnErr};
+ghost use Rattle.unit_io.specs.Accounts.{Accounts};
+ghost use Rattle.unit_io.specs.Charts.{Charts};
+ghost use Rattle.unit_io.specs.Costs.{ProgramsAt, Spends};
+ghost use Rattle.unit_io.specs.Leads.{IsStopped};
+ghost use Rattle.txn_status.specs.Status.{room_of, after_add};
+ghost use Rattle.store_steps.specs.Numbers.{AddsNumber, AddsNumberInSteps};
+
+use chip_trait::Chip;
+use ipl_base::{ChipFault, Counter};
+use txn_status::Status;
+use unit_io::barrier;
+
+/// Commits the number of a session, whose records are all in log sectors: a barrier, a commit
+/// sector with the number, and a barrier. That there is room, and a number left to draw, are
+/// conditions.
+///
+/// A power cut leaves the map before or the one with the records of the number; done, the chip
+/// stands for that one. It fails only where a write failed, and the status is as it was then.
+pub fn add_number<C: Chip>(
+    chip: &mut C,
+    status: &mut Status,
+    counter: &mut Counter,
+    tid: u64,
+) -> Result<(), ChipFault>
+    requires place { status.old.place < (C.told chip.old).places }
+    requires room { 0 < room_of status.old }
+    requires left { counter.old + 1 < 2 ^ 64 }
+    ensures added { OnOk result (status.new ≡ after_add status.old (tid ∷ [])) }
+    ensures same { OnErr result (status.new ≡ status.old) }
+    ensures drawn { OnOk result (counter.new ≡ counter.old + 1) }
+    ensures draws { (counter.old ≤ counter.new) × (counter.new ≤ counter.old + 1) }
+
+    // What the chip holds then, and what a power cut leaves.
+    ensures adds { OnOk result (Charts
+        (AddsNumber (C.told chip.old).places status.old counter.old tid)
+        (C.told chip.old) (C.told chip.new)) }
+    ensures steps { AddsNumberInSteps (C.told chip.old).places status.old counter.old tid
+        result (C.told chip.old) (C.told chip.new) }
+    // One program and two barriers.
+    ensures costs { Spends (ProgramsAt status.old.place 1 2 6)
+        (C.told chip.old) (C.told chip.new) }
+    ensures accounts { Accounts IsStopped result (C.told chip.old) (C.told chip.new) }
+{
+    // The records have to last before the number counts.
+    barrier(chip)?;
+    status.add(chip, counter, &[tid])
+}
