@@ -1,52 +1,124 @@
--- Commit sectors, one after another.
-use Rattle.std.proofs.Common.{◌≡◌, inl, inr, ◌≤◌, ◌<◌, ◌+◌, ◌*◌, ℕ, zero, suc, max, List, [], ◌∷◌, ◌++◌, Option, Some, drop, refl, sym, ◌∙◌, ap, subst, arith, add-one}
-use Rattle.std.proofs.lemmas.List.{drop-drop}
-use Rattle.std.proofs.lemmas.Bool.{le-leb, cases_eq}
-use Rattle.ipl_format.specs.Numbers.{long_at}
-use Rattle.ipl_format.specs.Sector.{Sector}
-use Rattle.chip_trait.specs.Story.{Contents}
+-- The commit sectors, as the status takes them in.
+use Rattle.std.proofs.Common.{◌≡◌, ◌-◌, ℕ, zero, suc, max, List, [], ◌∷◌, Option, Some, true, Result, Ok, Err, inl, inr, refl, sym, ◌∙◌, ap, subst, arith}
+use native.Mathlib.Numerals.{unary_clauses}
+use Rattle.std.specs.Result.{IsErrAnd}
+use Rattle.std.specs.List.{All, Contains}
+use Rattle.std.proofs.lemmas.List.Elements.{All-head, All-tail}
+use Rattle.std.proofs.lemmas.Option.{same_Some}
+use Rattle.chip_trait.specs.declared.event.Event.TheVariants.{Read, Program, Erase, Barrier, Said}
+use Rattle.chip_trait.specs.Story.{Story}
+use Rattle.chip_trait.specs.Told.{Told}
+use Rattle.ipl_base.specs.declared.fault.ChipFault.{ChipFault}
+use Rattle.ipl_base.specs.declared.fault.ChipFault.TheVariants.{ReadFault, Stopped, Damaged, Malformed}
+use Rattle.ipl_base.specs.declared.fault.ImageFault.{ImageFault}
+use Rattle.ipl_base.specs.declared.fault.ImageFault.TheVariants.{Chip}
 use Rattle.ipl_meaning.specs.Chart.{Chart}
-use Rattle.opening_rules.specs.First.{greatest_of}
-use Rattle.opening_rules.specs.Payloads.{numbers_within}
-use Rattle.opening_rules.specs.Chosen.{Winner}
-use Rattle.opening_rules.specs.Live.{kept, is_commit_of, commit_at}
-use Rattle.opening_rules.specs.Faults.{commit_test, commit_fault, commit_number, greatest_of_commits}
-use Rattle.ipl_format.specs.Whole.{IsWhole}
-use Rattle.opening_rules.proofs.FirstLemmas.{greatest_step}
-use Rattle.opening_rules.proofs.BelowLemmas.{greatest_of-push}
+use Rattle.ipl_meaning.specs.Layout.{Laid}
+use Rattle.ipl_meaning.specs.Tables.{Status}
+use Rattle.unit_io.specs.ReadsAt.{IsReadAt, ReadsAt, IsCauseAt}
+use Rattle.ipl_base.specs.First.{first_below}
+use Rattle.opening_rules.specs.First.{greatest_below}
+use Rattle.opening_rules.specs.Chosen.{Winner, head_of, status_at}
+use Rattle.opening_rules.specs.Live.{sectors, commit_at}
+use Rattle.opening_rules.specs.Faults.{TellsImageFault, commit_fault, commit_number, greatest_of_commits}
+use Rattle.opening_rules.specs.LaidOut.{committed_numbers, layout_in}
+use Rattle.opening_rules.proofs.HeaderLemmas.{chosen_are_status}
+use Rattle.number_set.specs.Numbers.{with_numbers}
+use Rattle.number_set.proofs.NumberLemmas.{numbers_are_a_union}
+use Rattle.txn_status.specs.ReadingIn.{under, status_in}
+use Rattle.opened_tables.specs.Opened.{IsOpenedStatus}
+use Rattle.restart.specs.Looks.{only_reads, OnlyReads, HasCause, Looks}
 
-numbers_push : (n : ℕ) (bytes : List ℕ) → numbers_within (suc n) bytes ≡ numbers_within n bytes ++ long_at 0 (drop (8 * n) bytes) ∷ []
-numbers_push zero bytes = refl
-numbers_push (suc n) bytes =
-    let at : 8 * suc n ≡ 8 + 8 * n = omega arith in
-    rw (numbers_push n (drop 8 bytes), at) (ap (λ (rest : List ℕ). long_at 0 bytes ∷ (numbers_within n (drop 8 bytes) ++ long_at 0 rest ∷ [])) (drop-drop (8 * n) 8 bytes))
+-- ---- what it does to the chip
 
-long_from : (at : ℕ) (bytes : List ℕ) → long_at at bytes ≡ long_at 0 (drop at bytes)
-unfolding long_at
-long_from at bytes = refl
+each_reads : (At : ℕ → ℕ → Type 0) (added : Story) → All (IsReadAt At) added → only_reads added ≡ true
+each_reads At [] each = refl
+each_reads At (Read p s ∷ added) each = each_reads At added (All-tail (IsReadAt At) (Read p s) added each)
+each_reads At (Program p s bytes ∷ added) each = absurd (All-head (IsReadAt At) (Program p s bytes) added each)
+each_reads At (Erase p ∷ added) each = absurd (All-head (IsReadAt At) (Erase p) added each)
+each_reads At (Barrier ∷ added) each = absurd (All-head (IsReadAt At) Barrier added each)
+each_reads At (Said piece ∷ added) each = absurd (All-head (IsReadAt At) (Said piece) added each)
 
--- the greatest with one number more
-pub greatest_more : (least n greatest next : ℕ) (bytes : List ℕ) → greatest ≡ greatest_of least (numbers_within n bytes) → next ≡ long_at (8 * n) bytes
-    → max greatest next ≡ greatest_of least (numbers_within (n + 1) bytes)
-greatest_more least n greatest next bytes so_far is = rw (add-one n, numbers_push n bytes, greatest_of-push, so_far, is ∙ long_from (8 * n) bytes) refl
+-- reads of some sectors are reads
+pub at_reads : (At : ℕ → ℕ → Type 0) (old new : Told) → ReadsAt At old new → OnlyReads old new
+at_reads At old new did = record {
+  settled = did.settled;
+  contents = did.contents;
+  added = did.added;
+  reads = each_reads At did.added did.each;
+  history = did.history;
+  counts = did.counts;
+}
 
-module _ (c : Chart) (winner : Winner) (p s : ℕ) (o : Option Sector) (some : 1 ≤ s) (at : p ≡ winner.place) (is : o ≡ c p s) where
-  commit_here : commit_at c (Some winner) s ≡ kept (is_commit_of winner.head.generation) o
-  commit_here = rw (le-leb 1 s some, is, at) refl
+-- their fault is about what the chip holds, or a read failed
+at_cause : (At : ℕ → ℕ → Type 0) (e : ChipFault) (old new : Told) → IsCauseAt At e old new → HasCause (Chip e) old new
+at_cause At ReadFault old new cause = λ other. record { fault = refl; rose = cause }
+at_cause At Stopped old new cause = absurd cause
+at_cause At (Damaged p s stored computed) old new cause = absurd cause
+at_cause At (Malformed p s) old new cause = λ other. absurd cc
 
-  pub commit_fault_here : commit_fault c (Some winner) s ≡ commit_test winner.place s (kept (is_commit_of winner.head.generation) o)
-  commit_fault_here = ap (commit_test winner.place s) commit_here
+-- and it is handed on
+pub at_looks : {T : Type 0} (At : ℕ → ℕ → Type 0) (r : Result T ImageFault) (e : ChipFault) (old new : Told)
+    → ReadsAt At old new → IsCauseAt At e old new → IsErrAnd r (λ y. y ≡ Chip e) → Looks HasCause r old new
+at_looks At (Ok v) e old new did cause exit = absurd exit
+at_looks At (Err y) e old new did cause exit = record {
+  reads = at_reads At old new did;
+  cause = subst (λ (f : ImageFault). HasCause f old new) (sym exit) (at_cause At e old new cause);
+}
 
-  pub commit_number_more : (least greatest next : ℕ) → greatest ≡ greatest_of_commits least c (Some winner) s → next ≡ max greatest (commit_number (kept (is_commit_of winner.head.generation) o))
-      → next ≡ greatest_of_commits least c (Some winner) (s + 1)
-  commit_number_more least greatest next so_far number =
-      number ∙ ap (λ (n : ℕ). max n (commit_number (kept (is_commit_of winner.head.generation) o))) so_far
-      ∙ ap (λ (x : Option Sector). max (greatest_of_commits least c (Some winner) s) (commit_number x)) (sym commit_here)
-      ∙ sym (greatest_step least (λ j. commit_number (commit_at c (Some winner) j)) s)
+-- ---- what it finds
 
--- the sectors that were read are whole
-pub whole_more : (x : Contents) (p q n : ℕ) → q ≡ p → ((s : ℕ) → 1 ≤ s → s < n → IsWhole (x p s)) → IsWhole (x q n) → (s : ℕ) → 1 ≤ s → s < n + 1 → IsWhole (x p s)
-whole_more x p q n at so_far here s some low = elim (cases_eq s n) [
-  | inl same ↦ subst (λ (t : ℕ). IsWhole (x p t)) (sym same) (subst (λ (r : ℕ). IsWhole (x r n)) at here)
-  | inr other ↦ so_far s some (omega arith)
-]
+max_both : (a b d : ℕ) → max (max a b) d ≡ max a (max b d)
+max_both zero b d = simp unary_clauses refl
+max_both (suc a) zero d = simp unary_clauses refl
+max_both (suc a) (suc b) zero = simp unary_clauses refl
+max_both (suc a) (suc b) (suc d) = simp unary_clauses (ap suc (max_both a b d))
+
+-- the greatest, and at least another number
+greatest_from : (least : ℕ) (f : ℕ → ℕ) (n : ℕ) → max least (greatest_below 0 f n) ≡ greatest_below least f n
+greatest_from least f zero = simp unary_clauses refl
+greatest_from least f (suc n) =
+    sym (max_both least (greatest_below 0 f n) (f n)) ∙ ap (λ (m : ℕ). max m (f n)) (greatest_from least f n)
+
+module _ (c : Chart) (winner : Winner) (p generation : ℕ) (at : p ≡ winner.place)
+    (of_it : generation ≡ winner.head.generation) where
+  -- the greatest number found, and at least another one
+  pub number_told : (least n greatest : ℕ) → greatest ≡ greatest_of_commits 0 c (under p generation) sectors
+      → n ≡ max least greatest → n ≡ greatest_of_commits least c (Some winner) sectors
+  number_told least n greatest is more =
+      more ∙ ap (max least) (is ∙ rw (at, of_it) refl)
+      ∙ greatest_from least (λ s. commit_number (commit_at c (Some winner) s)) sectors
+
+  pub fault_told : {T : Type 0} (r : Result T ImageFault)
+      → TellsImageFault (first_below (commit_fault c (under p generation)) sectors) r
+      → TellsImageFault (first_below (commit_fault c (Some winner)) sectors) r
+  fault_told r tells = rw (← at, ← of_it) tells
+
+  pub status_told : (status : Status) → status ≡ status_in c p generation
+      → status ≡ status_in c winner.place winner.head.generation
+  status_told status is = rw (← at, ← of_it) is
+
+-- the status, as an opening finds it
+pub opened_status : (c : Chart) (places : ℕ) (winner : Winner) (status : Status) → Some winner ≡ status_at c places
+    → Laid places c (layout_in c places) → status ≡ status_in c winner.place winner.head.generation
+    → IsOpenedStatus places c status
+opened_status c places winner status is laid found =
+    let lay = layout_in c places in
+    let own : Winner = record { place = lay.status; head = head_of (places - 4) lay.head } in
+    let one : winner ≡ own = same_Some winner own (is ∙ chosen_are_status c places lay.status lay.head laid.chosen) in
+    let numbers : List ℕ = committed_numbers c (status_at c places) in
+    let same : status.numbers ≡ with_numbers numbers [] =
+    ap (λ (t : Status). t.numbers) found ∙ ap (λ (o : Option Winner). with_numbers (committed_numbers c o) []) is in
+    record {
+      place_is = ap (λ (t : Status). t.place) found ∙ ap (λ (x : Winner). x.place) one;
+      generation_is = ap (λ (t : Status). t.generation) found ∙ ap (λ (x : Winner). x.head.generation) one;
+      numbers_are = λ tid. (
+        λ has. elim ((numbers_are_a_union numbers [] tid).0 (subst (λ (xs : List ℕ). Contains xs tid) same has)) [
+          | inl one_of ↦ one_of
+          | inr none ↦ absurd (omega (arith, none.1))
+        ],
+        λ has. subst (λ (xs : List ℕ). Contains xs tid) (sym same)
+            ((numbers_are_a_union numbers [] tid).1 (inl has)),
+      );
+      first_is = ap (λ (t : Status). t.first) found;
+    }

@@ -9,8 +9,10 @@ pub mod KeptLemmas
 pub mod TableLemmas
 pub mod CommitLemmas
 pub mod NoteLemmas
+pub mod ListedLemmas
 pub mod LogLemmas
 pub mod FillLemmas
 pub mod OpenLemmas
-pub mod OpenedLemmas
+pub mod OverflowLemmas
+pub mod KnownLemmas
 pub mod ReadingLemmas

@@ -8,7 +8,7 @@ use Rattle.chip_trait.specs.Told.{Told}
 use Rattle.ipl_base.specs.declared.fault.ImageFault.{ImageFault}
 use Rattle.ipl_meaning.specs.Chart.{Chart, chart_of}
 use Rattle.ipl_meaning.specs.Layout.{Laid}
-use Rattle.ipl_meaning.specs.Tables.{Places, IsFree}
+use Rattle.ipl_meaning.specs.Tables.{Places, OverflowLists, IsFree}
 use Rattle.ipl_base.specs.First.{first_below}
 use Rattle.opening_rules.specs.First.{at, first_of, count_below}
 use Rattle.opening_rules.specs.Chosen.{KeptHeader, Winner, header_at, current_in, current_at, status_in, status_at}
@@ -27,7 +27,9 @@ use Rattle.restart.specs.Looks.{IsMissed}
 use Rattle.restart.specs.Notes.{Notes, IsNoted}
 use Rattle.restart.specs.Filled.{is_home, is_used, AreUsed, AreAdopted}
 use Rattle.restart.specs.Shown.{ShowsHeaders, is_held, number_by, fault_by}
-use Rattle.restart.specs.Opened.{IsUnused, IsOpened, HasFree}
+use Rattle.opened_tables.specs.Opened.{IsUnused, IsOpened}
+use Rattle.opened_tables.proofs.ListLemmas.{count_alike}
+use Rattle.restart.specs.Opened.{HasFree}
 use Rattle.restart.proofs.LookLemmas.{missed_not_image}
 
 -- a read that failed tells nothing
@@ -76,19 +78,15 @@ units_there n status current none u low missing_u =
 
 -- ---- the rest
 
-count_alike : (f g : ℕ → Bool) (n : ℕ) → ((k : ℕ) → k < n → f k ≡ g k) → count_below f n ≡ count_below g n
-count_alike f g zero same = refl
-count_alike f g (suc n) same = rw (count_alike f g n (λ k low. same k (omega arith)), same n (omega arith)) refl
+pub held_is : (heads : List (Option KeptHeader)) (notes : Notes) (lists : OverflowLists) (all : List Mark) → IsNoted notes lists all → (p : ℕ) → is_held heads notes p ≡ holds_live (at heads) all p
+held_is heads notes lists all it p = ap (λ (b : Bool). is_overflow_place (at heads p) && b) (it.holds p)
 
-pub held_is : (heads : List (Option KeptHeader)) (notes : Notes) (all : List Mark) → IsNoted notes all → (p : ℕ) → is_held heads notes p ≡ holds_live (at heads) all p
-held_is heads notes all it p = ap (λ (b : Bool). is_overflow_place (at heads p) && b) (it.holds p)
-
-pub end_tells : {T : Type 0} (heads : List (Option KeptHeader)) (notes : Notes) (all : List Mark) (greatest number places : ℕ) (r : Result T ImageFault) → greatest ≡ number → length heads ≡ places → IsNoted notes all
+pub end_tells : {T : Type 0} (heads : List (Option KeptHeader)) (notes : Notes) (lists : OverflowLists) (all : List Mark) (greatest number places : ℕ) (r : Result T ImageFault) → greatest ≡ number → length heads ≡ places → IsNoted notes lists all
     → TellsImageFault (option_or (spent greatest) (option_or (no_spare (count_below (is_held heads notes) (length heads))) None)) r
     → TellsImageFault (option_or (spent number) (option_or (no_spare (count_below (holds_live (at heads) all) places)) None)) r
-end_tells heads notes all greatest number places r is size it tells =
+end_tells heads notes lists all greatest number places r is size it tells =
     let count : count_below (is_held heads notes) (length heads) ≡ count_below (holds_live (at heads) all) places =
-    count_alike (is_held heads notes) (holds_live (at heads) all) (length heads) (λ p low. held_is heads notes all it p) ∙ ap (count_below (holds_live (at heads) all)) size in
+    count_alike (is_held heads notes) (holds_live (at heads) all) (length heads) (λ p low. held_is heads notes lists all it p) ∙ ap (count_below (holds_live (at heads) all)) size in
     subst (λ (n : ℕ). TellsImageFault (option_or (spent number) (option_or (no_spare n) None)) r) count
     (subst (λ (n : ℕ). TellsImageFault (option_or (spent n) (option_or (no_spare (count_below (is_held heads notes) (length heads))) None)) r) is tells)
 
@@ -147,13 +145,13 @@ module _ (c : Chart) (places : ℕ) (heads : List (Option KeptHeader)) (current 
   pub number_found : (n : ℕ) → n ≡ number_by c (at heads) (at current) (Some status) places → n ≡ greatest_found c places
   number_found n is = to_chart (λ h cur st. n ≡ number_by c h cur st places) is
 
-  noted_found : (notes : Notes) → IsNoted notes (marks (at heads) (at current) c (places * 256)) → IsNoted notes (marks_in c places (places * 256))
-  noted_found notes it = to_chart (λ h cur st. IsNoted notes (marks h cur c (places * 256))) it
+  noted_found : (notes : Notes) (lists : OverflowLists) → IsNoted notes lists (marks (at heads) (at current) c (places * 256)) → IsNoted notes lists (marks_in c places (places * 256))
+  noted_found notes lists it = to_chart (λ h cur st. IsNoted notes lists (marks h cur c (places * 256))) it
 
   -- a place is free exactly where it is unused
-  module _ (notes : Notes) (noted : IsNoted notes (marks (at heads) (at current) c (places * 256))) (d : Places) (units most : ℕ) (four : units + 4 ≡ places) (used : AreUsed (is_used (at current) units status.place (is_held heads notes)) places most d.in_use) (p : ℕ) (low : p < places) where
+  module _ (notes : Notes) (lists : OverflowLists) (noted : IsNoted notes lists (marks (at heads) (at current) c (places * 256))) (d : Places) (units most : ℕ) (four : units + 4 ≡ places) (used : AreUsed (is_used (at current) units status.place (is_held heads notes)) places most d.in_use) (p : ℕ) (low : p < places) where
     held_found : is_held heads notes p ≡ holds_live (header_at c places) (marks_in c places (places * 256)) p
-    held_found = held_is heads notes (marks_in c places (places * 256)) (noted_found notes noted) p
+    held_found = held_is heads notes lists (marks_in c places (places * 256)) (noted_found notes lists noted) p
         ∙ ap (λ (h : ℕ → Option KeptHeader). holds_live h (marks_in c places (places * 256)) p) shows.heads_are
 
     unused_from : IsFree d p → IsUnused places c p
@@ -176,16 +174,16 @@ module _ (c : Chart) (places : ℕ) (heads : List (Option KeptHeader)) (current 
         (at_none (Some status) p (λ winner is. it.not_status winner (sym shows.status_is ∙ is))))
         (held_found ∙ it.not_held)
 
-  pub opened : (notes : Notes) → IsNoted notes (marks (at heads) (at current) c (places * 256)) → (d : Places) (units most counter greatest : ℕ) → units + 4 ≡ places
+  pub opened : (notes : Notes) (lists : OverflowLists) → IsNoted notes lists (marks (at heads) (at current) c (places * 256)) → (d : Places) (units most counter greatest : ℕ) → units + 4 ≡ places
       → AreUsed (is_used (at current) units status.place (is_held heads notes)) places most d.in_use → AreAdopted (at current) units units d
       → greatest ≡ number_by c (at heads) (at current) (Some status) places → counter ≡ greatest + 1 → IsOpened places c d counter
-  opened notes noted d units most counter greatest four used adopted number next = record {
+  opened notes lists noted d units most counter greatest four used adopted number next = record {
     units = omega (arith, adopted.units_are, four);
     logs = omega (arith, adopted.logs_are, four);
     all = used.all;
     current = λ u low. adopted.current_is u (omega (arith, low, four)) ∙ ap (λ (cur : ℕ → Option Winner). place_of (cur u)) shows.current_are;
     written = λ u low. adopted.written_is u (omega (arith, low, four));
-    free = λ p low. (unused_from notes noted d units most four used p low, unused_to notes noted d units most four used p low);
+    free = λ p low. (unused_from notes lists noted d units most four used p low, unused_to notes lists noted d units most four used p low);
     number = next ∙ ap (λ (n : ℕ). n + 1) (number_found greatest number);
   }
 

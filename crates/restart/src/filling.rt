@@ -1,14 +1,17 @@
-//! The directory is filled.
-ghost use Rattle.std.specs.Prelude.{◌≡◌, ◌<◌, ◌≤◌, ◌+◌, ◌-◌, ◌&&◌, ◌||◌, Bool, ℕ, length, Some};
-ghost use Rattle.opening_rules.specs.First.{at, count_below};
+//! The directory and the overflow lists are filled.
+ghost use Rattle.std.specs.Prelude.{◌≡◌, ◌<◌, ◌≤◌, ◌+◌, ◌-◌, ◌&&◌, ◌||◌, Bool, ℕ, [], true, length, Some};
+ghost use Rattle.opening_rules.specs.First.{at, count_below, all_below, with_one};
 ghost use Rattle.opening_rules.specs.Chosen.{Winner as Chosen};
 ghost use Rattle.opening_rules.specs.Live.{is_overflow_place};
+ghost use Rattle.opened_tables.specs.Found.{overflow_at};
 ghost use Rattle.restart.specs.Notes.{places_of, holds_one};
+ghost use Rattle.restart.specs.Shown.{is_held as is_held_place};
 ghost use Rattle.restart.specs.Filled.{is_home, is_used, AreUsed, AreAdopted};
 
 use crate::kept::{Header, Winner};
-use crate::logs::is_overflow_place;
+use crate::live::is_overflow_place;
 use crate::noted::Noted;
+use overflow::Overflow;
 use unit_directory::Directory;
 
 /// Gives each unit the place of its header, and nothing else is in use then.
@@ -83,4 +86,36 @@ pub(crate) fn fill(
     adopt_all(directory, current);
     directory.take(status.place());
     take_overflows(directory, heads, noted);
+}
+
+/// Lists a place, if it is an overflow place that holds live log sectors.
+fn list_place(overflow: &mut Overflow, heads: &[Option<Header>], noted: &Noted, place: u32)
+    requires heads { place < length heads.now }
+    requires places { place < places_of noted.now }
+    requires four { length overflow.old.spots + 4 ≡ length heads.now }
+    requires room { is_held_place heads.now noted.now place ≡ true
+        → length overflow.old.in_use < 2 }
+    ensures in_use { overflow.new.in_use ≡ with_one overflow.old.in_use
+        (overflow_at (is_held_place heads.now noted.now) place) }
+    ensures spots { overflow.new.spots ≡ overflow.old.spots }
+{
+    if is_held(heads, noted, place) {
+        overflow.adopt_place(place);
+    }
+}
+
+/// Lists the overflow places that hold live log sectors, at most two, with no sector known clean.
+pub(crate) fn list_places(overflow: &mut Overflow, heads: &[Option<Header>], noted: &Noted)
+    requires small { length heads.now ≤ 1028 }
+    requires places { places_of noted.now ≡ length heads.now }
+    requires four { length overflow.old.spots + 4 ≡ length heads.now }
+    requires two { count_below (is_held_place heads.now noted.now) (length heads.now) ≤ 2 }
+    requires none { overflow.old.in_use ≡ [] }
+    ensures in_use { overflow.new.in_use
+        ≡ all_below (overflow_at (is_held_place heads.now noted.now)) (length heads.now) }
+    ensures spots { overflow.new.spots ≡ overflow.old.spots }
+{
+    for place in 0..heads.len() {
+        list_place(overflow, heads, noted, place as u32);
+    }
 }

@@ -1,8 +1,9 @@
 //! The opening of a chip.
-ghost use Rattle.std.specs.Prelude.{◌≡◌, ◌≢◌, ◌⊎◌, ◌<◌, ◌≤◌, ◌+◌, ◌-◌, ◌*◌, ◌^◌, ℕ, length, true, Some, None, IfOk, OnOk};
+ghost use Rattle.std.specs.Prelude.{◌≡◌, ◌≢◌, ◌⊎◌, ◌<◌, ◌≤◌, ◌+◌, ◌-◌, ◌*◌, ◌^◌, ℕ, [], length, true, Some, None, IfOk, OnOk};
 ghost use Rattle.chip_trait.specs.Told.{Told};
 ghost use Rattle.ipl_meaning.specs.Chart.{chart_of};
 ghost use Rattle.ipl_meaning.specs.Layout.{Laid};
+ghost use Rattle.ipl_meaning.specs.Mirrors.{Mirrors};
 ghost use Rattle.unit_io.specs.Reads.{OfContents};
 ghost use Rattle.opening_rules.specs.First.{at, count_below};
 ghost use Rattle.opening_rules.specs.Chosen.{Winner as Chosen};
@@ -11,13 +12,16 @@ ghost use Rattle.opening_rules.specs.Faults.{TellsImageFault, header_fault, firs
 ghost use Rattle.opening_rules.specs.LaidOut.{layout_in};
 ghost use Rattle.ipl_format.specs.Whole.{IsWhole};
 ghost use Rattle.restart.specs.Looks.{Looks, HasCause};
-ghost use Rattle.restart.specs.Notes.{units_of, places_of, SameSize, IsNoted};
-ghost use Rattle.restart.specs.Shown.{ShowsHeaders, is_held, number_by, fault_by};
-ghost use Rattle.restart.specs.Opened.{IsOpened, HasFree};
+ghost use Rattle.txn_status.specs.ReadingIn.{status_in};
+ghost use Rattle.opened_tables.specs.Known.{KnowsPlaces};
+ghost use Rattle.opened_tables.specs.Opened.{AreOpened, tables_of};
+ghost use Rattle.restart.specs.Notes.{units_of, places_of, AreSized, IsNoted};
+ghost use Rattle.restart.specs.Shown.{ShowsHeaders, AreChosen, is_held, number_by, fault_by};
+ghost use Rattle.restart.specs.Opened.{HasFree};
 
 use crate::choosing::choose;
 use crate::commits::read_commits;
-use crate::filling::fill;
+use crate::filling::{fill, list_places};
 use crate::headers::check_headers;
 use crate::kept::{Header, Winner};
 use crate::logs::scan;
@@ -26,8 +30,10 @@ use crate::noted::Noted;
 use crate::verdict::{check_found, greatest_in};
 use chip_trait::Chip;
 use ipl_base::{Counter, Geometry, ImageFault, OutOfMemory};
+use overflow::Overflow;
 use std::alloc::Global;
 use std::marker::Model;
+use txn_status::Status;
 use unit_directory::Directory;
 
 /// Reads the headers, tests those that count, and answers the status header.
@@ -42,11 +48,14 @@ fn read_headers<C: Chip>(
     requires current { length current.old + 4 ≡ geometry }
     ensures shown { IfOk result (λ status. OfContents (C.told chip.old) (λ x.
         ShowsHeaders (chart_of x) geometry heads.new current.new status)) }
-    ensures fault { OfContents (C.told chip.old) (λ x. TellsImageFault (header_fault (chart_of x) geometry) result) }
+    ensures chosen { IfOk result (λ status. AreChosen heads.new current.new status) }
+    ensures fault { OfContents (C.told chip.old) (λ x.
+        TellsImageFault (header_fault (chart_of x) geometry) result) }
     ensures whole { OnOk result (OfContents (C.told chip.old) (λ x.
         (p : ℕ) → p < geometry → IsWhole (x p 0))) }
     ensures status { IfOk result (λ status. status.place < geometry) }
-    ensures within { OnOk result ((u : ℕ) (winner : Chosen) → at current.new u ≡ Some winner → winner.place < geometry) }
+    ensures within { OnOk result ((u : ℕ) (winner : Chosen)
+        → at current.new u ≡ Some winner → winner.place < geometry) }
     ensures there { OnOk result ((u : ℕ) → u < length current.new → at current.new u ≢ None) }
     ensures looks { Looks HasCause result (C.told chip.old) (C.told chip.new) }
 {
@@ -56,36 +65,44 @@ fn read_headers<C: Chip>(
     Ok(status)
 }
 
-/// Reads all that counts beyond the headers, and answers the greatest number found.
+/// Reads all that counts beyond the headers, by these headers and the one of the status place, and
+/// answers the greatest number found.
 fn read_rest<C: Chip>(
     chip: &mut C,
     geometry: Geometry,
     heads: &[Option<Header>],
     current: &[Option<Winner>],
-    status: &Winner,
+    winner: &Winner,
     noted: &mut Noted,
+    overflow: &mut Overflow,
+    status: &mut Status,
 ) -> Result<u64, ImageFault>
     requires size { geometry ≡ (C.told chip.old).places }
     requires heads { length heads.now ≡ geometry }
-    requires units { units_of noted.old ≡ length current.now }
-    requires places { places_of noted.old ≡ geometry }
-    requires status { status.now.place < geometry }
-    ensures fault { OfContents (C.told chip.old) (λ x.
-        TellsImageFault (fault_by (chart_of x) (at heads.now) (at current.now) (Some status.now) geometry) result) }
+    requires sized { AreSized (length current.now) geometry noted.old overflow.old }
+    requires winner { winner.now.place < geometry }
+    ensures fault { OfContents (C.told chip.old) (λ x. TellsImageFault
+        (fault_by (chart_of x) (at heads.now) (at current.now) (Some winner.now) geometry) result) }
     ensures number { IfOk result (λ n. OfContents (C.told chip.old) (λ x.
-        n ≡ number_by (chart_of x) (at heads.now) (at current.now) (Some status.now) geometry)) }
-    ensures noted { OnOk result (OfContents (C.told chip.old) (λ x.
-        IsNoted noted.new (marks (at heads.now) (at current.now) (chart_of x) (geometry * 256)))) }
-    ensures whole { OnOk result (OfContents (C.told chip.old) (λ x. (p s : ℕ) → p < geometry → 1 ≤ s → s < 256
-        → (p ≡ status.now.place) ⊎ (is_log_spot (at heads.now) (at current.now) p s ≡ true) → IsWhole (x p s))) }
+        n ≡ number_by (chart_of x) (at heads.now) (at current.now) (Some winner.now) geometry)) }
+    ensures noted { OnOk result (OfContents (C.told chip.old) (λ x. IsNoted noted.new overflow.new
+        (marks (at heads.now) (at current.now) (chart_of x) (geometry * 256)))) }
+    ensures status { OnOk result (OfContents (C.told chip.old) (λ x.
+        status.new ≡ status_in (chart_of x) winner.now.place winner.now.head.generation)) }
+    ensures placed { OnOk result (status.new.place ≡ winner.now.place) }
+    ensures whole { OnOk result (OfContents (C.told chip.old) (λ x.
+        (p s : ℕ) → p < geometry → 1 ≤ s → s < 256
+        → (p ≡ winner.now.place) ⊎ (is_log_spot (at heads.now) (at current.now) p s ≡ true)
+        → IsWhole (x p s))) }
     ensures left { IfOk result (λ n. n < 2 ^ 63) }
     ensures two { OnOk result (count_below (is_held heads.now noted.new) (length heads.now) ≤ 2) }
-    ensures sized { SameSize noted.old noted.new }
+    ensures none { OnOk result (overflow.new.in_use ≡ []) }
+    ensures sized { AreSized (length current.now) geometry noted.new overflow.new }
     ensures looks { Looks HasCause result (C.told chip.old) (C.told chip.new) }
 {
     let least = greatest_in(heads);
-    let least = read_commits(chip, status, least)?;
-    let greatest = scan(chip, geometry, heads, current, noted, least)?;
+    let least = read_commits(chip, winner, status, least)?;
+    let greatest = scan(chip, geometry, heads, current, noted, overflow, least)?;
     check_found(heads, noted, greatest)?;
     Ok(greatest)
 }
@@ -98,28 +115,38 @@ fn open<C: Chip>(
     current: &mut [Option<Winner>],
     noted: &mut Noted,
     directory: &mut Directory,
+    overflow: &mut Overflow,
+    status: &mut Status,
     counter: &mut Counter,
 ) -> Result<(), ImageFault>
     requires size { geometry ≡ (C.told chip.old).places }
     requires heads { length heads.old ≡ geometry }
-    requires current { length current.old + 4 ≡ geometry }
-    requires units { units_of noted.old + 4 ≡ geometry }
-    requires places { places_of noted.old ≡ geometry }
+    requires sized { AreSized (length current.old) geometry noted.old overflow.old }
     requires directory { length directory.old.in_use ≡ geometry }
-    ensures fault { OfContents (C.told chip.old) (λ x. TellsImageFault (first_fault (chart_of x) geometry) result) }
+    ensures fault { OfContents (C.told chip.old) (λ x.
+        TellsImageFault (first_fault (chart_of x) geometry) result) }
     ensures opened { OnOk result (OfContents (C.told chip.old) (λ x.
-        IsOpened geometry (chart_of x) directory.new counter.new)) }
+        AreOpened geometry (chart_of x)
+        (tables_of directory.new overflow.new status.new counter.new))) }
     ensures laid { OnOk result (OfContents (C.told chip.old) (λ x.
         Laid geometry (chart_of x) (layout_in (chart_of x) geometry))) }
-    ensures size { OnOk result (length directory.new.in_use ≡ geometry) }
+    ensures mirrors { OnOk result (OfContents (C.told chip.old) (λ x.
+        Mirrors geometry (chart_of x) (layout_in (chart_of x) geometry)
+        (tables_of directory.new overflow.new status.new counter.new))) }
+    ensures known { OnOk result (KnowsPlaces geometry
+        (tables_of directory.new overflow.new status.new counter.new)) }
     ensures free { OnOk result (HasFree directory.new) }
     ensures left { OnOk result (counter.new ≤ 2 ^ 63) }
-    ensures sized { SameSize noted.old noted.new }
+    ensures size { length directory.new.in_use ≡ geometry }
+    ensures sized { AreSized (length current.new) geometry noted.new overflow.new }
     ensures looks { Looks HasCause result (C.told chip.old) (C.told chip.new) }
 {
-    let status = read_headers(chip, geometry, heads, current)?;
-    let greatest = read_rest(chip, geometry, heads, current, &status, noted)?;
-    fill(directory, heads, current, &status, noted);
+    let winner = read_headers(chip, geometry, heads, current)?;
+    let greatest = read_rest(
+        chip, geometry, heads, current, &winner, noted, overflow, status,
+    )?;
+    fill(directory, heads, current, &winner, noted);
+    list_places(overflow, heads, noted);
     *counter = Counter::at(greatest + 1);
     Ok(())
 }
@@ -162,42 +189,56 @@ impl Scratch {
     }
 }
 
-/// Opens a chip, for whose number of places the scratch memory and the directory were made: finds what it holds, or tells
-/// the first thing that is wrong. It writes nothing and takes no memory, and each sector is read at most once.
+/// Opens a chip, for whose number of places the scratch memory and the tables were made: finds what
+/// it holds, or tells the first thing that is wrong. It writes nothing and takes no memory, and each
+/// sector is read at most once.
 ///
-/// Of a chip without a fault the directory then has the place of each unit, with no log sector known clean; the status
-/// place and the overflow places that hold live log sectors are in use too, and all other places are free. The counter is
-/// the number after the greatest that was found. After a fault, directory and counter hold anything.
+/// Of a chip without a fault the directory then has the place of each unit, with no log sector known
+/// clean; the status place and the overflow places that hold live log sectors are in use too, and all
+/// other places are free. The overflow table lists each unit's live log sectors in overflow places,
+/// and these places; the status has the committed numbers; and no sector of these places is known
+/// clean. The counter is the number after the greatest that was found. After a fault, all of them
+/// hold anything, but are made for as many places as before.
 ///
-/// Fails with the first fault of the chip, in the order that docs/RECOVERY.md tells, or with `Chip(ReadFault)` where a read
-/// of the chip failed.
+/// Fails with the first fault of the chip, in the order that docs/RECOVERY.md tells, or with
+/// `Chip(ReadFault)` where a read of the chip failed.
 pub fn recover<C: Chip>(
     chip: &mut C,
     scratch: &mut Scratch,
     directory: &mut Directory,
+    overflow: &mut Overflow,
+    status: &mut Status,
     counter: &mut Counter,
 ) -> Result<(), ImageFault>
     requires scratch { scratch.old ≡ (C.told chip.old).places }
     requires directory { length directory.old.in_use ≡ (C.told chip.old).places }
+    requires overflow { length overflow.old.spots + 4 ≡ (C.told chip.old).places }
 
     // It fails exactly with the first fault of the chip's contents, unless a read failed.
     ensures fault { OfContents (C.told chip.old) (λ x.
         TellsImageFault (first_fault (chart_of x) (C.told chip.old).places) result) }
 
-    // Else the contents are laid out rightly, and the tables say so.
+    // Else the tables say what was found; and so they mirror the contents, which are laid out rightly.
     ensures opened { OnOk result (OfContents (C.told chip.old) (λ x.
-        IsOpened (C.told chip.old).places (chart_of x) directory.new counter.new)) }
-    ensures laid { OnOk result (OfContents (C.told chip.old) (λ x.
-        Laid (C.told chip.old).places (chart_of x) (layout_in (chart_of x) (C.told chip.old).places))) }
+        AreOpened (C.told chip.old).places (chart_of x)
+        (tables_of directory.new overflow.new status.new counter.new))) }
+    ensures mirrors { OnOk result (OfContents (C.told chip.old) (λ x.
+        Mirrors (C.told chip.old).places (chart_of x)
+        (layout_in (chart_of x) (C.told chip.old).places)
+        (tables_of directory.new overflow.new status.new counter.new))) }
 
-    // Whether the chip tells its contents or not, the directory is of its size, a place is free, and numbers are left.
-    ensures size { OnOk result (length directory.new.in_use ≡ (C.told chip.old).places) }
+    // Whether the chip tells its contents or not, the tables know each of its places, a place is free,
+    // and numbers are left.
+    ensures known { OnOk result (KnowsPlaces (C.told chip.old).places
+        (tables_of directory.new overflow.new status.new counter.new)) }
     ensures free { OnOk result (HasFree directory.new) }
     ensures left { OnOk result (counter.new ≤ 2 ^ 63) }
 
     // It only reads, and fails with no other cause than a fault of the contents or a failed read.
     ensures looks { Looks HasCause result (C.told chip.old) (C.told chip.new) }
-    ensures scratch { scratch.new ≡ scratch.old }
+    ensures sized { (scratch.new ≡ scratch.old)
+        × (length directory.new.in_use ≡ length directory.old.in_use)
+        × (length overflow.new.spots ≡ length overflow.old.spots) }
 {
     open(
         chip,
@@ -206,7 +247,8 @@ pub fn recover<C: Chip>(
         &mut scratch.current,
         &mut scratch.noted,
         directory,
+        overflow,
+        status,
         counter,
-    )?;
-    Ok(())
+    )
 }

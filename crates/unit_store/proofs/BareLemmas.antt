@@ -5,13 +5,11 @@ use Rattle.std.proofs.lemmas.Bool.{cases_eq, ne_eqb}
 use Rattle.std.proofs.lemmas.List.{get_or-set_same, length-set}
 use Rattle.ipl_format.specs.Sector.{Sector}
 use Rattle.ipl_meaning.specs.Chart.{Chart, IsOverflow}
-use Rattle.ipl_meaning.specs.Layout.{Shape, Layout, Laid, Entry, IsLiveIn, IsCommitSector}
+use Rattle.ipl_meaning.specs.Layout.{Shape, Layout, Laid, Entry, IsLiveIn}
 use Rattle.ipl_meaning.specs.Steps.{with_unit}
 use Rattle.ipl_meaning.specs.Tables.{Tables}
 use Rattle.ipl_meaning.specs.Mirrors.{Mirrors}
 use Rattle.ipl_meaning.proofs.OnceLemmas.{laid_once}
-use Rattle.opening_rules.specs.LaidOut.{layout_in}
-use Rattle.restart.specs.Opened.{NoLog}
 use Rattle.unit_store.specs.Bare.{IsBare, HasNoLog}
 use Rattle.unit_store.specs.Rewritten.{after_move}
 
@@ -25,28 +23,6 @@ bare_has_none places c it laid bare other other_laid =
       logs = λ u low. ap (λ (shape : Shape). shape.log) (sym (one.units u low)) ∙ bare.logs u low;
       commits = λ tid. sym (one.committed tid) ∙ bare.commits tid;
     }
-
--- then no log sector is live, and no commit sector is of the status header's generation
-module _ (places : ℕ) (c : Chart) (it : Layout) (laid : Laid places c it) (bare : IsBare places it) where
-  none_live : (u p s : ℕ) (sector : Sector) → u < places - 4 → ¬ IsLiveIn c places it u p s sector
-  none_live u p s sector low live =
-      let (e, has, place, number) = (laid.each u low).log.all p s sector live in
-      none_listed e (subst (λ (log : List Entry). Contains log e) (bare.logs u low) has)
-
-  none_committed : (s : ℕ) (sector : Sector) → ¬ IsCommitSector c it.status it.head.generation s sector
-  none_committed s sector is = first (laid.commits.spelled s sector is).0 refl
-    where
-      first : (numbers : List ℕ) → (laid.commits.spelled s sector is).0 ≡ numbers → ⊥
-      first [] none = omega (arith, (laid.commits.spelled s sector is).1.some, ap length none)
-      first (tid ∷ numbers) some =
-          let told = laid.commits.all_told tid (record { number = s; sector = sector; is = is; numbers = (laid.commits.spelled s sector is).0; spelled = (laid.commits.spelled s sector is).1; has = rw some (0, omega arith, refl) }) in
-          absurd (cc (told, bare.commits tid))
-
-pub none_in : (places : ℕ) (c : Chart) → Laid places c (layout_in c places) → HasNoLog places c → NoLog places c
-none_in places c laid none = record {
-  logs = none_live places c (layout_in c places) laid (none (layout_in c places) laid);
-  commits = none_committed places c (layout_in c places) laid (none (layout_in c places) laid);
-}
 
 -- ---- a unit that is written anew
 

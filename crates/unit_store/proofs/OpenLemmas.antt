@@ -1,5 +1,5 @@
 -- What an opening finds out is what the chip stands for, and the store keeps it.
-use Rattle.std.proofs.Common.{◌≡◌, ◌≢◌, ◌<◌, ◌≤◌, ◌+◌, ◌-◌, ◌/◌, ◌%◌, ◌^◌, ◌&&◌, ◌⊎◌, ℕ, zero, suc, true, inl, inr, List, [], ◌∷◌, Option, Some, None, refl, sym, ◌∙◌, ap, subst, arith}
+use Rattle.std.proofs.Common.{◌≡◌, ◌≢◌, ◌<◌, ◌≤◌, ◌+◌, ◌-◌, ◌/◌, ◌%◌, ◌^◌, ◌&&◌, ◌⊎◌, ℕ, true, inl, inr, List, [], Option, Some, None, refl, sym, ◌∙◌, ap, subst, arith}
 use Rattle.std.specs.Prelude.{nat_le, slice_index}
 use Rattle.std.proofs.lemmas.Bool.{cases_Bool, and_parts}
 use Rattle.std.proofs.lemmas.Bool.Decides.{nat_tests}
@@ -38,9 +38,7 @@ use Rattle.opening_rules.proofs.PayloadLemmas.{spelled_data_passes}
 use Rattle.opening_rules.proofs.LaidLemmas.{laid_is_fine_or_spent}
 use Rattle.opening_rules.proofs.CauseLemmas.{faults_are_caused}
 use Rattle.restart.specs.Looks.{OnlyReads, HasCause}
-use Rattle.restart.specs.Opened.{NoLog, opened_tables}
-use Rattle.unit_store.proofs.BareLemmas.{none_in}
-use Rattle.restart.proofs.OpenedLemmas.{opened_tables_mirror}
+use Rattle.unit_store.specs.Bare.{HasNoLog}
 use Rattle.restart.proofs.ReadingLemmas.{reads_rest, reads_hold}
 use Rattle.memory_store.specs.declared.store.MemoryStore.{MemoryStore}
 use Rattle.memory_store.specs.Kept.{record_of}
@@ -63,19 +61,13 @@ held_once c place u g page pieces a b one other =
     ap (λ (s : Sector). s.payload) same) in
     pages_spell_once (page_text a) a b (record { slots = one.fits; text = refl }) (record { slots = other.fits; text = text })
 
-module _ (places : ℕ) (c : Chart) (m : Map) (laid : Laid places c (layout_in c places)) (none : NoLog places c) (stands : Stands places c m) where
+module _ (places : ℕ) (c : Chart) (m : Map) (laid : Laid places c (layout_in c places)) (none : HasNoLog places c) (stands : Stands places c m) where
   abbrev it : Layout
   it = layout_in c places
 
   -- no unit has live log sectors
   no_log : (u : ℕ) → u < places - 4 → (it.units u).log ≡ []
-  no_log u low = case (it.units u).log refl
-    where
-      case : (log : List _) → (it.units u).log ≡ log → (it.units u).log ≡ []
-      case [] is = is
-      case (e ∷ log) is =
-          let entry = (laid.each u low).log.each 0 e (rw is (omega arith)) in
-          absurd (none.logs u e.place e.number e.sector low (rw is at entry.live))
+  no_log u low = (none it laid).logs u low
 
   -- the pages that the map's layout shows are those of this one
   shown : (u page : ℕ) → u < places - 4 → page < 15 → (base : Slots) × ReadsWell c u (it.units u) page base × ((slot : ℕ) → slot < 64 → page_in m u page slot ≡ value_in base slot)
@@ -116,7 +108,7 @@ module _ (places : ℕ) (c : Chart) (m : Map) (laid : Laid places c (layout_in c
 
 -- the memory stands for the map that the contents stand for
 pub holds_map : (places : ℕ) (x : Contents) (directory : Places) (counter : ℕ) (memory : MemoryStore) → IsFoundOut places x directory counter memory → HasNoSession memory → HoldsMap places x memory
-holds_map places x directory counter memory found idle m stands none = idle_fits memory m idle (value_found places (chart_of x) m found.laid (none_in places (chart_of x) found.laid none) stands memory.records.items found.shows)
+holds_map places x directory counter memory found idle m stands none = idle_fits memory m idle (value_found places (chart_of x) m found.mirrors.laid none stands memory.records.items found.shows)
 
 -- a history that was told is told with its reads
 reads_told : (old new : Told) (reads : OnlyReads old new) (h : History) → old.history ≡ Some h → new.history ≡ Some (adds_all reads.added h)
@@ -131,9 +123,8 @@ pub keeps_found : (old new : Told) (store : UnitStore) → IsConsistent old → 
 keeps_found old new store consistent reads sized idle found m h settled told rests none =
     let x = held h.start h.story in
     let it = found x (consistent.replayed h told settled) in
-    let no_log = none_in old.places (now h) it.laid none in
     let stands = rests.each x (held_is_image _ h.start h.story) in
-    let says = says_in old.places (now h) m it.laid no_log stands in
+    let says = says_in old.places (now h) m it.mirrors.laid none stands in
     record {
       limits_are = ap limits_of (omega (arith, sized));
       memory = holds_map old.places x store.directory store.counter store.memory it idle m stands none;
@@ -143,13 +134,12 @@ keeps_found old new store consistent reads sized idle found m h settled told res
             (subst (λ (g : History). OnChip old.places store.directory store.counter m g) (some_one (sym (reads_told old new reads h told) ∙ there)) (record {
               rests = reads_rest old.places m h reads.added reads.reads rests;
               layout = layout_in (now h) old.places;
-              tables = opened_tables old.places (now h) store.directory store.counter;
-              directory_is = refl;
-              counter_is = refl;
-              mirrors = subst (λ (c : Chart). Mirrors old.places c (layout_in (now h) old.places) (opened_tables old.places (now h) store.directory store.counter))
-                  (sym (reads_hold h reads.added reads.reads)) (opened_tables_mirror old.places (now h) store.directory store.counter it.opened it.laid no_log);
+              tables = it.tables;
+              directory_is = it.directory_is;
+              counter_is = it.counter_is;
+              mirrors = subst (λ (c : Chart). Mirrors old.places c (layout_in (now h) old.places) it.tables) (sym (reads_hold h reads.added reads.reads)) it.mirrors;
               says = subst (λ (c : Chart). Says old.places c (layout_in (now h) old.places) m) (sym (reads_hold h reads.added reads.reads)) says;
-              bare = none (layout_in (now h) old.places) it.laid;
+              bare = none (layout_in (now h) old.places) it.mirrors.laid;
             }));
       };
     }

@@ -1,5 +1,5 @@
 -- The store of a chip that was opened.
-use Rattle.std.specs.Prelude.{ℕ, ◌≡◌, ◌≢◌, ◌<◌, ◌-◌, ◌^◌, true, Option, Some, None, Result, MatchResult, Ok, Err}
+use Rattle.std.specs.Prelude.{ℕ, ◌≡◌, ◌≢◌, ◌<◌, ◌+◌, ◌-◌, ◌^◌, true, length, Option, Some, None, Result, MatchResult, Ok, Err}
 use Rattle.std.specs.Option.{option_or, option_map}
 use Rattle.chip_trait.specs.Story.{Contents}
 use Rattle.chip_trait.specs.Told.{History, Told, Rose}
@@ -10,15 +10,16 @@ use Rattle.ipl_base.specs.declared.fault.OpenFault.{OpenFault}
 use Rattle.ipl_base.specs.declared.fault.OpenFault.TheVariants as opening
 use Rattle.ipl_rules.specs.State.{Map, at_rest}
 use Rattle.ipl_meaning.specs.Chart.{chart_of}
-use Rattle.ipl_meaning.specs.Layout.{Laid}
 use Rattle.ipl_meaning.specs.Stands.{Stands}
 use Rattle.ipl_meaning.specs.Rests.{now, StoryRests}
-use Rattle.ipl_meaning.specs.Tables.{Places}
+use Rattle.ipl_meaning.specs.Tables.{Places, Tables}
+use Rattle.ipl_meaning.specs.Mirrors.{Mirrors}
 use Rattle.opening_rules.specs.Faults.{first_fault, greatest_found}
 use Rattle.opening_rules.specs.LaidOut.{layout_in}
-use Rattle.restart.specs.Opened.{IsOpened}
+use Rattle.opened_tables.specs.Opened.{IsOpened}
 use Rattle.memory_store.specs.declared.store.MemoryStore.{MemoryStore}
 use Rattle.memory_store.specs.Fits.{Fits}
+use Rattle.unit_store.specs.declared.opening.OpeningTables.{OpeningTables}
 use Rattle.unit_store.specs.declared.store.UnitStore.{UnitStore}
 use Rattle.unit_store.specs.Bare.{HasNoLog}
 use Rattle.unit_store.specs.Keeps.{KeepsUnit, limits_of}
@@ -55,10 +56,18 @@ abbrev pub OpenCause : OpenFault → Told → Told → Type 0
 OpenCause (opening.Image e) old new = ImageCause e old new
 OpenCause opening.OutOfMemory old new = new ≡ old
 
--- all that an opening finds out of what the chip holds
+-- what only an opening needs is made for so many places
+pub record AreForPlaces (places : ℕ) (it : OpeningTables) : Type 0 where
+  pub scratch_is : it.scratch ≡ places
+  pub units_are : length it.overflow.spots + 4 ≡ places
+
+-- all that an opening finds out of what the chip holds: tables with this directory and this counter mirror it
 pub record IsFoundOut (places : ℕ) (x : Contents) (directory : Places) (counter : ℕ) (memory : MemoryStore) : Type 0 where
   pub opened : IsOpened places (chart_of x) directory counter
-  pub laid : Laid places (chart_of x) (layout_in (chart_of x) places)
+  pub tables : Tables
+  pub directory_is : tables.places ≡ directory
+  pub counter_is : tables.next ≡ counter
+  pub mirrors : Mirrors places (chart_of x) (layout_in (chart_of x) places) tables
   pub shows : ShowsPages (chart_of x) ((layout_in (chart_of x) places).units 0) memory.records.items
 
 -- where the contents stand for a map and have no log, the memory stands for that map, with no open session

@@ -101,13 +101,13 @@ impl UnitStore {
             return Err(OpenFault::Image(ImageFault::Geometry));
         };
         // Memory is taken before the first read.
-        let Ok((mut scratch, mut directory, mut memory)) = tables(alloc, geometry) else {
+        let Ok((mut opening, mut directory, mut memory)) = tables(alloc, geometry) else {
             return Err(OpenFault::OutOfMemory);
         };
         let mut counter = Counter::at(0);
         find_out(
             chip,
-            &mut scratch,
+            &mut opening,
             &mut directory,
             &mut counter,
             &mut memory,

@@ -4,8 +4,8 @@ use Rattle.ipl_meaning.specs.Chart.{chart_of}
 use Rattle.ipl_base.specs.First.{first_below}
 use Rattle.opening_rules.specs.First.{at}
 use Rattle.opening_rules.specs.Faults.{log_fault}
+use Rattle.restart.specs.Notes.{AreSized}
 use Rattle.restart.proofs.LookLemmas.{reads_then, looks_then}
-use Rattle.restart.proofs.NoteLemmas.{sizes_then}
 use Rattle.restart.proofs.LogLemmas.{respelled}
 use Rattle.restart.proofs.logs.scan.Goals as goal
 
@@ -18,7 +18,7 @@ loop-place-preserved g c =
       reads = reads_then same c.scan_place.ensures.looks.reads;
       scanned = λ x told. c.in_ok-greatest.ensures.scanned x (same.contents ∙ told) c.args.least (c.loop-place.invariant.scanned x told);
       roomy = c.in_ok-greatest.ensures.roomy;
-      sized = sizes_then c.loop-place.invariant.sized c.scan_place.ensures.sized;
+      sized = subst (λ (n : ℕ). AreSized (length c.args.current.now) n c.scan_place.new.noted c.scan_place.new.overflow) c.requires.heads c.scan_place.ensures.sized;
     }
 
 pub returns-in_err-greatest-clause-fault : goal.returns-in_err-greatest-clause-fault

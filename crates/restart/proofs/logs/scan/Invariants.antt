@@ -1,8 +1,8 @@
-use Rattle.std.proofs.Common.{◌≡◌, ◌*◌}
+use Rattle.std.proofs.Common.{◌*◌, length}
 use Rattle.unit_io.specs.Reads.{OfContents}
 use Rattle.opening_rules.specs.First.{at}
 use Rattle.restart.specs.Looks.{OnlyReads}
-use Rattle.restart.specs.Notes.{SameSize, IsRoomy}
+use Rattle.restart.specs.Notes.{AreSized, IsRoomy}
 use Rattle.restart.specs.Scanned.{IsScanned}
 use Rattle.restart.proofs.logs.scan.Given as goal
 
@@ -10,7 +10,7 @@ abbrev pub invariant-loop-place : goal.invariant-loop-place
 invariant-loop-place g l =
     let told = g.C.Chip.told in record {
       reads : OnlyReads (told l.fn.chip) (told l.chip);
-      scanned : OfContents (told l.fn.chip) (λ x. IsScanned x (at l.heads) (at l.current) l.least (l.place * 256) l.noted l.greatest);
-      roomy : IsRoomy (at l.current) (l.place * 256) l.noted;
-      sized : SameSize l.fn.noted l.noted;
+      scanned : OfContents (told l.fn.chip) (λ x. IsScanned x (at l.heads) (at l.current) l.least (l.place * 256) l.noted l.overflow l.greatest);
+      roomy : IsRoomy (at l.current) (l.place * 256) l.noted l.overflow;
+      sized : AreSized (length l.current) l.fn.geometry l.noted l.overflow;
     }

@@ -2,7 +2,6 @@ use Rattle.std.proofs.Common.{◌≡◌, ◌∙◌, ◌+◌, ◌*◌, ℕ, subst
 use Rattle.opening_rules.specs.First.{at}
 use Rattle.restart.specs.Notes.{IsRoomy}
 use Rattle.restart.proofs.LookLemmas.{reads_then, looks_then}
-use Rattle.restart.proofs.NoteLemmas.{sizes_then}
 use Rattle.restart.proofs.LogLemmas.{respelled}
 use Rattle.restart.proofs.logs.scan_place.Goals as goal
 
@@ -15,6 +14,6 @@ loop-sector-preserved g c =
       reads = reads_then same c.scan_sector.ensures.looks.reads;
       scanned = λ x told base start. respelled (c.in_ok-greatest.ensures.scanned x (same.contents ∙ told) base (c.loop-sector.invariant.scanned x told base start)) (omega arith);
       roomy = let one : c.args.place * 256 + c.loop-sector.sector + 1 ≡ c.args.place * 256 + (c.loop-sector.sector + 1) = omega arith in
-          subst (λ (k : ℕ). IsRoomy (at c.args.current.now) k c.scan_sector.new.noted) one c.in_ok-greatest.ensures.roomy;
-      sized = sizes_then c.loop-sector.invariant.sized c.scan_sector.ensures.sized;
+          subst (λ (k : ℕ). IsRoomy (at c.args.current.now) k c.scan_sector.new.noted c.scan_sector.new.overflow) one c.in_ok-greatest.ensures.roomy;
+      sized = c.scan_sector.ensures.sized;
     }

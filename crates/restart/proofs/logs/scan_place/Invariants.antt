@@ -1,8 +1,8 @@
-use Rattle.std.proofs.Common.{◌≡◌, ◌+◌, ◌*◌, ℕ}
+use Rattle.std.proofs.Common.{◌+◌, ◌*◌, ℕ, length}
 use Rattle.unit_io.specs.Reads.{OfContents}
 use Rattle.opening_rules.specs.First.{at}
 use Rattle.restart.specs.Looks.{OnlyReads}
-use Rattle.restart.specs.Notes.{SameSize, IsRoomy}
+use Rattle.restart.specs.Notes.{AreSized, IsRoomy}
 use Rattle.restart.specs.Scanned.{IsScanned}
 use Rattle.restart.proofs.logs.scan_place.Given as goal
 
@@ -10,8 +10,8 @@ abbrev pub invariant-loop-sector : goal.invariant-loop-sector
 invariant-loop-sector g l =
     let told = g.C.Chip.told in record {
       reads : OnlyReads (told l.fn.chip) (told l.chip);
-      scanned : OfContents (told l.fn.chip) (λ x. (base : ℕ) → IsScanned x (at l.heads) (at l.current) base (l.place * 256) l.fn.noted l.least
-          → IsScanned x (at l.heads) (at l.current) base (l.place * 256 + l.sector) l.noted l.greatest);
-      roomy : IsRoomy (at l.current) (l.place * 256 + l.sector) l.noted;
-      sized : SameSize l.fn.noted l.noted;
+      scanned : OfContents (told l.fn.chip) (λ x. (base : ℕ) → IsScanned x (at l.heads) (at l.current) base (l.place * 256) l.fn.noted l.fn.overflow l.least
+          → IsScanned x (at l.heads) (at l.current) base (l.place * 256 + l.sector) l.noted l.overflow l.greatest);
+      roomy : IsRoomy (at l.current) (l.place * 256 + l.sector) l.noted l.overflow;
+      sized : AreSized (length l.current) (length l.heads) l.noted l.overflow;
     }

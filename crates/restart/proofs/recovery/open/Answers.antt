@@ -1,10 +1,14 @@
-use Rattle.std.proofs.Common.{◌∙◌, ◌+◌, arith, Ok, length}
+use Rattle.std.proofs.Common.{◌∙◌, ◌+◌, refl, ap, arith, Ok, length}
 use Rattle.ipl_meaning.specs.Chart.{chart_of}
 use Rattle.opening_rules.specs.First.{count_below}
 use Rattle.opening_rules.proofs.TellsLemmas.{tells_again}
+use Rattle.opened_tables.proofs.OpenedLemmas.{opened_tables_mirror}
 use Rattle.restart.specs.Shown.{is_held}
 use Rattle.restart.proofs.LookLemmas.{reads_then, looks_done, looks_then}
+use Rattle.restart.proofs.CommitLemmas.{opened_status}
 use Rattle.restart.proofs.OpenLemmas.{all_tells, used_of, opened, has_free, laid}
+use Rattle.restart.proofs.OverflowLemmas.{opened_overflow}
+use Rattle.restart.proofs.KnownLemmas.{knows_places}
 use Rattle.restart.proofs.recovery.open.Goals as goal
 
 pub returns-in_err-greatest-clause-looks : goal.returns-in_err-greatest-clause-looks
@@ -15,35 +19,59 @@ returns-in_err-greatest-clause-looks g c =
 pub returns-in_err-greatest-clause-fault : goal.returns-in_err-greatest-clause-fault
 returns-in_err-greatest-clause-fault g c = λ x told.
     tells_again c.from_residual-in_err-greatest.result c.read_rest.result _ _ c.in_err-greatest.was c.from_residual-in_err-greatest.ensures.1
-    (all_tells (chart_of x) c.args.geometry c.read_headers.new.heads c.read_headers.new.current c.in_ok-status.status (c.in_ok-status.ensures.shown x told) c.read_rest.result
-    (omega arith) (omega arith) (c.in_ok-status.ensures.fault x told) (c.read_rest.ensures.fault x (c.read_headers.ensures.looks.reads.contents ∙ told)))
+    (all_tells (chart_of x) c.args.geometry c.read_headers.new.heads c.read_headers.new.current c.in_ok-winner.winner (c.in_ok-winner.ensures.shown x told) c.read_rest.result
+    (omega arith) (omega arith) (c.in_ok-winner.ensures.fault x told) (c.read_rest.ensures.fault x (c.read_headers.ensures.looks.reads.contents ∙ told)))
 
 pub returns-clause-looks : goal.returns-clause-looks
 returns-clause-looks g c = looks_done _ (reads_then c.read_headers.ensures.looks.reads c.read_rest.ensures.looks.reads)
 
 pub returns-clause-fault : goal.returns-clause-fault
 returns-clause-fault g c = λ x told.
-    all_tells (chart_of x) c.args.geometry c.read_headers.new.heads c.read_headers.new.current c.in_ok-status.status (c.in_ok-status.ensures.shown x told) (Ok (tt {0}))
-    (omega arith) (omega arith) (c.in_ok-status.ensures.fault x told) (c.in_ok-greatest.ensures.fault x (c.read_headers.ensures.looks.reads.contents ∙ told))
+    all_tells (chart_of x) c.args.geometry c.read_headers.new.heads c.read_headers.new.current c.in_ok-winner.winner (c.in_ok-winner.ensures.shown x told) (Ok (tt {0}))
+    (omega arith) (omega arith) (c.in_ok-winner.ensures.fault x told) (c.in_ok-greatest.ensures.fault x (c.read_headers.ensures.looks.reads.contents ∙ told))
 
-pub returns-clause-opened : goal.returns-clause-opened
-returns-clause-opened g c = λ x told.
+laid_out : goal.returns-clause-laid
+laid_out g c = λ x told.
     let told_then = c.read_headers.ensures.looks.reads.contents ∙ told in
-    opened (chart_of x) c.args.geometry c.read_headers.new.heads c.read_headers.new.current c.in_ok-status.status (c.in_ok-status.ensures.shown x told) c.read_rest.new.noted
-    (c.in_ok-greatest.ensures.noted x told_then) c.fill.new.directory (length c.read_headers.new.current)
-    (length c.read_headers.new.current + 1 + count_below (is_held c.read_headers.new.heads c.read_rest.new.noted) (length c.read_headers.new.heads)) c.at.result c.in_ok-greatest.greatest (omega arith)
-    (used_of (omega arith) c.fill.ensures.used) c.fill.ensures.adopted (c.in_ok-greatest.ensures.number x told_then) c.at.ensures
+    laid x c.args.geometry c.read_headers.new.heads c.read_headers.new.current c.in_ok-winner.winner (c.in_ok-winner.ensures.shown x told) (c.in_ok-winner.ensures.whole x told)
+    (λ p s low some within where_it_is. c.in_ok-greatest.ensures.whole x told_then p s low some within where_it_is)
+    (all_tells (chart_of x) c.args.geometry c.read_headers.new.heads c.read_headers.new.current c.in_ok-winner.winner (c.in_ok-winner.ensures.shown x told) (Ok (tt {0}))
+    (omega arith) (omega arith) (c.in_ok-winner.ensures.fault x told) (c.in_ok-greatest.ensures.fault x told_then))
 
 pub returns-clause-laid : goal.returns-clause-laid
-returns-clause-laid g c = λ x told.
+returns-clause-laid g c = laid_out g c
+
+all_opened : goal.returns-clause-opened
+all_opened g c = λ x told.
     let told_then = c.read_headers.ensures.looks.reads.contents ∙ told in
-    laid x c.args.geometry c.read_headers.new.heads c.read_headers.new.current c.in_ok-status.status (c.in_ok-status.ensures.shown x told) (c.in_ok-status.ensures.whole x told)
-    (λ p s low some within where_it_is. c.in_ok-greatest.ensures.whole x told_then p s low some within where_it_is)
-    (all_tells (chart_of x) c.args.geometry c.read_headers.new.heads c.read_headers.new.current c.in_ok-status.status (c.in_ok-status.ensures.shown x told) (Ok (tt {0}))
-    (omega arith) (omega arith) (c.in_ok-status.ensures.fault x told) (c.in_ok-greatest.ensures.fault x told_then))
+    let shows = c.in_ok-winner.ensures.shown x told in
+    let heads = c.read_headers.new.heads in
+    let current = c.read_headers.new.current in
+    let winner = c.in_ok-winner.winner in
+    let noted = c.in_ok-greatest.ensures.noted x told_then in record {
+      directory = opened (chart_of x) c.args.geometry heads current winner shows c.read_rest.new.noted c.read_rest.new.overflow noted c.fill.new.directory (length current)
+          (length current + 1 + count_below (is_held heads c.read_rest.new.noted) (length heads)) c.at.result c.in_ok-greatest.greatest (omega arith)
+          (used_of (omega arith) c.fill.ensures.used) c.fill.ensures.adopted (c.in_ok-greatest.ensures.number x told_then) c.at.ensures;
+      overflow = opened_overflow (chart_of x) c.args.geometry heads current winner shows c.read_rest.new.noted c.read_rest.new.overflow noted c.list_places.new.overflow (length current)
+          (omega arith) c.read_rest.ensures.sized.listed_units (omega arith) c.list_places.ensures.spots c.list_places.ensures.in_use;
+      status = opened_status (chart_of x) c.args.geometry winner c.read_rest.new.status shows.status_is (laid_out g c x told) (c.in_ok-greatest.ensures.status x told_then);
+      active = refl;
+    }
+
+pub returns-clause-opened : goal.returns-clause-opened
+returns-clause-opened g c = all_opened g c
+
+pub returns-clause-mirrors : goal.returns-clause-mirrors
+returns-clause-mirrors g c = λ x told. opened_tables_mirror c.args.geometry (chart_of x) _ (all_opened g c x told) (laid_out g c x told)
+
+pub returns-clause-known : goal.returns-clause-known
+returns-clause-known g c =
+    knows_places c.read_headers.new.heads c.read_headers.new.current c.in_ok-winner.winner c.in_ok-winner.ensures.chosen c.in_ok-winner.ensures.there c.args.geometry (omega arith)
+    c.read_rest.new.noted c.fill.new.directory c.list_places.new.overflow c.read_rest.new.status _ _ (omega arith) (used_of (omega arith) c.fill.ensures.used) c.fill.ensures.adopted
+    (ap length c.list_places.ensures.spots ∙ c.read_rest.ensures.sized.listed_units) c.list_places.ensures.in_use c.in_ok-greatest.ensures.two c.in_ok-greatest.ensures.placed
 
 pub returns-clause-free : goal.returns-clause-free
 returns-clause-free g c =
-    has_free c.read_headers.new.heads c.read_headers.new.current c.in_ok-status.status c.read_rest.new.noted c.fill.new.directory (length c.read_headers.new.current) c.args.geometry
-    (count_below (is_held c.read_headers.new.heads c.read_rest.new.noted) (length c.read_headers.new.heads)) (omega arith) (omega arith) c.in_ok-greatest.ensures.two c.in_ok-status.ensures.within
-    (c.in_ok-status.ensures.there 0 (omega arith)) (used_of (omega arith) c.fill.ensures.used) c.fill.ensures.adopted
+    has_free c.read_headers.new.heads c.read_headers.new.current c.in_ok-winner.winner c.read_rest.new.noted c.fill.new.directory (length c.read_headers.new.current) c.args.geometry
+    (count_below (is_held c.read_headers.new.heads c.read_rest.new.noted) (length c.read_headers.new.heads)) (omega arith) (omega arith) c.in_ok-greatest.ensures.two c.in_ok-winner.ensures.within
+    (c.in_ok-winner.ensures.there 0 (omega arith)) (used_of (omega arith) c.fill.ensures.used) c.fill.ensures.adopted

@@ -1,16 +1,30 @@
-use Rattle.std.proofs.Common.{◌≡◌, ◌∙◌, ℕ, None, subst}
+use Rattle.std.proofs.Common.{◌∙◌, ℕ, OnOk, subst}
 use Rattle.ipl_meaning.specs.Chart.{chart_of}
+use Rattle.ipl_meaning.specs.Mirrors.{Mirrors}
+use Rattle.unit_io.specs.Reads.{OfContents}
 use Rattle.opening_rules.specs.Faults.{TellsImageFault, first_fault}
-use Rattle.opening_rules.proofs.TellsLemmas.{tells_again}
+use Rattle.opening_rules.specs.LaidOut.{layout_in}
+use Rattle.opened_tables.specs.Known.{KnowsPlaces}
+use Rattle.opened_tables.specs.Opened.{AreOpened, tables_of}
 use Rattle.restart.proofs.recovery.recover.Goals as goal
-
-pub returns-in_err-open-clause-fault : goal.returns-in_err-open-clause-fault
-returns-in_err-open-clause-fault g c = λ x told.
-    let size = c.scratch.view_is ∙ c.requires.scratch in
-    tells_again c.from_residual.result c.open.result _ _ c.in_err-open.was c.from_residual.ensures.1
-    (subst (λ (n : ℕ). TellsImageFault (first_fault (chart_of x) n) c.open.result) size (c.open.ensures.fault x told))
 
 pub returns-clause-fault : goal.returns-clause-fault
 returns-clause-fault g c = λ x told.
-    let size = c.scratch.view_is ∙ c.requires.scratch in
-    subst (λ (n : ℕ). first_fault (chart_of x) n ≡ None) size (c.in_ok-open.ensures.fault x told)
+    subst (λ (n : ℕ). TellsImageFault (first_fault (chart_of x) n) c.open.result) (c.scratch.view_is ∙ c.requires.scratch) (c.open.ensures.fault x told)
+
+pub returns-clause-opened : goal.returns-clause-opened
+returns-clause-opened g c =
+    let made = tables_of c.open.new.directory c.open.new.overflow c.open.new.status c.open.new.counter in
+    subst (λ (n : ℕ). OnOk c.open.result (OfContents (g.C.Chip.told c.args.chip.now) (λ x. AreOpened n (chart_of x) made)))
+    (c.scratch.view_is ∙ c.requires.scratch) c.open.ensures.opened
+
+pub returns-clause-known : goal.returns-clause-known
+returns-clause-known g c =
+    let made = tables_of c.open.new.directory c.open.new.overflow c.open.new.status c.open.new.counter in
+    subst (λ (n : ℕ). OnOk c.open.result (KnowsPlaces n made)) (c.scratch.view_is ∙ c.requires.scratch) c.open.ensures.known
+
+pub returns-clause-mirrors : goal.returns-clause-mirrors
+returns-clause-mirrors g c =
+    let made = tables_of c.open.new.directory c.open.new.overflow c.open.new.status c.open.new.counter in
+    subst (λ (n : ℕ). OnOk c.open.result (OfContents (g.C.Chip.told c.args.chip.now) (λ x. Mirrors n (chart_of x) (layout_in (chart_of x) n) made)))
+    (c.scratch.view_is ∙ c.requires.scratch) c.open.ensures.mirrors

@@ -1,0 +1,62 @@
+-- What an opening makes of the tables.
+use Rattle.std.specs.Prelude.{ℕ, ◌≡◌, ◌≢◌, ◌↔◌, ◌<◌, ◌+◌, ◌-◌, ◌*◌, false, [], length, slice_index, slice_index_or, Some, Contains}
+use Rattle.ipl_meaning.specs.Chart.{Chart}
+use Rattle.ipl_meaning.specs.Layout.{Laid}
+use Rattle.ipl_meaning.specs.Tables.{Places, IsFree, OverflowLists, Status, Tables}
+use Rattle.ipl_meaning.specs.Mirrors.{Mirrors}
+use Rattle.opening_rules.specs.Chosen.{Winner, header_at, current_at, status_at}
+use Rattle.opening_rules.specs.Live.{marks_in}
+use Rattle.opening_rules.specs.Faults.{holds_live, greatest_found}
+use Rattle.opening_rules.specs.LaidOut.{place_of, committed_numbers, layout_in}
+use Rattle.opened_tables.specs.Found.{spots_in, overflows_in}
+
+-- the place is neither that of a unit, nor the status place, nor an overflow place that holds live log sectors
+pub record IsUnused (places : ℕ) (c : Chart) (p : ℕ) : Type 0 where
+  pub not_home : (u : ℕ) (winner : Winner) → u < places - 4 → current_at c places u ≡ Some winner
+      → winner.place ≢ p
+  pub not_status : (winner : Winner) → status_at c places ≡ Some winner → winner.place ≢ p
+  pub not_held : holds_live (header_at c places) (marks_in c places (places * 256)) p ≡ false
+
+-- the directory has each unit's place, no log sector counts as clean, exactly the unused places are free, and the
+-- counter is the number after the greatest found
+pub record IsOpened (places : ℕ) (c : Chart) (directory : Places) (counter : ℕ) : Type 0 where
+  pub units : length directory.current ≡ places - 4
+  pub logs : length directory.written ≡ places - 4
+  pub all : length directory.in_use ≡ places
+  pub current : (u : ℕ) → u < places - 4
+      → slice_index directory.current u ≡ place_of (current_at c places u)
+  pub written : (u : ℕ) → u < places - 4 → slice_index directory.written u ≡ 15
+  pub free : (p : ℕ) → p < places → IsFree directory p ↔ IsUnused places c p
+  pub number : counter ≡ greatest_found c places + 1
+
+-- the overflow lists have each unit's live log sectors in overflow places, and the places that hold them
+pub record IsOpenedOverflow (places : ℕ) (c : Chart) (overflow : OverflowLists) : Type 0 where
+  pub units : length overflow.spots ≡ places - 4
+  pub spots_are : (u : ℕ) → u < places - 4 → slice_index_or overflow.spots u [] ≡ spots_in c places u
+  pub in_use_are : overflow.in_use ≡ overflows_in c places
+
+-- the status has the status place, its generation and its numbers, and no sector of it counts as clean
+pub record IsOpenedStatus (places : ℕ) (c : Chart) (status : Status) : Type 0 where
+  pub place_is : status.place ≡ (layout_in c places).status
+  pub generation_is : status.generation ≡ (layout_in c places).head.generation
+  pub numbers_are : (tid : ℕ)
+      → Contains status.numbers tid ↔ Contains (committed_numbers c (status_at c places)) tid
+  pub first_is : status.first ≡ 256
+
+-- the tables with these parts, while no session is open
+abbrev pub tables_of : Places → OverflowLists → Status → ℕ → Tables
+tables_of directory overflow status counter =
+    record { places = directory; overflow = overflow; status = status; next = counter; active = [] }
+
+-- all tables say what an opening found, and no session is open
+pub record AreOpened (places : ℕ) (c : Chart) (t : Tables) : Type 0 where
+  pub directory : IsOpened places c t.places t.next
+  pub overflow : IsOpenedOverflow places c t.overflow
+  pub status : IsOpenedStatus places c t.status
+  pub active : t.active ≡ []
+
+-- they mirror each chart that is laid out as the opening finds it
+abbrev pub OpenedTablesMirror : Type 0
+OpenedTablesMirror =
+    (places : ℕ) (c : Chart) (t : Tables) → AreOpened places c t → Laid places c (layout_in c places)
+    → Mirrors places c (layout_in c places) t

@@ -1,0 +1,68 @@
+-- The overflow lists, filled place by place.
+use Rattle.std.proofs.Common.{◌≡◌, inl, inr, ◌≤◌, ◌<◌, ◌+◌, ◌*◌, ℕ, zero, suc, Bool, true, cond, List, [], length, get_or, Option, Some, None, refl, sym, ◌∙◌, ap, arith}
+use Rattle.std.proofs.lemmas.Bool.{cases_eq}
+use Rattle.ipl_meaning.specs.Chart.{Chart}
+use Rattle.ipl_meaning.specs.Tables.{OverflowLists}
+use Rattle.overflow.specs.Lists.{spots_in}
+use Rattle.opening_rules.specs.First.{at, all_below, count_below}
+use Rattle.opening_rules.specs.Chosen.{KeptHeader, Winner, header_at, current_at}
+use Rattle.opening_rules.specs.Live.{mark_at, marks, marks_in}
+use Rattle.opening_rules.specs.Faults.{holds_live}
+use Rattle.opening_rules.proofs.FirstLemmas.{count_step}
+use Rattle.opened_tables.specs.Found.{spots_below, overflow_at}
+use Rattle.opened_tables.specs.Opened.{IsOpenedOverflow}
+use Rattle.opened_tables.proofs.SpotLemmas.{as_many}
+use Rattle.restart.specs.Notes.{Notes, IsNoted}
+use Rattle.restart.specs.Shown.{ShowsHeaders, is_held}
+use Rattle.restart.proofs.ListedLemmas.{spots_all}
+use Rattle.restart.proofs.OpenLemmas.{held_is, to_chart}
+
+count_up : (f : ℕ → Bool) (k n : ℕ) → k ≤ n → count_below f k ≤ count_below f n
+count_up f k zero low = let same : k ≡ 0 = omega arith in rw same (omega arith)
+count_up f k (suc n) low = elim (cases_eq k (suc n)) [
+  | inl same ↦ rw same (omega arith)
+  | inr other ↦ let before = count_up f k n (omega arith) in omega (arith, before, count_step f n)
+]
+
+-- a place that is held has room
+pub room_for : (held : ℕ → Bool) (k n : ℕ) (in_use : List (ℕ × ℕ)) → in_use ≡ all_below (overflow_at held) k → k < n
+    → count_below held n ≤ 2 → held k ≡ true → length in_use < 2
+room_for held k n in_use is low two here =
+    let size = as_many held k in_use is in
+    let one : count_below held (k + 1) ≡ count_below held k + 1 = rw here at (count_step held k) in
+    let most = count_up held (k + 1) n (omega arith) in
+    omega (arith, size, one, most)
+
+all_alike : {A : Type 0} (f g : ℕ → Option A) (n : ℕ) → ((k : ℕ) → k < n → f k ≡ g k) → all_below f n ≡ all_below g n
+all_alike f g zero same = refl
+all_alike f g (suc n) same = rw (all_alike f g n (λ k low. same k (omega arith)), same n (omega arith)) refl
+
+module _ (c : Chart) (places : ℕ) (heads : List (Option KeptHeader)) (current : List (Option Winner)) (status : Winner)
+    (shows : ShowsHeaders c places heads current status) (notes : Notes) (found : OverflowLists)
+    (noted : IsNoted notes found (marks (at heads) (at current) c (places * 256))) where
+  abbrev of_chart : ℕ → Bool
+  of_chart = holds_live (header_at c places) (marks_in c places (places * 256))
+
+  spots_found : (u : ℕ) → spots_in found u ≡ spots_below (header_at c places) (current_at c places) c u (places * 256)
+  spots_found u =
+      to_chart c places heads current status shows
+      (λ h cur st. spots_in found u ≡ spots_below h cur c u (places * 256))
+      (noted.spots u ∙ sym (spots_all u (mark_at (at heads) (at current) c) (places * 256)))
+
+  held_found : (p : ℕ) → is_held heads notes p ≡ of_chart p
+  held_found p =
+      to_chart c places heads current status shows
+      (λ h cur st. is_held heads notes p ≡ holds_live h (marks h cur c (places * 256)) p)
+      (held_is heads notes found (marks (at heads) (at current) c (places * 256)) noted p)
+
+  -- the lists, as an opening finds them
+  pub opened_overflow : (lists : OverflowLists) (units : ℕ) → units + 4 ≡ places → length found.spots ≡ units
+      → length heads ≡ places → lists.spots ≡ found.spots
+      → lists.in_use ≡ all_below (overflow_at (is_held heads notes)) (length heads) → IsOpenedOverflow places c lists
+  opened_overflow lists units four size all same in_use = record {
+    units = omega (arith, ap length same, size, four);
+    spots_are = λ u low. ap (λ (xs : List (List (ℕ × ℕ))). get_or xs u []) same ∙ spots_found u;
+    in_use_are = in_use ∙ ap (all_below (overflow_at (is_held heads notes))) all
+        ∙ all_alike (overflow_at (is_held heads notes)) (overflow_at of_chart) places
+        (λ p low. ap (λ (b : Bool). let o : Option (ℕ × ℕ) = cond b (Some (p, 256)) None in o) (held_found p));
+  }

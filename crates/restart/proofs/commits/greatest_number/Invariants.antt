@@ -1,7 +1,0 @@
-use Rattle.std.proofs.Common.{◌≡◌}
-use Rattle.opening_rules.specs.First.{greatest_of}
-use Rattle.opening_rules.specs.Payloads.{numbers_within}
-use Rattle.restart.proofs.commits.greatest_number.Given as goal
-
-abbrev pub invariant-loop-i : goal.invariant-loop-i
-invariant-loop-i l = l.greatest ≡ greatest_of l.least (numbers_within l.i l.payload)
