@@ -1,0 +1,51 @@
+-- The log sectors that a merge writes: what it carries, packed.
+use Rattle.std.specs.Prelude.{ℕ, ◌≡◌, ◌<◌, ◌≤◌, ◌+◌, ◌==◌, Bool, List, [], ◌∷◌, map, slice_index_or, Some}
+use Rattle.std.specs.List.{list_any}
+use Rattle.ipl_format.specs.Sector.{Sector}
+use Rattle.ipl_format.specs.Record.{Record, log_bytes}
+use Rattle.ipl_meaning.specs.Chart.{Chart}
+use Rattle.ipl_meaning.specs.Layout.{Entry}
+use Rattle.ipl_meaning.specs.Last.{pack, carried}
+use Rattle.ipl_meaning.specs.Steps.{entry_at}
+
+-- the number is one of these
+abbrev pub among : List ℕ → ℕ → Bool
+among numbers n = list_any (λ k. k == n) numbers
+
+-- what a merge carries of a log where these numbers are active, packed into sectors
+abbrev pub packs_of : List ℕ → List Record → List (List Record)
+packs_of active records = pack (carried (among active) records)
+
+-- their payloads
+abbrev pub payloads_of : List (List Record) → List (List ℕ)
+payloads_of packs = map log_bytes packs
+
+-- a log sector of a unit with this payload
+abbrev pub log_sector : ℕ → ℕ → ℕ → List ℕ → Sector
+log_sector u generation serial payload = record {
+  kind = 5;
+  version = 1;
+  unit = u;
+  generation = generation;
+  serial = serial;
+  payload = payload;
+}
+
+-- the log sectors of these packs, one after another from a sector and a serial on
+abbrev pub entries_from : ℕ → ℕ → ℕ → ℕ → ℕ → List (List Record) → List Entry
+entries_from p u generation s serial [] = []
+entries_from p u generation s serial (records ∷ packs) =
+    entry_at p s (log_sector u generation serial (log_bytes records)) records
+    ∷ entries_from p u generation (s + 1) (serial + 1) packs
+
+-- the spots of the first n log sectors
+abbrev pub IsLogSpotBelow : ℕ → ℕ → Type 0
+IsLogSpotBelow n s = (241 ≤ s) × (s < 241 + n)
+
+-- the first n of these payloads stand in the log sectors of the place, under serials from one on,
+-- and elsewhere the chart is as it was
+pub record HasLogs (p u generation serial : ℕ) (payloads : List (List ℕ)) (n : ℕ)
+    (c y : Chart) : Type 0 where
+  pub here : (i : ℕ) → i < n → y p (241 + i)
+      ≡ Some (log_sector u generation (serial + i) (slice_index_or payloads i []))
+  pub others : (q s : ℕ) → (q ≡ p → ¬ IsLogSpotBelow n s) → y q s ≡ c q s

@@ -1,0 +1,20 @@
+//! The laws of merges, proved: a body that does nothing, and a contract that is the law.
+ghost use Rattle.merge_rules.specs.Laws.{FilledPlacesAreReady, StandsAfterFilling, TablesFollowFilling, MergesKeepTheLast};
+ghost use Rattle.merge_rules.specs.KnownLaws.{KnownPlacesLeaveOne, KnownPlacesMove, KnownPlacesTakeOverflows};
+
+/// A place that was filled by a merge is ready for its header; with it the chip stands for the same
+/// map and the tables mirror it. Of each name the last record of an active number is in its log.
+pub fn merge_laws()
+    ensures ready { FilledPlacesAreReady }
+    ensures stands { StandsAfterFilling }
+    ensures tables { TablesFollowFilling }
+    ensures last { MergesKeepTheLast }
+{}
+
+/// Tables that know each place have a free one, and know each place once a unit has moved or there
+/// is a new overflow place.
+pub fn known_laws()
+    ensures free { KnownPlacesLeaveOne }
+    ensures moves { KnownPlacesMove }
+    ensures overflows { KnownPlacesTakeOverflows }
+{}

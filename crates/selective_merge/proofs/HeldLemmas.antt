@@ -1,0 +1,89 @@
+-- The tables go on knowing each place, once a unit was moved or a place given back.
+use Rattle.std.proofs.Common.{◌≡◌, ◌<◌, ◌≤◌, ◌+◌, ℕ, zero, suc, true, false, List, [], ◌∷◌, length, get_or, slice_index, slice_set, inl, sym, ◌∙◌, ap, subst, arith}
+use Rattle.std.proofs.lemmas.List.{get_or-set_other, set-set}
+use Rattle.std.proofs.lemmas.List.Elements.{Contains-get_or}
+use Rattle.ipl_meaning.specs.Mirrors.{NoneIsLost}
+use Rattle.ipl_meaning.specs.Tables.{Places, IsFree, with_use, Tables}
+use Rattle.ipl_meaning.specs.TableSteps.{IsMoved, taken, with_next}
+use Rattle.unit_directory.specs.Free.{free_count}
+use Rattle.unit_directory.specs.Laws.{UsesTake}
+use Rattle.merge_rules.specs.Known.{KnowsPlaces}
+use Rattle.merge_rules.specs.KnownLaws.{KnownPlacesMove}
+use Rattle.merge_rules.proofs.KnownLemmas.{free_before}
+use Rattle.selective_merge.specs.Moving.{Holds, NoneIsLostBut}
+
+-- ---- a place given back
+
+set_there : {X : Type 0} (l : List X) (p : ℕ) (b d : X) → p < length l → get_or l p d ≡ b
+    → slice_set l p b ≡ l
+set_there [] p b d low is = absurd (omega (arith, low))
+set_there (x ∷ l) zero b d low is = ap (λ y. y ∷ l) (sym is)
+set_there (x ∷ l) (suc p) b d low is = ap (λ k. x ∷ k) (set_there l p b d (omega (arith, low)) is)
+
+pub given_back : (it : Places) (p : ℕ) → p < length it.in_use → IsFree it p
+    → with_use (with_use it p true) p false ≡ it
+given_back it p low free =
+    ap (λ (l : List _). record it { in_use = l })
+    (set-set it.in_use p true false ∙ set_there it.in_use p false true low free)
+
+-- ---- the tables know each place still
+
+pub knows_next : (places : ℕ) (t : Tables) (next : ℕ) → KnowsPlaces places t
+    → KnowsPlaces places (with_next t next)
+knows_next places t next known = record {
+  suits = record {
+    all = known.suits.all;
+    units = known.suits.units;
+    overflow = known.suits.overflow;
+  };
+  none_lost = known.none_lost;
+  used = known.used;
+  homes_apart = known.homes_apart;
+  overflows_apart = known.overflows_apart;
+  no_home = known.no_home;
+  status_apart = known.status_apart;
+  two = known.two;
+}
+
+pub taken_but : (t : Tables) (p n places : ℕ) → KnowsPlaces places t
+    → NoneIsLostBut p places (with_next (taken t p) n)
+taken_but t p n places known q less other used =
+    known.none_lost q less
+    (λ free. used (get_or-set_other t.places.in_use p q true true other ∙ free))
+
+pub held_back : (places : ℕ) (t after : Tables) (n : ℕ) → after ≡ with_next t n
+    → KnowsPlaces places t → Holds places t after
+held_back places t after n is known = record {
+  active = ap (λ (x : Tables). x.active) is;
+  status = ap (λ (x : Tables). x.status) is;
+  known = subst (KnowsPlaces places) (sym is) (knows_next places t n known);
+}
+
+-- the place of a unit is in use
+pub home_used : (places : ℕ) (t : Tables) (u : ℕ) → KnowsPlaces places t → u + 4 < places
+    → ¬ IsFree t.places (slice_index t.places.current u)
+home_used places t u known low =
+    known.used (slice_index t.places.current u)
+    (inl (Contains-get_or t.places.current u 0 (omega (arith, low, known.suits.units))))
+
+pub held_moved : KnownPlacesMove → (places : ℕ) (t after : Tables) (u p used next : ℕ)
+    → KnowsPlaces places t → u + 4 < places → p < places → IsFree t.places p
+    → IsMoved (with_next (taken t p) next) after u p used → NoneIsLost places after
+    → Holds places t after
+held_moved moves places t after u p used next known low within free moved lost = record {
+  active = moved.active;
+  status = moved.status;
+  known = moves places t after u p used next known low within free moved lost;
+}
+
+-- as many places are free, at least
+pub more_free : (places : ℕ) (t : Tables) (after : Places) (u p : ℕ) → KnowsPlaces places t
+    → u + 4 < places → IsFree t.places p → UsesTake
+    → (¬ IsFree (with_use t.places p true) (slice_index t.places.current u)
+    → free_count (with_use t.places p true).in_use + 1 ≤ free_count after.in_use)
+    → free_count t.places.in_use ≤ free_count after.in_use
+more_free places t after u p known low free takes more =
+    let one = (takes t.places p).count free in
+    let rest = more (λ is. home_used places t u known low
+    (free_before t p (slice_index t.places.current u) is).1) in
+    omega (arith, one, rest)

@@ -1,0 +1,234 @@
+-- A merge, once the unit is written: what the chip stands for, and what the tables say.
+use Rattle.std.proofs.Common.{◌≡◌, ◌≢◌, ◌⊎◌, ◌<◌, ◌≤◌, ◌+◌, ◌-◌, ℕ, List, ◌++◌, length, slice_index, slice_set, Ok, Err, inl, inr, refl, sym, ◌∙◌, ap, ap₂, subst, arith}
+use Rattle.std.specs.List.{Contains}
+use Rattle.std.proofs.lemmas.Bool.{cases_eq}
+use Rattle.std.proofs.lemmas.List.{get_or-set_same, get_or-set_other, length-set, length-map}
+use Rattle.std.proofs.lemmas.List.Elements.{All-contains}
+use Rattle.chip_trait.specs.Lawful.{AreClean}
+use Rattle.chip_trait.specs.Story.{Story}
+use Rattle.chip_trait.specs.Told.{History, Told, adds_all}
+use Rattle.ipl_base.specs.declared.fault.ChipFault.{ChipFault}
+use Rattle.ipl_format.specs.Record.{Record, log_bytes}
+use Rattle.ipl_rules.specs.State.{Map}
+use Rattle.ipl_meaning.specs.Agrees.{IsTidy}
+use Rattle.ipl_meaning.specs.Chart.{Chart}
+use Rattle.ipl_meaning.specs.Layout.{Layout}
+use Rattle.ipl_meaning.specs.Mirrors.{Mirrors}
+use Rattle.ipl_meaning.specs.Rests.{now}
+use Rattle.ipl_meaning.specs.Steps.{IsIdle}
+use Rattle.ipl_meaning.specs.Tables.{IsFree, Status, Tables, overflow_places, IsCountedClean}
+use Rattle.ipl_meaning.specs.TableSteps.{IsMoved, taken, with_next}
+use Rattle.ipl_meaning.proofs.IdleFollowLemmas.{counted_apart, tables_follow_idle_places}
+use Rattle.ipl_meaning.proofs.MirrorLemmas.{free_places_are_idle}
+use Rattle.unit_io.specs.Spots.{Rewrites}
+use Rattle.merge_rules.specs.Merged.{source_of, packs_in, IsToMerge, IsWritten, IsMergedUnit}
+use Rattle.merge_rules.specs.Moved.{Source, IsUnsealed}
+use Rattle.merge_rules.specs.Packs.{packs_of, payloads_of}
+use Rattle.merge_rules.proofs.MergeLemmas.{tables_follow_filling}
+use Rattle.selective_merge.specs.Merging.{StepsMerging}
+use Rattle.selective_merge.specs.Throughout.{KeepsThroughout}
+
+-- ---- what is clean then
+
+module _ (t after : Tables) (u p used g : ℕ)
+    (moved : IsMoved (with_next (taken t p) g) after u p used)
+    (low : u < length t.places.current) (logs : u < length t.places.written) where
+  counted_after : (q n : ℕ) → IsCountedClean after q n
+      → IsCountedClean t q n ⊎ ((q ≡ p) × (241 + used ≤ n))
+  counted_after q n (small, inl (v, less, is, first)) = elim (cases_eq v u) [
+    | inl same ↦
+        let at : q ≡ p = is ∙ (ap (λ (l : List ℕ). slice_index l v) moved.current
+        ∙ (ap (λ (k : ℕ). slice_index (slice_set t.places.current u p) k) same
+        ∙ get_or-set_same t.places.current u p 0 low)) in
+        let count : slice_index after.places.written v ≡ used =
+        ap (λ (l : List ℕ). slice_index l v) moved.written
+        ∙ (ap (λ (k : ℕ). slice_index (slice_set t.places.written u used) k) same
+        ∙ get_or-set_same t.places.written u used 0 logs) in
+        inr (at, omega (arith, first, count))
+    | inr other ↦
+        let home : q ≡ slice_index t.places.current v =
+        is ∙ (ap (λ (l : List ℕ). slice_index l v) moved.current
+        ∙ get_or-set_other t.places.current u v p 0 other) in
+        let count : slice_index after.places.written v ≡ slice_index t.places.written v =
+        ap (λ (l : List ℕ). slice_index l v) moved.written
+        ∙ get_or-set_other t.places.written u v used 0 other in
+        inl (
+          small,
+          inl (
+            v,
+            omega (
+              arith,
+              less,
+              ap (λ (l : List ℕ). length l) moved.current,
+              length-set t.places.current u p,
+            ),
+            home,
+            omega (arith, first, count),
+          ),
+        )
+  ]
+  counted_after q n (small, inr (inl (first, is, above))) =
+      inl (
+        small,
+        inr (inl (
+          first,
+          All-contains (Contains t.overflow.in_use) after.overflow.in_use (q, first) moved.some is,
+          above,
+        )),
+      )
+  counted_after q n (small, inr (inr (is, above))) =
+      let same : after.status.first ≡ t.status.first = ap (λ (s : Status). s.first) moved.status in
+      inl (
+        small,
+        inr (inr (
+          is ∙ ap (λ (s : Status). s.place) moved.status,
+          omega (arith, above, same),
+        )),
+      )
+
+-- ---- the unit at its new place
+
+-- what the tables and the log that was read make of the unit
+pub to_merge : (places : ℕ) (c : Chart) (it : Layout) (t : Tables) (u p g serial : ℕ)
+    (from : Source) (payloads closed : List (List ℕ)) (active : List ℕ) (log : List Record)
+    → Mirrors places c it t → u + 4 < places → IsFree t.places p → p < places
+    → from ≡ source_of t (it.units u) u → t.next ≤ g → g < serial → payloads ≡ closed
+    → closed ≡ payloads_of (packs_of active log) → active ≡ t.active → log ≡ from.records
+    → length payloads ≤ 12 → IsToMerge places c it t u p g serial from payloads
+to_merge places c it t u p g serial from payloads closed active log mirrors low free within source
+    new later is packed same_active same_log few = record {
+      mirrors = mirrors;
+      low = omega (arith, low);
+      free = free;
+      within = within;
+      source = source;
+      new = new;
+      later = later;
+      carried = is ∙ (packed
+          ∙ ap₂ (λ (a : List ℕ) (l : List Record). payloads_of (packs_of a l)) same_active
+          (same_log ∙ ap (λ (s : Source). s.records) source));
+      twelve = few;
+    }
+
+pub many_packs : (places : ℕ) (c : Chart) (it : Layout) (t : Tables) (u p g serial : ℕ)
+    (from : Source) (payloads : List (List ℕ))
+    → IsToMerge places c it t u p g serial from payloads
+    → length payloads ≡ length (packs_in t (it.units u))
+many_packs places c it t u p g serial from payloads what =
+    ap length what.carried ∙ length-map (packs_in t (it.units u)) log_bytes
+
+-- once the tables have it there
+pub merged_there : (places : ℕ) (it : Layout) (t : Tables) (u p g serial n : ℕ) (after : Tables)
+    (c z : Chart) → n ≡ length (packs_in t (it.units u))
+    → IsMoved (with_next (taken t p) g) after u p n → serial + n ≤ after.next
+    → IsWritten places c z it t u p g serial → IsMergedUnit places c z it t u after
+merged_there places it t u p g serial n after c z used moved more is =
+    let follows = tables_follow_filling places c is.filled it t after u p is.head is.pieces serial
+    is.may
+    (subst (λ (k : ℕ). IsMoved (with_next (taken t p) k) after u p
+    (length (packs_in t (it.units u)))) (sym is.generation_is)
+    (subst (λ (k : ℕ). IsMoved (with_next (taken t p) g) after u p k) used moved))
+    (omega (arith, more, used)) in record {
+      place = p;
+      head = is.head;
+      pieces = is.pieces;
+      serial = serial;
+      free = is.may.free;
+      head_is = is.may.head_is;
+      new = is.may.new;
+      later = is.may.later;
+      mirrors = rw is.gains follows.0;
+      keeps = rw is.gains follows.1;
+    }
+
+-- ---- what is left
+
+module _ (places : ℕ) (m : Map) (it : Layout) (t : Tables) (u p g serial n : ℕ) (h : History)
+    (old new : Told) (mirrors : Mirrors places (now h) it t) (tidy : IsTidy h.story t)
+    (free : IsFree t.places p) where
+  idle : IsIdle places (now h) it p
+  idle = free_places_are_idle places (now h) it t p mirrors free
+
+  no_overflow : ¬ Contains (overflow_places t) p
+  no_overflow = mirrors.directory.not_overflow p free
+
+  apart : (q s : ℕ) → IsCountedClean t q s → q ≢ p
+  apart = counted_apart places (now h) it t p mirrors idle no_overflow
+
+  -- the merge was done
+  pub merged_steps : (after : Tables) → u < places - 4 → n ≡ length (packs_in t (it.units u))
+      → IsMoved (with_next (taken t p) g) after u p n → serial + n ≤ after.next
+      → KeepsThroughout {T = Unit {0}} {E = ChipFault} places m (Rewrites p (241 + n))
+      (λ done c y. IsWritten places c y it t u p g serial) (IsUnsealed p) h (Ok tt) old new
+      → StepsMerging {T = Unit {0}} places m it t u after h (Ok tt) old new
+  merged_steps after low used moved more did = record {
+    added = did.added;
+    history = did.history;
+    each_moment = did.each_moment;
+    does = record {
+      silent = did.does.silent;
+      lawful = record { lawful = λ base is clean. did.does.lawful base is };
+      clean = λ done. clean;
+    };
+    settled = did.settled;
+    ends = λ done. record {
+      rests = (did.ends tt).0;
+      unit = merged_there places it t u p g serial n after (now h) (now (adds_all did.added h))
+          used moved more (did.ends tt).1;
+      tidy = clean h.story tidy;
+    };
+  }
+    where
+      clean : (base : Story) → AreClean (IsCountedClean t) base
+          → AreClean (IsCountedClean after) (did.added ++ base)
+      clean base before q s counted =
+          elim (counted_after t after u p n g moved (omega (arith, low, mirrors.directory.units))
+          (omega (arith, low, mirrors.directory.logs)) q s counted) [
+            | inl was ↦ did.does.others base q s (apart q s was) (before q s was)
+            | inr (at, above) ↦ rw at (did.does.fresh refl base s above)
+          ]
+
+  -- it wasn't: the place was given back
+  pub merge_failed : (after : Tables) (next : ℕ) (e f : ChipFault) → after ≡ with_next t next
+      → t.next ≤ next
+      → KeepsThroughout {T = Unit {0}} places m (Rewrites p (241 + n))
+      (λ done c y. IsWritten places c y it t u p g serial) (IsUnsealed p) h (Err e) old new
+      → StepsMerging {T = Unit {0}} places m it t u after h (Err f) old new
+  merge_failed after next e f is more did = record {
+    added = did.added;
+    history = did.history;
+    each_moment = did.each_moment;
+    does = record {
+      silent = did.does.silent;
+      lawful = record { lawful = λ base is clean. did.does.lawful base is };
+      clean = λ unrisen. clean;
+    };
+    settled = did.settled;
+    ends = λ unrisen.
+        let ends = did.ends unrisen in record {
+          rests = ends.0;
+          agrees = record {
+            mirrors = rw is (tables_follow_idle_places places (now h) it t p
+                (now (adds_all did.added h)) next mirrors idle no_overflow ends.1.others
+                ends.1.bare more);
+            tidy = clean h.story tidy;
+          };
+        };
+  }
+    where
+      same : (q s : ℕ) → IsCountedClean after q s → IsCountedClean t q s
+      same q s counted = rw is at counted
+
+      clean : (base : Story) → AreClean (IsCountedClean t) base
+          → AreClean (IsCountedClean after) (did.added ++ base)
+      clean base before q s counted =
+          did.does.others base q s (apart q s (same q s counted)) (before q s (same q s counted))
+
+-- the tables mirror it, where the place was given back
+pub stays_mirrored : (places : ℕ) (c y : Chart) (it : Layout) (t after : Tables) (p next : ℕ)
+    → IsFree t.places p → after ≡ with_next t next → t.next ≤ next → IsUnsealed p c y
+    → Mirrors places c it t → Mirrors places y it after
+stays_mirrored places c y it t after p next free is more left mirrors =
+    rw is (tables_follow_idle_places places c it t p y next mirrors
+    (free_places_are_idle places c it t p mirrors free) (mirrors.directory.not_overflow p free)
+    left.others left.bare more)

@@ -1,0 +1,77 @@
+-- What the code's tests say of records and of payloads.
+use Rattle.std.proofs.Common.{◌≡◌, ◌<◌, ◌≤◌, ◌+◌, ◌-◌, ℕ, eqb, take, length-drop, Bool, true, false, IsTrue, List, [], ◌∷◌, ◌++◌, length, map, drop, refl, sym, ◌∙◌, ap, subst, arith, ◌≢◌, inl, inr}
+use Rattle.std.specs.Bool.{OnTrue, OnFalse}
+use Rattle.std.specs.List.{list_any}
+use Rattle.std.proofs.lemmas.Bool.{cases_Bool, cases_lt, eqb-true, eq-eqb}
+use Rattle.std.proofs.lemmas.List.{take_all}
+use Rattle.ipl_format.specs.Record.{Record as LogRecord, IsRecord, SpellsLog, record_bytes}
+use Rattle.ipl_format.proofs.RecordLemmas.{records_have_sizes}
+use Rattle.log_records.specs.declared.record.Record.{Record}
+use Rattle.log_records.specs.View.{record_of}
+use Rattle.selective_merge.specs.Packing.{is_kept, IsAdded}
+use Rattle.selective_merge.proofs.CarryLemmas.{begun}
+
+pub any_mapped : {X Y : Type 0} (p : Y → Bool) (f : X → Y) (xs : List X)
+    → list_any (λ x. p (f x)) xs ≡ list_any p (map f xs)
+any_mapped p f [] = refl
+any_mapped p f (x ∷ xs) = elim (cases_Bool (p (f x))) [
+  | inl is ↦ rw is refl
+  | inr not_so ↦ rw not_so (any_mapped p f xs)
+]
+
+pub over_from : (n : ℕ) → (n ≤ 480 → IsTrue false) → 480 < n
+over_from n never =
+    elim (cases_lt 480 n) [
+      | inl over ↦ over
+      | inr low ↦ absurd (let is : false ≡ true =
+          never (omega (arith, low)) in cc is)
+    ]
+
+pub on_true_by : (b : Bool) (P Q : Type 0) → (P → Q) → OnTrue b P → OnTrue b Q
+on_true_by true P Q f is = f is
+on_true_by false P Q f is = tt
+
+pub on_false_by : (b : Bool) (P Q : Type 0) → (P → Q) → OnFalse b P → OnFalse b Q
+on_false_by true P Q f is = tt
+on_false_by false P Q f is = f is
+
+pub never_false : (b : Bool) (P : Type 0) → IsTrue b → OnFalse b P
+never_false true P is = tt
+never_false false P is = absurd (cc is)
+
+-- a record fits into an empty payload
+pub fits_alone : (last : List ℕ) (r : LogRecord) → last ≡ [] → IsRecord r
+    → length last + length (record_bytes r) ≤ 480
+fits_alone last r none is = let short = is.value in
+    omega (arith, ap length none, records_have_sizes r, short)
+
+-- the next payload, behind one that was full
+pub begun_by : (closed after : List (List ℕ)) (full : List LogRecord) (r : LogRecord)
+    (last put_last empty then_last : List ℕ) → SpellsLog last full → IsRecord r
+    → 480 < length last + length (record_bytes r) → put_last ≡ last
+    → after ≡ closed ++ put_last ∷ [] → empty ≡ []
+    → then_last ≡ empty ++ record_bytes r → IsAdded closed full r after then_last
+begun_by closed after full r last put_last empty then_last spelled is over same moved none put =
+    subst (λ (l : List (List ℕ)). IsAdded closed full r l then_last)
+    (sym (moved ∙ ap (λ (b : List ℕ). closed ++ b ∷ []) same))
+    (begun closed full r last then_last spelled is over
+    (put ∙ ap (λ (l : List ℕ). l ++ record_bytes r) none))
+
+slice_rest : {X : Type 0} (xs : List X) (n : ℕ) → take (length xs - n) (drop n xs) ≡ drop n xs
+slice_rest xs n = take_all (length xs - n) (drop n xs) (omega (arith, length-drop n xs))
+
+-- the records behind one, as the code has them
+pub kept_there : (active : ℕ → Bool) (r : LogRecord) (records : List Record) (n : ℕ) (b : Bool)
+    → is_kept active r (map record_of (take (length records - n) (drop n records))) ≡ b
+    → is_kept active r (map record_of (drop n records)) ≡ b
+kept_there active r records n b is = ap (λ (l : List Record). is_kept active r (map record_of l))
+    (sym (slice_rest records n)) ∙ is
+
+pub empty_is : (xs last : List ℕ) (b : Bool) → b ≡ eqb (length xs) 0 → b ≡ true → xs ≡ last
+    → length last ≡ 0
+empty_is xs last b is true_is same = ap length (sym same) ∙ eqb-true _ _ (sym is ∙ true_is)
+
+pub some_is : (xs last : List ℕ) (b : Bool) → b ≡ eqb (length xs) 0 → b ≡ false → xs ≡ last
+    → length last ≢ 0
+some_is xs last b is false_is same none = let e : true ≡ false =
+    sym (eq-eqb (length xs) 0 (ap length same ∙ none)) ∙ (sym is ∙ false_is) in absurd (cc e)

@@ -1,0 +1,220 @@
+-- A place sealed.
+use Rattle.std.proofs.Common.{◌≡◌, ◌+◌, ◌-◌, ℕ, List, length, true, Result, Ok, Err, IfErr, IfOk, OnOk, is_ok, inl, refl, sym, ◌∙◌, ap, subst, arith}
+use Rattle.std.proofs.lemmas.List.{length-map}
+use Rattle.chip_trait.specs.Chart.{with_sector}
+use Rattle.chip_trait.specs.Lawful.{Clean, age}
+use Rattle.chip_trait.specs.Told.{History, Told, Counts, adds_all}
+use Rattle.ipl_base.specs.declared.fault.ChipFault.{ChipFault}
+use Rattle.ipl_rules.specs.State.{Map}
+use Rattle.ipl_format.specs.Header.{SpellsDataHeader, data_header_bytes}
+use Rattle.ipl_format.specs.Record.{log_bytes}
+use Rattle.ipl_format.specs.Sector.{Sector}
+use Rattle.ipl_meaning.specs.Chart.{Chart}
+use Rattle.ipl_meaning.specs.Layout.{Layout, Laid, Shape, records_of}
+use Rattle.ipl_meaning.specs.Rests.{now, EachStands, EachStandsEither, StoryRests}
+use Rattle.ipl_meaning.specs.Stands.{Shows, Says, Stands, page_in}
+use Rattle.ipl_meaning.specs.Tables.{Tables}
+use Rattle.ipl_meaning.proofs.OnceLemmas.{laid_once}
+use Rattle.ipl_meaning.proofs.StoryLemmas.{held_stands, either_is_kept}
+use Rattle.ipl_meaning.proofs.SwitchLemmas.{same_applied}
+use Rattle.unit_io.specs.Charts.{Charts, Gains}
+use Rattle.unit_io.specs.Leads.{IsSteady, SwitchesMap, IsStopped}
+use Rattle.unit_io.specs.Spots.{Programs, Rewrites, IsSpot}
+use Rattle.unit_io.proofs.LeadsLemmas.{leads_weaker}
+use Rattle.merge_rules.specs.Merged.{source_of, packs_in, IsUnitHead, IsFilled, MayMerge, IsToMerge, IsWritten}
+use Rattle.merge_rules.specs.Moved.{Source, IsUnsealed}
+use Rattle.merge_rules.specs.Pages.{IsFew}
+use Rattle.merge_rules.proofs.MergeLemmas.{stands_after_filling}
+use Rattle.selective_merge.specs.Throughout.{KeepsThroughout, ChartsThroughout}
+use Rattle.selective_merge.specs.Writing.{Fills, IsSealed, SealsUnit, TellsWritten}
+use Rattle.selective_merge.proofs.FillLemmas.{rewrites_sealed, fills_rewrite}
+use Rattle.selective_merge.proofs.ThroughoutLemmas.{so_far_and, keeps_written, keeps_then, keeps_failed, told_then, told_written}
+
+-- ---- the header
+
+-- a header that switches a map to itself keeps it
+pub sealed_keeps : (places p units u g : ℕ) (pieces : List ℕ) (carried : ℕ) (head : Sector)
+    (old : Told) (result : Result (Unit {0}) ChipFault) (new : Told)
+    → IsUnitHead units u g pieces carried head
+    → ((m n : Map) (h : History) → IsSteady h old → StoryRests places m h
+    → age h.story p 0 ≡ Clean → Stands places (with_sector (now h) p 0 head) n
+    → SwitchesMap places m n (Programs p (IsSpot 0)) (λ done. Gains p 0 head) h result new)
+    → SealsUnit places p units u g pieces carried old result new
+sealed_keeps places p units u g pieces carried head old result new is says m h steady rests clean
+    stands =
+    leads_weaker (EachStandsEither places m m) (EachStands places m)
+    (Programs p (IsSpot 0)) (Programs p (IsSpot 0))
+    (λ done k. StoryRests places m k × Gains p 0 head (now h) (now k))
+    (λ done k. StoryRests places m k × IsSealed p units u g pieces carried (now h) (now k))
+    h result new (λ k each. either_is_kept places m k each) (λ done a same. same)
+    (λ done k held. (held.0, (head, is, held.1)))
+    (says m m h steady rests clean (stands head is))
+
+pub sealed_tells : (p units u g : ℕ) (pieces : List ℕ) (carried : ℕ) (head : Sector) (old : Told)
+    (result : Result (Unit {0}) ChipFault) (new : Told) → IsUnitHead units u g pieces carried head
+    → OnOk result (Charts (Gains p 0 head) old new)
+    → OnOk result (Charts (IsSealed p units u g pieces carried) old new)
+sealed_tells p units u g pieces carried head old (Ok v) new is tells =
+    λ x told. let (z, there, gains) = tells x told in (z, there, (head, is, gains))
+sealed_tells p units u g pieces carried head old (Err e) new is tells = tt
+
+-- ---- what a map says of the layout in hand
+
+-- the map that a chart stands for is what its layout says
+pub says_of : (places : ℕ) (c : Chart) (it : Layout) (m : Map) → Laid places c it
+    → Stands places c m → Says places c it m
+says_of places c it m laid stands =
+    let one = laid_once places c it stands.layout laid stands.laid in record {
+      pages = λ u page low few.
+          let there = stands.says.pages u page low few in
+          let units : stands.layout.units u ≡ it.units u = sym (one.units u low) in
+          let here : Shows c stands.layout.committed u (it.units u) page (page_in m u page) =
+          subst (λ (s : Shape). Shows c stands.layout.committed u s page (page_in m u page))
+          units there in record {
+            base = here.base;
+            reads = here.reads;
+            says = λ slot small. here.says slot small
+                ∙ sym (same_applied it.committed stands.layout.committed page slot
+                (records_of (it.units u).log) _ (λ k d within. sym (one.committed _)));
+          };
+      nowhere_else = stands.says.nowhere_else;
+    }
+
+-- ---- a unit written
+
+module _ (places units p g serial carried : ℕ) (from : Source) (payloads : List (List ℕ))
+    (pieces : List ℕ) (sized : units + 4 ≡ places) (few : IsFew pieces)
+    (carried_is : carried ≡ length payloads) where
+  -- what is known of a place that was filled gives what a merge asks
+  may_merge : (c y : Chart) (it : Layout) (t : Tables) (u : ℕ) (head : Sector)
+      → IsToMerge places c it t u p g serial from payloads
+      → IsUnitHead units from.unit g pieces carried head
+      → IsFilled from p g serial pieces payloads c y
+      → MayMerge places c y it t u p head pieces serial
+  may_merge c y it t u head what is filled =
+      let unit : from.unit ≡ u = ap (λ (s : Source). s.unit) what.source in
+      let all : units ≡ places - 4 = omega (arith, sized) in
+      let gen : head.generation ≡ g = is.of_generation in
+      let many : length payloads ≡ length (packs_in t (it.units u)) =
+      ap length what.carried ∙ length-map (packs_in t (it.units u)) log_bytes in record {
+        mirrors = what.mirrors;
+        low = what.low;
+        free = what.free;
+        within = what.within;
+        head_is = record {
+          kind = is.kind;
+          of_unit = is.of_unit ∙ unit;
+          of_generation = refl;
+          serial = is.serial ∙ sym gen;
+          payload = subst (λ (k : ℕ). head.payload ≡ data_header_bytes k pieces
+              (length (packs_in t (it.units u)))) all
+              (subst (λ (k : ℕ). head.payload ≡ data_header_bytes units pieces k)
+              (carried_is ∙ many) is.payload);
+          counts = subst (λ (k : ℕ). SpellsDataHeader k pieces head.payload) all is.counts;
+        };
+        new = omega (arith, what.new, gen);
+        later = omega (arith, what.later, gen);
+        few = few;
+        twelve = omega (arith, what.twelve, many);
+        filled = subst
+            (λ (l : List (List ℕ)). IsFilled (source_of t (it.units u) u) p head.generation serial
+            pieces l c y) what.carried
+            (subst (λ (s : Source). IsFilled s p head.generation serial pieces payloads c y)
+            what.source
+            (subst (λ (k : ℕ). IsFilled from p k serial pieces payloads c y) (sym gen) filled));
+      }
+
+  written : (c y z : Chart) (it : Layout) (t : Tables) (u : ℕ)
+      → IsToMerge places c it t u p g serial from payloads
+      → IsFilled from p g serial pieces payloads c y
+      → IsSealed p units from.unit g pieces carried y z
+      → IsWritten places c z it t u p g serial
+  written c y z it t u what filled (head, is, gains) = record {
+    head = head;
+    pieces = pieces;
+    filled = y;
+    generation_is = is.of_generation;
+    may = may_merge c y it t u head what is filled;
+    gains = gains;
+  }
+
+  pub unit_written : (m : Map) (it : Layout) (t : Tables) (u : ℕ) (h : History) (old mid new : Told)
+      (result : Result (Unit {0}) ChipFault)
+      → IsToMerge places (now h) it t u p g serial from payloads → StoryRests places m h
+      → Counts old mid
+      → KeepsThroughout {T = List ℕ} {E = ChipFault} places m (Fills p (length payloads))
+      (λ pieces. IsFilled from p g serial pieces payloads) (IsUnsealed p) h (Ok pieces) old mid
+      → SealsUnit places p units from.unit g pieces carried mid result new
+      → IfErr result (λ fault. IsStopped fault mid new)
+      → KeepsThroughout places m (Rewrites p (241 + length payloads))
+      (λ done c y. IsWritten places c y it t u p g serial) (IsUnsealed p) h result old new
+  unit_written m it t u h old mid new result what rests counts filled seals stopped =
+      let first = so_far_and places m h (Fills p (length payloads) true)
+      (IsFilled from p g serial pieces payloads)
+      (λ c. IsToMerge places c it t u p g serial from payloads) mid what filled in
+      let k = adds_all first.added h in
+      let there = (first.ends tt).1 in
+      let says = says_of places (now h) it m what.mirrors.laid (held_stands places m h rests.each) in
+      keeps_then places m h (Fills p (length payloads) true) (Programs p (IsSpot 0))
+      (Rewrites p (241 + length payloads))
+      (λ c y. IsFilled from p g serial pieces payloads c y
+      × IsToMerge places c it t u p g serial from payloads)
+      (λ (done : Unit {0}). IsSealed p units from.unit g pieces carried)
+      (λ done c y. IsWritten places c y it t u p g serial) (λ c y. ⊥) (IsUnsealed p)
+      old mid new result first counts
+      (keeps_written places m k (Programs p (IsSpot 0))
+      (λ done. IsSealed p units from.unit g pieces carried) (λ c y. ⊥) mid new result
+      (seals m k (record { told = first.history; settled = first.settled tt }) (first.ends tt).0
+      (first.does.fresh refl h.story 0 (inl refl))
+      (λ head is. stands_after_filling places (now h) (now k) it t u p head pieces serial m
+      (may_merge (now h) (now k) it t u head what is there.0) says)) stopped)
+      (λ a b one two. rewrites_sealed p (length payloads) (is_ok result) b a one two)
+      (each result) (λ c d e is none. absurd none)
+    where
+      each : (r : Result (Unit {0}) ChipFault) → IfOk r (λ done. (c d e : Chart)
+          → IsFilled from p g serial pieces payloads c d
+          × IsToMerge places c it t u p g serial from payloads
+          → IsSealed p units from.unit g pieces carried d e
+          → IsWritten places c e it t u p g serial)
+      each (Ok done) = λ c d e is sealed. written c d e it t u is.1 is.0 sealed
+      each (Err e) = tt
+
+  pub written_told : (old mid new : Told) (result : Result (Unit {0}) ChipFault)
+      → Charts (IsFilled from p g serial pieces payloads) old mid
+      → OnOk result (Charts (IsSealed p units from.unit g pieces carried) mid new)
+      → IfErr result (λ fault. IsStopped fault mid new)
+      → ChartsThroughout (λ done. TellsWritten places from p g serial payloads) (IsUnsealed p)
+      result old new
+  written_told old mid new result one two stopped =
+      told_then (IsFilled from p g serial pieces payloads)
+      (λ (done : Unit {0}). IsSealed p units from.unit g pieces carried)
+      (λ done. TellsWritten places from p g serial payloads) (λ c y. ⊥) (IsUnsealed p)
+      old mid new result one
+      (told_written (λ (done : Unit {0}). IsSealed p units from.unit g pieces carried) (λ c y. ⊥)
+      mid mid new result (on_ok result two) stopped) (each result) (λ c d e is none. absurd none)
+    where
+      on_ok : (r : Result (Unit {0}) ChipFault)
+          → OnOk r (Charts (IsSealed p units from.unit g pieces carried) mid new)
+          → IfOk r (λ done. Charts (IsSealed p units from.unit g pieces carried) mid new)
+      on_ok (Ok done) is = is
+      on_ok (Err e) is = tt
+
+      each : (r : Result (Unit {0}) ChipFault) → IfOk r (λ done. (c d e : Chart)
+          → IsFilled from p g serial pieces payloads c d
+          → IsSealed p units from.unit g pieces carried d e
+          → TellsWritten places from p g serial payloads c e)
+      each (Ok done) = λ c d e is sealed it t u what. written c d e it t u what is sealed
+      each (Err e) = tt
+
+-- the place wasn't filled
+pub fill_failed : (places p g serial : ℕ) (from : Source) (payloads : List (List ℕ)) (m : Map)
+    (it : Layout) (t : Tables) (u : ℕ) (h : History) (old new : Told) (e f : ChipFault)
+    → KeepsThroughout {T = List ℕ} places m (Fills p (length payloads))
+    (λ pieces. IsFilled from p g serial pieces payloads) (IsUnsealed p) h (Err e) old new
+    → KeepsThroughout {T = Unit {0}} places m (Rewrites p (241 + length payloads))
+    (λ done c y. IsWritten places c y it t u p g serial) (IsUnsealed p) h (Err f) old new
+fill_failed places p g serial from payloads m it t u h old new e f did =
+    keeps_failed places m h (Fills p (length payloads)) (Rewrites p (241 + length payloads))
+    (λ pieces. IsFilled from p g serial pieces payloads)
+    (λ (done : Unit {0}) c y. IsWritten places c y it t u p g serial) (IsUnsealed p) (IsUnsealed p)
+    old new e f did (fills_rewrite p (length payloads) (241 + length payloads)) (λ c d is. is)

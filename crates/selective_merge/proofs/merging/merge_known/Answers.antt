@@ -1,0 +1,37 @@
+use Rattle.std.proofs.Common.{refl}
+use Rattle.ipl_base.specs.declared.fault.ChipFault.TheVariants.{Malformed}
+use Rattle.unit_io.proofs.ReadsAtLemmas.{at_none}
+use Rattle.selective_merge.specs.Moving.{tables_of}
+use Rattle.selective_merge.proofs.FewLemmas.{few_packed, too_many}
+use Rattle.selective_merge.proofs.SpendLemmas.{for_none}
+use Rattle.selective_merge.proofs.WholeLemmas.{merge_unread}
+use Rattle.selective_merge.proofs.merging.merge_known.Goals as goal
+
+pub returns-then-not-pack_carried-clause-steps : goal.returns-then-not-pack_carried-clause-steps
+returns-then-not-pack_carried-clause-steps g c = λ m it h steady rests agrees source.
+    let told = g.C.Chip.told c.args.chip.now in
+    merge_unread (Unit {0}) (λ p s. ⊥) told.places c.args.unit (tables_of c.args.parts.now)
+    (Malformed c.args.home.now.place 0) told told (at_none (λ p s. ⊥) told) m it h steady rests
+    agrees
+
+pub returns-then-not-pack_carried-clause-tells : goal.returns-then-not-pack_carried-clause-tells
+returns-then-not-pack_carried-clause-tells g c = λ soft x told.
+    (x, told, λ it mirrors. mirrors)
+
+pub returns-then-not-pack_carried-clause-holds : goal.returns-then-not-pack_carried-clause-holds
+returns-then-not-pack_carried-clause-holds g c =
+    record { active = refl; status = refl; known = c.requires.known }
+
+pub returns-then-not-pack_carried-clause-costs : goal.returns-then-not-pack_carried-clause-costs
+returns-then-not-pack_carried-clause-costs g c =
+    for_none (tables_of c.args.parts.now).places _ (g.C.Chip.told c.args.chip.now)
+
+pub returns-then-not-pack_carried-clause-few : goal.returns-then-not-pack_carried-clause-few
+returns-then-not-pack_carried-clause-few g c =
+    too_many (Unit {0}) c.args.home.now.place _ c.if-not-pack_carried.ensures.full
+
+pub returns-clause-few : goal.returns-clause-few
+returns-clause-few g c =
+    few_packed c.args.home.now.place _ _ (g.C.Chip.told c.args.chip.now)
+    (g.C.Chip.told c.merge_packed.new.chip) c.merge_packed.result c.merge_packed.ensures.few
+    c.merge_packed.ensures.accounts.cause

@@ -1,0 +1,76 @@
+use Rattle.std.proofs.Common.{false, arith, ℕ, refl, subst}
+use Rattle.std.proofs.lemmas.Result.{err_from_is_err_and}
+use Rattle.std.specs.Prelude.{is_ok}
+use Rattle.ipl_format.specs.Sector.{Sector}
+use Rattle.ipl_meaning.proofs.MirrorLemmas.{free_places_are_idle}
+use Rattle.unit_io.proofs.CostLemmas.{spends_once_at_most, spends_once_then}
+use Rattle.selective_merge.proofs.OverflowLemmas.{HeaderSays, IsOverflowHead, open_unerased, place_opened, opened_told}
+use Rattle.selective_merge.proofs.overflowing.write_overflow.Goals as goal
+
+pub returns-in_err-begin_unit-clause-opens : goal.returns-in_err-begin_unit-clause-opens
+returns-in_err-begin_unit-clause-opens g c = λ m it t h steady rests mirrors free.
+    let places = (g.C.Chip.told c.args.chip.now).places in
+    let e = err_from_is_err_and c.from_residual.result c.from_residual.ensures.1 in
+    rw e.1 (open_unerased places c.args.place c.args.units c.args.generation m it t h mirrors free
+    c.in_err-begin_unit.field-0.0 e.0 (g.C.Chip.told c.begin_unit.new.chip)
+    (c.in_err-begin_unit.ensures.keeps m it h steady rests mirrors.laid
+    (free_places_are_idle places _ it t c.args.place mirrors free)))
+
+pub returns-clause-opens : goal.returns-clause-opens
+returns-clause-opens g c = λ m it t h steady rests mirrors free.
+    let places = (g.C.Chip.told c.args.chip.now).places in
+    let mid = g.C.Chip.told c.begin_unit.new.chip in
+    let new = g.C.Chip.told c.seal.new.chip in
+    let head : Sector = record {
+      kind = 3;
+      version = 1;
+      unit = 0;
+      generation = c.args.generation;
+      serial = c.args.generation;
+      payload = c.write_overflow_header.new.out;
+    } in
+    let is : IsOverflowHead c.args.units c.args.generation head = record {
+      kind = refl;
+      of_generation = refl;
+      serial = refl;
+      counts = c.write_overflow_header.ensures;
+    } in
+    let begun = c.in_ok-begin_unit.ensures in
+    place_opened places c.args.place c.args.units c.args.generation m it t h mirrors free head mid new
+    c.seal.result is
+    (begun.keeps m it h steady rests mirrors.laid
+    (free_places_are_idle places _ it t c.args.place mirrors free))
+    (subst (λ (q : ℕ). HeaderSays q c.args.place head mid c.seal.result new)
+    begun.accounts.counts.places c.seal.ensures.leads)
+
+pub returns-clause-tells : goal.returns-clause-tells
+returns-clause-tells g c =
+    let head : Sector = record {
+      kind = 3;
+      version = 1;
+      unit = 0;
+      generation = c.args.generation;
+      serial = c.args.generation;
+      payload = c.write_overflow_header.new.out;
+    } in
+    let is : IsOverflowHead c.args.units c.args.generation head = record {
+      kind = refl;
+      of_generation = refl;
+      serial = refl;
+      counts = c.write_overflow_header.ensures;
+    } in
+    opened_told c.args.place c.args.units c.args.generation head (g.C.Chip.told c.args.chip.now)
+    (g.C.Chip.told c.begin_unit.new.chip) (g.C.Chip.told c.seal.new.chip) is
+    c.in_ok-begin_unit.ensures.tells c.seal.result c.seal.ensures.tells
+
+pub returns-in_err-begin_unit-clause-costs : goal.returns-in_err-begin_unit-clause-costs
+returns-in_err-begin_unit-clause-costs g c =
+    let e = err_from_is_err_and c.from_residual.result c.from_residual.ensures.1 in
+    rw e.1 (spends_once_at_most c.args.place 1 3 false (g.C.Chip.told c.args.chip.now)
+    (g.C.Chip.told c.begin_unit.new.chip) (omega arith) c.in_err-begin_unit.ensures.costs)
+
+pub returns-clause-costs : goal.returns-clause-costs
+returns-clause-costs g c =
+    spends_once_then c.args.place 1 1 2 3 (is_ok c.seal.result) (g.C.Chip.told c.args.chip.now)
+    (g.C.Chip.told c.begin_unit.new.chip) (g.C.Chip.told c.seal.new.chip)
+    c.in_ok-begin_unit.ensures.costs c.seal.ensures.costs

@@ -1,0 +1,66 @@
+use Rattle.std.proofs.Common.{Ok, Err, arith}
+use Rattle.std.proofs.lemmas.Result.{err_from_is_err_and}
+use Rattle.unit_io.proofs.CostLemmas.{spends_at_most}
+use Rattle.selective_merge.specs.Homes.{from_home}
+use Rattle.selective_merge.proofs.PageMoveLemmas.{page_unread, page_moves, page_tells}
+use Rattle.selective_merge.proofs.SpendLemmas.{spends_read, programs_behind}
+use Rattle.selective_merge.proofs.ThroughoutLemmas.{page_asked_at}
+use Rattle.selective_merge.proofs.pages.move_page.Goals as goal
+
+pub returns-in_err-read_page-clause-moves : goal.returns-in_err-read_page-clause-moves
+returns-in_err-read_page-clause-moves g c =
+    let old = g.C.Chip.told c.args.chip.now in
+    let new = g.C.Chip.told c.read_page.new.chip in
+    let from = from_home c.args.home.now c.args.status.now.numbers c.args.log.now in
+    let e = err_from_is_err_and c.from_residual.result c.from_residual.ensures.1 in
+    rw e.1 (page_unread old.places from c.args.place c.args.head.now.generation c.args.page e.0
+    old new (page_asked_at {T = Unit {0}} from.place c.args.page c.from-count.result
+    (Err c.in_err-read_page.field-0.0) old new
+    c.in_err-read_page.ensures.asks c.in_err-read_page.ensures.accounts.counts))
+
+pub returns-clause-moves : goal.returns-clause-moves
+returns-clause-moves g c =
+    let old = g.C.Chip.told c.args.chip.now in
+    let mid = g.C.Chip.told c.read_page.new.chip in
+    let late = g.C.Chip.told c.program_page.new.chip in
+    let from = from_home c.args.home.now c.args.status.now.numbers c.args.log.now in
+    let read = c.in_ok-read_page.ensures in
+    page_moves old.places from c.args.place c.args.head.now.generation c.args.page
+    c.read_page.new.into c.apply_committed.new.slots c.apply_committed.ensures.page
+    c.apply_committed.ensures.rebased old mid late
+    (page_asked_at {T = Unit {0}} from.place c.args.page c.from-count.result (Ok tt) old mid read.asks
+    read.accounts.counts) _ c.from-count.ensures c.args.head.now.unit c.requires.unit read.page
+    c.program_page.result (g.met.C.Chip.consistent c.args.chip.now) c.program_page.ensures.keeps
+    read.accounts.counts.places c.program_page.ensures.accounts.cause
+
+pub returns-clause-tells : goal.returns-clause-tells
+returns-clause-tells g c =
+    let old = g.C.Chip.told c.args.chip.now in
+    let mid = g.C.Chip.told c.read_page.new.chip in
+    let late = g.C.Chip.told c.program_page.new.chip in
+    let from = from_home c.args.home.now c.args.status.now.numbers c.args.log.now in
+    let read = c.in_ok-read_page.ensures in
+    page_tells old.places from c.args.place c.args.head.now.generation c.args.page
+    c.read_page.new.into c.apply_committed.new.slots c.apply_committed.ensures.page
+    c.apply_committed.ensures.rebased old mid late
+    (page_asked_at {T = Unit {0}} from.place c.args.page c.from-count.result (Ok tt) old mid read.asks
+    read.accounts.counts) _ c.from-count.ensures c.args.head.now.unit c.requires.unit read.page
+    c.program_page.result c.program_page.ensures.tells c.program_page.ensures.accounts.cause
+
+pub returns-in_err-read_page-clause-costs : goal.returns-in_err-read_page-clause-costs
+returns-in_err-read_page-clause-costs g c =
+    let old = g.C.Chip.told c.args.chip.now in
+    let new = g.C.Chip.told c.read_page.new.chip in
+    spends_at_most c.args.place 0 16 0 0 4 old new (omega arith) (omega arith)
+    (spends_read _ c.args.place 4 old new (page_asked_at {T = Unit {0}} c.args.home.now.place
+    c.args.page c.from-count.result (Err c.in_err-read_page.field-0.0) old new
+    c.in_err-read_page.ensures.asks c.in_err-read_page.ensures.accounts.counts))
+
+pub returns-clause-costs : goal.returns-clause-costs
+returns-clause-costs g c =
+    let old = g.C.Chip.told c.args.chip.now in
+    let mid = g.C.Chip.told c.read_page.new.chip in
+    let read = c.in_ok-read_page.ensures in
+    programs_behind _ c.args.place 16 4 old mid (g.C.Chip.told c.program_page.new.chip)
+    (page_asked_at {T = Unit {0}} c.args.home.now.place c.args.page c.from-count.result (Ok tt) old
+    mid read.asks read.accounts.counts) c.program_page.ensures.costs

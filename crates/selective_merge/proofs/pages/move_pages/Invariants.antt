@@ -1,0 +1,31 @@
+use Rattle.std.proofs.Common.{◌≡◌, ◌*◌, ℕ, List, None, length}
+use Rattle.chip_trait.specs.Lawful.{Clean, age}
+use Rattle.chip_trait.specs.Told.{Told, History, Counts}
+use Rattle.ipl_rules.specs.State.{Map}
+use Rattle.ipl_meaning.specs.Rests.{now, StoryRests}
+use Rattle.unit_io.specs.Charts.{Charts}
+use Rattle.unit_io.specs.Costs.{ProgramsAt, Spends}
+use Rattle.unit_io.specs.Leads.{IsSteady}
+use Rattle.merge_rules.specs.Moved.{Source, HasMoved}
+use Rattle.merge_rules.specs.Pages.{IsBaseSpotBelow, IsFew}
+use Rattle.selective_merge.specs.Homes.{from_home}
+use Rattle.selective_merge.proofs.PageMoveLemmas.{MovedSoFar}
+use Rattle.selective_merge.proofs.pages.move_pages.Given as goal
+
+-- what is so after some pages
+pub record AreMoved (from : Source) (p generation : ℕ) (first t : Told) (k : ℕ)
+    (pieces : List ℕ) : Type 0 where
+  pub moves : (m : Map) (h : History) → IsSteady h first → StoryRests first.places m h
+      → now h p 0 ≡ None
+      → ((s : ℕ) → IsBaseSpotBelow 15 s → age h.story p s ≡ Clean)
+      → MovedSoFar first.places from p generation m h k pieces t
+  pub tells : Charts (HasMoved from p generation pieces k) first t
+  pub costs : Spends (ProgramsAt p (16 * k) 0 4) first t
+  pub counts : Counts first t
+  pub few : IsFew pieces
+  pub long : length pieces ≡ 15
+
+abbrev pub invariant-loop-page : goal.invariant-loop-page
+invariant-loop-page g l =
+    AreMoved (from_home l.home l.status.numbers l.log) l.place l.head.generation
+    (g.C.Chip.told l.fn.chip) (g.C.Chip.told l.chip) l.page l.pieces

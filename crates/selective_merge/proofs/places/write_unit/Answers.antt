@@ -1,0 +1,61 @@
+use Rattle.std.proofs.Common.{ℕ, false, arith, subst}
+use Rattle.std.proofs.lemmas.Result.{err_from_is_err_and}
+use Rattle.std.specs.Prelude.{is_ok}
+use Rattle.ipl_meaning.proofs.MirrorLemmas.{free_places_are_idle}
+use Rattle.unit_io.proofs.CostLemmas.{spends_once_at_most, spends_once_then}
+use Rattle.selective_merge.specs.Homes.{from_home}
+use Rattle.selective_merge.specs.Writing.{SealsUnit}
+use Rattle.selective_merge.proofs.SealLemmas.{unit_written, written_told, fill_failed}
+use Rattle.selective_merge.proofs.places.write_unit.Goals as goal
+
+pub returns-in_err-pieces-clause-writes : goal.returns-in_err-pieces-clause-writes
+returns-in_err-pieces-clause-writes g c = λ m it t u h steady rests what.
+    let old = g.C.Chip.told c.args.chip.now in
+    let from = from_home c.args.home.now c.args.status.now.numbers c.args.log.now in
+    let e = err_from_is_err_and c.from_residual.result c.from_residual.ensures.1 in
+    rw e.1 (fill_failed old.places c.args.place c.args.generation c.args.counter.now from
+    c.args.payloads.now m it t u h old (g.C.Chip.told c.fill.new.chip) c.in_err-pieces.field-0.0
+    e.0 (c.in_err-pieces.ensures.fills m it h steady rests what.mirrors.laid
+    (free_places_are_idle _ _ it t c.args.place what.mirrors what.free)))
+
+pub returns-clause-writes : goal.returns-clause-writes
+returns-clause-writes g c = λ m it t u h steady rests what.
+    let old = g.C.Chip.told c.args.chip.now in
+    let mid = g.C.Chip.told c.fill.new.chip in
+    let new = g.C.Chip.told c.seal_unit.new.chip in
+    let from = from_home c.args.home.now c.args.status.now.numbers c.args.log.now in
+    let pieces = c.in_ok-pieces.pieces in
+    let filled = c.in_ok-pieces.ensures in
+    unit_written old.places c.args.units c.args.place c.args.generation c.args.counter.now
+    c.count_of-carried.result from c.args.payloads.now pieces c.requires.sized filled.few
+    c.count_of-carried.ensures m it t u h old mid new c.seal_unit.result what rests
+    filled.accounts.counts
+    (filled.fills m it h steady rests what.mirrors.laid
+    (free_places_are_idle _ _ it t c.args.place what.mirrors what.free))
+    (subst (λ (q : ℕ). SealsUnit q c.args.place c.args.units from.unit c.args.generation pieces
+    c.count_of-carried.result mid c.seal_unit.result new) filled.accounts.counts.places c.seal_unit.ensures.seals)
+    c.seal_unit.ensures.accounts.cause
+
+pub returns-clause-tells : goal.returns-clause-tells
+returns-clause-tells g c =
+    let old = g.C.Chip.told c.args.chip.now in
+    let mid = g.C.Chip.told c.fill.new.chip in
+    let new = g.C.Chip.told c.seal_unit.new.chip in
+    let from = from_home c.args.home.now c.args.status.now.numbers c.args.log.now in
+    let filled = c.in_ok-pieces.ensures in
+    written_told old.places c.args.units c.args.place c.args.generation c.args.counter.now
+    c.count_of-carried.result from c.args.payloads.now c.in_ok-pieces.pieces c.requires.sized filled.few
+    c.count_of-carried.ensures old mid new c.seal_unit.result filled.tells c.seal_unit.ensures.tells
+    c.seal_unit.ensures.accounts.cause
+
+pub returns-in_err-pieces-clause-costs : goal.returns-in_err-pieces-clause-costs
+returns-in_err-pieces-clause-costs g c =
+    let e = err_from_is_err_and c.from_residual.result c.from_residual.ensures.1 in
+    rw e.1 (spends_once_at_most c.args.place 1 3 false (g.C.Chip.told c.args.chip.now)
+    (g.C.Chip.told c.fill.new.chip) (omega arith) c.in_err-pieces.ensures.costs)
+
+pub returns-clause-costs : goal.returns-clause-costs
+returns-clause-costs g c =
+    spends_once_then c.args.place 1 1 2 1 (is_ok c.seal_unit.result) (g.C.Chip.told c.args.chip.now)
+    (g.C.Chip.told c.fill.new.chip) (g.C.Chip.told c.seal_unit.new.chip)
+    c.in_ok-pieces.ensures.costs c.seal_unit.ensures.costs

@@ -1,0 +1,173 @@
+use Rattle.std.proofs.Common.{slice_index, ◌<◌, ◌≤◌, ℕ, refl, subst, arith}
+use Rattle.std.proofs.lemmas.Result.{err_from_is_err_and}
+use Rattle.overflow.specs.Lists.{spots_in}
+use Rattle.unit_log.specs.Looks.{IsLogRead}
+use Rattle.selective_merge.specs.Merging.{MergesInSteps, Merges, StaysMirrored}
+use Rattle.selective_merge.specs.Moving.{tables_of}
+use Rattle.selective_merge.specs.Placing.{IsPlaced, IsElsewhere, MakesRoom, MakesRoomInSteps}
+use Rattle.selective_merge.specs.Spotting.{HasHomeSpot}
+use Rattle.selective_merge.specs.Throughout.{ChartsThroughout}
+use Rattle.selective_merge.proofs.PlacingLemmas.{placed_home, placed_few, placed_elsewhere}
+use Rattle.selective_merge.proofs.RoomLemmas.{Merged, if_ok, makes_none, told_none, makes_by_merge, told_by_merge, makes_unread, placed_behind, placed_told}
+use Rattle.selective_merge.proofs.SpendLemmas.{erases_free_behind, frees_none, frees_read}
+use Rattle.selective_merge.proofs.WholeLemmas.{told_unread}
+use Rattle.selective_merge.proofs.placing.log_place.Goals as goal
+
+pub returns-in-Some-clause-steps : goal.returns-in-Some-clause-steps
+returns-in-Some-clause-steps g c =
+    let told = g.C.Chip.told c.args.chip.now in
+    let t = tables_of c.args.parts.now in
+    let spot = c.in-Some.spot in
+    makes_none IsPlaced told.places c.args.unit t spot told
+    (λ x it mirrors. placed_home told.places x it t c.args.unit spot.place spot.sector
+    c.in-Some.ensures.some mirrors)
+
+pub returns-in-Some-clause-tells : goal.returns-in-Some-clause-tells
+returns-in-Some-clause-tells g c =
+    let told = g.C.Chip.told c.args.chip.now in
+    let t = tables_of c.args.parts.now in
+    let spot = c.in-Some.spot in
+    told_none IsPlaced told.places c.args.unit t spot told
+    (λ x it mirrors. placed_home told.places x it t c.args.unit spot.place spot.sector
+    c.in-Some.ensures.some mirrors)
+
+pub returns-in_err-carried-clause-steps : goal.returns-in_err-carried-clause-steps
+returns-in_err-carried-clause-steps g c =
+    let old = g.C.Chip.told c.args.chip.now in
+    let e = err_from_is_err_and c.from_residual.result c.from_residual.ensures.1 in
+    rw e.1 (makes_unread IsPlaced (IsLogRead (slice_index c.args.parts.now.directory.current c.args.unit)
+    (spots_in c.args.parts.now.overflow c.args.unit))
+    old.places c.args.unit (tables_of c.args.parts.now) e.0 old
+    (g.C.Chip.told c.count_carried.new.chip) c.in_err-carried.ensures.looks.reads)
+
+pub returns-in_err-carried-clause-tells : goal.returns-in_err-carried-clause-tells
+returns-in_err-carried-clause-tells g c =
+    let old = g.C.Chip.told c.args.chip.now in
+    let e = err_from_is_err_and c.from_residual.result c.from_residual.ensures.1 in
+    rw e.1 (λ soft. told_unread (IsLogRead (slice_index c.args.parts.now.directory.current c.args.unit)
+    (spots_in c.args.parts.now.overflow c.args.unit))
+    old.places (tables_of c.args.parts.now) old
+    (g.C.Chip.told c.count_carried.new.chip) c.in_err-carried.ensures.looks.reads)
+
+pub returns-then-carried-le-THRESHOLD-clause-steps : goal.returns-then-carried-le-THRESHOLD-clause-steps
+returns-then-carried-le-THRESHOLD-clause-steps g c =
+    let old = g.C.Chip.told c.args.chip.now in
+    let mid = g.C.Chip.told c.count_carried.new.chip in
+    let new = g.C.Chip.told c.merged_spot.new.chip in
+    let t = tables_of c.args.parts.now in
+    let after = tables_of c.merged_spot.new.parts in
+    let u = c.args.unit in
+    let counted = c.in_ok-carried.ensures in
+    let full : ¬ HasHomeSpot t u = λ has. omega (arith, has, c.in_default.ensures.none) in
+    let low : c.in_ok-carried.carried ≤ 7 = omega (arith, c.if-carried-le-THRESHOLD.true) in
+    placed_behind Merged (IsLogRead (slice_index c.args.parts.now.directory.current c.args.unit)
+    (spots_in c.args.parts.now.overflow c.args.unit))
+    u t after old mid new counted.looks.reads c.merged_spot.result
+    (g.met.C.Chip.consistent c.args.chip.now)
+    (if_ok _ _ c.merged_spot.result
+    (λ spot home x y it told mirrors merged. placed_few old.places _ y it t after u spot.place
+    spot.sector c.in_ok-carried.carried full
+    (counted.exact x told it t (record { mirrors = mirrors; directory_is = refl; overflow_is = refl }))
+    low home merged) c.merged_spot.ensures.spot)
+    (makes_by_merge Merged old.places u t after mid new c.merged_spot.result
+    (subst (λ (q : ℕ). MergesInSteps q u t after mid c.merged_spot.result new)
+    counted.looks.reads.counts.places c.merged_spot.ensures.steps)
+    (if_ok _ _ c.merged_spot.result (λ spot home x y it merged. merged)
+    c.merged_spot.ensures.spot))
+
+pub returns-then-carried-le-THRESHOLD-clause-tells : goal.returns-then-carried-le-THRESHOLD-clause-tells
+returns-then-carried-le-THRESHOLD-clause-tells g c =
+    let old = g.C.Chip.told c.args.chip.now in
+    let mid = g.C.Chip.told c.count_carried.new.chip in
+    let new = g.C.Chip.told c.merged_spot.new.chip in
+    let t = tables_of c.args.parts.now in
+    let after = tables_of c.merged_spot.new.parts in
+    let u = c.args.unit in
+    let counted = c.in_ok-carried.ensures in
+    let full : ¬ HasHomeSpot t u = λ has. omega (arith, has, c.in_default.ensures.none) in
+    let low : c.in_ok-carried.carried ≤ 7 = omega (arith, c.if-carried-le-THRESHOLD.true) in
+    placed_told Merged (IsLogRead (slice_index c.args.parts.now.directory.current c.args.unit)
+    (spots_in c.args.parts.now.overflow c.args.unit))
+    u t after old mid new counted.looks.reads c.merged_spot.result
+    (if_ok _ _ c.merged_spot.result
+    (λ spot home x y it told mirrors merged. placed_few old.places _ y it t after u spot.place
+    spot.sector c.in_ok-carried.carried full
+    (counted.exact x told it t (record { mirrors = mirrors; directory_is = refl; overflow_is = refl }))
+    low home merged) c.merged_spot.ensures.spot)
+    (told_by_merge Merged old.places u t after mid new c.merged_spot.result
+    (subst (λ (q : ℕ). ChartsThroughout (λ spot. Merges q u t after) (StaysMirrored q t after)
+    c.merged_spot.result mid new) counted.looks.reads.counts.places c.merged_spot.ensures.tells)
+    (if_ok _ _ c.merged_spot.result (λ spot home x y it merged. merged)
+    c.merged_spot.ensures.spot))
+
+pub returns-clause-steps : goal.returns-clause-steps
+returns-clause-steps g c =
+    let old = g.C.Chip.told c.args.chip.now in
+    let mid = g.C.Chip.told c.count_carried.new.chip in
+    let new = g.C.Chip.told c.elsewhere.new.chip in
+    let t = tables_of c.args.parts.now in
+    let after = tables_of c.elsewhere.new.parts in
+    let u = c.args.unit in
+    let counted = c.in_ok-carried.ensures in
+    let full : ¬ HasHomeSpot t u = λ has. omega (arith, has, c.in_default.ensures.none) in
+    let high : 7 < c.in_ok-carried.carried = omega (arith, c.if-carried-le-THRESHOLD.false) in
+    placed_behind IsElsewhere (IsLogRead (slice_index c.args.parts.now.directory.current c.args.unit)
+    (spots_in c.args.parts.now.overflow c.args.unit))
+    u t after old mid new counted.looks.reads c.elsewhere.result
+    (g.met.C.Chip.consistent c.args.chip.now)
+    (if_ok _ _ c.elsewhere.result
+    (λ spot there x y it told mirrors is. placed_elsewhere old.places _ y it t after u spot.place
+    spot.sector c.in_ok-carried.carried full
+    (counted.exact x told it t (record { mirrors = mirrors; directory_is = refl; overflow_is = refl }))
+    high is) c.elsewhere.ensures.spot)
+    (subst (λ (q : ℕ). MakesRoomInSteps IsElsewhere q u t after mid c.elsewhere.result new)
+    counted.looks.reads.counts.places c.elsewhere.ensures.steps)
+
+pub returns-clause-tells : goal.returns-clause-tells
+returns-clause-tells g c =
+    let old = g.C.Chip.told c.args.chip.now in
+    let mid = g.C.Chip.told c.count_carried.new.chip in
+    let new = g.C.Chip.told c.elsewhere.new.chip in
+    let t = tables_of c.args.parts.now in
+    let after = tables_of c.elsewhere.new.parts in
+    let u = c.args.unit in
+    let counted = c.in_ok-carried.ensures in
+    let full : ¬ HasHomeSpot t u = λ has. omega (arith, has, c.in_default.ensures.none) in
+    let high : 7 < c.in_ok-carried.carried = omega (arith, c.if-carried-le-THRESHOLD.false) in
+    placed_told IsElsewhere (IsLogRead (slice_index c.args.parts.now.directory.current c.args.unit)
+    (spots_in c.args.parts.now.overflow c.args.unit))
+    u t after old mid new counted.looks.reads c.elsewhere.result
+    (if_ok _ _ c.elsewhere.result
+    (λ spot there x y it told mirrors is. placed_elsewhere old.places _ y it t after u spot.place
+    spot.sector c.in_ok-carried.carried full
+    (counted.exact x told it t (record { mirrors = mirrors; directory_is = refl; overflow_is = refl }))
+    high is) c.elsewhere.ensures.spot)
+    (subst (λ (q : ℕ). ChartsThroughout (MakesRoom IsElsewhere q u t after) (StaysMirrored q t after)
+    c.elsewhere.result mid new) counted.looks.reads.counts.places c.elsewhere.ensures.tells)
+
+pub returns-in-Some-clause-costs : goal.returns-in-Some-clause-costs
+returns-in-Some-clause-costs g c =
+    frees_none (tables_of c.args.parts.now).places (g.C.Chip.told c.args.chip.now)
+
+pub returns-in_err-carried-clause-costs : goal.returns-in_err-carried-clause-costs
+returns-in_err-carried-clause-costs g c =
+    frees_read (IsLogRead (slice_index c.args.parts.now.directory.current c.args.unit)
+    (spots_in c.args.parts.now.overflow c.args.unit))
+    (tables_of c.args.parts.now).places (g.C.Chip.told c.args.chip.now)
+    (g.C.Chip.told c.count_carried.new.chip) c.in_err-carried.ensures.looks.reads
+
+pub returns-then-carried-le-THRESHOLD-clause-costs : goal.returns-then-carried-le-THRESHOLD-clause-costs
+returns-then-carried-le-THRESHOLD-clause-costs g c =
+    erases_free_behind (IsLogRead (slice_index c.args.parts.now.directory.current c.args.unit)
+    (spots_in c.args.parts.now.overflow c.args.unit))
+    (tables_of c.args.parts.now).places (g.C.Chip.told c.args.chip.now)
+    (g.C.Chip.told c.count_carried.new.chip) (g.C.Chip.told c.merged_spot.new.chip)
+    c.in_ok-carried.ensures.looks.reads c.merged_spot.ensures.costs
+
+pub returns-clause-costs : goal.returns-clause-costs
+returns-clause-costs g c =
+    erases_free_behind (IsLogRead (slice_index c.args.parts.now.directory.current c.args.unit)
+    (spots_in c.args.parts.now.overflow c.args.unit))
+    (tables_of c.args.parts.now).places (g.C.Chip.told c.args.chip.now)
+    (g.C.Chip.told c.count_carried.new.chip) (g.C.Chip.told c.elsewhere.new.chip)
+    c.in_ok-carried.ensures.looks.reads c.elsewhere.ensures.costs

@@ -1,0 +1,20 @@
+use Rattle.std.proofs.Common.{false, ◌∙◌}
+use Rattle.std.proofs.lemmas.Result.{err_from_is_err_and}
+use Rattle.selective_merge.specs.Moving.{tables_of}
+use Rattle.selective_merge.proofs.SpendLemmas.{frees_for}
+use Rattle.selective_merge.proofs.placing.merged_spot.Goals as goal
+
+pub returns-in_err-merge-clause-steps : goal.returns-in_err-merge-clause-steps
+returns-in_err-merge-clause-steps g c = λ m it h steady rests agrees.
+    let e = err_from_is_err_and c.from_residual.result c.from_residual.ensures.1 in
+    rw e.1 (c.in_err-merge.ensures.steps m it h steady rests agrees)
+
+pub returns-in_err-merge-clause-tells : goal.returns-in_err-merge-clause-tells
+returns-in_err-merge-clause-tells g c =
+    let e = err_from_is_err_and c.from_residual.result c.from_residual.ensures.1 in
+    rw e.1 (λ soft. c.in_err-merge.ensures.tells (λ same. soft (e.2 ∙ same)))
+
+pub returns-in_err-merge-clause-costs : goal.returns-in_err-merge-clause-costs
+returns-in_err-merge-clause-costs g c =
+    frees_for (tables_of c.args.parts.now).places _ false (g.C.Chip.told c.args.chip.now)
+    (g.C.Chip.told c.merge.new.chip) c.in_err-merge.ensures.costs

@@ -1,0 +1,67 @@
+-- Where a unit is moved from, what is read of it, and why it isn't merged.
+use Rattle.std.specs.Prelude.{ℕ, ◌≡◌, ◌≢◌, ◌⊎◌, Bool, List, Option, Result, MatchResult, if◌then◌else◌}
+use Rattle.chip_trait.specs.Told.{Told, Rose}
+use Rattle.ipl_base.specs.declared.fault.ChipFault.{ChipFault}
+use Rattle.ipl_base.specs.declared.fault.ChipFault.TheVariants.{ReadFault, Stopped, Damaged, Malformed}
+use Rattle.ipl_format.specs.Record.{Record}
+use Rattle.ipl_meaning.specs.Layout.{Shape, records_of}
+use Rattle.ipl_meaning.specs.Tables.{Places, OverflowLists}
+use Rattle.ipl_meaning.specs.Values.{counts_for}
+use Rattle.unit_log.specs.Live.{OfMirrored}
+use Rattle.unit_log.specs.Looks.{IsLogRead}
+use Rattle.merge_rules.specs.Packs.{among}
+use Rattle.merge_rules.specs.Pages.{IsBaseSpotBelow}
+use Rattle.merge_rules.specs.Moved.{Source}
+use Rattle.selective_merge.specs.declared.home.Home.{Home}
+
+-- the source of a move from there, with these committed numbers and log records
+abbrev pub from_home : Home → List ℕ → List Record → Source
+from_home home numbers records = record {
+  place = home.place;
+  unit = home.head.unit;
+  generation = home.head.generation;
+  pieces = home.pieces;
+  committed = among numbers;
+  records = records;
+}
+
+-- a slot's value once a record was applied, where it is of the page and its number is committed
+abbrev pub value_with : (ℕ → Bool) → ℕ → ℕ → Record → Option (List ℕ) → Option (List ℕ)
+value_with committed page slot r value =
+    if counts_for committed page slot r then r.change else value
+
+-- ---- what is read
+
+-- the unit stands there, with this header and these records
+pub record IsHomeOf (home : Home) (it : Shape) (u : ℕ) (log : List Record) : Type 0 where
+  pub place : home.place ≡ it.home
+  pub unit : home.head.unit ≡ u
+  pub generation : home.head.generation ≡ it.head.generation
+  pub pieces : home.pieces ≡ it.pieces
+  pub log_is : log ≡ records_of it.log
+
+-- where tables with this directory and these overflow lists mirror what the chip holds, it is where
+-- the unit stands, unless a read failed
+abbrev pub Learns : Places → OverflowLists → ℕ → Told → Result Home ChipFault → List Record → Type 0
+Learns directory overflow u told result log = OfMirrored told directory overflow
+    (λ it. MatchResult result (λ home. IsHomeOf home (it.units u) u log) (λ fault. fault ≡ ReadFault))
+
+-- ---- causes
+
+-- why a unit isn't moved from this place, whatever the chip tells: a read or a write failed, and its
+-- count rose; or a base sector of the place is at fault, and where it is damaged its sums differ
+abbrev pub MoveCause : ℕ → ChipFault → Told → Told → Type 0
+MoveCause place ReadFault old new = Rose old.read_faults new.read_faults
+MoveCause place Stopped old new = Rose old.write_faults new.write_faults
+MoveCause place (Damaged p s stored computed) old new =
+    (p ≡ place) × IsBaseSpotBelow 15 s × (stored ≢ computed)
+MoveCause place (Malformed p s) old new = (p ≡ place) × IsBaseSpotBelow 15 s
+
+-- why it isn't merged: this, or its header or a sector where its log may be read is at fault
+abbrev pub MergeCause : ℕ → List (ℕ × ℕ) → ChipFault → Told → Told → Type 0
+MergeCause place spots ReadFault old new = Rose old.read_faults new.read_faults
+MergeCause place spots Stopped old new = Rose old.write_faults new.write_faults
+MergeCause place spots (Damaged p s stored computed) old new =
+    (p ≡ place) × IsBaseSpotBelow 15 s × (stored ≢ computed)
+MergeCause place spots (Malformed p s) old new =
+    ((p ≡ place) × IsBaseSpotBelow 15 s) ⊎ IsLogRead place spots p s

@@ -1,0 +1,9 @@
+pub mod Throughout
+pub mod Packing
+pub mod Homes
+pub mod Moving
+pub mod Writing
+pub mod Merging
+pub mod Spotting
+pub mod Placing
+pub mod Spending

@@ -1,0 +1,72 @@
+-- What a merge leaves.
+use Rattle.std.specs.Prelude.{ℕ, ◌≡◌, ◌<◌, ◌≤◌, ◌⊎◌, Result, MatchResult}
+use Rattle.chip_trait.specs.Told.{History, Told}
+use Rattle.ipl_base.specs.declared.fault.ChipFault.{ChipFault}
+use Rattle.ipl_base.specs.declared.fault.ChipFault.TheVariants.{Malformed, ReadFault}
+use Rattle.ipl_rules.specs.State.{Map}
+use Rattle.ipl_meaning.specs.Agrees.{IsTidy, Agrees}
+use Rattle.ipl_meaning.specs.Chart.{Chart}
+use Rattle.ipl_meaning.specs.Layout.{Layout}
+use Rattle.ipl_meaning.specs.Mirrors.{Mirrors}
+use Rattle.ipl_meaning.specs.Rests.{now, EachStands, StoryRests}
+use Rattle.ipl_meaning.specs.Tables.{Tables}
+use Rattle.unit_io.specs.Leads.{IsSteady}
+use Rattle.steps.specs.Steps.{Steps, RestsAgreeing}
+use Rattle.merge_rules.specs.Merged.{source_of, IsMergedUnit}
+use Rattle.merge_rules.specs.Moved.{Source}
+
+-- ---- what the chip holds
+
+-- whatever layout the tables mirrored, the unit was merged
+abbrev pub Merges : ℕ → ℕ → Tables → Tables → Chart → Chart → Type 0
+Merges places u t after c y = (it : Layout) → Mirrors places c it t
+    → IsMergedUnit places c y it t u after
+
+-- where this is what was read of it
+abbrev pub MergesFrom : ℕ → ℕ → Source → Tables → Tables → Chart → Chart → Type 0
+MergesFrom places u from t after c y = (it : Layout) → Mirrors places c it t
+    → from ≡ source_of t (it.units u) u → IsMergedUnit places c y it t u after
+
+-- whatever layout the tables mirrored, they mirror it still
+abbrev pub StaysMirrored : ℕ → Tables → Tables → Chart → Chart → Type 0
+StaysMirrored places t after c y = (it : Layout) → Mirrors places c it t → Mirrors places y it after
+
+-- where so many log sectors are carried, they are at most 12 once it is done; where they are more and
+-- no read failed, sector 0 of this place is malformed, and only then
+abbrev pub CarriesFew : {T : Type 0} → ℕ → ℕ → Result T ChipFault → Type 0
+CarriesFew place n result = MatchResult result (λ done. n ≤ 12) (λ fault.
+    (fault ≡ Malformed place 0 → 12 < n)
+    × (12 < n → (fault ≡ ReadFault) ⊎ (fault ≡ Malformed place 0)))
+
+-- ---- what a power cut leaves
+
+-- the story rests on the map, the unit was merged, and the tables agree
+pub record RestsMerged (places : ℕ) (m : Map) (c : Chart) (it : Layout) (t : Tables) (u : ℕ)
+    (after : Tables) (k : History) : Type 0 where
+  pub rests : StoryRests places m k
+  pub unit : IsMergedUnit places c (now k) it t u after
+  pub tidy : IsTidy k.story after
+
+-- At each moment a power cut leaves the map. Where no write failed the story rests on it: done, the
+-- unit was merged; and not done, the tables agree on the same layout.
+abbrev pub StepsMerging : {T : Type 0} → ℕ → Map → Layout → Tables → ℕ → Tables
+    → History → Result T ChipFault → Told → Told → Type 0
+StepsMerging places m it t u after h result old new =
+    Steps (EachStands places m) t after
+    (λ done k. RestsMerged places m (now h) it t u after k)
+    (λ k. RestsAgreeing places m it after k) h result old new
+
+-- whatever map and layout it began with
+abbrev pub MergesInSteps : {T : Type 0} → ℕ → ℕ → Tables → Tables
+    → Told → Result T ChipFault → Told → Type 0
+MergesInSteps places u t after old result new = (m : Map) (it : Layout) (h : History)
+    → IsSteady h old → StoryRests places m h → Agrees places h it t
+    → StepsMerging places m it t u after h result old new
+
+-- where this is what was read of the unit
+abbrev pub MergesFromInSteps : ℕ → ℕ → Source → Tables → Tables
+    → Told → Result (Unit {0}) ChipFault → Told → Type 0
+MergesFromInSteps places u from t after old result new = (m : Map) (it : Layout) (h : History)
+    → IsSteady h old → StoryRests places m h → Agrees places h it t
+    → from ≡ source_of t (it.units u) u
+    → StepsMerging places m it t u after h result old new

@@ -1,0 +1,42 @@
+-- The tables of a store, and a unit that moves.
+use Rattle.std.specs.Prelude.{ℕ, ◌≡◌, ◌≢◌, ◌⊎◌, ◌<◌, ◌≤◌, length, slice_set, Contains, Option, Some}
+use Rattle.ipl_meaning.specs.Tables.{Places, IsFree, Tables, overflow_places}
+use Rattle.unit_directory.specs.Directory.{after_replace}
+use Rattle.unit_directory.specs.Free.{free_count}
+use Rattle.merge_rules.specs.Known.{KnowsPlaces}
+use Rattle.selective_merge.specs.declared.parts.Parts.{Parts}
+
+-- the tables, as the meaning of a chip speaks of them
+abbrev pub tables_of : Parts → Tables
+tables_of parts = record {
+  places = parts.directory;
+  overflow = parts.overflow;
+  status = parts.status;
+  next = parts.counter;
+  active = parts.active;
+}
+
+-- the unit has the place, so many log sectors of it are written, and the old place is free
+abbrev pub places_moved : Places → ℕ → ℕ → ℕ → Places
+places_moved it u p used = record (after_replace it u p) { written = slice_set it.written u used }
+
+-- the place, where there is one, is free and was perhaps before; and the rest is the same
+pub record Frees (before after : Places) (place : Option ℕ) : Type 0 where
+  pub current : after.current ≡ before.current
+  pub written : after.written ≡ before.written
+  pub all : length after.in_use ≡ length before.in_use
+  pub free : (q : ℕ) → IsFree after q → IsFree before q ⊎ (place ≡ Some q)
+  pub still : (q : ℕ) → IsFree before q → IsFree after q
+  pub gone : (q : ℕ) → place ≡ Some q → q < length before.in_use → IsFree after q
+  pub count : free_count before.in_use ≤ free_count after.in_use
+
+-- each place in use is a unit's, the status place or an overflow place, but for one
+abbrev pub NoneIsLostBut : ℕ → ℕ → Tables → Type 0
+NoneIsLostBut p places t = (q : ℕ) → q < places → q ≢ p → ¬ IsFree t.places q
+    → Contains t.places.current q ⊎ (q ≡ t.status.place) ⊎ Contains (overflow_places t) q
+
+-- the same sessions are open, the status is the same, and the tables know each place
+pub record Holds (places : ℕ) (before after : Tables) : Type 0 where
+  pub active : after.active ≡ before.active
+  pub status : after.status ≡ before.status
+  pub known : KnowsPlaces places after

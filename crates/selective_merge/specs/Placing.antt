@@ -1,0 +1,115 @@
+-- What the calls leave that make room for a log sector.
+use Rattle.std.specs.Prelude.{ℕ, ◌≡◌, ◌⊎◌, Result}
+use Rattle.chip_trait.specs.Told.{History, Told}
+use Rattle.ipl_base.specs.declared.fault.ChipFault.{ChipFault}
+use Rattle.ipl_base.specs.declared.spot.Spot.{Spot}
+use Rattle.ipl_format.specs.Header.{SpellsUnits}
+use Rattle.ipl_format.specs.Sector.{Sector}
+use Rattle.ipl_rules.specs.State.{Map}
+use Rattle.ipl_meaning.specs.Agrees.{IsTidy, Agrees}
+use Rattle.ipl_meaning.specs.Chart.{Chart}
+use Rattle.ipl_meaning.specs.Last.{carried_count}
+use Rattle.ipl_meaning.specs.Layout.{Layout}
+use Rattle.ipl_meaning.specs.Mirrors.{Mirrors}
+use Rattle.ipl_meaning.specs.Rests.{now, EachStands, StoryRests}
+use Rattle.ipl_meaning.specs.Steps.{KeepsPages}
+use Rattle.ipl_meaning.specs.Tables.{IsFree, Tables}
+use Rattle.unit_io.specs.Charts.{IsCleared, Gains}
+use Rattle.unit_io.specs.Leads.{IsSteady, KeepsMap}
+use Rattle.unit_io.specs.Spots.{Rewrites}
+use Rattle.steps.specs.Steps.{Steps, RestsAgreeing}
+use Rattle.merge_rules.specs.Merged.{IsMergedUnit}
+use Rattle.merge_rules.specs.Packs.{among}
+use Rattle.selective_merge.specs.Spotting.{IsHomeSpot, MayOverflow, TakesOverflow, FollowsRules}
+
+-- ---- a new overflow place
+
+-- the place was cleared, and has the header of an overflow place under this generation
+pub record IsOpened (p units generation : ℕ) (c y : Chart) : Type 0 where
+  pub bare : Chart
+  pub head : Sector
+  pub cleared : IsCleared p c bare
+  pub kind : head.kind ≡ 3
+  pub of_generation : head.generation ≡ generation
+  pub serial : head.serial ≡ generation
+  pub counts : SpellsUnits units head.payload
+  pub gains : Gains p 0 head bare y
+
+-- a free place, opened
+abbrev pub OpensPlace : ℕ → ℕ → ℕ → ℕ → Told → Result (Unit {0}) ChipFault → Told → Type 0
+OpensPlace places p units generation old result new =
+    (m : Map) (it : Layout) (t : Tables) (h : History)
+    → IsSteady h old → StoryRests places m h → Mirrors places (now h) it t → IsFree t.places p
+    → KeepsMap places m (Rewrites p 1) (λ done. IsOpened p units generation) h result new
+
+-- whatever layout the tables mirrored, they mirror it still, and each page is shown still
+abbrev pub Opens : ℕ → Tables → Tables → Chart → Chart → Type 0
+Opens places t after c y = (it : Layout) → Mirrors places c it t
+    → Mirrors places y it after × KeepsPages places c it y it
+
+-- the story rests on the map, the tables agree, and each page is shown still
+pub record RestsOpened (places : ℕ) (m : Map) (c : Chart) (it : Layout) (after : Tables)
+    (k : History) : Type 0 where
+  pub rests : StoryRests places m k
+  pub agrees : Agrees places k it after
+  pub keeps : KeepsPages places c it (now k) it
+
+abbrev pub OpensInSteps : ℕ → Tables → Tables → Told → Result Spot ChipFault → Told → Type 0
+OpensInSteps places t after old result new = (m : Map) (it : Layout) (h : History)
+    → IsSteady h old → StoryRests places m h → Agrees places h it t
+    → Steps (EachStands places m) t after
+    (λ spot k. RestsOpened places m (now h) it after k)
+    (λ k. RestsAgreeing places m it after k) h result old new
+
+-- ---- room for a log sector
+
+-- the tables mirror the chip, each page is shown still, and it is laid out as before, but that the
+-- unit may have been merged
+pub record HasRoom (places : ℕ) (c y : Chart) (it : Layout) (t : Tables) (u : ℕ)
+    (after : Tables) : Type 0 where
+  pub layout : Layout
+  pub mirrors : Mirrors places y layout after
+  pub keeps : KeepsPages places c it y layout
+  pub how : (layout ≡ it) ⊎ IsMergedUnit places c y it t u after
+
+-- there is room elsewhere: in an overflow place, where a sector is to be had; else the unit was merged
+pub record IsElsewhere (places : ℕ) (c y : Chart) (it : Layout) (t : Tables) (u : ℕ)
+    (after : Tables) (p s : ℕ) : Type 0 where
+  pub room : HasRoom places c y it t u after
+  pub overflow : MayOverflow t u → TakesOverflow t after u p s
+  pub merged : ¬ MayOverflow t u
+      → IsMergedUnit places c y it t u after × IsHomeSpot after u p s
+
+-- there is room, by the rules
+pub record IsPlaced (places : ℕ) (c y : Chart) (it : Layout) (t : Tables) (u : ℕ)
+    (after : Tables) (p s : ℕ) : Type 0 where
+  pub room : HasRoom places c y it t u after
+  pub rules : FollowsRules (IsMergedUnit places c y it t u after)
+      (carried_count (among t.active) (it.units u).log) t after u p s
+
+-- a call that makes room as this says, over what the chip holds
+abbrev pub MakesRoom :
+    (ℕ → Chart → Chart → Layout → Tables → ℕ → Tables → ℕ → ℕ → Type 0)
+    → ℕ → ℕ → Tables → Tables → Spot → Chart → Chart → Type 0
+MakesRoom Is places u t after spot c y = (it : Layout) → Mirrors places c it t
+    → Is places c y it t u after spot.place spot.sector
+
+-- the story rests on the map, there is such room, and what is counted as clean is
+pub record RestsWithRoom
+    (Is : ℕ → Chart → Chart → Layout → Tables → ℕ → Tables → ℕ → ℕ → Type 0)
+    (places : ℕ) (m : Map) (c : Chart) (it : Layout) (t : Tables) (u : ℕ) (after : Tables)
+    (spot : Spot) (k : History) : Type 0 where
+  pub rests : StoryRests places m k
+  pub room : Is places c (now k) it t u after spot.place spot.sector
+  pub tidy : IsTidy k.story after
+
+-- At each moment a power cut leaves the map. Where no write failed the story rests on it: done, with
+-- such room; and not done, the tables agree on the same layout.
+abbrev pub MakesRoomInSteps :
+    (ℕ → Chart → Chart → Layout → Tables → ℕ → Tables → ℕ → ℕ → Type 0)
+    → ℕ → ℕ → Tables → Tables → Told → Result Spot ChipFault → Told → Type 0
+MakesRoomInSteps Is places u t after old result new = (m : Map) (it : Layout) (h : History)
+    → IsSteady h old → StoryRests places m h → Agrees places h it t
+    → Steps (EachStands places m) t after
+    (λ spot k. RestsWithRoom Is places m (now h) it t u after spot k)
+    (λ k. RestsAgreeing places m it after k) h result old new

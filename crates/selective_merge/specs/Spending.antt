@@ -1,0 +1,17 @@
+-- What calls erase and program.
+use Rattle.std.specs.Prelude.{ℕ, ◌≡◌, Bool, true, []}
+use Rattle.chip_trait.specs.Story.{Story}
+use Rattle.ipl_meaning.specs.Tables.{Places, IsFree}
+use Rattle.unit_io.specs.Costs.{Costs, is_erased}
+
+-- At most one place is erased, which was free; only what was erased before is programmed; and there
+-- are at most three barriers.
+pub record ErasesFree (before : Places) (added : Story) : Type 0 where
+  pub costs : Costs 1 0 3 [] added
+  pub free : (p : ℕ) → is_erased added p ≡ true → IsFree before p
+
+-- A place that was free is erased for what is written there, at most once, and no other one. Done,
+-- this place was erased.
+pub record ErasesFor (before : Places) (place : ℕ) (done : Bool) (added : Story) : Type 0 where
+  pub erases : ErasesFree before added
+  pub erased : done ≡ true → is_erased added place ≡ true

@@ -1,0 +1,71 @@
+-- Where a log sector of a unit goes.
+use Rattle.std.specs.Prelude.{ℕ, ◌≡◌, ◌⊎◌, ◌<◌, ◌≤◌, length, slice_index, Contains}
+use Rattle.ipl_meaning.specs.Tables.{IsFree, Tables, spots_of, first_log}
+use Rattle.ipl_meaning.specs.TableSteps.{taken, with_overflow}
+use Rattle.selective_merge.specs.declared.spots.OverflowChoice.{OverflowChoice}
+use Rattle.selective_merge.specs.declared.spots.OverflowChoice.TheVariants.{Clean, NewPlace, Nothing}
+
+-- ---- spots
+
+-- a log sector at the unit's home is known clean
+abbrev pub HasHomeSpot : Tables → ℕ → Type 0
+HasHomeSpot t u = slice_index t.places.written u < 15
+
+-- the first clean log sector at the unit's home
+pub record IsHomeSpot (t : Tables) (u p s : ℕ) : Type 0 where
+  pub left : HasHomeSpot t u
+  pub place : p ≡ slice_index t.places.current u
+  pub sector : s ≡ first_log t u
+
+-- the first clean sector of an overflow place, for a unit with fewer than 16 log sectors there
+pub record IsOverflowSpot (t : Tables) (u p s : ℕ) : Type 0 where
+  pub first : Contains t.overflow.in_use (p, s)
+  pub within : (1 ≤ s) × (s < 256)
+  pub few : length (spots_of t u) < 16
+
+-- a log sector of the unit may go there
+abbrev pub IsSpotFor : Tables → ℕ → ℕ → ℕ → Type 0
+IsSpotFor t u p s = IsHomeSpot t u p s ⊎ IsOverflowSpot t u p s
+
+-- ---- overflow sectors
+
+-- a sector of an overflow place is known clean
+abbrev pub HasCleanSpot : Tables → Type 0
+HasCleanSpot t = (p s : ℕ) × Contains t.overflow.in_use (p, s) × (s < 256)
+
+-- no lower overflow place has a clean sector
+abbrev pub IsLowest : Tables → ℕ → Type 0
+IsLowest t p = (q s : ℕ) → Contains t.overflow.in_use (q, s) → s < 256 → p ≤ q
+
+-- an overflow sector is to be had for the unit: it has fewer than 16, and one is clean or fewer than
+-- two overflow places are in use
+abbrev pub MayOverflow : Tables → ℕ → Type 0
+MayOverflow t u =
+    (length (spots_of t u) < 16) × (HasCleanSpot t ⊎ (length t.overflow.in_use < 2))
+
+-- the sector of an overflow place that the unit gets: a clean one, where there is one, and else the
+-- first of a new overflow place
+pub record TakesOverflow (t after : Tables) (u p s : ℕ) : Type 0 where
+  pub spot : IsOverflowSpot after u p s
+  pub clean : HasCleanSpot t → (after ≡ t) × IsLowest t p
+  pub new : ¬ HasCleanSpot t → IsFree t.places p × (s ≡ 1)
+      × ((next : ℕ) × (after ≡ with_overflow (taken t p) p next))
+
+-- what is chosen of this
+abbrev pub IsChoice : Tables → ℕ → OverflowChoice → Type 0
+IsChoice t u (Clean spot) = IsOverflowSpot t u spot.place spot.sector × IsLowest t spot.place
+IsChoice t u NewPlace =
+    (length (spots_of t u) < 16) × (¬ HasCleanSpot t) × (length t.overflow.in_use < 2)
+IsChoice t u Nothing = ¬ MayOverflow t u
+
+-- ---- the rules
+
+-- The first of the rules that applies is followed: the lowest clean log sector at home; where at
+-- most 7 sectors would be carried, that of the merged unit; an overflow sector, where one is to be
+-- had; that of the merged unit all the same.
+pub record FollowsRules (IsMerged : Type 0) (carried : ℕ) (t after : Tables) (u p s : ℕ) : Type 0 where
+  pub home : HasHomeSpot t u → (after ≡ t) × IsHomeSpot t u p s
+  pub few : ¬ HasHomeSpot t u → carried ≤ 7 → IsMerged × IsHomeSpot after u p s
+  pub overflow : ¬ HasHomeSpot t u → 7 < carried → MayOverflow t u → TakesOverflow t after u p s
+  pub merged : ¬ HasHomeSpot t u → 7 < carried → ¬ MayOverflow t u
+      → IsMerged × IsHomeSpot after u p s

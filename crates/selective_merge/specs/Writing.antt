@@ -1,0 +1,121 @@
+-- What the calls leave that write a unit to a place: page by page, sector by sector, and sealed.
+use Rattle.std.specs.Prelude.{ℕ, ◌≡◌, ◌≢◌, ◌⊎◌, ◌≤◌, ◌+◌, List, [], ◌++◌, length, Bool, true, None, Result}
+use Rattle.chip_trait.specs.Chart.{with_sector}
+use Rattle.chip_trait.specs.Lawful.{Clean, age, IsLawful}
+use Rattle.chip_trait.specs.Story.{Story, pieces}
+use Rattle.chip_trait.specs.Told.{History, Told}
+use Rattle.ipl_base.specs.declared.fault.ChipFault.{ChipFault}
+use Rattle.ipl_format.specs.Sector.{Sector}
+use Rattle.ipl_rules.specs.State.{Map}
+use Rattle.ipl_meaning.specs.Chart.{Chart}
+use Rattle.ipl_meaning.specs.Layout.{Layout, Laid}
+use Rattle.ipl_meaning.specs.Rests.{now, StoryRests}
+use Rattle.ipl_meaning.specs.Stands.{Stands}
+use Rattle.ipl_meaning.specs.Steps.{IsIdle}
+use Rattle.ipl_meaning.specs.Tables.{Tables}
+use Rattle.unit_io.specs.Charts.{Gains}
+use Rattle.unit_io.specs.Leads.{IsSteady, KeepsMap}
+use Rattle.unit_io.specs.Spots.{Programs, Rewrites, IsSpot, IsPieceSpot}
+use Rattle.merge_rules.specs.Merged.{IsUnitHead, IsFilled, IsToMerge, IsWritten}
+use Rattle.merge_rules.specs.Moved.{Source, MovesPage, HasMoved, IsAside, IsUnsealed}
+use Rattle.merge_rules.specs.Packs.{IsLogSpotBelow, HasLogs}
+use Rattle.merge_rules.specs.Pages.{IsBaseSpotBelow}
+use Rattle.selective_merge.specs.Throughout.{KeepsThroughout}
+
+-- ---- the events
+
+-- The events erase this place, and then program sectors of it, each once, and say nothing. They are
+-- lawful after any lawful events, and what was clean elsewhere is so after them; and where all is
+-- done, its header is clean still, and so are its log sectors but for the first n.
+pub record Fills (p n : ℕ) (done : Bool) (added : Story) : Type 0 where
+  pub silent : pieces added ≡ []
+  pub lawful : (base : Story) → IsLawful base → IsLawful (added ++ base)
+  pub others : (base : Story) (q s : ℕ) → q ≢ p → age base q s ≡ Clean
+      → age (added ++ base) q s ≡ Clean
+  pub fresh : done ≡ true → (base : Story) (s : ℕ) → (s ≡ 0) ⊎ (241 + n ≤ s)
+      → age (added ++ base) p s ≡ Clean
+
+-- ---- pages
+
+-- one page, moved to a place without a header
+abbrev pub MovesOnePage : ℕ → Source → ℕ → ℕ → ℕ → Told → Result ℕ ChipFault → Told → Type 0
+MovesOnePage places from p generation page old result new = (m : Map) (h : History)
+    → IsSteady h old → StoryRests places m h → now h p 0 ≡ None
+    → ((s : ℕ) → IsPieceSpot page 16 s → age h.story p s ≡ Clean)
+    → KeepsThroughout places m (Programs p (IsPieceSpot page 16))
+    (MovesPage from p generation page) (IsAside p) h result old new
+
+-- all pages
+abbrev pub MovesPages : ℕ → Source → ℕ → ℕ → Told → Result (List ℕ) ChipFault → Told → Type 0
+MovesPages places from p generation old result new = (m : Map) (h : History)
+    → IsSteady h old → StoryRests places m h → now h p 0 ≡ None
+    → ((s : ℕ) → IsBaseSpotBelow 15 s → age h.story p s ≡ Clean)
+    → KeepsThroughout places m (Programs p (IsBaseSpotBelow 15))
+    (λ pieces. HasMoved from p generation pieces 15) (IsAside p) h result old new
+
+-- ---- log sectors
+
+-- a log sector, in a place without a header
+abbrev pub WritesLog : ℕ → ℕ → ℕ → Sector → Told → Result (Unit {0}) ChipFault → Told → Type 0
+WritesLog places p s sector old result new = (m : Map) (h : History)
+    → IsSteady h old → StoryRests places m h → now h p 0 ≡ None → s ≢ 0
+    → age h.story p s ≡ Clean
+    → KeepsMap places m (Programs p (IsSpot s)) (λ done. Gains p s sector) h result new
+
+-- the first n log sectors with these payloads
+abbrev pub KeepsLogs : ℕ → ℕ → ℕ → ℕ → ℕ → List (List ℕ) → ℕ → Map
+    → History → Result (Unit {0}) ChipFault → Told → Type 0
+KeepsLogs places p u generation serial payloads n m h result new =
+    KeepsMap places m (Programs p (IsLogSpotBelow n))
+    (λ done. HasLogs p u generation serial payloads n) h result new
+
+-- all of them
+abbrev pub WritesLogs : ℕ → ℕ → ℕ → ℕ → ℕ → List (List ℕ)
+    → Told → Result (Unit {0}) ChipFault → Told → Type 0
+WritesLogs places p u generation serial payloads old result new = (m : Map) (h : History)
+    → IsSteady h old → StoryRests places m h → now h p 0 ≡ None
+    → ((s : ℕ) → IsLogSpotBelow (length payloads) s → age h.story p s ≡ Clean)
+    → KeepsLogs places p u generation serial payloads (length payloads) m h result new
+
+-- ---- the whole place
+
+-- an idle place, filled
+abbrev pub FillsPlace : ℕ → Source → ℕ → ℕ → ℕ → List (List ℕ)
+    → Told → Result (List ℕ) ChipFault → Told → Type 0
+FillsPlace places from p generation serial payloads old result new =
+    (m : Map) (it : Layout) (h : History)
+    → IsSteady h old → StoryRests places m h → Laid places (now h) it
+    → IsIdle places (now h) it p
+    → KeepsThroughout places m (Fills p (length payloads))
+    (λ pieces. IsFilled from p generation serial pieces payloads) (IsUnsealed p) h result old new
+
+-- the chart has the unit's header too
+abbrev pub IsSealed : ℕ → ℕ → ℕ → ℕ → List ℕ → ℕ → Chart → Chart → Type 0
+IsSealed p units u generation pieces carried c y =
+    (head : Sector) × IsUnitHead units u generation pieces carried head × Gains p 0 head c y
+
+-- the header of a unit, where with it the map stands still
+abbrev pub SealsUnit : ℕ → ℕ → ℕ → ℕ → ℕ → List ℕ → ℕ
+    → Told → Result (Unit {0}) ChipFault → Told → Type 0
+SealsUnit places p units u generation pieces carried old result new = (m : Map) (h : History)
+    → IsSteady h old → StoryRests places m h → age h.story p 0 ≡ Clean
+    → ((head : Sector) → IsUnitHead units u generation pieces carried head
+    → Stands places (with_sector (now h) p 0 head) m)
+    → KeepsMap places m (Programs p (IsSpot 0))
+    (λ done. IsSealed p units u generation pieces carried) h result new
+
+-- a unit, written to a place that is free
+abbrev pub WritesUnit : ℕ → Source → ℕ → ℕ → ℕ → List (List ℕ)
+    → Told → Result (Unit {0}) ChipFault → Told → Type 0
+WritesUnit places from p generation serial payloads old result new =
+    (m : Map) (it : Layout) (t : Tables) (u : ℕ) (h : History)
+    → IsSteady h old → StoryRests places m h
+    → IsToMerge places (now h) it t u p generation serial from payloads
+    → KeepsThroughout places m (Rewrites p (241 + length payloads))
+    (λ done c y. IsWritten places c y it t u p generation serial) (IsUnsealed p) h result old new
+
+-- whatever layout and tables asked for it
+abbrev pub TellsWritten : ℕ → Source → ℕ → ℕ → ℕ → List (List ℕ) → Chart → Chart → Type 0
+TellsWritten places from p generation serial payloads c y = (it : Layout) (t : Tables) (u : ℕ)
+    → IsToMerge places c it t u p generation serial from payloads
+    → IsWritten places c y it t u p generation serial

@@ -1,0 +1,77 @@
+//! The log sectors of a merge.
+ghost use Rattle.std.specs.Prelude.{◌≡◌, ◌<◌, ◌≤◌, ◌+◌, ◌^◌, length, OnOk};
+ghost use Rattle.unit_io.specs.Accounts.{Accounts};
+ghost use Rattle.unit_io.specs.Charts.{Charts, Gains};
+ghost use Rattle.unit_io.specs.Costs.{ProgramsAt, Spends};
+ghost use Rattle.unit_io.specs.Leads.{IsStopped};
+ghost use Rattle.merge_rules.specs.Packs.{log_sector, HasLogs};
+ghost use Rattle.selective_merge.specs.Writing.{WritesLog, WritesLogs};
+
+use chip_trait::Chip;
+use ipl_base::{ChipFault, Counter, Spot};
+use log_records::Payload;
+use sector_format::Head;
+use unit_io::program_log;
+use unit_layout::log_sector;
+
+/// Programs the i-th log sector (i from 0 to 14) of a place without a header, under the next serial.
+fn write_log<C: Chip>(
+    chip: &mut C,
+    place: u32,
+    head: &Head,
+    i: u32,
+    payload: &Payload,
+    counter: &mut Counter,
+) -> Result<(), ChipFault>
+    requires place { place < (C.told chip.old).places }
+    requires i { i < 15 }
+    requires left { counter.old + 1 < 2 ^ 64 }
+    ensures writes { WritesLog (C.told chip.old).places place (241 + i)
+        (log_sector head.now.unit head.now.generation counter.old payload.now)
+        (C.told chip.old) result (C.told chip.new) }
+    ensures tells { OnOk result (Charts (Gains place (241 + i)
+        (log_sector head.now.unit head.now.generation counter.old payload.now))
+        (C.told chip.old) (C.told chip.new)) }
+    ensures drawn { counter.new ≡ counter.old + 1 }
+    ensures costs { Spends (ProgramsAt place 1 0 5) (C.told chip.old) (C.told chip.new) }
+    ensures accounts { Accounts IsStopped result (C.told chip.old) (C.told chip.new) }
+{
+    let log = Head {
+        kind: Head::LOG,
+        unit: head.unit,
+        generation: head.generation,
+        serial: counter.draw(),
+    };
+    let sector = log_sector(i);
+    program_log(chip, Spot { place, sector }, &log, payload)
+}
+
+/// Programs log sectors with these payloads, at most 12, from the first one of a place without a
+/// header on, under serials that are drawn for them.
+pub fn write_logs<C: Chip>(
+    chip: &mut C,
+    place: u32,
+    head: &Head,
+    payloads: &[Payload],
+    counter: &mut Counter,
+) -> Result<(), ChipFault>
+    requires place { place < (C.told chip.old).places }
+    requires few { length payloads.now ≤ 12 }
+    requires left { counter.old + 12 < 2 ^ 64 }
+    ensures writes { WritesLogs (C.told chip.old).places place head.now.unit head.now.generation
+        counter.old payloads.now (C.told chip.old) result (C.told chip.new) }
+    ensures tells { OnOk result (Charts
+        (HasLogs place head.now.unit head.now.generation counter.old payloads.now
+        (length payloads.now)) (C.told chip.old) (C.told chip.new)) }
+    ensures drawn { OnOk result (counter.new ≡ counter.old + length payloads.now) }
+    ensures draws { (counter.old ≤ counter.new)
+        × (counter.new ≤ counter.old + length payloads.now) }
+    ensures costs { Spends (ProgramsAt place (length payloads.now) 0 5)
+        (C.told chip.old) (C.told chip.new) }
+    ensures accounts { Accounts IsStopped result (C.told chip.old) (C.told chip.new) }
+{
+    for i in 0..payloads.len() {
+        write_log(chip, place, head, i as u32, &payloads[i], counter)?;
+    }
+    Ok(())
+}

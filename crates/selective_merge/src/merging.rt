@@ -1,0 +1,200 @@
+//! The merge.
+ghost use Rattle.std.specs.Prelude.{◌≡◌, ◌<◌, ◌≤◌, ◌+◌, ◌^◌, length, slice_index, is_ok, OnOk};
+ghost use Rattle.ipl_meaning.specs.Chart.{chart_of};
+ghost use Rattle.ipl_meaning.specs.Last.{carried_count};
+ghost use Rattle.ipl_meaning.specs.Layout.{Layout};
+ghost use Rattle.ipl_meaning.specs.Mirrors.{Mirrors};
+ghost use Rattle.overflow.specs.Lists.{spots_in};
+ghost use Rattle.unit_directory.specs.Free.{free_count};
+ghost use Rattle.unit_io.specs.Accounts.{Accounts};
+ghost use Rattle.unit_io.specs.Costs.{Spends};
+ghost use Rattle.unit_io.specs.Reads.{OfContents};
+ghost use Rattle.merge_rules.specs.Known.{KnowsPlaces};
+ghost use Rattle.merge_rules.specs.Pages.{IsFew};
+ghost use Rattle.merge_rules.specs.Packs.{among, packs_of, payloads_of};
+ghost use Rattle.selective_merge.specs.Homes.{from_home, MoveCause, MergeCause};
+ghost use Rattle.selective_merge.specs.Moving.{tables_of, Holds};
+ghost use Rattle.selective_merge.specs.Merging.{
+  CarriesFew,
+  Merges,
+  MergesFrom,
+  StaysMirrored,
+  MergesInSteps,
+  MergesFromInSteps,
+};
+ghost use Rattle.selective_merge.specs.Spending.{ErasesFor};
+ghost use Rattle.selective_merge.specs.Throughout.{ChartsThroughout};
+
+use crate::Parts;
+use crate::carry::pack_carried;
+use crate::home::Home;
+use crate::learning::learn;
+use crate::parts::move_unit;
+use crate::places::write_unit;
+use chip_trait::Chip;
+use ipl_base::ChipFault;
+use merge_rules::known_laws;
+use unit_directory::directory_laws;
+
+/// Merges a unit that was read, and of which this is carried.
+fn merge_packed<C: Chip>(
+    chip: &mut C,
+    parts: &mut Parts,
+    unit: u32,
+    home: &Home,
+) -> Result<(), ChipFault>
+    requires known { KnowsPlaces (C.told chip.old).places (tables_of parts.old) }
+    requires unit { unit + 4 < (C.told chip.old).places }
+    requires left { parts.old.counter + 13 < 2 ^ 64 }
+    requires place { home.now.place ≡ slice_index parts.old.directory.current unit }
+    requires few { IsFew home.now.pieces }
+    requires packed { parts.old.scratch.packs.closed.items
+        ≡ payloads_of (packs_of parts.old.active parts.old.scratch.log) }
+    ensures steps { MergesFromInSteps (C.told chip.old).places unit
+        (from_home home.now parts.old.status.numbers parts.old.scratch.log)
+        (tables_of parts.old) (tables_of parts.new) (C.told chip.old) result (C.told chip.new) }
+    ensures tells { ChartsThroughout
+        (λ done. MergesFrom (C.told chip.old).places unit
+        (from_home home.now parts.old.status.numbers parts.old.scratch.log)
+        (tables_of parts.old) (tables_of parts.new))
+        (StaysMirrored (C.told chip.old).places (tables_of parts.old) (tables_of parts.new))
+        result (C.told chip.old) (C.told chip.new) }
+    ensures few { length (packs_of parts.old.active parts.old.scratch.log) ≤ 12 }
+    ensures room { OnOk result (slice_index parts.new.directory.written unit ≤ 12) }
+    ensures holds { Holds (C.told chip.old).places (tables_of parts.old) (tables_of parts.new) }
+    ensures free { free_count parts.old.directory.in_use ≤ free_count parts.new.directory.in_use }
+    ensures draws { (parts.old.counter ≤ parts.new.counter)
+        × (parts.new.counter ≤ parts.old.counter + 13) }
+    ensures costs { Spends (ErasesFor parts.old.directory
+        (slice_index parts.new.directory.current unit) (is_ok result))
+        (C.told chip.old) (C.told chip.new) }
+    ensures accounts { Accounts (MoveCause (slice_index parts.old.directory.current unit)) result
+        (C.told chip.old) (C.told chip.new) }
+{
+    known_laws();
+    directory_laws();
+    parts.directory.facts();
+    let places = chip.units();
+    let place = parts.directory.take_free();
+    let generation = parts.counter.draw();
+    let payloads = parts.scratch.packs.payloads();
+    let used = payloads.len() as u32;
+    match write_unit(
+        chip,
+        home,
+        &parts.scratch.log,
+        &parts.status,
+        place,
+        generation,
+        places - 4,
+        payloads,
+        &mut parts.counter,
+    ) {
+        Ok(()) => {
+            move_unit(parts, unit, place, used, places);
+            Ok(())
+        }
+        Err(fault) => {
+            // Nothing on it counts, so that the tables are right again.
+            parts.directory.give_back(place);
+            Err(fault)
+        }
+    }
+}
+
+/// Merges a unit that was read. Malformed at sector 0 of its place exactly where more than 12 log
+/// sectors would be carried.
+fn merge_known<C: Chip>(
+    chip: &mut C,
+    parts: &mut Parts,
+    unit: u32,
+    home: &Home,
+) -> Result<(), ChipFault>
+    requires known { KnowsPlaces (C.told chip.old).places (tables_of parts.old) }
+    requires unit { unit + 4 < (C.told chip.old).places }
+    requires left { parts.old.counter + 13 < 2 ^ 64 }
+    requires place { home.now.place ≡ slice_index parts.old.directory.current unit }
+    requires few { IsFew home.now.pieces }
+    ensures steps { MergesFromInSteps (C.told chip.old).places unit
+        (from_home home.now parts.old.status.numbers parts.old.scratch.log)
+        (tables_of parts.old) (tables_of parts.new) (C.told chip.old) result (C.told chip.new) }
+    ensures tells { ChartsThroughout
+        (λ done. MergesFrom (C.told chip.old).places unit
+        (from_home home.now parts.old.status.numbers parts.old.scratch.log)
+        (tables_of parts.old) (tables_of parts.new))
+        (StaysMirrored (C.told chip.old).places (tables_of parts.old) (tables_of parts.new))
+        result (C.told chip.old) (C.told chip.new) }
+    ensures few { CarriesFew home.now.place
+        (length (packs_of parts.old.active parts.old.scratch.log)) result }
+    ensures room { OnOk result (slice_index parts.new.directory.written unit ≤ 12) }
+    ensures holds { Holds (C.told chip.old).places (tables_of parts.old) (tables_of parts.new) }
+    ensures free { free_count parts.old.directory.in_use ≤ free_count parts.new.directory.in_use }
+    ensures draws { (parts.old.counter ≤ parts.new.counter)
+        × (parts.new.counter ≤ parts.old.counter + 13) }
+    ensures costs { Spends (ErasesFor parts.old.directory
+        (slice_index parts.new.directory.current unit) (is_ok result))
+        (C.told chip.old) (C.told chip.new) }
+    ensures accounts { Accounts (MergeCause (slice_index parts.old.directory.current unit)
+        (spots_in parts.old.overflow unit)) result (C.told chip.old) (C.told chip.new) }
+{
+    let scratch = &mut parts.scratch;
+    if !pack_carried(&scratch.log, &parts.active, &mut scratch.packs) {
+        return Err(ChipFault::Malformed {
+            place: home.place,
+            sector: 0,
+        });
+    }
+    merge_packed(chip, parts, unit, home)
+}
+
+/// Merges a unit: it is written to a place that was free, with the records of committed numbers
+/// applied to its pages and, of each name, the last record of an active number carried, packed in
+/// order; records of other numbers are dropped. Then the tables have it there, with at least three
+/// clean log sectors, its old place is free, and so is an overflow place that no list names any more.
+///
+/// Whatever a power cut leaves at any moment stands for the map on which the story rested, and done,
+/// it rests on that map. Where it failed and no write did, it rests on it too, and the tables have
+/// all as before but for the numbers that were drawn, at most 13. It erases one place, which was free,
+/// and programs nothing elsewhere.
+///
+/// It fails where a read or a write failed, where a base sector of a page is damaged or malformed, or
+/// where the log isn't what it must be: over contents that the tables mirror, only where more than 12
+/// log sectors would be carried, which is Malformed at sector 0 of the unit's place.
+pub fn merge<C: Chip>(chip: &mut C, parts: &mut Parts, unit: u32) -> Result<(), ChipFault>
+    requires known { KnowsPlaces (C.told chip.old).places (tables_of parts.old) }
+    requires unit { unit + 4 < (C.told chip.old).places }
+    requires left { parts.old.counter + 13 < 2 ^ 64 }
+
+    // What the chip holds then, and what a power cut leaves.
+    ensures tells { ChartsThroughout
+        (λ done. Merges (C.told chip.old).places unit (tables_of parts.old) (tables_of parts.new))
+        (StaysMirrored (C.told chip.old).places (tables_of parts.old) (tables_of parts.new))
+        result (C.told chip.old) (C.told chip.new) }
+    ensures steps { MergesInSteps (C.told chip.old).places unit
+        (tables_of parts.old) (tables_of parts.new) (C.told chip.old) result (C.told chip.new) }
+    ensures few { OfContents (C.told chip.old) (λ x. (it : Layout)
+        → Mirrors (C.told chip.old).places (chart_of x) it (tables_of parts.old)
+        → CarriesFew (slice_index parts.old.directory.current unit)
+        (carried_count (among parts.old.active) (it.units unit).log) result) }
+
+    // What the tables have, whatever the chip tells.
+    ensures room { OnOk result (slice_index parts.new.directory.written unit ≤ 12) }
+    ensures holds { Holds (C.told chip.old).places (tables_of parts.old) (tables_of parts.new) }
+    ensures free { free_count parts.old.directory.in_use ≤ free_count parts.new.directory.in_use }
+    ensures draws { (parts.old.counter ≤ parts.new.counter)
+        × (parts.new.counter ≤ parts.old.counter + 13) }
+    ensures costs { Spends (ErasesFor parts.old.directory
+        (slice_index parts.new.directory.current unit) (is_ok result))
+        (C.told chip.old) (C.told chip.new) }
+    ensures accounts { Accounts (MergeCause (slice_index parts.old.directory.current unit)
+        (spots_in parts.old.overflow unit)) result (C.told chip.old) (C.told chip.new) }
+{
+    let home = learn(
+        chip,
+        &parts.directory,
+        &parts.overflow,
+        unit,
+        &mut parts.scratch,
+    )?;
+    merge_known(chip, parts, unit, &home)
+}

@@ -1,0 +1,91 @@
+//! A new overflow place.
+ghost use Rattle.std.specs.Prelude.{◌≡◌, ◌<◌, ◌≤◌, ◌+◌, ◌^◌, length, is_ok, IfOk, OnOk};
+ghost use Rattle.ipl_meaning.specs.Tables.{IsFree};
+ghost use Rattle.ipl_meaning.specs.TableSteps.{taken, with_overflow};
+ghost use Rattle.unit_io.specs.Accounts.{Accounts};
+ghost use Rattle.unit_io.specs.Charts.{Charts};
+ghost use Rattle.unit_io.specs.Costs.{ErasesOnce, Spends};
+ghost use Rattle.unit_io.specs.Leads.{IsStopped};
+ghost use Rattle.merge_rules.specs.Known.{KnowsPlaces};
+ghost use Rattle.selective_merge.specs.Moving.{tables_of, Holds};
+ghost use Rattle.selective_merge.specs.Spending.{ErasesFree};
+ghost use Rattle.selective_merge.specs.Placing.{IsOpened, OpensPlace, Opens, OpensInSteps};
+
+use crate::Parts;
+use chip_trait::Chip;
+use ipl_base::{ChipFault, Spot};
+use merge_rules::known_laws;
+use sector_format::Head;
+use unit_io::{begin_unit, seal};
+use unit_layout::write_overflow_header;
+
+/// Erases a place and puts the header of an overflow place on it, for so many units.
+fn write_overflow<C: Chip>(
+    chip: &mut C,
+    place: u32,
+    generation: u64,
+    units: u32,
+) -> Result<(), ChipFault>
+    requires { place < (C.told chip.old).places }
+    ensures opens { OpensPlace (C.told chip.old).places place units generation
+        (C.told chip.old) result (C.told chip.new) }
+    ensures tells { OnOk result (Charts (IsOpened place units generation)
+        (C.told chip.old) (C.told chip.new)) }
+    ensures costs { Spends (ErasesOnce place 3 (is_ok result)) (C.told chip.old) (C.told chip.new) }
+    ensures accounts { Accounts IsStopped result (C.told chip.old) (C.told chip.new) }
+{
+    begin_unit(chip, place)?;
+    let mut payload = [0; 4];
+    write_overflow_header(units, &mut payload);
+    let head = Head {
+        kind: Head::OVERFLOW_HEADER,
+        unit: 0,
+        generation,
+        serial: generation,
+    };
+    seal(chip, place, &head, &payload)
+}
+
+/// Takes a free place as an overflow place, and answers its first sector. That fewer than two are in
+/// use is a condition.
+///
+/// Whatever a power cut leaves at any moment stands for the map on which the story rested. It fails
+/// only where a write failed, and the place is given back then.
+pub fn open_overflow<C: Chip>(chip: &mut C, parts: &mut Parts) -> Result<Spot, ChipFault>
+    requires known { KnowsPlaces (C.told chip.old).places (tables_of parts.old) }
+    requires two { length parts.old.overflow.in_use < 2 }
+    requires left { parts.old.counter + 1 < 2 ^ 64 }
+
+    // What the chip holds then, and what a power cut leaves.
+    ensures tells { OnOk result (Charts
+        (Opens (C.told chip.old).places (tables_of parts.old) (tables_of parts.new))
+        (C.told chip.old) (C.told chip.new)) }
+    ensures steps { OpensInSteps (C.told chip.old).places
+        (tables_of parts.old) (tables_of parts.new) (C.told chip.old) result (C.told chip.new) }
+
+    // What the tables have, whatever the chip tells.
+    ensures opened { IfOk result (λ spot. (spot.sector ≡ 1)
+        × IsFree parts.old.directory spot.place
+        × (tables_of parts.new ≡ with_overflow (taken (tables_of parts.old) spot.place) spot.place
+        (parts.old.counter + 1))) }
+    ensures holds { Holds (C.told chip.old).places (tables_of parts.old) (tables_of parts.new) }
+    ensures draws { (parts.old.counter ≤ parts.new.counter)
+        × (parts.new.counter ≤ parts.old.counter + 1) }
+    ensures costs { Spends (ErasesFree parts.old.directory) (C.told chip.old) (C.told chip.new) }
+    ensures accounts { Accounts IsStopped result (C.told chip.old) (C.told chip.new) }
+{
+    known_laws();
+    let units = chip.units() - 4;
+    let place = parts.directory.take_free();
+    let generation = parts.counter.draw();
+    match write_overflow(chip, place, generation, units) {
+        Ok(()) => {
+            parts.overflow.add_place(place);
+            Ok(Spot { place, sector: 1 })
+        }
+        Err(fault) => {
+            parts.directory.give_back(place);
+            Err(fault)
+        }
+    }
+}

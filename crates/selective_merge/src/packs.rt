@@ -1,0 +1,104 @@
+//! Payloads of log sectors, filled one after another.
+ghost use Rattle.std.specs.Prelude.{◌≡◌, ◌<◌, ◌≤◌, ◌++◌, [], ◌∷◌, List, length, IfOk, vec_capacity};
+ghost use Rattle.std.specs.Bool.{OnTrue, OnFalse};
+ghost use Rattle.ipl_format.specs.Record.{SpellsLog, IsRecord, Record as LogRecord};
+ghost use Rattle.log_records.specs.View.{record_of};
+ghost use Rattle.merge_rules.specs.Packs.{payloads_of};
+ghost use Rattle.selective_merge.specs.Packing.{pack_open, IsAdded};
+
+use ipl_base::OutOfMemory;
+use log_records::{Payload, Record, put};
+use std::alloc::Global;
+use std::mem::replace;
+
+/// The most log sectors that a merge carries.
+const MOST: usize = 12;
+
+/// At most 12 payloads that are full, and one that is being filled. Memory is taken by `new` alone.
+#[derive(Drop)]
+pub struct Packs {
+    closed: Vec<Payload>,
+    last: Payload,
+    ghost room: { 12 ≤ vec_capacity closed },
+    ghost few: { length closed.items ≤ 12 },
+}
+
+impl Packs {
+    /// No records.
+    pub fn new(alloc: Global) -> Result<Packs, OutOfMemory>
+        ensures { IfOk result (λ packs. packs.closed.items ≡ []) }
+    {
+        let closed = Vec::with_capacity(alloc, MOST)?;
+        Ok(Packs {
+            closed,
+            last: Payload::empty(),
+        })
+    }
+
+    /// Makes it as `new` does.
+    pub fn clear(&mut self)
+        ensures closed { self.new.closed.items ≡ [] }
+        ensures last { self.new.last ≡ [] }
+    {
+        self.closed.clear();
+        self.last = Payload::empty();
+    }
+
+    /// The full payloads, at most 12.
+    pub fn payloads(&self) -> &[Payload]
+        ensures all { result.now ≡ self.now.closed.items }
+        ensures few { length result.now ≤ 12 }
+    {
+        &self.closed
+    }
+
+    /// The payload that was being filled is full. False exactly where 12 are full; unchanged then.
+    fn close(&mut self) -> bool
+        ensures closed { OnTrue result
+            (self.new.closed.items ≡ self.old.closed.items ++ self.old.last ∷ []) }
+        ensures last { OnTrue result (self.new.last ≡ []) }
+        ensures full { OnFalse result (12 ≤ length self.old.closed.items) }
+    {
+        if self.closed.len() >= MOST {
+            return false;
+        }
+        let full = replace(&mut self.last, Payload::empty());
+        self.closed.push_reserved(full);
+        true
+    }
+
+    /// Puts a record behind the others, where it fits; else that payload is full, and the record
+    /// begins the next. False exactly where 12 are full and one more would be.
+    pub fn add(&mut self, logged: &Record) -> bool
+        requires { IsRecord (record_of logged.now) }
+        ensures adds { (full : List LogRecord) → SpellsLog self.old.last full
+            → OnTrue result (IsAdded self.old.closed.items full (record_of logged.now)
+            self.new.closed.items self.new.last) }
+        ensures full { (full rest : List LogRecord) → SpellsLog self.old.last full
+            → OnFalse result (12 < length (self.old.closed.items
+            ++ payloads_of (pack_open full (record_of logged.now ∷ rest)))) }
+    {
+        if put(&mut self.last, logged) {
+            return true;
+        }
+        if !self.close() {
+            return false;
+        }
+        put(&mut self.last, logged)
+    }
+
+    /// The last payload is full, unless it has no record. False exactly where 12 were full before.
+    pub fn finish(&mut self) -> bool
+        ensures done { (full : List LogRecord) → SpellsLog self.old.last full
+            → OnTrue result (self.new.closed.items
+            ≡ self.old.closed.items ++ payloads_of (pack_open full [])) }
+        ensures full { (full : List LogRecord) → SpellsLog self.old.last full
+            → OnFalse result (12 < length (self.old.closed.items
+            ++ payloads_of (pack_open full []))) }
+    {
+        if self.last.bytes().is_empty() {
+            return true;
+        }
+        self.close()
+    }
+}

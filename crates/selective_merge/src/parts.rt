@@ -1,0 +1,83 @@
+//! The tables of a store, as a merge needs them.
+ghost use Rattle.std.specs.Prelude.{◌≡◌, ◌≢◌, ◌<◌, ◌≤◌, ◌+◌, AllPairs, length, slice_index};
+ghost use Rattle.ipl_meaning.specs.Mirrors.{AreApart, NoneIsLost};
+ghost use Rattle.ipl_meaning.specs.Tables.{IsFree, overflow_places};
+ghost use Rattle.ipl_meaning.specs.TableSteps.{IsMoved};
+ghost use Rattle.unit_directory.specs.Free.{free_count};
+ghost use Rattle.merge_rules.specs.Known.{Suits};
+ghost use Rattle.selective_merge.specs.Moving.{tables_of, places_moved, Frees, NoneIsLostBut};
+
+use crate::{Active, MergeScratch};
+use ipl_base::Counter;
+use overflow::{Overflow, overflow_laws};
+use txn_status::Status;
+use unit_directory::{Directory, directory_laws};
+
+/// The tables of a store and the counter, the numbers of its open sessions, and the memory of one
+/// merge.
+#[derive(Drop)]
+pub struct Parts {
+    pub directory: Directory,
+    pub overflow: Overflow,
+    pub status: Status,
+    pub counter: Counter,
+    pub active: Active,
+    pub scratch: MergeScratch,
+}
+
+/// Makes a place that was taken a unit's, with so many log sectors written there, at most 15. Its
+/// old place is free.
+fn move_home(directory: &mut Directory, unit: u32, place: u32, used: u32)
+    requires unit { unit < length directory.old.current }
+    requires place { place < length directory.old.in_use }
+    requires another { place ≢ slice_index directory.old.current unit }
+    requires few { used ≤ 15 }
+    ensures { directory.new ≡ places_moved directory.old unit place used }
+{
+    directory.facts();
+    directory.replace(unit, place);
+    for _i in 0..used {
+        directory.used_log(unit);
+    }
+}
+
+/// Gives a place of the chip back, where there is one.
+fn free_one(directory: &mut Directory, place: Option<u32>, places: u32)
+    requires { places ≡ length directory.old.in_use }
+    ensures { Frees directory.old directory.new place }
+{
+    directory_laws();
+    if let Some(place) = place {
+        if place < places {
+            directory.give_back(place);
+        }
+    }
+}
+
+/// The unit stands at a place that was taken, with so many log sectors written there, at most 12.
+/// Its old place is free, and so are overflow places that no list names any more.
+pub fn move_unit(parts: &mut Parts, unit: u32, place: u32, used: u32, places: u32)
+    requires suits { Suits places (tables_of parts.old) }
+    requires unit { unit + 4 < places }
+    requires place { place < places }
+    requires another { place ≢ slice_index parts.old.directory.current unit }
+    requires few { used ≤ 12 }
+    ensures moved { AllPairs AreApart (overflow_places (tables_of parts.old))
+        → IsMoved (tables_of parts.old) (tables_of parts.new) unit place used }
+    ensures stands { slice_index parts.new.directory.current unit ≡ place }
+    ensures room { slice_index parts.new.directory.written unit ≡ used }
+    ensures lost { NoneIsLostBut place places (tables_of parts.old)
+        → NoneIsLost places (tables_of parts.new) }
+    ensures free { ¬ IsFree parts.old.directory (slice_index parts.old.directory.current unit)
+        → free_count parts.old.directory.in_use + 1 ≤ free_count parts.new.directory.in_use }
+    ensures counter { parts.new.counter ≡ parts.old.counter }
+{
+    overflow_laws();
+    directory_laws();
+    parts.directory.facts();
+    move_home(&mut parts.directory, unit, place, used);
+    let left = parts.overflow.drop_unit(unit);
+    parts.overflow.facts();
+    free_one(&mut parts.directory, left[0], places);
+    free_one(&mut parts.directory, left[1], places);
+}

@@ -1,0 +1,152 @@
+//! A unit written to a place that was free.
+ghost use Rattle.std.specs.Prelude.{◌≡◌, ◌≢◌, ◌<◌, ◌≤◌, ◌+◌, ◌^◌, length, is_ok, IfOk, OnOk};
+ghost use Rattle.unit_io.specs.Accounts.{Accounts};
+ghost use Rattle.unit_io.specs.Charts.{Charts};
+ghost use Rattle.unit_io.specs.Costs.{ErasesOnce, ProgramsAt, Spends};
+ghost use Rattle.unit_io.specs.Leads.{IsStopped};
+ghost use Rattle.merge_rules.specs.Pages.{IsFew};
+ghost use Rattle.merge_rules.specs.Moved.{IsUnsealed};
+ghost use Rattle.merge_rules.specs.Merged.{IsFilled};
+ghost use Rattle.selective_merge.specs.Homes.{from_home, MoveCause};
+ghost use Rattle.selective_merge.specs.Throughout.{ChartsThroughout};
+ghost use Rattle.selective_merge.specs.Writing.{FillsPlace, IsSealed, SealsUnit, WritesUnit, TellsWritten};
+
+use crate::home::Home;
+use crate::log::Log;
+use crate::logs::write_logs;
+use crate::pages::move_pages;
+use chip_trait::Chip;
+use ipl_base::{ChipFault, Counter};
+use log_records::Payload;
+use sector_format::Head;
+use txn_status::Status;
+use unit_io::{begin_unit, seal};
+use unit_layout::{DataHeader, write_data_header};
+
+/// Erases a place and fills it with the pages of a unit, as the committed records leave them, and
+/// with log sectors of these payloads, at most 12. Answers how many sectors each page took.
+fn fill<C: Chip>(
+    chip: &mut C,
+    home: &Home,
+    log: &Log,
+    status: &Status,
+    place: u32,
+    head: &Head,
+    payloads: &[Payload],
+    counter: &mut Counter,
+) -> Result<[u8; 15], ChipFault>
+    requires home { home.now.place < (C.told chip.old).places }
+    requires few { IsFew home.now.pieces }
+    requires place { place < (C.told chip.old).places }
+    requires another { home.now.place ≢ place }
+    requires unit { head.now.unit ≡ home.now.head.unit }
+    requires twelve { length payloads.now ≤ 12 }
+    requires left { counter.old + 12 < 2 ^ 64 }
+    ensures fills { FillsPlace (C.told chip.old).places
+        (from_home home.now status.now.numbers log.now) place head.now.generation counter.old
+        payloads.now (C.told chip.old) result (C.told chip.new) }
+    ensures tells { ChartsThroughout
+        (λ pieces. IsFilled (from_home home.now status.now.numbers log.now) place
+        head.now.generation counter.old pieces payloads.now)
+        (IsUnsealed place) result (C.told chip.old) (C.told chip.new) }
+    ensures few { IfOk result IsFew }
+    ensures drawn { OnOk result (counter.new ≡ counter.old + length payloads.now) }
+    ensures draws { (counter.old ≤ counter.new)
+        × (counter.new ≤ counter.old + length payloads.now) }
+    ensures costs { Spends (ErasesOnce place 1 (is_ok result))
+        (C.told chip.old) (C.told chip.new) }
+    ensures accounts { Accounts (MoveCause home.now.place) result
+        (C.told chip.old) (C.told chip.new) }
+{
+    begin_unit(chip, place)?;
+    let pieces = move_pages(chip, home, log, status, place, head)?;
+    write_logs(chip, place, head, payloads, counter)?;
+    Ok(pieces)
+}
+
+/// Puts a unit's header on a place that holds its pages and so many carried log sectors, once these
+/// are made sure of, and makes sure of it.
+fn seal_unit<C: Chip>(
+    chip: &mut C,
+    place: u32,
+    head: &Head,
+    units: u32,
+    pieces: [u8; 15],
+    carried: u8,
+) -> Result<(), ChipFault>
+    requires place { place < (C.told chip.old).places }
+    requires few { IsFew pieces }
+    requires twelve { carried ≤ 12 }
+    requires kind { head.now.kind ≡ 1 }
+    requires serial { head.now.serial ≡ head.now.generation }
+    ensures seals { SealsUnit (C.told chip.old).places place units head.now.unit
+        head.now.generation pieces carried (C.told chip.old) result (C.told chip.new) }
+    ensures tells { OnOk result (Charts
+        (IsSealed place units head.now.unit head.now.generation pieces carried)
+        (C.told chip.old) (C.told chip.new)) }
+    ensures costs { Spends (ProgramsAt place 1 2 1) (C.told chip.old) (C.told chip.new) }
+    ensures accounts { Accounts IsStopped result (C.told chip.old) (C.told chip.new) }
+{
+    let mut payload = [0; 20];
+    let header = DataHeader {
+        units,
+        pieces,
+        carried,
+    };
+    write_data_header(&header, &mut payload);
+    seal(chip, place, head, &payload)
+}
+
+/// How many payloads there are, at most 12.
+fn count_of(payloads: &[Payload]) -> u8
+    requires { length payloads.now ≤ 12 }
+    ensures { result ≡ length payloads.now }
+{
+    payloads.len() as u8
+}
+
+/// Writes a unit to a place that was free, under a generation that was drawn for it: the place is
+/// erased and filled, and its header makes it the unit's.
+pub fn write_unit<C: Chip>(
+    chip: &mut C,
+    home: &Home,
+    log: &Log,
+    status: &Status,
+    place: u32,
+    generation: u64,
+    units: u32,
+    payloads: &[Payload],
+    counter: &mut Counter,
+) -> Result<(), ChipFault>
+    requires home { home.now.place < (C.told chip.old).places }
+    requires few { IsFew home.now.pieces }
+    requires place { place < (C.told chip.old).places }
+    requires another { home.now.place ≢ place }
+    requires sized { units + 4 ≡ (C.told chip.old).places }
+    requires twelve { length payloads.now ≤ 12 }
+    requires left { counter.old + 12 < 2 ^ 64 }
+    ensures writes { WritesUnit (C.told chip.old).places
+        (from_home home.now status.now.numbers log.now) place generation counter.old
+        payloads.now (C.told chip.old) result (C.told chip.new) }
+    ensures tells { ChartsThroughout
+        (λ done. TellsWritten (C.told chip.old).places
+        (from_home home.now status.now.numbers log.now) place generation counter.old payloads.now)
+        (IsUnsealed place) result (C.told chip.old) (C.told chip.new) }
+    ensures drawn { OnOk result (counter.new ≡ counter.old + length payloads.now) }
+    ensures draws { (counter.old ≤ counter.new)
+        × (counter.new ≤ counter.old + length payloads.now) }
+    ensures costs { Spends (ErasesOnce place 3 (is_ok result))
+        (C.told chip.old) (C.told chip.new) }
+    ensures accounts { Accounts (MoveCause home.now.place) result
+        (C.told chip.old) (C.told chip.new) }
+{
+    let head = Head {
+        kind: Head::DATA_HEADER,
+        unit: home.head.unit,
+        generation,
+        serial: generation,
+    };
+    let pieces = fill(chip, home, log, status, place, &head, payloads, counter)?;
+    let carried = count_of(payloads);
+    seal_unit(chip, place, &head, units, pieces, carried)
+}

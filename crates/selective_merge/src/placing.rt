@@ -1,0 +1,132 @@
+//! Where a log sector of a unit goes: the rules.
+ghost use Rattle.std.specs.Prelude.{◌≡◌, ◌<◌, ◌≤◌, ◌+◌, ◌^◌, slice_index, IfOk};
+ghost use Rattle.overflow.specs.Lists.{spots_in};
+ghost use Rattle.unit_directory.specs.Free.{free_count};
+ghost use Rattle.unit_io.specs.Accounts.{Accounts};
+ghost use Rattle.unit_io.specs.Costs.{Spends};
+ghost use Rattle.unit_io.specs.ReadsAt.{ReadsAt};
+ghost use Rattle.merge_rules.specs.Known.{KnowsPlaces};
+ghost use Rattle.selective_merge.specs.Homes.{MergeCause};
+ghost use Rattle.selective_merge.specs.Merging.{Merges, StaysMirrored, MergesInSteps};
+ghost use Rattle.selective_merge.specs.Moving.{tables_of, Holds};
+ghost use Rattle.selective_merge.specs.Placing.{IsElsewhere, IsPlaced, MakesRoom, MakesRoomInSteps};
+ghost use Rattle.selective_merge.specs.Spotting.{HasHomeSpot, IsHomeSpot, IsSpotFor};
+ghost use Rattle.selective_merge.specs.Spending.{ErasesFree};
+ghost use Rattle.selective_merge.specs.Throughout.{ChartsThroughout};
+
+use crate::Parts;
+use crate::merging::merge;
+use crate::overflowing::open_overflow;
+use crate::spots::{OverflowChoice, count_carried, home_spot, overflow_choice};
+use chip_trait::Chip;
+use ipl_base::{ChipFault, Spot};
+
+/// The most carried sectors with which a unit is merged rather than given an overflow sector.
+const THRESHOLD: u32 = 7;
+
+/// Merges the unit, and answers its first clean log sector.
+fn merged_spot<C: Chip>(chip: &mut C, parts: &mut Parts, unit: u32) -> Result<Spot, ChipFault>
+    requires known { KnowsPlaces (C.told chip.old).places (tables_of parts.old) }
+    requires unit { unit + 4 < (C.told chip.old).places }
+    requires left { parts.old.counter + 13 < 2 ^ 64 }
+    ensures tells { ChartsThroughout
+        (λ spot. Merges (C.told chip.old).places unit (tables_of parts.old) (tables_of parts.new))
+        (StaysMirrored (C.told chip.old).places (tables_of parts.old) (tables_of parts.new))
+        result (C.told chip.old) (C.told chip.new) }
+    ensures steps { MergesInSteps (C.told chip.old).places unit
+        (tables_of parts.old) (tables_of parts.new) (C.told chip.old) result (C.told chip.new) }
+    ensures spot { IfOk result (λ spot.
+        IsHomeSpot (tables_of parts.new) unit spot.place spot.sector) }
+    ensures holds { Holds (C.told chip.old).places (tables_of parts.old) (tables_of parts.new) }
+    ensures draws { (parts.old.counter ≤ parts.new.counter)
+        × (parts.new.counter ≤ parts.old.counter + 13) }
+    ensures costs { Spends (ErasesFree parts.old.directory) (C.told chip.old) (C.told chip.new) }
+    ensures accounts { Accounts (MergeCause (slice_index parts.old.directory.current unit)
+        (spots_in parts.old.overflow unit)) result (C.told chip.old) (C.told chip.new) }
+{
+    merge(chip, parts, unit)?;
+    match home_spot(parts, unit) {
+        Some(spot) => Ok(spot),
+        None => unreachable!("a merge leaves three log sectors clean"),
+    }
+}
+
+/// An overflow sector where one is to be had, else the first clean one of the merged unit.
+fn elsewhere<C: Chip>(chip: &mut C, parts: &mut Parts, unit: u32) -> Result<Spot, ChipFault>
+    requires known { KnowsPlaces (C.told chip.old).places (tables_of parts.old) }
+    requires unit { unit + 4 < (C.told chip.old).places }
+    requires left { parts.old.counter + 13 < 2 ^ 64 }
+    ensures tells { ChartsThroughout
+        (MakesRoom IsElsewhere (C.told chip.old).places unit
+        (tables_of parts.old) (tables_of parts.new))
+        (StaysMirrored (C.told chip.old).places (tables_of parts.old) (tables_of parts.new))
+        result (C.told chip.old) (C.told chip.new) }
+    ensures steps { MakesRoomInSteps IsElsewhere (C.told chip.old).places unit
+        (tables_of parts.old) (tables_of parts.new) (C.told chip.old) result (C.told chip.new) }
+    ensures spot { IfOk result (λ spot.
+        IsSpotFor (tables_of parts.new) unit spot.place spot.sector) }
+    ensures holds { Holds (C.told chip.old).places (tables_of parts.old) (tables_of parts.new) }
+    ensures draws { (parts.old.counter ≤ parts.new.counter)
+        × (parts.new.counter ≤ parts.old.counter + 13) }
+    ensures costs { Spends (ErasesFree parts.old.directory) (C.told chip.old) (C.told chip.new) }
+    ensures accounts { Accounts (MergeCause (slice_index parts.old.directory.current unit)
+        (spots_in parts.old.overflow unit)) result (C.told chip.old) (C.told chip.new) }
+{
+    match overflow_choice(parts, unit) {
+        OverflowChoice::Clean(spot) => Ok(spot),
+        OverflowChoice::NewPlace => open_overflow(chip, parts),
+        OverflowChoice::Nothing => merged_spot(chip, parts, unit),
+    }
+}
+
+/// A clean sector for the next log sector of a unit, by the first rule that applies: the lowest clean
+/// log sector at home; where at most 7 sectors would be carried, that of the merged unit; one of an
+/// overflow place, where one is to be had; that of the merged unit all the same.
+///
+/// Whatever a power cut leaves at any moment stands for the map on which the story rested, and where
+/// no write failed, it rests on that map at the end; at most 13 numbers are drawn. It fails as `merge`
+/// does. Where a log sector is clean at home nothing is asked of the chip; else at most one place is
+/// erased, which was free, and nothing is programmed elsewhere.
+pub fn log_place<C: Chip>(chip: &mut C, parts: &mut Parts, unit: u32) -> Result<Spot, ChipFault>
+    requires known { KnowsPlaces (C.told chip.old).places (tables_of parts.old) }
+    requires unit { unit + 4 < (C.told chip.old).places }
+    requires left { parts.old.counter + 13 < 2 ^ 64 }
+
+    // What the chip holds then, and what a power cut leaves.
+    ensures tells { ChartsThroughout
+        (MakesRoom IsPlaced (C.told chip.old).places unit
+        (tables_of parts.old) (tables_of parts.new))
+        (StaysMirrored (C.told chip.old).places (tables_of parts.old) (tables_of parts.new))
+        result (C.told chip.old) (C.told chip.new) }
+    ensures steps { MakesRoomInSteps IsPlaced (C.told chip.old).places unit
+        (tables_of parts.old) (tables_of parts.new) (C.told chip.old) result (C.told chip.new) }
+
+    // What the tables have, whatever the chip tells.
+    ensures spot { IfOk result (λ spot.
+        IsSpotFor (tables_of parts.new) unit spot.place spot.sector) }
+    ensures home { HasHomeSpot (tables_of parts.old) unit
+        → (tables_of parts.new ≡ tables_of parts.old)
+        × ReadsAt (λ p s. ⊥) (C.told chip.old) (C.told chip.new) }
+    ensures holds { Holds (C.told chip.old).places (tables_of parts.old) (tables_of parts.new) }
+    ensures draws { (parts.old.counter ≤ parts.new.counter)
+        × (parts.new.counter ≤ parts.old.counter + 13) }
+    ensures costs { Spends (ErasesFree parts.old.directory) (C.told chip.old) (C.told chip.new) }
+    ensures accounts { Accounts (MergeCause (slice_index parts.old.directory.current unit)
+        (spots_in parts.old.overflow unit)) result (C.told chip.old) (C.told chip.new) }
+{
+    if let Some(spot) = home_spot(parts, unit) {
+        return Ok(spot);
+    }
+    let carried = count_carried(
+        chip,
+        &parts.directory,
+        &parts.overflow,
+        &parts.active,
+        unit,
+        &mut parts.scratch,
+    )?;
+    if carried <= THRESHOLD {
+        return merged_spot(chip, parts, unit);
+    }
+    elsewhere(chip, parts, unit)
+}

@@ -1,0 +1,123 @@
+//! Clean sectors that the tables know, and how many sectors a merge would carry.
+ghost use Rattle.std.specs.Prelude.{◌≡◌, ◌<◌, ◌≤◌, ◌+◌, min, ℕ, slice_index, length, IfOk, IfSome, IfNone, MatchResult};
+ghost use Rattle.ipl_base.specs.declared.fault.ChipFault.TheVariants.{ReadFault};
+ghost use Rattle.ipl_meaning.specs.Chart.{chart_of};
+ghost use Rattle.ipl_meaning.specs.Last.{carried_count};
+ghost use Rattle.ipl_meaning.specs.Layout.{Layout};
+ghost use Rattle.ipl_meaning.specs.Mirrors.{Mirrors};
+ghost use Rattle.overflow.specs.Lists.{spots_in};
+ghost use Rattle.unit_io.specs.Reads.{OfContents};
+ghost use Rattle.unit_log.specs.Live.{OfMirrored};
+ghost use Rattle.unit_log.specs.Looks.{IsLogRead, LooksAt};
+ghost use Rattle.merge_rules.specs.Known.{Suits};
+ghost use Rattle.merge_rules.specs.Packs.{among, packs_of};
+ghost use Rattle.selective_merge.specs.Moving.{tables_of};
+ghost use Rattle.selective_merge.specs.Spotting.{IsHomeSpot, IsChoice};
+
+use crate::carry::pack_carried;
+use crate::learning::learn;
+use crate::{Active, MergeScratch, Parts};
+use chip_trait::Chip;
+use ipl_base::{ChipFault, OVERFLOW_SECTORS, Spot};
+use overflow::Overflow;
+use unit_directory::Directory;
+
+/// The first clean log sector at the unit's home, if there is one.
+pub fn home_spot(parts: &Parts, unit: u32) -> Option<Spot>
+    requires { unit < length parts.now.directory.current }
+    ensures some { IfSome result (λ spot.
+        IsHomeSpot (tables_of parts.now) unit spot.place spot.sector) }
+    ensures none { IfNone result (slice_index parts.now.directory.written unit ≡ 15) }
+{
+    let sector = parts.directory.next_log(unit)?;
+    let place = parts.directory.current(unit);
+    Some(Spot { place, sector })
+}
+
+/// An overflow sector for a unit, where one is to be had: a clean one, or the first of a new overflow
+/// place.
+#[derive(Clone, Copy)]
+pub enum OverflowChoice {
+    Clean(Spot),
+    NewPlace,
+    Nothing,
+}
+
+/// Which overflow sector is to be had for the unit.
+pub fn overflow_choice(parts: &Parts, unit: u32) -> OverflowChoice
+    requires { unit < length parts.now.overflow.spots }
+    ensures { IsChoice (tables_of parts.now) unit result }
+{
+    if parts.overflow.count(unit) as usize >= OVERFLOW_SECTORS {
+        return OverflowChoice::Nothing;
+    }
+    if let Some(spot) = parts.overflow.spot() {
+        return OverflowChoice::Clean(spot);
+    }
+    if parts.overflow.may_add() {
+        return OverflowChoice::NewPlace;
+    }
+    OverflowChoice::Nothing
+}
+
+/// How many log sectors are packed of what is carried; more than 12 are counted as 13.
+fn packed_count(scratch: &mut MergeScratch, active: &Active) -> u32
+    ensures { result ≡ min 13 (length (packs_of active.now scratch.old.log)) }
+{
+    if pack_carried(&scratch.log, active, &mut scratch.packs) {
+        scratch.packs.payloads().len() as u32
+    } else {
+        13
+    }
+}
+
+/// How many log sectors a merge of the unit would carry; more than 12 are counted as 13.
+pub fn count_carried<C: Chip>(
+    chip: &mut C,
+    directory: &Directory,
+    overflow: &Overflow,
+    active: &Active,
+    unit: u32,
+    scratch: &mut MergeScratch,
+) -> Result<u32, ChipFault>
+    requires unit { unit < length directory.now.current }
+    requires size { length directory.now.in_use ≡ (C.told chip.old).places }
+    requires units { length overflow.now.spots ≡ length directory.now.current }
+    ensures exact { OfMirrored (C.told chip.old) directory.now overflow.now (λ it.
+        MatchResult result (λ n. n ≡ min 13 (carried_count (among active.now) (it.units unit).log))
+        (λ fault. fault ≡ ReadFault)) }
+    ensures most { IfOk result (λ n. n ≤ 13) }
+    ensures looks { LooksAt
+        (IsLogRead (slice_index directory.now.current unit) (spots_in overflow.now unit))
+        result (C.told chip.old) (C.told chip.new) }
+{
+    learn(chip, directory, overflow, unit, scratch)?;
+    Ok(packed_count(scratch, active))
+}
+
+/// How many log sectors a merge of the unit would carry; more than 12 are counted as 13.
+///
+/// It reads the unit's header and its log. Where the tables mirror what the chip holds, it fails only
+/// where a read failed.
+pub fn carried<C: Chip>(chip: &mut C, parts: &mut Parts, unit: u32) -> Result<u32, ChipFault>
+    requires suits { Suits (C.told chip.old).places (tables_of parts.old) }
+    requires unit { unit + 4 < (C.told chip.old).places }
+    ensures exact { OfContents (C.told chip.old) (λ x. (it : Layout)
+        → Mirrors (C.told chip.old).places (chart_of x) it (tables_of parts.old)
+        → MatchResult result
+        (λ n. n ≡ min 13 (carried_count (among parts.old.active) (it.units unit).log))
+        (λ fault. fault ≡ ReadFault)) }
+    ensures most { IfOk result (λ n. n ≤ 13) }
+    ensures same { tables_of parts.new ≡ tables_of parts.old }
+    ensures looks { LooksAt (IsLogRead (slice_index parts.old.directory.current unit)
+        (spots_in parts.old.overflow unit)) result (C.told chip.old) (C.told chip.new) }
+{
+    count_carried(
+        chip,
+        &parts.directory,
+        &parts.overflow,
+        &parts.active,
+        unit,
+        &mut parts.scratch,
+    )
+}
