@@ -1,0 +1,104 @@
+-- The places that the tables know, once the status has a new one.
+use Rattle.std.proofs.Common.{◌≡◌, ◌<◌, ◌+◌, ℕ, true, false, List, length, slice_set, inl, inr, sym, ◌∙◌, ap, subst}
+use Rattle.std.specs.List.{AllPairs, Contains}
+use Rattle.std.proofs.lemmas.List.{length-set}
+use Rattle.ipl_meaning.specs.Mirrors.{AreApart}
+use Rattle.ipl_meaning.specs.Tables.{IsFree, Places, Status, Tables, overflow_places}
+use Rattle.merge_rules.specs.Known.{IsNamed, KnowsPlaces}
+use Rattle.unit_directory.specs.Laws.{UsesTake, DisusesGiveBack}
+use Rattle.status_renewal.specs.Renewed.{HasTables, with_tables}
+use Rattle.status_renewal.proofs.PlaceLemmas.{IsMovedTo, none_lost, then_free}
+
+module _ (takes : UsesTake) (gives_back : DisusesGiveBack) (places p : ℕ) (d : Places)
+    (status : Status) (next : ℕ) (kept : List ℕ) (sized : length d.in_use ≡ places)
+    (free : IsFree d p) (within : p < places)
+    (after : Places) (new : Status) (drawn : ℕ) (is : IsMovedTo p d status next kept after new drawn)
+    (t : Tables) (has : HasTables t d status next) (known : KnowsPlaces places t) where
+  -- what is named isn't free
+  busy : (q : ℕ) → IsNamed t q → ¬ IsFree d q
+  busy q named free_q =
+      known.used q named (subst (λ (e : Places). IsFree e q) (sym has.places_is) free_q)
+
+  -- so the new place isn't named, and the old one is
+  unnamed : ¬ IsNamed t p
+  unnamed named = busy p named free
+
+  old_is : status.place ≡ t.status.place
+  old_is = sym (ap (λ (s : Status). s.place) has.status_is)
+
+  homes : after.current ≡ t.places.current
+  homes =
+      ap (λ (e : Places). e.current) is.places_is
+      ∙ sym (ap (λ (e : Places). e.current) has.places_is)
+
+  -- a place that was named, and isn't the old status place
+  still_busy : (q : ℕ) → IsNamed t q → ¬ (q ≡ t.status.place) → ¬ IsFree after q
+  still_busy q named apart free_q = elim (then_free takes gives_back places p d status next kept
+      sized free within after new drawn is q free_q) [
+        | inl before ↦ busy q named (((takes d p).free q).0 before).0
+        | inr old ↦ apart (old ∙ old_is)
+      ]
+
+  place_is : new.place ≡ p
+  place_is = ap (λ (s : Status). s.place) is.status_is
+
+  used_then : (q : ℕ) → IsNamed (with_tables t after new drawn) q → ¬ IsFree after q
+  used_then q (inl home) =
+      let was : Contains t.places.current q =
+      subst (λ (l : List ℕ). Contains l q) homes home in
+      still_busy q (inl was)
+      (λ at. known.status_apart.0 (subst (Contains t.places.current) at was))
+  used_then q (inr (inl at)) = λ free_q. elim (then_free takes gives_back places p d status next
+      kept sized free within after new drawn is q free_q) [
+        | inl before ↦ (((takes d p).free q).0 before).1 (at ∙ place_is)
+        | inr old ↦ unnamed (inr (inl (sym (at ∙ place_is) ∙ old ∙ old_is)))
+      ]
+  used_then q (inr (inr there)) = still_busy q (inr (inr there))
+      (λ at. known.status_apart.1 (subst (Contains (overflow_places t)) at there))
+
+  pub known_renewed : KnowsPlaces places (with_tables t after new drawn)
+  known_renewed = record {
+    suits = record {
+      all = ap (λ (e : Places). length e.in_use) is.places_is
+          ∙ length-set (slice_set d.in_use p true) status.place false
+          ∙ length-set d.in_use p true
+          ∙ sym (ap (λ (e : Places). length e.in_use) has.places_is) ∙ known.suits.all;
+      units = ap (λ (l : List ℕ). length l + 4) homes ∙ known.suits.units;
+      overflow = known.suits.overflow;
+    };
+    none_lost = none_lost takes gives_back places p d status next kept sized free within after new drawn
+        is t has known.none_lost;
+    used = used_then;
+    homes_apart = subst (AllPairs AreApart) (sym homes) known.homes_apart;
+    overflows_apart = known.overflows_apart;
+    no_home = λ q there home. known.no_home q there
+        (subst (λ (l : List ℕ). Contains l q) homes home);
+    status_apart = (
+      λ home. unnamed (inl (subst (λ (l : List ℕ). Contains l p) homes
+          (subst (Contains after.current) place_is home))),
+      λ there. unnamed (inr (inr (subst (Contains (overflow_places t)) place_is there))),
+    );
+    two = known.two;
+  }
+
+-- and where nothing has changed but the counter
+pub known_same : (places : ℕ) (t : Tables) (after : Places) (new : Status) (drawn : ℕ)
+    → after ≡ t.places → new ≡ t.status → KnowsPlaces places t
+    → KnowsPlaces places (with_tables t after new drawn)
+known_same places t after new drawn same still known =
+    subst (λ (e : Places). KnowsPlaces places (with_tables t e new drawn)) (sym same)
+    (subst (λ (s : Status). KnowsPlaces places (with_tables t t.places s drawn)) (sym still)
+    (record {
+      suits = record {
+        all = known.suits.all;
+        units = known.suits.units;
+        overflow = known.suits.overflow;
+      };
+      none_lost = known.none_lost;
+      used = known.used;
+      homes_apart = known.homes_apart;
+      overflows_apart = known.overflows_apart;
+      no_home = known.no_home;
+      status_apart = known.status_apart;
+      two = known.two;
+    }))

@@ -1,0 +1,14 @@
+pub mod JoinLemmas
+pub mod KeepsLemmas
+pub mod ReadyLemmas
+pub mod ChainLemmas
+pub mod PlaceLemmas
+pub mod UnitLemmas
+pub mod PassLemmas
+pub mod PreserveLemmas
+pub mod KnownLemmas
+pub mod RenewLemmas
+pub mod CauseLemmas
+pub mod RestLemmas
+pub mod CostLemmas
+pub mod RecoverLemmas

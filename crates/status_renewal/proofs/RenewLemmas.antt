@@ -1,0 +1,74 @@
+-- All units passed, and a new status place with the numbers that are kept.
+use Rattle.std.proofs.Common.{◌≡◌, ◌≤◌, ◌-◌, ◌∙◌, ℕ, Bool, IsTrue, List, Result, Ok, Err, OnOk, OnErr, IfErr, MatchResult, refl, sym, ap, subst}
+use Rattle.chip_trait.specs.Told.{Told}
+use Rattle.ipl_base.specs.declared.fault.ChipFault.{ChipFault}
+use Rattle.ipl_meaning.specs.Chart.{Chart, chart_of}
+use Rattle.ipl_meaning.specs.Layout.{Layout}
+use Rattle.ipl_meaning.specs.Steps.{with_status}
+use Rattle.ipl_meaning.specs.Tables.{Places, Status, Tables}
+use Rattle.number_set.specs.Numbers.{among}
+use Rattle.txn_status.specs.Status.{room_of}
+use Rattle.unit_io.specs.Charts.{Charts}
+use Rattle.unit_io.specs.Leads.{IsStopped}
+use Rattle.status_renewal.specs.Passes.{HasPassed, HasRenewed, TellsChart, PassEnds}
+use Rattle.status_renewal.specs.Renewed.{with_tables, MayRenew, Renews}
+use Rattle.status_renewal.proofs.KeepsLemmas.{kept_numbers_keep, kept_numbers_are_exact}
+use Rattle.status_renewal.proofs.ReadyLemmas.{kept_numbers_are_old}
+
+module _ (places : ℕ) (c : Chart) (it : Layout) (t : Tables) (kept : List ℕ) (mid : Told)
+    (between : Tables) (was : HasPassed places (places - 4) c it t kept mid between) where
+  -- the numbers may be kept
+  pub may_renew : MayRenew places was.now between kept
+  may_renew = record {
+    keeps = kept_numbers_keep places was.now kept was.keeps;
+    may = kept_numbers_are_old places (places - 4) (chart_of was.contents) was.now between kept
+        was.mirrors was.keeps;
+  }
+
+  module _ (directory : Places) (status : Status) (drawn : ℕ) (new : Told) where
+    pub renewed : Charts (Renews places between.places between.status between.next kept directory
+        status drawn) mid new
+        → TellsChart (HasRenewed places c it t (with_tables between directory status drawn)) new
+    renewed renews =
+        let (y, told_y, made) = renews was.contents was.told in
+        let switched = made was.now between
+        (record { places_is = refl; status_is = refl; next_is = refl }) was.mirrors may_renew in (
+          y,
+          told_y,
+          record {
+            now = with_status was.now status.place switched.head (among kept);
+            mirrors = switched.mirrors;
+            pages = λ u page values low few shows. switched.pages may_renew.keeps u page values low
+                few (was.pages u page values low few shows);
+            passed = record {
+              same = λ u low either. was.passed.same u low either;
+              merged = λ u before full. was.passed.merged u before full;
+            };
+            committed = ap among was.kept_is;
+            exact = λ tid.
+                let both = kept_numbers_are_exact places was.now kept was.keeps tid in (
+                  λ is. let (committed, logged) = both.0 is in
+                      (subst (λ (f : ℕ → Bool). IsTrue (f tid)) was.committed committed, logged),
+                  λ is. both.1
+                      (subst (λ (f : ℕ → Bool). IsTrue (f tid)) (sym was.committed) is.0, is.1),
+                );
+          },
+        )
+
+    -- however the writing of the status place ended
+    pub renew_ends : (result : Result (Unit {0}) ChipFault)
+        → OnOk result (Charts (Renews places between.places between.status between.next kept
+        directory status drawn) mid new)
+        → IfErr result (λ fault. IsStopped fault mid new)
+        → PassEnds places it t result new (with_tables between directory status drawn)
+        (TellsChart (HasRenewed places c it t (with_tables between directory status drawn)) new)
+    renew_ends (Ok v) renews stopped = renewed renews
+    renew_ends (Err e) renews stopped = λ soft. absurd (soft stopped.0)
+
+-- what the status has, however its writing ended
+pub status_ends : (result : Result (Unit {0}) ChipFault) (before after : Places)
+    (old between new : Status) → OnOk result (191 ≤ room_of new)
+    → OnErr result ((after ≡ before) × (new ≡ between)) → between ≡ old
+    → MatchResult result (λ _. 191 ≤ room_of new) (λ _. new ≡ old)
+status_ends (Ok v) before after old between new room same was = room
+status_ends (Err e) before after old between new room same was = same.1 ∙ was

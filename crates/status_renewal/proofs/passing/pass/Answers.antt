@@ -1,0 +1,115 @@
+use Rattle.std.proofs.Common.{◌≡◌, ◌+◌, ◌-◌, ◌∙◌, ℕ, List, Ok, Err, refl, sym, ap, subst, arith}
+use Rattle.std.proofs.lemmas.Result.{err_from_is_err_and}
+use Rattle.chip_trait.proofs.CountsLemmas.{counts_none, counts_then}
+use Rattle.ipl_meaning.specs.Chart.{chart_of}
+use Rattle.selective_merge.specs.Moving.{tables_of, Holds}
+use Rattle.steps.proofs.MapLemmas.{nothing_keeps}
+use Rattle.status_renewal.specs.Passes.{HasPassed}
+use Rattle.status_renewal.proofs.CostLemmas.{erases_none, erases_more, erases_then}
+use Rattle.status_renewal.proofs.PassLemmas.{passed_none}
+use Rattle.status_renewal.proofs.PreserveLemmas.{passed_then}
+use Rattle.status_renewal.proofs.passing.pass.Goals as goal
+
+pub loop-unit-init : goal.loop-unit-init
+loop-unit-init g c =
+    let t = tables_of c.args.parts.now in
+    let told = g.C.Chip.told c.args.chip.now in record {
+      counts = counts_none told;
+      holds = record { active = refl; status = refl; known = c.requires.known };
+      least = omega arith;
+      most = omega arith;
+      costs = erases_none told;
+      passes = λ places x it same is mirrors.
+          subst (λ (kept : List ℕ). HasPassed places 0 (chart_of x) it t kept told t)
+          (sym c.clear.ensures) (passed_none places (chart_of x) it t x told refl is mirrors);
+      steps = λ places same m it h steady rests agrees. nothing_keeps places m t h told steady rests;
+    }
+
+pub returns-in_err-take_unit-clause-passes : goal.returns-in_err-take_unit-clause-passes
+returns-in_err-take_unit-clause-passes g c = λ places x it same is mirrors.
+    let so_far = c.loop-unit.invariant in
+    let t = tables_of c.args.parts.now in
+    let e = err_from_is_err_and c.from_residual.result c.from_residual.ensures.1 in
+    rw (e.1 ∙ ap Err e.2) (c.in_err-take_unit.ensures.passes places (chart_of x) it t
+    (so_far.counts.places ∙ same)
+    (subst (λ n. Holds n t (tables_of c.loop-unit.parts)) same so_far.holds)
+    (so_far.passes places x it same is mirrors))
+
+pub returns-in_err-take_unit-clause-steps : goal.returns-in_err-take_unit-clause-steps
+returns-in_err-take_unit-clause-steps g c = λ places same m it h steady rests agrees.
+    let so_far = c.loop-unit.invariant in
+    let e = err_from_is_err_and c.from_residual.result c.from_residual.ensures.1 in
+    rw (e.1 ∙ ap Err e.2) (passed_then places m h it (tables_of c.args.parts.now)
+    (tables_of c.loop-unit.parts) (tables_of c.take_unit.new.parts)
+    (g.C.Chip.told c.args.chip.now) (g.C.Chip.told c.loop-unit.chip)
+    (g.C.Chip.told c.take_unit.new.chip) (Err c.in_err-take_unit.field-0.0) c.loop-unit.unit
+    c.loop-unit.kept so_far.counts (g.met.C.Chip.consistent c.args.chip.now)
+    (g.met.C.Chip.consistent c.loop-unit.chip) steady agrees
+    (λ x is mirrors. so_far.passes places x it same is mirrors)
+    (so_far.steps places same m it h steady rests agrees)
+    (λ k was there resting agreeing. c.in_err-take_unit.ensures.steps places
+    (so_far.counts.places ∙ same) m was.now k there resting agreeing))
+
+pub loop-unit-preserved : goal.loop-unit-preserved
+loop-unit-preserved g c =
+    let so_far = c.loop-unit.invariant in
+    let t = tables_of c.args.parts.now in
+    let between = tables_of c.loop-unit.parts in
+    let after = tables_of c.take_unit.new.parts in
+    let old = g.C.Chip.told c.args.chip.now in
+    let mid = g.C.Chip.told c.loop-unit.chip in
+    let new = g.C.Chip.told c.take_unit.new.chip in
+    let holds : Holds old.places between after =
+    subst (λ n. Holds n between after) so_far.counts.places c.take_unit.ensures.holds in
+    record {
+      counts = counts_then old mid new so_far.counts c.take_unit.ensures.accounts.counts;
+      holds = record {
+        active = holds.active ∙ so_far.holds.active;
+        status = holds.status ∙ so_far.holds.status;
+        known = holds.known;
+      };
+      least = omega (arith, so_far.least, c.take_unit.ensures.draws);
+      most = omega (arith, so_far.most, c.take_unit.ensures.draws);
+      costs = erases_then c.loop-unit.unit 1 old mid new so_far.costs c.take_unit.ensures.costs;
+      passes = λ places x it same is mirrors. c.in_ok-take_unit.ensures.passes places (chart_of x)
+          it t (so_far.counts.places ∙ same) (subst (λ n. Holds n t between) same so_far.holds)
+          (so_far.passes places x it same is mirrors);
+      steps = λ places same m it h steady rests agrees. passed_then places m h it t between after
+          old mid new (Ok tt) c.loop-unit.unit c.loop-unit.kept so_far.counts
+          (g.met.C.Chip.consistent c.args.chip.now) (g.met.C.Chip.consistent c.loop-unit.chip)
+          steady agrees (λ x is mirrors. so_far.passes places x it same is mirrors)
+          (so_far.steps places same m it h steady rests agrees)
+          (λ k was there resting agreeing. c.in_ok-take_unit.ensures.steps places
+          (so_far.counts.places ∙ same) m was.now k there resting agreeing);
+    }
+
+pub returns-clause-passes : goal.returns-clause-passes
+returns-clause-passes g c = λ places x it same is mirrors.
+    let all : c.loop-unit.unit ≡ places - 4 = omega (
+      arith,
+      c.loop-unit-test.false,
+      c.loop-unit.auto.unit-end,
+      c.units-unit-end.ensures,
+      same,
+    ) in
+    let t = tables_of c.args.parts.now in
+    subst (λ n. HasPassed places n (chart_of x) it t c.loop-unit.kept
+    (g.C.Chip.told c.loop-unit.chip) (tables_of c.loop-unit.parts)) all
+    (c.loop-unit.invariant.passes places x it same is mirrors)
+
+pub returns-in_err-take_unit-clause-costs : goal.returns-in_err-take_unit-clause-costs
+returns-in_err-take_unit-clause-costs g c =
+    let old = g.C.Chip.told c.args.chip.now in
+    let mid = g.C.Chip.told c.loop-unit.chip in
+    let new = g.C.Chip.told c.take_unit.new.chip in
+    let so_far = c.loop-unit.invariant in
+    erases_more (c.loop-unit.unit + 1) (old.places - 4) old new
+    (omega (arith, c.loop-unit-test.true, c.loop-unit.auto.unit-end, c.units-unit-end.ensures))
+    (erases_then c.loop-unit.unit 1 old mid new so_far.costs c.take_unit.ensures.costs)
+
+pub returns-clause-costs : goal.returns-clause-costs
+returns-clause-costs g c =
+    erases_more c.loop-unit.unit ((g.C.Chip.told c.args.chip.now).places - 4)
+    (g.C.Chip.told c.args.chip.now) (g.C.Chip.told c.loop-unit.chip)
+    (omega (arith, c.loop-unit.auto.unit-end, c.units-unit-end.ensures))
+    c.loop-unit.invariant.costs

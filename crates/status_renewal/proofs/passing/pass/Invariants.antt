@@ -1,0 +1,27 @@
+use Rattle.std.proofs.Common.{◌≡◌, ◌≤◌, ◌+◌, ◌*◌, ℕ, Some, Ok}
+use Rattle.chip_trait.specs.Story.{Contents}
+use Rattle.chip_trait.specs.Told.{Counts}
+use Rattle.ipl_meaning.specs.Chart.{chart_of}
+use Rattle.ipl_meaning.specs.Layout.{Layout}
+use Rattle.ipl_meaning.specs.Mirrors.{Mirrors}
+use Rattle.selective_merge.specs.Moving.{tables_of, Holds}
+use Rattle.unit_io.specs.Costs.{Spends}
+use Rattle.status_renewal.specs.Passes.{HasPassed, KeepsInSteps, ErasesAtMost}
+use Rattle.status_renewal.proofs.passing.pass.Given as goal
+
+abbrev pub invariant-loop-unit : goal.invariant-loop-unit
+invariant-loop-unit g l = record {
+  counts : Counts (g.C.Chip.told l.fn.chip) (g.C.Chip.told l.chip);
+  holds : Holds (g.C.Chip.told l.fn.chip).places (tables_of l.fn.parts) (tables_of l.parts);
+  least : l.fn.parts.counter ≤ l.parts.counter;
+  most : l.parts.counter ≤ l.fn.parts.counter + 13 * l.unit;
+  costs : Spends (ErasesAtMost l.unit) (g.C.Chip.told l.fn.chip) (g.C.Chip.told l.chip);
+  passes : (places : ℕ) (x : Contents) (it : Layout) → (g.C.Chip.told l.fn.chip).places ≡ places
+      → (g.C.Chip.told l.fn.chip).contents ≡ Some x
+      → Mirrors places (chart_of x) it (tables_of l.fn.parts)
+      → HasPassed places l.unit (chart_of x) it (tables_of l.fn.parts) l.kept
+      (g.C.Chip.told l.chip) (tables_of l.parts);
+  steps : (places : ℕ) → (g.C.Chip.told l.fn.chip).places ≡ places
+      → KeepsInSteps places (tables_of l.fn.parts) (tables_of l.parts)
+      (g.C.Chip.told l.fn.chip) (Ok tt) (g.C.Chip.told l.chip);
+}

@@ -1,0 +1,160 @@
+use Rattle.std.proofs.Common.{◌≡◌, ◌<◌, ◌+◌, ◌-◌, ◌∙◌, ℕ, List, Ok, Err, length, refl, sym, ap, subst, arith}
+use Rattle.std.proofs.lemmas.Result.{err_from_is_err_and}
+use Rattle.ipl_meaning.specs.Chart.{chart_of}
+use Rattle.ipl_meaning.specs.Layout.{records_of}
+use Rattle.ipl_meaning.specs.Mirrors.{Mirrors}
+use Rattle.ipl_meaning.specs.Rests.{now}
+use Rattle.ipl_format.specs.Record.{Record}
+use Rattle.selective_merge.specs.Merging.{Merges, StaysMirrored, RestsMerged, MergesInSteps}
+use Rattle.selective_merge.specs.Moving.{tables_of, Holds}
+use Rattle.selective_merge.specs.Throughout.{ChartsThroughout}
+use Rattle.steps.specs.Steps.{RestsAgreeing}
+use Rattle.unit_log.specs.Kept.{records_kept}
+use Rattle.status_renewal.specs.Joins.{joined}
+use Rattle.status_renewal.specs.Passes.{HasPassed, PassEnds}
+use Rattle.status_renewal.proofs.CauseLemmas.{read_cause, merge_accounts, accounts_then}
+use Rattle.status_renewal.proofs.CostLemmas.{reads_erase, merge_erases, reads_then_erase}
+use Rattle.status_renewal.proofs.JoinLemmas.{too_many}
+use Rattle.status_renewal.proofs.PassLemmas.{passed_read, passed_joined, merge_ends, stopped_from}
+use Rattle.status_renewal.proofs.UnitLemmas.{records_are_logged}
+use Rattle.status_renewal.proofs.PreserveLemmas.{reads_preserve, steps_preserve, read_then}
+use Rattle.status_renewal.proofs.passing.take_unit.Goals as goal
+
+pub returns-in_err-read_live-clause-passes : goal.returns-in_err-read_live-clause-passes
+returns-in_err-read_live-clause-passes g c = λ places chart it t same holds was.
+    let e = err_from_is_err_and c.from_residual.result c.from_residual.ensures.1 in
+    rw (e.1 ∙ ap Err e.2) (λ soft. stopped_from places chart it t c.args.unit c.args.kept.now
+    (g.C.Chip.told c.read_live.new.chip) (tables_of c.args.parts.now)
+    (passed_read places chart it t c.args.unit c.args.kept.now (g.C.Chip.told c.args.chip.now)
+    (g.C.Chip.told c.read_live.new.chip) (tables_of c.args.parts.now)
+    c.read_live.ensures.looks.reads.contents was))
+
+pub returns-in_err-read_live-clause-steps : goal.returns-in_err-read_live-clause-steps
+returns-in_err-read_live-clause-steps g c = λ places same m it h steady rests agrees.
+    let e = err_from_is_err_and c.from_residual.result c.from_residual.ensures.1 in
+    rw (e.1 ∙ ap Err e.2) (reads_preserve _ places m h (tables_of c.args.parts.now)
+    (Err c.in_err-read_live.field-0.0) (g.C.Chip.told c.args.chip.now)
+    (g.C.Chip.told c.read_live.new.chip) steady rests c.read_live.ensures.looks.reads)
+
+pub returns-in_err-read_live-clause-accounts : goal.returns-in_err-read_live-clause-accounts
+returns-in_err-read_live-clause-accounts g c =
+    let e = err_from_is_err_and c.from_residual.result c.from_residual.ensures.1 in
+    rw (e.1 ∙ ap Err e.2) (record {
+      counts = c.read_live.ensures.looks.reads.counts;
+      cause = read_cause _ c.in_err-read_live.field-0.0 (g.C.Chip.told c.args.chip.now)
+          (g.C.Chip.told c.read_live.new.chip) c.in_err-read_live.ensures.looks.cause;
+    })
+
+pub returns-then-join-clause-passes : goal.returns-then-join-clause-passes
+returns-then-join-clause-passes g c = λ places chart it t same holds was.
+    let parts = c.args.parts.now in
+    let unit = c.args.unit in
+    let old = g.C.Chip.told c.args.chip.now in
+    let mid = g.C.Chip.told c.read_live.new.chip in
+    let low : unit < places - 4 = omega (arith, c.requires.unit, same) in
+    let live = c.in_ok-read_live.ensures.exact was.contents was.told was.now (tables_of parts)
+    (record {
+      mirrors = subst (λ n. Mirrors n (chart_of was.contents) was.now (tables_of parts)) (sym same)
+          was.mirrors;
+      directory_is = refl;
+      overflow_is = refl;
+    }) in
+    let log = (was.now.units unit).log in
+    let records : records_kept c.sectors.result.now ≡ records_of log =
+    ap records_kept (c.sectors.ensures.sectors ∙ live.log)
+    ∙ records_are_logged (chart_of was.contents) places unit (was.now.units unit).home
+    (was.now.units unit).head.generation log (was.mirrors.laid.each unit low).log.each in
+    passed_joined places chart it t unit low c.args.kept.now mid (tables_of parts)
+    (passed_read places chart it t unit c.args.kept.now old mid (tables_of parts)
+    c.read_live.ensures.looks.reads.contents was)
+    (records_kept c.sectors.result.now) c.join.new.self holds.status records
+    (c.join.ensures.fits.0 c.if-join.true) c.if-join.ensures.joined
+
+pub returns-then-join-clause-steps : goal.returns-then-join-clause-steps
+returns-then-join-clause-steps g c = λ places same m it h steady rests agrees.
+    reads_preserve _ places m h (tables_of c.args.parts.now) (Ok tt)
+    (g.C.Chip.told c.args.chip.now) (g.C.Chip.told c.read_live.new.chip) steady rests
+    c.read_live.ensures.looks.reads
+
+pub returns-clause-passes : goal.returns-clause-passes
+returns-clause-passes g c = λ places chart it t same holds was.
+    let parts = c.args.parts.now in
+    let unit = c.args.unit in
+    let old = g.C.Chip.told c.args.chip.now in
+    let mid = g.C.Chip.told c.read_live.new.chip in
+    let new = g.C.Chip.told c.merge.new.chip in
+    let after = tables_of c.merge.new.parts in
+    let low : unit < places - 4 = omega (arith, c.requires.unit, same) in
+    let live = c.in_ok-read_live.ensures.exact was.contents was.told was.now (tables_of parts)
+    (record {
+      mirrors = subst (λ n. Mirrors n (chart_of was.contents) was.now (tables_of parts)) (sym same)
+          was.mirrors;
+      directory_is = refl;
+      overflow_is = refl;
+    }) in
+    let log = (was.now.units unit).log in
+    let records : records_kept c.sectors.result.now ≡ records_of log =
+    ap records_kept (c.sectors.ensures.sectors ∙ live.log)
+    ∙ records_are_logged (chart_of was.contents) places unit (was.now.units unit).home
+    (was.now.units unit).head.generation log (was.mirrors.laid.each unit low).log.each in
+    let there = passed_read places chart it t unit c.args.kept.now old mid (tables_of parts)
+    c.read_live.ensures.looks.reads.contents was in
+    let many : 3840 < length (joined parts.status.numbers (records_of log) c.args.kept.now) =
+    subst (λ (rs : List Record). 3840 < length (joined parts.status.numbers rs c.args.kept.now))
+    records (too_many c.join.result _ c.join.ensures.fits c.if-join.false) in
+    subst (λ (k : List ℕ). PassEnds places it t c.merge.result new after
+    (HasPassed places (unit + 1) chart it t k new after)) (sym c.if-join.ensures.same)
+    (merge_ends places chart it t unit low c.args.kept.now mid (tables_of parts) there
+    c.merge.result new after holds.status holds.active many
+    (subst (λ n. ChartsThroughout (λ done. Merges n unit (tables_of parts) after)
+    (StaysMirrored n (tables_of parts) after) c.merge.result mid new)
+    (c.read_live.ensures.looks.reads.counts.places ∙ same) c.merge.ensures.tells))
+
+pub returns-clause-steps : goal.returns-clause-steps
+returns-clause-steps g c = λ places same m it h steady rests agrees.
+    let t = tables_of c.args.parts.now in
+    let unit = c.args.unit in
+    let old = g.C.Chip.told c.args.chip.now in
+    let mid = g.C.Chip.told c.read_live.new.chip in
+    let new = g.C.Chip.told c.merge.new.chip in
+    let after = tables_of c.merge.new.parts in
+    read_then _ places m h it t after old mid new c.merge.result
+    (g.met.C.Chip.consistent c.args.chip.now) (g.met.C.Chip.consistent c.read_live.new.chip)
+    steady rests agrees c.read_live.ensures.looks.reads
+    (λ k there resting agreeing. steps_preserve places m k t after
+    (λ done j. RestsMerged places m (now k) it t unit after j)
+    (λ j. RestsAgreeing places m it after j) c.merge.result mid new (λ v j is. is.rests)
+    (λ j is. is.rests)
+    (subst (λ n. MergesInSteps n unit t after mid c.merge.result new)
+    (c.read_live.ensures.looks.reads.counts.places ∙ same) c.merge.ensures.steps m it k there
+    resting agreeing))
+
+pub returns-clause-holds : goal.returns-clause-holds
+returns-clause-holds g c =
+    subst (λ n. Holds n (tables_of c.args.parts.now) (tables_of c.merge.new.parts))
+    c.read_live.ensures.looks.reads.counts.places c.merge.ensures.holds
+
+pub returns-clause-accounts : goal.returns-clause-accounts
+returns-clause-accounts g c =
+    accounts_then (g.C.Chip.told c.args.chip.now) (g.C.Chip.told c.read_live.new.chip)
+    (g.C.Chip.told c.merge.new.chip) c.merge.result c.read_live.ensures.looks.reads.counts
+    (merge_accounts _ _ (g.C.Chip.told c.read_live.new.chip) (g.C.Chip.told c.merge.new.chip)
+    c.merge.result c.merge.ensures.accounts)
+
+pub returns-in_err-read_live-clause-costs : goal.returns-in_err-read_live-clause-costs
+returns-in_err-read_live-clause-costs g c =
+    reads_erase _ 1 (g.C.Chip.told c.args.chip.now) (g.C.Chip.told c.read_live.new.chip)
+    c.read_live.ensures.looks.reads
+
+pub returns-then-join-clause-costs : goal.returns-then-join-clause-costs
+returns-then-join-clause-costs g c =
+    reads_erase _ 1 (g.C.Chip.told c.args.chip.now) (g.C.Chip.told c.read_live.new.chip)
+    c.read_live.ensures.looks.reads
+
+pub returns-clause-costs : goal.returns-clause-costs
+returns-clause-costs g c =
+    let old = g.C.Chip.told c.args.chip.now in
+    let mid = g.C.Chip.told c.read_live.new.chip in
+    let new = g.C.Chip.told c.merge.new.chip in
+    reads_then_erase _ 1 old mid new c.read_live.ensures.looks.reads
+    (merge_erases _ _ _ mid new c.merge.ensures.costs)

@@ -1,0 +1,124 @@
+use Rattle.std.proofs.Common.{◌-◌, ◌∙◌, Ok, Err, ap, subst, arith}
+use Rattle.std.proofs.lemmas.Result.{err_from_is_err_and}
+use Rattle.ipl_meaning.specs.Chart.{chart_of}
+use Rattle.opening_rules.specs.LaidOut.{layout_in}
+use Rattle.selective_merge.specs.Moving.{tables_of}
+use Rattle.unit_io.specs.Costs.{Spends}
+use Rattle.status_renewal.specs.Passes.{RenewsTold, KeepsInSteps, ErasesAtMost}
+use Rattle.status_renewal.proofs.CostLemmas.{reads_erase, reads_then_erase}
+use Rattle.status_renewal.proofs.RecoverLemmas.{Anywhere, reads_anywhere, of_parts, opened_parts, opens_told, opens_done, reads_recover, recovers_done, recovers_failed}
+use Rattle.status_renewal.proofs.recovering.recover.Goals as goal
+
+pub returns-in_err-recover-clause-tells : goal.returns-in_err-recover-clause-tells
+returns-in_err-recover-clause-tells g c = λ x told.
+    let old = g.C.Chip.told c.args.chip.now in
+    let e = err_from_is_err_and c.from_residual.result c.from_residual.ensures.1 in
+    rw (e.1 ∙ ap Err e.2) (λ no_read no_stop. opens_told old.places (chart_of x)
+    c.in_err-recover.field-0.0 old (g.C.Chip.told c.recover.new.chip)
+    (c.in_err-recover.ensures.fault x told) c.in_err-recover.ensures.looks.cause no_read)
+
+pub returns-in_err-recover-clause-steps : goal.returns-in_err-recover-clause-steps
+returns-in_err-recover-clause-steps g c =
+    let old = g.C.Chip.told c.args.chip.now in
+    let e = err_from_is_err_and c.from_residual.result c.from_residual.ensures.1 in
+    rw (e.1 ∙ ap Err e.2) (reads_recover old.places old (g.C.Chip.told c.recover.new.chip)
+    (of_parts c.recover.new.directory c.recover.new.overflow c.recover.new.status
+    c.recover.new.counter c.args.parts.now.active) c.in_err-recover.field-0.0
+    c.recover.ensures.looks.reads)
+
+pub returns-in_err-recover-clause-costs : goal.returns-in_err-recover-clause-costs
+returns-in_err-recover-clause-costs g c =
+    let old = g.C.Chip.told c.args.chip.now in
+    let mid = g.C.Chip.told c.recover.new.chip in
+    reads_erase Anywhere (old.places - 3) old mid
+    (reads_anywhere old mid c.recover.ensures.looks.reads)
+
+pub returns-in_err-renew-clause-steps : goal.returns-in_err-renew-clause-steps
+returns-in_err-renew-clause-steps g c =
+    let old = g.C.Chip.told c.args.chip.now in
+    let mid = g.C.Chip.told c.recover.new.chip in
+    let new = g.C.Chip.told c.renew.new.chip in
+    let active = c.args.parts.now.active in
+    let directory = c.recover.new.directory in
+    let overflow = c.recover.new.overflow in
+    let status = c.recover.new.status in
+    let counter = c.recover.new.counter in
+    let t = of_parts directory overflow status counter active in
+    let after = tables_of c.renew.new.parts in
+    let fault = c.in_err-renew.field-0.0 in
+    let e = err_from_is_err_and c.from_residual-in_err-renew.result
+    c.from_residual-in_err-renew.ensures.1 in
+    rw (e.1 ∙ ap Err e.2) (recovers_failed old.places t after old mid new
+    (g.met.C.Chip.consistent c.args.chip.now) (g.met.C.Chip.consistent c.recover.new.chip)
+    c.recover.ensures.looks.reads
+    (λ x told. opened_parts old.places (chart_of x) directory overflow status counter active
+    c.requires.active (c.in_ok-recover.ensures.opened x told)
+    (c.in_ok-recover.ensures.mirrors x told))
+    fault
+    (subst (λ n. KeepsInSteps n t after mid (Err fault) new)
+    c.recover.ensures.looks.reads.counts.places c.in_err-renew.ensures.steps))
+
+pub returns-in_err-renew-clause-costs : goal.returns-in_err-renew-clause-costs
+returns-in_err-renew-clause-costs g c =
+    let old = g.C.Chip.told c.args.chip.now in
+    let mid = g.C.Chip.told c.recover.new.chip in
+    let new = g.C.Chip.told c.renew.new.chip in
+    reads_then_erase Anywhere (old.places - 3) old mid new
+    (reads_anywhere old mid c.recover.ensures.looks.reads)
+    (subst (λ n. Spends (ErasesAtMost (n - 3)) mid new)
+    c.recover.ensures.looks.reads.counts.places c.renew.ensures.costs)
+
+pub returns-clause-tells : goal.returns-clause-tells
+returns-clause-tells g c = λ x told.
+    let old = g.C.Chip.told c.args.chip.now in
+    let mid = g.C.Chip.told c.recover.new.chip in
+    let new = g.C.Chip.told c.renew.new.chip in
+    let active = c.args.parts.now.active in
+    let t = of_parts c.recover.new.directory c.recover.new.overflow c.recover.new.status
+    c.recover.new.counter active in
+    let after = tables_of c.renew.new.parts in
+    let parts = opened_parts old.places (chart_of x) c.recover.new.directory
+    c.recover.new.overflow c.recover.new.status c.recover.new.counter active c.requires.active
+    (c.in_ok-recover.ensures.opened x told) (c.in_ok-recover.ensures.mirrors x told) in
+    let renews : RenewsTold old.places t after mid (Ok tt) new =
+    subst (λ n. RenewsTold n t after mid (Ok tt) new)
+    c.recover.ensures.looks.reads.counts.places c.in_ok-renew.ensures.tells in
+    opens_done old.places (chart_of x) t after new (c.in_ok-recover.ensures.fault x told)
+    (renews x (layout_in (chart_of x) old.places)
+    (c.recover.ensures.looks.reads.contents ∙ told) parts.1)
+
+pub returns-clause-number : goal.returns-clause-number
+returns-clause-number g c = λ x told.
+    let number = (c.in_ok-recover.ensures.opened x told).directory.number in
+    omega (arith, number, c.renew.ensures.draws)
+
+pub returns-clause-steps : goal.returns-clause-steps
+returns-clause-steps g c =
+    let old = g.C.Chip.told c.args.chip.now in
+    let mid = g.C.Chip.told c.recover.new.chip in
+    let new = g.C.Chip.told c.renew.new.chip in
+    let active = c.args.parts.now.active in
+    let directory = c.recover.new.directory in
+    let overflow = c.recover.new.overflow in
+    let status = c.recover.new.status in
+    let counter = c.recover.new.counter in
+    let t = of_parts directory overflow status counter active in
+    let after = tables_of c.renew.new.parts in
+    recovers_done old.places t after old mid new
+    (g.met.C.Chip.consistent c.args.chip.now) (g.met.C.Chip.consistent c.recover.new.chip)
+    c.recover.ensures.looks.reads
+    (λ x told. opened_parts old.places (chart_of x) directory overflow status counter active
+    c.requires.active (c.in_ok-recover.ensures.opened x told)
+    (c.in_ok-recover.ensures.mirrors x told))
+    (subst (λ n. KeepsInSteps n t after mid (Ok tt) new)
+    c.recover.ensures.looks.reads.counts.places c.in_ok-renew.ensures.steps)
+
+pub returns-clause-costs : goal.returns-clause-costs
+returns-clause-costs g c =
+    let old = g.C.Chip.told c.args.chip.now in
+    let mid = g.C.Chip.told c.recover.new.chip in
+    let new = g.C.Chip.told c.renew.new.chip in
+    reads_then_erase Anywhere (old.places - 3) old mid new
+    (reads_anywhere old mid c.recover.ensures.looks.reads)
+    (subst (λ n. Spends (ErasesAtMost (n - 3)) mid new)
+    c.recover.ensures.looks.reads.counts.places c.renew.ensures.costs)

@@ -1,0 +1,126 @@
+use Rattle.std.proofs.Common.{◌+◌, ◌-◌, ◌∙◌, ℕ, List, Err, OnOk, refl, sym, ap, subst, arith}
+use Rattle.std.proofs.lemmas.Result.{err_from_is_err_and}
+use Rattle.ipl_meaning.specs.Chart.{chart_of}
+use Rattle.ipl_meaning.specs.Rests.{now}
+use Rattle.merge_rules.specs.Known.{KnowsPlaces}
+use Rattle.selective_merge.specs.Moving.{tables_of}
+use Rattle.steps.specs.Steps.{NoOtherEnd}
+use Rattle.txn_status.specs.Switching.{RestsSwitched}
+use Rattle.unit_io.specs.Charts.{Charts}
+use Rattle.status_renewal.specs.Passes.{HasPassed}
+use Rattle.status_renewal.specs.Renewed.{with_tables, Renews, RenewsInSteps}
+use Rattle.status_renewal.proofs.CostLemmas.{erases_more, erases_then, place_erases}
+use Rattle.status_renewal.proofs.PreserveLemmas.{passed_then, steps_preserve}
+use Rattle.status_renewal.proofs.RenewLemmas.{may_renew, renew_ends, status_ends}
+use Rattle.status_renewal.proofs.renewing.renew.Goals as goal
+
+pub returns-in_err-pass-clause-tells : goal.returns-in_err-pass-clause-tells
+returns-in_err-pass-clause-tells g c = λ x it told mirrors.
+    let e = err_from_is_err_and c.from_residual.result c.from_residual.ensures.1 in
+    rw (e.1 ∙ ap Err e.2) (c.in_err-pass.ensures.passes (g.C.Chip.told c.args.chip.now).places x it
+    refl told mirrors)
+
+pub returns-in_err-pass-clause-steps : goal.returns-in_err-pass-clause-steps
+returns-in_err-pass-clause-steps g c = λ m it h steady rests agrees.
+    let e = err_from_is_err_and c.from_residual.result c.from_residual.ensures.1 in
+    rw (e.1 ∙ ap Err e.2) (c.in_err-pass.ensures.steps (g.C.Chip.told c.args.chip.now).places refl
+    m it h steady rests agrees)
+
+pub renew_place-requires-clause-free : goal.renew_place-requires-clause-free
+renew_place-requires-clause-free g c = c.known_laws.ensures.free
+    (g.C.Chip.told c.args.chip.now).places (tables_of c.pass.new.parts)
+    c.in_ok-pass.ensures.holds.known
+
+pub returns-clause-tells : goal.returns-clause-tells
+returns-clause-tells g c = λ x it told mirrors.
+    let old = g.C.Chip.told c.args.chip.now in
+    let mid = g.C.Chip.told c.pass.new.chip in
+    let new = g.C.Chip.told c.renew_place.new.chip in
+    let t = tables_of c.args.parts.now in
+    let between = tables_of c.pass.new.parts in
+    let kept = c.as_slice.result.now in
+    let directory = c.renew_place.new.directory in
+    let status = c.renew_place.new.status in
+    let drawn = c.renew_place.new.counter in
+    let was = subst (λ (k : List ℕ). HasPassed old.places (old.places - 4) (chart_of x) it t k mid
+    between) (sym c.as_slice.ensures.numbers)
+    (c.in_ok-pass.ensures.passes old.places x it refl told mirrors) in
+    renew_ends old.places (chart_of x) it t kept mid between was directory status drawn new
+    c.renew_place.result
+    (subst (λ n. OnOk c.renew_place.result (Charts (Renews n between.places between.status
+    between.next kept directory status drawn) mid new)) c.pass.ensures.accounts.counts.places
+    c.renew_place.ensures.tells)
+    c.renew_place.ensures.accounts.cause
+
+pub returns-clause-steps : goal.returns-clause-steps
+returns-clause-steps g c = λ m it h steady rests agrees.
+    let old = g.C.Chip.told c.args.chip.now in
+    let mid = g.C.Chip.told c.pass.new.chip in
+    let new = g.C.Chip.told c.renew_place.new.chip in
+    let t = tables_of c.args.parts.now in
+    let between = tables_of c.pass.new.parts in
+    let kept = c.as_slice.result.now in
+    let directory = c.renew_place.new.directory in
+    let status = c.renew_place.new.status in
+    let drawn = c.renew_place.new.counter in
+    let after = with_tables between directory status drawn in
+    passed_then old.places m h it t between after old mid new c.renew_place.result
+    (old.places - 4) kept c.pass.ensures.accounts.counts
+    (g.met.C.Chip.consistent c.args.chip.now) (g.met.C.Chip.consistent c.pass.new.chip) steady
+    agrees
+    (λ x told mirrors. subst (λ (k : List ℕ). HasPassed old.places (old.places - 4) (chart_of x)
+    it t k mid between) (sym c.as_slice.ensures.numbers)
+    (c.in_ok-pass.ensures.passes old.places x it refl told mirrors))
+    (c.in_ok-pass.ensures.steps old.places refl m it h steady rests agrees)
+    (λ k was there resting agreeing. steps_preserve old.places m k between after
+    (λ done j. RestsSwitched old.places m was.now after status.place between.next kept j)
+    NoOtherEnd c.renew_place.result mid new (λ v j is. is.stands.rests) (λ j none. absurd none)
+    (subst (λ n. RenewsInSteps n between.places between.status between.next kept directory status
+    drawn c.renew_place.result mid new) c.pass.ensures.accounts.counts.places
+    c.renew_place.ensures.steps m was.now between k there
+    (record { places_is = refl; status_is = refl; next_is = refl }) resting agreeing
+    (may_renew old.places (now h) it t kept mid between was)))
+
+pub returns-in_err-pass-clause-holds : goal.returns-in_err-pass-clause-holds
+returns-in_err-pass-clause-holds g c =
+    let holds = c.pass.ensures.holds in
+    let e = err_from_is_err_and c.from_residual.result c.from_residual.ensures.1 in
+    rw (e.1 ∙ ap Err e.2) (record {
+      active = holds.active;
+      known = holds.known;
+      ends = holds.status;
+    })
+
+pub returns-clause-holds : goal.returns-clause-holds
+returns-clause-holds g c =
+    let between = tables_of c.pass.new.parts in
+    let after = with_tables between c.renew_place.new.directory c.renew_place.new.status
+    c.renew_place.new.counter in
+    let holds = c.in_ok-pass.ensures.holds in
+    let places = c.pass.ensures.accounts.counts.places in record {
+      active = holds.active;
+      known = subst (λ n. KnowsPlaces n after) places (c.renew_place.ensures.known between
+          (record { places_is = refl; status_is = refl; next_is = refl })
+          (subst (λ n. KnowsPlaces n between) (sym places) holds.known));
+      ends = status_ends c.renew_place.result between.places c.renew_place.new.directory
+          c.args.parts.now.status between.status c.renew_place.new.status
+          c.renew_place.ensures.room
+          c.renew_place.ensures.same holds.status;
+    }
+
+pub returns-in_err-pass-clause-costs : goal.returns-in_err-pass-clause-costs
+returns-in_err-pass-clause-costs g c =
+    let old = g.C.Chip.told c.args.chip.now in
+    erases_more (old.places - 4) (old.places - 3) old (g.C.Chip.told c.pass.new.chip)
+    (omega arith) c.pass.ensures.costs
+
+pub returns-clause-costs : goal.returns-clause-costs
+returns-clause-costs g c =
+    let old = g.C.Chip.told c.args.chip.now in
+    let mid = g.C.Chip.told c.pass.new.chip in
+    let new = g.C.Chip.told c.renew_place.new.chip in
+    let one = c.renew_place.ensures.costs in
+    erases_more (old.places - 4 + 1) (old.places - 3) old new
+    (omega (arith, c.requires.known.suits.units))
+    (erases_then (old.places - 4) 1 old mid new c.pass.ensures.costs
+    (place_erases one.0 _ mid new one.2))

@@ -1,0 +1,8 @@
+pub mod Joins
+pub mod Keeps
+pub mod Ready
+pub mod Chains
+pub mod Renewed
+pub mod Passes
+pub mod Renewals
+pub mod Recovers

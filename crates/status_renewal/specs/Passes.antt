@@ -1,0 +1,149 @@
+-- What a pass over the units makes of a chip and of its tables.
+use Rattle.std.specs.Prelude.{ℕ, zero, suc, ◌≡◌, ◌≢◌, ◌⊎◌, ◌↔◌, ◌<◌, ◌≤◌, ◌-◌, ◌*◌, nat_le, Bool, false, IsTrue, List, [], length, Some, Result, MatchResult, if◌then◌else◌}
+use Rattle.chip_trait.specs.Story.{Story, Contents}
+use Rattle.chip_trait.specs.Told.{History, Told, Rose}
+use Rattle.ipl_base.specs.declared.fault.ChipFault.{ChipFault}
+use Rattle.ipl_base.specs.declared.fault.ChipFault.TheVariants.{ReadFault, Stopped, Damaged, Malformed}
+use Rattle.ipl_rules.specs.State.{Map}
+use Rattle.ipl_meaning.specs.Agrees.{Agrees}
+use Rattle.ipl_meaning.specs.Chart.{Chart, chart_of}
+use Rattle.ipl_meaning.specs.Layout.{Entry, Shape, Layout, records_of}
+use Rattle.ipl_meaning.specs.Mirrors.{Mirrors}
+use Rattle.ipl_meaning.specs.Rests.{StoryRests}
+use Rattle.ipl_meaning.specs.Steps.{KeepsPages}
+use Rattle.ipl_meaning.specs.Tables.{Tables}
+use Rattle.merge_rules.specs.Known.{KnowsPlaces}
+use Rattle.merge_rules.specs.Pages.{IsBaseSpotBelow}
+use Rattle.merge_rules.specs.Packs.{among, packs_of, entries_from}
+use Rattle.steps.specs.Laws.{Preserves}
+use Rattle.txn_status.specs.Status.{room_of}
+use Rattle.unit_io.specs.Costs.{Costs}
+use Rattle.unit_io.specs.Leads.{IsSteady}
+use Rattle.status_renewal.specs.Joins.{joined}
+use Rattle.status_renewal.specs.Keeps.{IsLoggedBelow, KeepsBelow}
+
+-- ---- which numbers are kept
+
+-- with the committed numbers of this log, those that are kept are at most 3,840
+abbrev pub fits : List ℕ → List Entry → List ℕ → Bool
+fits numbers log kept = nat_le (length (joined numbers (records_of log) kept)) 3840
+
+-- what is kept once the first n units were passed: the numbers of each join, unless they don't fit
+unfoldable pub kept_below : List ℕ → Layout → ℕ → List ℕ
+kept_below numbers it zero = []
+kept_below numbers it (suc n) =
+    if fits numbers (it.units n).log (kept_below numbers it n)
+    then joined numbers (records_of (it.units n).log) (kept_below numbers it n)
+    else kept_below numbers it n
+
+-- the numbers of the n-th unit fit
+abbrev pub has_room : List ℕ → Layout → ℕ → Bool
+has_room numbers it n = fits numbers (it.units n).log (kept_below numbers it n)
+
+-- ---- which units are merged
+
+-- the log is what a merge carries of the old one, packed in order
+pub record IsRepacked (active : List ℕ) (u : ℕ) (old new : Shape) : Type 0 where
+  pub serial : ℕ
+  pub log_is : new.log ≡ entries_from new.home u new.head.generation 241 serial
+      (packs_of active (records_of old.log))
+
+-- Of the first n units those whose numbers fit are as they were, and the others were merged; all
+-- units behind them are as they were.
+pub record ArePassed (places n : ℕ) (active numbers : List ℕ) (it now : Layout) : Type 0 where
+  pub same : (u : ℕ) → u < places - 4 → (n ≤ u) ⊎ IsTrue (has_room numbers it u)
+      → now.units u ≡ it.units u
+  pub merged : (u : ℕ) → u < n → has_room numbers it u ≡ false
+      → IsRepacked active u (it.units u) (now.units u)
+
+-- ---- the pass
+
+-- The first n units were passed, and the tables mirror what the chip holds then. All pages show what
+-- they showed, and the same numbers are committed. Of the numbers in live records of these units
+-- exactly the committed ones are kept.
+pub record HasPassed (places n : ℕ) (c : Chart) (it : Layout) (t : Tables) (kept : List ℕ)
+    (new : Told) (after : Tables) : Type 0 where
+  pub contents : Contents
+  pub told : new.contents ≡ Some contents
+  pub now : Layout
+  pub mirrors : Mirrors places (chart_of contents) now after
+  pub pages : KeepsPages places c it (chart_of contents) now
+  pub passed : ArePassed places n t.active t.status.numbers it now
+  pub committed : now.committed ≡ it.committed
+  pub kept_is : kept ≡ kept_below t.status.numbers it n
+  pub keeps : KeepsBelow n now kept
+
+-- It ended before all units were passed: some of the first ones were merged. The tables mirror the
+-- chart, and the same numbers are committed.
+pub record HasStopped (places : ℕ) (it : Layout) (t after : Tables) (y : Chart) : Type 0 where
+  pub units : ℕ
+  pub now : Layout
+  pub mirrors : Mirrors places y now after
+  pub passed : ArePassed places units t.active t.status.numbers it now
+  pub committed : now.committed ≡ it.committed
+
+-- the chip tells contents whose chart is so
+abbrev pub TellsChart : (Chart → Type 0) → Told → Type 0
+TellsChart F new = (y : Contents) × (new.contents ≡ Some y) × F (chart_of y)
+
+-- over contents that are told: done, or it ended before; and where a write failed nothing is
+-- promised
+abbrev pub PassEnds : ℕ → Layout → Tables → Result (Unit {0}) ChipFault → Told → Tables
+    → Type 0 → Type 0
+PassEnds places it t result new after Done = MatchResult result
+    (λ _. Done) (λ fault. fault ≢ Stopped → TellsChart (HasStopped places it t after) new)
+
+-- ---- the renewal
+
+-- All units were passed, and the status has a new place with the numbers that are kept. All pages
+-- show what they showed. Of the numbers that were committed exactly those are so still that a live
+-- record has.
+pub record HasRenewed (places : ℕ) (c : Chart) (it : Layout) (t after : Tables)
+    (y : Chart) : Type 0 where
+  pub now : Layout
+  pub mirrors : Mirrors places y now after
+  pub pages : KeepsPages places c it y now
+  pub passed : ArePassed places (places - 4) t.active t.status.numbers it now
+  pub committed : now.committed ≡ among (kept_below t.status.numbers it (places - 4))
+  pub exact : (tid : ℕ) → IsTrue (now.committed tid)
+      ↔ (IsTrue (it.committed tid) × IsLoggedBelow (places - 4) now tid)
+
+-- over contents that are told and that the tables mirror: renewed, or it ended before that
+abbrev pub RenewsTold : ℕ → Tables → Tables → Told → Result (Unit {0}) ChipFault → Told → Type 0
+RenewsTold places t after old result new = (x : Contents) (it : Layout)
+    → old.contents ≡ Some x → Mirrors places (chart_of x) it t
+    → PassEnds places it t result new after
+    (TellsChart (HasRenewed places (chart_of x) it t after) new)
+
+-- over a story that rests on a map and with which the tables agree: it keeps the map, however it
+-- ends
+abbrev pub KeepsInSteps : ℕ → Tables → Tables → Told → Result (Unit {0}) ChipFault → Told → Type 0
+KeepsInSteps places t after old result new = (m : Map) (it : Layout) (h : History)
+    → IsSteady h old → StoryRests places m h → Agrees places h it t
+    → Preserves places m t after h result old new
+
+-- whatever the chip tells: the same sessions are open, and the tables know each place; done, at
+-- least 191 sectors of the status place are known clean, and not done, the status is as it was
+pub record HoldsRenewed (places : ℕ) (before : Tables) (result : Result (Unit {0}) ChipFault)
+    (after : Tables) : Type 0 where
+  pub active : after.active ≡ before.active
+  pub known : KnowsPlaces places after
+  pub ends : MatchResult result
+      (λ _. 191 ≤ room_of after.status) (λ _. after.status ≡ before.status)
+
+-- ---- costs
+
+-- at most so many erases, each with at most three barriers; and only what was erased before is
+-- programmed
+abbrev pub ErasesAtMost : ℕ → Story → Type 0
+ErasesAtMost n added = Costs n 0 (3 * n) [] added
+
+-- ---- causes
+
+-- why a renewal fails, whatever the chip tells: a read or a write failed, and its count rose; or a
+-- sector isn't what it must be, and where it is damaged it is a base sector whose sums differ
+abbrev pub RenewCause : ChipFault → Told → Told → Type 0
+RenewCause ReadFault old new = Rose old.read_faults new.read_faults
+RenewCause Stopped old new = Rose old.write_faults new.write_faults
+RenewCause (Damaged p s stored computed) old new = IsBaseSpotBelow 15 s × (stored ≢ computed)
+RenewCause (Malformed p s) old new = Unit {0}

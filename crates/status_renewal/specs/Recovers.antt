@@ -1,0 +1,77 @@
+-- What an opening leaves that ends with a new status place.
+use Rattle.std.specs.Prelude.{ℕ, ◌≡◌, ◌≢◌, ◌⊎◌, ◌↔◌, ◌≤◌, ◌-◌, [], true, IsTrue, is_ok, Some, None, Result, MatchResult}
+use Rattle.chip_trait.specs.Story.{Contents}
+use Rattle.chip_trait.specs.Told.{History, Told, Rose}
+use Rattle.ipl_base.specs.declared.fault.ChipFault.{ChipFault}
+use Rattle.ipl_base.specs.declared.fault.ChipFault.TheVariants.{ReadFault, Stopped}
+use Rattle.ipl_base.specs.declared.fault.ImageFault.{ImageFault}
+use Rattle.ipl_base.specs.declared.fault.ImageFault.TheVariants.{Chip}
+use Rattle.ipl_rules.specs.State.{Map}
+use Rattle.ipl_meaning.specs.Chart.{Chart, chart_of}
+use Rattle.ipl_meaning.specs.Layout.{Layout}
+use Rattle.ipl_meaning.specs.Mirrors.{Mirrors}
+use Rattle.ipl_meaning.specs.Rests.{EachStands, StoryRests}
+use Rattle.ipl_meaning.specs.Steps.{KeepsPages}
+use Rattle.ipl_meaning.specs.Tables.{Tables, IsCountedClean}
+use Rattle.merge_rules.specs.Known.{KnowsPlaces}
+use Rattle.opening_rules.specs.Faults.{first_fault}
+use Rattle.opening_rules.specs.LaidOut.{layout_in}
+use Rattle.steps.specs.Steps.{Settled, EndsWith, Outcome, TidyWork}
+use Rattle.txn_status.specs.Status.{room_of}
+use Rattle.unit_io.specs.Leads.{IsSteady}
+use Rattle.status_renewal.specs.Keeps.{IsLoggedBelow}
+use Rattle.status_renewal.specs.Passes.{TellsChart}
+
+-- ---- what the chip holds
+
+-- The chart had no fault. All pages show what they showed, and of the numbers that were committed
+-- exactly those are so still that a live record has; the tables mirror the new chart.
+pub record HasOpened (places : ℕ) (c : Chart) (after : Tables) (y : Chart) : Type 0 where
+  pub none : first_fault c places ≡ None
+  pub now : Layout
+  pub mirrors : Mirrors places y now after
+  pub pages : KeepsPages places c (layout_in c places) y now
+  pub exact : (tid : ℕ) → IsTrue (now.committed tid)
+      ↔ (IsTrue ((layout_in c places).committed tid) × IsLoggedBelow (places - 4) now tid)
+
+-- the fault is the first one of the chart; or it has none, and a unit couldn't be merged
+abbrev pub IsOpeningFault : ℕ → Chart → ImageFault → Type 0
+IsOpeningFault places c e =
+    (first_fault c places ≡ Some e)
+    ⊎ ((first_fault c places ≡ None) × (fault : ChipFault) × (e ≡ Chip fault))
+
+-- over contents that are told: opened, or this fault, unless a call failed
+abbrev pub RecoversTold : ℕ → Told → Result (Unit {0}) ImageFault → Tables → Told → Type 0
+RecoversTold places old result after new = (x : Contents) → old.contents ≡ Some x
+    → MatchResult result (λ _. TellsChart (HasOpened places (chart_of x) after) new)
+    (λ e. e ≢ Chip ReadFault → e ≢ Chip Stopped → IsOpeningFault places (chart_of x) e)
+
+-- ---- what a power cut leaves
+
+-- no sector
+abbrev pub IsNowhere : ℕ → ℕ → Type 0
+IsNowhere p s = ⊥
+
+-- Over a story that rests on a map: at each moment a power cut leaves the map, and where no write
+-- failed the story rests on it. The events are lawful after any lawful ones; and done, what the
+-- tables count as clean is clean.
+abbrev pub RecoversInSteps : ℕ → Told → Result (Unit {0}) ImageFault → Tables → Told → Type 0
+RecoversInSteps places old result after new = (m : Map) (h : History)
+    → IsSteady h old → StoryRests places m h
+    → Outcome (EachStands places m)
+    (TidyWork IsNowhere (IsCountedClean after) (is_ok result ≡ true)) (Settled result old new)
+    (EndsWith result (λ v k. StoryRests places m k) (λ k. StoryRests places m k)) h new
+
+-- ---- whatever the chip tells
+
+-- no session is open, the tables know each place, and at least 191 sectors of the status place are
+-- known clean
+pub record HoldsOpened (places : ℕ) (after : Tables) : Type 0 where
+  pub active : after.active ≡ []
+  pub known : KnowsPlaces places after
+  pub room : 191 ≤ room_of after.status
+
+-- why it fails: a read or a write failed, and its count rose; or the chip has a fault
+pub record OpeningCause (e : ImageFault) (old new : Told) : Type 0 where
+  pub read : e ≡ Chip ReadFault → Rose old.read_faults new.read_faults
+  pub stopped : e ≡ Chip Stopped → Rose old.write_faults new.write_faults

@@ -1,0 +1,67 @@
+-- What a new status place makes of all tables.
+use Rattle.std.specs.Prelude.{ℕ, ◌≡◌, List, Some, true, false, Result}
+use Rattle.chip_trait.specs.Told.{History, Told}
+use Rattle.ipl_base.specs.declared.fault.ChipFault.{ChipFault}
+use Rattle.ipl_rules.specs.State.{Map}
+use Rattle.ipl_meaning.specs.Agrees.{Agrees}
+use Rattle.ipl_meaning.specs.Chart.{Chart}
+use Rattle.ipl_meaning.specs.Layout.{Layout}
+use Rattle.ipl_meaning.specs.Mirrors.{Mirrors}
+use Rattle.ipl_meaning.specs.Rests.{StoryRests}
+use Rattle.ipl_meaning.specs.Steps.{KeepsNumbers}
+use Rattle.ipl_meaning.specs.Tables.{Places, Status, Tables, with_use}
+use Rattle.number_set.specs.Numbers.{among}
+use Rattle.txn_status.specs.Status.{switched_to}
+use Rattle.txn_status.specs.Switching.{MayKeep, Switched, StepsSwitching}
+use Rattle.unit_directory.specs.Free.{first_free}
+use Rattle.unit_io.specs.Leads.{IsSteady}
+
+-- ---- tables
+
+-- the tables have this directory, this status and this counter
+pub record HasTables (t : Tables) (directory : Places) (status : Status) (next : ℕ) : Type 0 where
+  pub places_is : t.places ≡ directory
+  pub status_is : t.status ≡ status
+  pub next_is : t.next ≡ next
+
+-- the tables with another directory, another status and another counter
+abbrev pub with_tables : Tables → Places → Status → ℕ → Tables
+with_tables t directory status next =
+    record t { places = directory; status = status; next = next }
+
+-- the lowest free place is the status place, under the number that was next and with exactly these
+-- numbers, and the old one is free
+pub record MovesStatus (before : Places) (old : Status) (next : ℕ) (kept : List ℕ)
+    (after : Places) (new : Status) : Type 0 where
+  pub place : ℕ
+  pub lowest : first_free before.in_use ≡ Some place
+  pub status_is : new ≡ switched_to place next kept
+  pub places_is : after ≡ with_use (with_use before place true) old.place false
+
+-- the numbers may be kept: of those in live log sectors they are the committed ones, they were
+-- drawn, and none is of an open session
+pub record MayRenew (places : ℕ) (it : Layout) (t : Tables) (kept : List ℕ) : Type 0 where
+  pub keeps : KeepsNumbers places it (among kept)
+  pub may : MayKeep t kept
+
+-- ---- what the chip holds
+
+-- whatever tables of this directory, status and counter mirrored the old chart: with the new ones
+-- they mirror the new chart, and it has the pages of the old one
+abbrev pub Renews : ℕ → Places → Status → ℕ → List ℕ → Places → Status → ℕ → Chart → Chart → Type 0
+Renews places directory status next kept after new drawn c y = (it : Layout) (t : Tables)
+    → HasTables t directory status next → Mirrors places c it t → MayRenew places it t kept
+    → Switched places c y it (with_tables t after new drawn) new.place next kept
+
+-- ---- what a power cut leaves
+
+-- At each moment a power cut leaves the map; done, the story rests on it and the tables with the new
+-- status place agree. It fails only where a write failed.
+abbrev pub RenewsInSteps : ℕ → Places → Status → ℕ → List ℕ → Places → Status → ℕ
+    → Result (Unit {0}) ChipFault → Told → Told → Type 0
+RenewsInSteps places directory status next kept after new drawn result old told =
+    (m : Map) (it : Layout) (t : Tables) (h : History)
+    → IsSteady h old → HasTables t directory status next
+    → StoryRests places m h → Agrees places h it t → MayRenew places it t kept
+    → StepsSwitching places it t (with_tables t after new drawn) m new.place next kept
+    h result old told

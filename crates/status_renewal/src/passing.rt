@@ -1,0 +1,90 @@
+//! The pass over the units, which finds the numbers that a new status place keeps.
+ghost use Rattle.std.specs.Prelude.{◌≡◌, ◌<◌, ◌≤◌, ◌+◌, ◌*◌, ◌-◌, ◌^◌, ℕ, Some};
+ghost use Rattle.chip_trait.specs.Story.{Contents};
+ghost use Rattle.ipl_meaning.specs.Chart.{Chart, chart_of};
+ghost use Rattle.ipl_meaning.specs.Layout.{Layout};
+ghost use Rattle.ipl_meaning.specs.Mirrors.{Mirrors};
+ghost use Rattle.ipl_meaning.specs.Tables.{Tables};
+ghost use Rattle.merge_rules.specs.Known.{KnowsPlaces};
+ghost use Rattle.selective_merge.specs.Moving.{tables_of, Holds};
+ghost use Rattle.unit_io.specs.Accounts.{Accounts};
+ghost use Rattle.unit_io.specs.Costs.{Spends};
+ghost use Rattle.status_renewal.specs.Passes.{HasPassed, PassEnds, KeepsInSteps, ErasesAtMost, RenewCause};
+
+use crate::kept::KeptNumbers;
+use chip_trait::Chip;
+use ipl_base::ChipFault;
+use selective_merge::{Parts, merge};
+use unit_log::read_live;
+
+/// Passes a unit: the committed numbers of its live records join those that are kept; or, where they
+/// would be too many, the unit is merged, and none of its records is of a committed number then.
+fn take_unit<C: Chip>(
+    chip: &mut C,
+    parts: &mut Parts,
+    kept: &mut KeptNumbers,
+    unit: u32,
+) -> Result<(), ChipFault>
+    requires known { KnowsPlaces (C.told chip.old).places (tables_of parts.old) }
+    requires unit { unit + 4 < (C.told chip.old).places }
+    requires left { parts.old.counter + 13 < 2 ^ 64 }
+    ensures passes { (places : ℕ) (c : Chart) (it : Layout) (t : Tables)
+        → (C.told chip.old).places ≡ places → Holds places t (tables_of parts.old)
+        → HasPassed places unit c it t kept.old (C.told chip.old) (tables_of parts.old)
+        → PassEnds places it t result (C.told chip.new) (tables_of parts.new)
+        (HasPassed places (unit + 1) c it t kept.new (C.told chip.new) (tables_of parts.new)) }
+    ensures steps { (places : ℕ) → (C.told chip.old).places ≡ places
+        → KeepsInSteps places (tables_of parts.old) (tables_of parts.new)
+        (C.told chip.old) result (C.told chip.new) }
+    ensures holds { Holds (C.told chip.old).places (tables_of parts.old) (tables_of parts.new) }
+    ensures draws { (parts.old.counter ≤ parts.new.counter)
+        × (parts.new.counter ≤ parts.old.counter + 13) }
+    ensures costs { Spends (ErasesAtMost 1) (C.told chip.old) (C.told chip.new) }
+    ensures accounts { Accounts RenewCause result (C.told chip.old) (C.told chip.new) }
+{
+    let scratch = &mut parts.scratch;
+    read_live(
+        chip,
+        &parts.directory,
+        &parts.overflow,
+        unit,
+        &mut scratch.sectors,
+    )?;
+    if kept.join(scratch.sectors.sectors(), &parts.status) {
+        return Ok(());
+    }
+    merge(chip, parts, unit)
+}
+
+/// Finds the committed numbers that live records have, at most 3,840: unit by unit in rising order,
+/// where one whose numbers don't fit is merged.
+pub fn pass<C: Chip>(
+    chip: &mut C,
+    parts: &mut Parts,
+    kept: &mut KeptNumbers,
+) -> Result<(), ChipFault>
+    requires known { KnowsPlaces (C.told chip.old).places (tables_of parts.old) }
+    requires left { parts.old.counter + 13 * 1024 < 2 ^ 64 }
+    ensures passes { (places : ℕ) (x : Contents) (it : Layout)
+        → (C.told chip.old).places ≡ places → (C.told chip.old).contents ≡ Some x
+        → Mirrors places (chart_of x) it (tables_of parts.old)
+        → PassEnds places it (tables_of parts.old) result (C.told chip.new) (tables_of parts.new)
+        (HasPassed places (places - 4) (chart_of x) it (tables_of parts.old) kept.new
+        (C.told chip.new) (tables_of parts.new)) }
+    ensures steps { (places : ℕ) → (C.told chip.old).places ≡ places
+        → KeepsInSteps places (tables_of parts.old) (tables_of parts.new)
+        (C.told chip.old) result (C.told chip.new) }
+    ensures holds { Holds (C.told chip.old).places (tables_of parts.old) (tables_of parts.new) }
+    ensures draws { (parts.old.counter ≤ parts.new.counter)
+        × (parts.new.counter ≤ parts.old.counter + 13 * 1024) }
+    ensures costs { Spends (ErasesAtMost ((C.told chip.old).places - 4))
+        (C.told chip.old) (C.told chip.new) }
+    ensures accounts { Accounts RenewCause result (C.told chip.old) (C.told chip.new) }
+{
+    parts.directory.facts();
+    kept.clear();
+    for unit in 0..chip.units() - 4 {
+        take_unit(chip, parts, kept, unit)?;
+    }
+    Ok(())
+}

@@ -1,0 +1,90 @@
+//! The status place, renewed in all tables.
+ghost use Rattle.std.specs.Prelude.{◌≡◌, ◌≤◌, ◌<◌, ◌+◌, ◌^◌, ℕ, length, Some, OnOk, OnErr, is_ok, false};
+ghost use Rattle.ipl_meaning.specs.Tables.{IsFree, Tables, with_use};
+ghost use Rattle.merge_rules.specs.Known.{KnowsPlaces};
+ghost use Rattle.number_set.specs.Numbers.{AreRising};
+ghost use Rattle.txn_status.specs.Status.{parts_of, room_of};
+ghost use Rattle.unit_directory.specs.Free.{first_free, free_count};
+ghost use Rattle.unit_io.specs.Accounts.{Accounts};
+ghost use Rattle.unit_io.specs.Charts.{Charts};
+ghost use Rattle.unit_io.specs.Costs.{ErasesOnce, Spends};
+ghost use Rattle.unit_io.specs.Leads.{IsStopped};
+ghost use Rattle.status_renewal.specs.Renewed.{HasTables, with_tables, MovesStatus, Renews, RenewsInSteps};
+
+use chip_trait::Chip;
+use ipl_base::{ChipFault, Counter};
+use txn_status::Status;
+use unit_directory::{Directory, directory_laws};
+
+/// Gives a place back that was left, where it is one of the chip's.
+fn free_place(directory: &mut Directory, left: u32, places: u32)
+    requires { places ≡ length directory.old.in_use }
+    ensures { directory.new ≡ with_use directory.old left false }
+{
+    if left < places {
+        directory.give_back(left);
+    }
+}
+
+/// Makes the lowest free place the status place, with exactly these numbers, at most 3,840 in rising
+/// order: the place is taken and written, and the old status place is free then. It fails only where
+/// a write failed, and the place is given back then.
+///
+/// Where of the numbers in live log sectors exactly the committed ones are kept, whatever a power
+/// cut leaves at any moment stands for the map on which the story rested.
+pub fn renew_place<C: Chip>(
+    chip: &mut C,
+    directory: &mut Directory,
+    status: &mut Status,
+    counter: &mut Counter,
+    kept: &[u64],
+) -> Result<(), ChipFault>
+    requires size { length directory.old.in_use ≡ (C.told chip.old).places }
+    requires free { 0 < free_count directory.old.in_use }
+    requires held { ¬ IsFree directory.old status.old.place }
+    requires rising { AreRising kept.now }
+    requires few { length kept.now ≤ 3840 }
+    requires left { counter.old + 65 < 2 ^ 64 }
+
+    // What the tables have, whatever the chip tells.
+    ensures moved { OnOk result (MovesStatus directory.old status.old counter.old kept.now
+        directory.new status.new) }
+    ensures same { OnErr result ((directory.new ≡ directory.old) × (status.new ≡ status.old)) }
+    ensures room { OnOk result (191 ≤ room_of status.new) }
+    ensures free { status.old.place < (C.told chip.old).places
+        → free_count directory.new.in_use ≡ free_count directory.old.in_use }
+    ensures known { (t : Tables) → HasTables t directory.old status.old counter.old
+        → KnowsPlaces (C.told chip.old).places t
+        → KnowsPlaces (C.told chip.old).places
+        (with_tables t directory.new status.new counter.new) }
+    ensures drawn { OnOk result (counter.new ≡ counter.old + 1 + parts_of kept.now) }
+    ensures draws { (counter.old < counter.new) × (counter.new ≤ counter.old + 65) }
+
+    // What the chip holds then, and what a power cut leaves.
+    ensures tells { OnOk result (Charts
+        (Renews (C.told chip.old).places directory.old status.old counter.old kept.now
+        directory.new status.new counter.new) (C.told chip.old) (C.told chip.new)) }
+    ensures steps { RenewsInSteps (C.told chip.old).places directory.old status.old counter.old
+        kept.now directory.new status.new counter.new result (C.told chip.old) (C.told chip.new) }
+    // One erase, of the place that is taken, then programs of it alone, and three barriers.
+    ensures costs { (place : ℕ) × (first_free directory.old.in_use ≡ Some place)
+        × Spends (ErasesOnce place 3 (is_ok result)) (C.told chip.old) (C.told chip.new) }
+    ensures accounts { Accounts IsStopped result (C.told chip.old) (C.told chip.new) }
+{
+    directory_laws();
+    directory.facts();
+    let places = chip.units();
+    let old = status.place();
+    let place = directory.take_free();
+    match status.switch(chip, counter, place, kept) {
+        Ok(()) => {
+            free_place(directory, old, places);
+            Ok(())
+        }
+        Err(fault) => {
+            // Nothing on it counts, so that the tables are right again.
+            directory.give_back(place);
+            Err(fault)
+        }
+    }
+}

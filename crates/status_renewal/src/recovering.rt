@@ -1,0 +1,66 @@
+//! The opening of a chip.
+ghost use Rattle.std.specs.Prelude.{◌≡◌, ◌≤◌, ◌<◌, ◌+◌, ◌-◌, ◌^◌, [], length, OnOk};
+ghost use Rattle.ipl_meaning.specs.Chart.{chart_of};
+ghost use Rattle.opening_rules.specs.Faults.{greatest_found};
+ghost use Rattle.selective_merge.specs.Moving.{tables_of};
+ghost use Rattle.unit_io.specs.Accounts.{Accounts};
+ghost use Rattle.unit_io.specs.Costs.{Spends};
+ghost use Rattle.unit_io.specs.Reads.{OfContents};
+ghost use Rattle.status_renewal.specs.Passes.{ErasesAtMost};
+ghost use Rattle.status_renewal.specs.Recovers.{RecoversTold, RecoversInSteps, HoldsOpened, OpeningCause};
+
+use crate::kept::KeptNumbers;
+use crate::renewing::renew;
+use chip_trait::Chip;
+use ipl_base::ImageFault;
+use restart::Scratch;
+use selective_merge::Parts;
+
+/// Opens a chip, for whose number of places the scratch memory and the tables were made: reads all
+/// that counts into the tables, and writes a new status place with the committed numbers that live
+/// records still have. No session is open.
+///
+/// Whatever a power cut leaves at any moment stands for the map on which the story rested. It fails
+/// with the first fault of the chip; or where it has none, where a unit can't be merged; or where a
+/// call of the chip failed. Where no write failed, the story rests on the map still.
+pub fn recover<C: Chip>(
+    chip: &mut C,
+    scratch: &mut Scratch,
+    parts: &mut Parts,
+    kept: &mut KeptNumbers,
+) -> Result<(), ImageFault>
+    requires scratch { scratch.old ≡ (C.told chip.old).places }
+    requires directory { length parts.old.directory.in_use ≡ (C.told chip.old).places }
+    requires overflow { length parts.old.overflow.spots + 4 ≡ (C.told chip.old).places }
+    requires active { parts.old.active ≡ [] }
+
+    // What the chip holds then, and what a power cut leaves.
+    ensures tells { RecoversTold (C.told chip.old).places (C.told chip.old) result
+        (tables_of parts.new) (C.told chip.new) }
+    ensures number { OnOk result (OfContents (C.told chip.old) (λ x. parts.new.counter
+        ≤ greatest_found (chart_of x) (C.told chip.old).places + 1 + 2 ^ 14)) }
+    ensures steps { RecoversInSteps (C.told chip.old).places (C.told chip.old) result
+        (tables_of parts.new) (C.told chip.new) }
+
+    // What the tables have, whatever the chip tells.
+    ensures holds { OnOk result (HoldsOpened (C.told chip.old).places (tables_of parts.new)) }
+    ensures left { OnOk result (parts.new.counter ≤ 2 ^ 63 + 2 ^ 14) }
+    ensures sized { (scratch.new ≡ scratch.old)
+        × (length parts.new.directory.in_use ≡ (C.told chip.old).places)
+        × (length parts.new.overflow.spots + 4 ≡ (C.told chip.old).places) }
+    // At most one erase a unit, and one for the status place.
+    ensures costs { Spends (ErasesAtMost ((C.told chip.old).places - 3))
+        (C.told chip.old) (C.told chip.new) }
+    ensures accounts { Accounts OpeningCause result (C.told chip.old) (C.told chip.new) }
+{
+    restart::recover(
+        chip,
+        scratch,
+        &mut parts.directory,
+        &mut parts.overflow,
+        &mut parts.status,
+        &mut parts.counter,
+    )?;
+    renew(chip, parts, kept)?;
+    Ok(())
+}
