@@ -12,7 +12,7 @@ use Rattle.opening_rules.specs.Live.{is_at, is_overflow_place}
 use Rattle.opening_rules.specs.LaidOut.{place_of}
 use Rattle.opening_rules.proofs.ChosenLemmas.{IsBest, chosen_is_best}
 use Rattle.opened_tables.specs.Found.{overflow_at}
-use Rattle.opened_tables.specs.Known.{IsNamed, KnowsPlaces}
+use Rattle.merge_rules.specs.Known.{IsNamed, KnowsPlaces}
 use Rattle.opened_tables.specs.Opened.{tables_of}
 use Rattle.opened_tables.proofs.SpotLemmas.{listed_holds, held_listed, places_apart, as_many}
 use Rattle.restart.specs.Notes.{Notes}

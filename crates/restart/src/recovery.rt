@@ -13,7 +13,7 @@ ghost use Rattle.opening_rules.specs.LaidOut.{layout_in};
 ghost use Rattle.ipl_format.specs.Whole.{IsWhole};
 ghost use Rattle.restart.specs.Looks.{Looks, HasCause};
 ghost use Rattle.txn_status.specs.ReadingIn.{status_in};
-ghost use Rattle.opened_tables.specs.Known.{KnowsPlaces};
+ghost use Rattle.merge_rules.specs.Known.{KnowsPlaces};
 ghost use Rattle.opened_tables.specs.Opened.{AreOpened, tables_of};
 ghost use Rattle.restart.specs.Notes.{units_of, places_of, AreSized, IsNoted};
 ghost use Rattle.restart.specs.Shown.{ShowsHeaders, AreChosen, is_held, number_by, fault_by};

@@ -4,7 +4,7 @@ use Rattle.ipl_meaning.specs.Mirrors.{Mirrors}
 use Rattle.unit_io.specs.Reads.{OfContents}
 use Rattle.opening_rules.specs.Faults.{TellsImageFault, first_fault}
 use Rattle.opening_rules.specs.LaidOut.{layout_in}
-use Rattle.opened_tables.specs.Known.{KnowsPlaces}
+use Rattle.merge_rules.specs.Known.{KnowsPlaces}
 use Rattle.opened_tables.specs.Opened.{AreOpened, tables_of}
 use Rattle.restart.proofs.recovery.recover.Goals as goal
 
