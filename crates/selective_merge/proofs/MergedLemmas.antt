@@ -1,5 +1,5 @@
 -- A merge, once the unit is written: what the chip stands for, and what the tables say.
-use Rattle.std.proofs.Common.{◌≡◌, ◌≢◌, ◌⊎◌, ◌<◌, ◌≤◌, ◌+◌, ◌-◌, ℕ, List, ◌++◌, length, slice_index, slice_set, Ok, Err, inl, inr, refl, sym, ◌∙◌, ap, ap₂, subst, arith}
+use Rattle.std.proofs.Common.{◌≡◌, ◌≢◌, ◌⊎◌, ◌<◌, ◌≤◌, ◌+◌, ◌-◌, ℕ, List, ◌++◌, length, slice_index, slice_set, Some, None, Ok, Err, inl, inr, refl, sym, ◌∙◌, ap, ap₂, subst, arith}
 use Rattle.std.specs.List.{Contains}
 use Rattle.std.proofs.lemmas.Bool.{cases_eq}
 use Rattle.std.proofs.lemmas.List.{get_or-set_same, get_or-set_other, length-set, length-map}
@@ -9,16 +9,18 @@ use Rattle.chip_trait.specs.Story.{Story}
 use Rattle.chip_trait.specs.Told.{History, Told, adds_all}
 use Rattle.ipl_base.specs.declared.fault.ChipFault.{ChipFault}
 use Rattle.ipl_format.specs.Record.{Record, log_bytes}
+use Rattle.ipl_format.specs.Sector.{Sector}
 use Rattle.ipl_rules.specs.State.{Map}
 use Rattle.ipl_meaning.specs.Agrees.{IsTidy}
 use Rattle.ipl_meaning.specs.Chart.{Chart}
 use Rattle.ipl_meaning.specs.Layout.{Layout}
 use Rattle.ipl_meaning.specs.Mirrors.{Mirrors}
 use Rattle.ipl_meaning.specs.Rests.{now}
-use Rattle.ipl_meaning.specs.Steps.{IsIdle}
+use Rattle.ipl_meaning.specs.Steps.{IsIdle, KeepsPages}
 use Rattle.ipl_meaning.specs.Tables.{IsFree, Status, Tables, overflow_places, IsCountedClean}
 use Rattle.ipl_meaning.specs.TableSteps.{IsMoved, taken, with_next}
 use Rattle.ipl_meaning.proofs.IdleFollowLemmas.{counted_apart, tables_follow_idle_places}
+use Rattle.ipl_meaning.proofs.IdleLemmas.{idle_places_do_not_count}
 use Rattle.ipl_meaning.proofs.MirrorLemmas.{free_places_are_idle}
 use Rattle.unit_io.specs.Spots.{Rewrites}
 use Rattle.merge_rules.specs.Merged.{source_of, packs_in, IsToMerge, IsWritten, IsMergedUnit}
@@ -224,11 +226,23 @@ module _ (places : ℕ) (m : Map) (it : Layout) (t : Tables) (u p g serial n : �
       clean base before q s counted =
           did.does.others base q s (apart q s (same q s counted)) (before q s (same q s counted))
 
--- the tables mirror it, where the place was given back
+-- the tables mirror it, where the place was given back, and each page is shown still
 pub stays_mirrored : (places : ℕ) (c y : Chart) (it : Layout) (t after : Tables) (p next : ℕ)
     → IsFree t.places p → after ≡ with_next t next → t.next ≤ next → IsUnsealed p c y
-    → Mirrors places c it t → Mirrors places y it after
+    → Mirrors places c it t → Mirrors places y it after × KeepsPages places c it y it
 stays_mirrored places c y it t after p next free is more left mirrors =
-    rw is (tables_follow_idle_places places c it t p y next mirrors
-    (free_places_are_idle places c it t p mirrors free) (mirrors.directory.not_overflow p free)
-    left.others left.bare more)
+    let idle = free_places_are_idle places c it t p mirrors free in (
+      rw is (tables_follow_idle_places places c it t p y next mirrors idle
+          (mirrors.directory.not_overflow p free) left.others left.bare more),
+      (idle_places_do_not_count places c it p y mirrors.laid idle left.others (record {
+        unit_header = λ u low head there _. absurd (never head there);
+        status = λ head there _. absurd (never head there);
+        no_live = λ u low s sector live. elim live.counts [
+          | inl home ↦ idle.not_home u low (sym home.0)
+          | inr over ↦ never over.0.0 over.0.1
+        ];
+      })).1,
+    )
+  where
+    never : (head : Sector) → y p 0 ≡ Some head → ⊥
+    never head here = let e : None ≡ Some head = sym left.bare ∙ here in cc

@@ -90,7 +90,8 @@ merge_unread T At places u t e old new did m it h steady rests agrees =
 
 pub told_unread : (At : ℕ → ℕ → Type 0) (places : ℕ) (t : Tables) (old new : Told)
     → ReadsAt At old new → Charts (StaysMirrored places t t) old new
-told_unread At places t old new did x told = (x, did.contents ∙ told, λ it mirrors. mirrors)
+told_unread At places t old new did x told =
+    (x, did.contents ∙ told, λ it mirrors. (mirrors, λ v page now low few shows. shows))
 
 module _ (At : ℕ → ℕ → Type 0) (u : ℕ) (home : Home) (log : List Record)
     (t after : Tables) (old mid new : Told) (result : Result (Unit {0}) ChipFault)

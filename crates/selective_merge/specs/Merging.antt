@@ -9,6 +9,7 @@ use Rattle.ipl_meaning.specs.Chart.{Chart}
 use Rattle.ipl_meaning.specs.Layout.{Layout}
 use Rattle.ipl_meaning.specs.Mirrors.{Mirrors}
 use Rattle.ipl_meaning.specs.Rests.{now, EachStands, StoryRests}
+use Rattle.ipl_meaning.specs.Steps.{KeepsPages}
 use Rattle.ipl_meaning.specs.Tables.{Tables}
 use Rattle.unit_io.specs.Leads.{IsSteady}
 use Rattle.steps.specs.Steps.{Steps, RestsAgreeing}
@@ -27,9 +28,10 @@ abbrev pub MergesFrom : ℕ → ℕ → Source → Tables → Tables → Chart �
 MergesFrom places u from t after c y = (it : Layout) → Mirrors places c it t
     → from ≡ source_of t (it.units u) u → IsMergedUnit places c y it t u after
 
--- whatever layout the tables mirrored, they mirror it still
+-- whatever layout the tables mirrored, they mirror it still, and each page is shown still
 abbrev pub StaysMirrored : ℕ → Tables → Tables → Chart → Chart → Type 0
-StaysMirrored places t after c y = (it : Layout) → Mirrors places c it t → Mirrors places y it after
+StaysMirrored places t after c y = (it : Layout) → Mirrors places c it t
+    → Mirrors places y it after × KeepsPages places c it y it
 
 -- where so many log sectors are carried, they are at most 12 once it is done; where they are more and
 -- no read failed, sector 0 of this place is malformed, and only then

@@ -18,6 +18,7 @@ use Rattle.merge_rules.specs.Packs.{packs_of, entries_from}
 use Rattle.unit_io.specs.Charts.{Charts}
 use Rattle.status_renewal.specs.Joins.{joined}
 use Rattle.status_renewal.specs.Keeps.{JoinsLog}
+use Rattle.selective_merge.specs.Merging.{StaysMirrored}
 use Rattle.status_renewal.specs.Passes.{kept_below, has_room, IsRepacked, HasPassed, HasStopped, TellsChart, PassEnds}
 use Rattle.status_renewal.proofs.KeepsLemmas.{none_are_kept, units_join, joined_numbers_join, merged_units_add_nothing}
 use Rattle.status_renewal.proofs.UnitLemmas.{kept_fits, kept_stays, repacked_waits}
@@ -219,7 +220,7 @@ module _ (places : ℕ) (c : Chart) (it : Layout) (t : Tables) where
 
     -- it wasn't
     pub stopped_there : (new : Told) (after : Tables)
-        → Charts (λ d y. (l : Layout) → Mirrors places d l mid → Mirrors places y l after) old new
+        → Charts (StaysMirrored places mid after) old new
         → TellsChart (HasStopped places it t after) new
     stopped_there new after stays =
         let (y, told_y, still) = stays was.contents was.told in (
@@ -228,7 +229,7 @@ module _ (places : ℕ) (c : Chart) (it : Layout) (t : Tables) where
           record {
             units = n;
             now = was.now;
-            mirrors = still was.now was.mirrors;
+            mirrors = (still was.now was.mirrors).0;
             passed = was.passed;
             committed = was.committed;
           },
@@ -241,8 +242,7 @@ module _ (places : ℕ) (c : Chart) (it : Layout) (t : Tables) where
         → MatchResult result
         (λ v. Charts (λ d y. (l : Layout) → Mirrors places d l mid
         → IsMergedUnit places d y l mid n after) old new)
-        (λ fault. fault ≢ Stopped → Charts (λ d y. (l : Layout) → Mirrors places d l mid
-        → Mirrors places y l after) old new)
+        (λ fault. fault ≢ Stopped → Charts (StaysMirrored places mid after) old new)
         → PassEnds places it t result new after
         (HasPassed places (n + 1) c it t kept new after)
     merge_ends (Ok v) new after status active many merges =

@@ -16,7 +16,7 @@ returns-then-not-pack_carried-clause-steps g c = λ m it h steady rests agrees s
 
 pub returns-then-not-pack_carried-clause-tells : goal.returns-then-not-pack_carried-clause-tells
 returns-then-not-pack_carried-clause-tells g c = λ soft x told.
-    (x, told, λ it mirrors. mirrors)
+    (x, told, λ it mirrors. (mirrors, λ v page now low few shows. shows))
 
 pub returns-then-not-pack_carried-clause-holds : goal.returns-then-not-pack_carried-clause-holds
 returns-then-not-pack_carried-clause-holds g c =

@@ -1,0 +1,9 @@
+mod SpotLemmas
+mod LogLemmas
+mod RoomLemmas
+mod FoundLemmas
+mod RoomStepLemmas
+mod OutLemmas
+mod KeepLemmas
+mod CauseLemmas
+mod SpendLemmas

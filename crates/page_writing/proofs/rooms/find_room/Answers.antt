@@ -1,0 +1,331 @@
+use Rattle.std.proofs.Common.{◌≡◌, ◌<◌, ◌-◌, ℕ, slice_index, Ok, Err, refl, sym, ◌∙◌, subst, arith}
+use Rattle.std.proofs.lemmas.Result.{err_from_is_err_and}
+use Rattle.chip_trait.proofs.CountsLemmas.{counts_then}
+use Rattle.ipl_base.specs.declared.fault.ChipFault.TheVariants.{ReadFault}
+use Rattle.ipl_meaning.specs.Chart.{chart_of}
+use Rattle.unit_io.specs.Charts.{Charts}
+use Rattle.unit_io.specs.Reads.{OfContents}
+use Rattle.unit_io.specs.ReadsAt.{IsCauseAt}
+use Rattle.unit_log.specs.Looks.{IsAt}
+use Rattle.ipl_format.specs.Sector.{Sector}
+use Rattle.ipl_meaning.specs.Chart.{IsDataHeader}
+use Rattle.std.specs.Prelude.{Some}
+use Rattle.selective_merge.specs.Moving.{tables_of, Holds}
+use Rattle.selective_merge.specs.Placing.{Opens, IsPlaced, MakesRoom, MakesRoomInSteps}
+use Rattle.page_writing.proofs.CauseLemmas.{unread_cause, unplaced_cause, lost_cause}
+use Rattle.page_writing.proofs.FoundLemmas.{Says, generation_first, generation_then, told_unread, found_told, lost_told, header_then, unplaced_told}
+use Rattle.page_writing.proofs.RoomStepLemmas.{unread_steps, unplaced_steps, room_steps, read_steps, lost_steps}
+use Rattle.page_writing.proofs.SpendLemmas.{frees_read, frees_behind, frees_then_reads}
+use Rattle.page_writing.proofs.rooms.find_room.Goals as goal
+
+-- ---- the header wasn't read
+
+pub returns-in_err-generation-clause-tells : goal.returns-in_err-generation-clause-tells
+returns-in_err-generation-clause-tells g c =
+    let e = err_from_is_err_and c.from_residual.result c.from_residual.ensures.1 in
+    let old = g.C.Chip.told c.args.chip.now in
+    let new = g.C.Chip.told c.read_generation.new.chip in
+    let looks = c.in_err-generation.ensures.looks in
+    rw e.1 (λ soft. told_unread _ old.places (tables_of c.args.parts.now) old new looks.reads)
+
+pub returns-in_err-generation-clause-steps : goal.returns-in_err-generation-clause-steps
+returns-in_err-generation-clause-steps g c =
+    let e = err_from_is_err_and c.from_residual.result c.from_residual.ensures.1 in
+    let old = g.C.Chip.told c.args.chip.now in
+    let new = g.C.Chip.told c.read_generation.new.chip in
+    let looks = c.in_err-generation.ensures.looks in
+    rw e.1 (unread_steps _ old.places c.args.unit (tables_of c.args.parts.now) e.0 old new
+    looks.reads)
+
+pub returns-in_err-generation-clause-costs : goal.returns-in_err-generation-clause-costs
+returns-in_err-generation-clause-costs g c =
+    let old = g.C.Chip.told c.args.chip.now in
+    let new = g.C.Chip.told c.read_generation.new.chip in
+    let looks = c.in_err-generation.ensures.looks in
+    frees_read _ (tables_of c.args.parts.now).places old new looks.reads
+
+pub returns-in_err-generation-clause-accounts : goal.returns-in_err-generation-clause-accounts
+returns-in_err-generation-clause-accounts g c =
+    let e = err_from_is_err_and c.from_residual.result c.from_residual.ensures.1 in
+    let old = g.C.Chip.told c.args.chip.now in
+    let new = g.C.Chip.told c.read_generation.new.chip in
+    let looks = c.in_err-generation.ensures.looks in
+    rw (e.1, e.2) (record {
+      counts = looks.reads.counts;
+      cause = unread_cause (tables_of c.args.parts.now) c.args.unit _
+          c.in_err-generation.field-0.0 old new
+          (subst (λ (p : ℕ). IsCauseAt (IsAt p 0) c.in_err-generation.field-0.0 old new)
+          c.current-home.ensures.place looks.cause);
+    })
+
+-- ---- no room was made
+
+pub returns-in_err-spot-clause-tells : goal.returns-in_err-spot-clause-tells
+returns-in_err-spot-clause-tells g c =
+    let e = err_from_is_err_and c.from_residual-in_err-spot.result
+    c.from_residual-in_err-spot.ensures.1 in
+    let old = g.C.Chip.told c.args.chip.now in
+    let mid = g.C.Chip.told c.read_generation.new.chip in
+    let new = g.C.Chip.told c.log_place.new.chip in
+    let t = tables_of c.args.parts.now in
+    let after = tables_of c.log_place.new.parts in
+    let reads = c.in_ok-generation.ensures.looks.reads in
+    let holds = subst (λ (n : ℕ). Holds n t after) reads.counts.places c.in_err-spot.ensures.holds in
+    rw e.1 (λ soft. unplaced_told _ old.places t after old mid new holds.known.none_lost
+    holds.active reads (subst (λ (n : ℕ). Charts (Opens n t after) mid new) reads.counts.places
+    (c.in_err-spot.ensures.tells (λ same. soft (e.2 ∙ same)))))
+
+pub returns-in_err-spot-clause-steps : goal.returns-in_err-spot-clause-steps
+returns-in_err-spot-clause-steps g c =
+    let e = err_from_is_err_and c.from_residual-in_err-spot.result
+    c.from_residual-in_err-spot.ensures.1 in
+    let old = g.C.Chip.told c.args.chip.now in
+    let mid = g.C.Chip.told c.read_generation.new.chip in
+    let new = g.C.Chip.told c.log_place.new.chip in
+    let t = tables_of c.args.parts.now in
+    let after = tables_of c.log_place.new.parts in
+    let u = c.args.unit in
+    let reads = c.in_ok-generation.ensures.looks.reads in
+    let holds = subst (λ (n : ℕ). Holds n t after) reads.counts.places c.in_err-spot.ensures.holds in
+    rw (e.1, e.2) (unplaced_steps _ old.places u t after old mid new holds.known.none_lost
+    holds.active reads (g.met.C.Chip.consistent c.args.chip.now)
+    (g.met.C.Chip.consistent c.log_place.new.chip)
+    c.in_err-spot.field-0.0
+    (subst (λ (n : ℕ). MakesRoomInSteps IsPlaced n u t after mid (Err c.in_err-spot.field-0.0) new)
+    reads.counts.places c.in_err-spot.ensures.steps))
+
+pub returns-in_err-spot-clause-costs : goal.returns-in_err-spot-clause-costs
+returns-in_err-spot-clause-costs g c =
+    let old = g.C.Chip.told c.args.chip.now in
+    let mid = g.C.Chip.told c.read_generation.new.chip in
+    let new = g.C.Chip.told c.log_place.new.chip in
+    let t = tables_of c.args.parts.now in
+    let reads = c.in_ok-generation.ensures.looks.reads in
+    frees_behind _ t.places old mid new reads c.in_err-spot.ensures.costs
+
+pub returns-in_err-spot-clause-accounts : goal.returns-in_err-spot-clause-accounts
+returns-in_err-spot-clause-accounts g c =
+    let e = err_from_is_err_and c.from_residual-in_err-spot.result
+    c.from_residual-in_err-spot.ensures.1 in
+    let old = g.C.Chip.told c.args.chip.now in
+    let mid = g.C.Chip.told c.read_generation.new.chip in
+    let new = g.C.Chip.told c.log_place.new.chip in
+    let t = tables_of c.args.parts.now in
+    let u = c.args.unit in
+    let reads = c.in_ok-generation.ensures.looks.reads in
+    let says = c.in_err-spot.ensures.accounts in
+    rw (e.1, e.2) (record {
+      counts = counts_then old mid new reads.counts says.counts;
+      cause = unplaced_cause t u _ c.in_err-spot.field-0.0 old mid new reads.counts says.cause;
+    })
+
+-- ---- the unit stands where it stood
+
+pub returns-then-place-home-clause-tells : goal.returns-then-place-home-clause-tells
+returns-then-place-home-clause-tells g c =
+    let old = g.C.Chip.told c.args.chip.now in
+    let mid = g.C.Chip.told c.read_generation.new.chip in
+    let new = g.C.Chip.told c.log_place.new.chip in
+    let t = tables_of c.args.parts.now in
+    let after = tables_of c.log_place.new.parts in
+    let u = c.args.unit in
+    let reads = c.in_ok-generation.ensures.looks.reads in
+    let holds = subst (λ (n : ℕ). Holds n t after) reads.counts.places c.in_ok-spot.ensures.holds in
+    let spot = c.in_ok-spot.spot in
+    let made = subst (λ (n : ℕ). Charts (MakesRoom IsPlaced n u t after spot) mid new)
+    reads.counts.places c.in_ok-spot.ensures.tells in
+    let low : u < old.places - 4 = omega (arith, c.requires.unit) in
+    let stays : slice_index after.places.current u ≡ slice_index t.places.current u =
+    sym c.current-place.ensures.place ∙ (c.if-place-home.true ∙ c.current-home.ensures.place) in
+    let first = subst (λ (p : ℕ). OfContents old (Says u p c.in_ok-generation.generation))
+    c.current-home.ensures.place c.in_ok-generation.ensures.exact in
+    found_told _ old.places u t after old mid new new holds.known.none_lost holds.active reads refl
+    spot c.in_ok-generation.generation made
+    (λ y told. generation_first old.places t u after c.in_ok-generation.generation old y low stays
+    first)
+
+pub returns-then-place-home-clause-steps : goal.returns-then-place-home-clause-steps
+returns-then-place-home-clause-steps g c =
+    let old = g.C.Chip.told c.args.chip.now in
+    let mid = g.C.Chip.told c.read_generation.new.chip in
+    let new = g.C.Chip.told c.log_place.new.chip in
+    let t = tables_of c.args.parts.now in
+    let after = tables_of c.log_place.new.parts in
+    let u = c.args.unit in
+    let reads = c.in_ok-generation.ensures.looks.reads in
+    let holds = subst (λ (n : ℕ). Holds n t after) reads.counts.places c.in_ok-spot.ensures.holds in
+    let spot = c.in_ok-spot.spot in
+    let made = subst (λ (n : ℕ). MakesRoomInSteps IsPlaced n u t after mid (Ok spot) new)
+    reads.counts.places c.in_ok-spot.ensures.steps in
+    let low : u < old.places - 4 = omega (arith, c.requires.unit) in
+    let stays : slice_index after.places.current u ≡ slice_index t.places.current u =
+    sym c.current-place.ensures.place ∙ (c.if-place-home.true ∙ c.current-home.ensures.place) in
+    let first = subst (λ (p : ℕ). OfContents old (Says u p c.in_ok-generation.generation))
+    c.current-home.ensures.place c.in_ok-generation.ensures.exact in
+    room_steps _ old.places u t after old mid new holds.known.none_lost holds.active reads
+    (g.met.C.Chip.consistent c.args.chip.now)
+    (g.met.C.Chip.consistent c.log_place.new.chip)
+    spot c.in_ok-generation.generation made
+    (λ y told. generation_first old.places t u after c.in_ok-generation.generation old y low stays
+    first)
+
+pub returns-then-place-home-clause-costs : goal.returns-then-place-home-clause-costs
+returns-then-place-home-clause-costs g c =
+    let old = g.C.Chip.told c.args.chip.now in
+    let mid = g.C.Chip.told c.read_generation.new.chip in
+    let new = g.C.Chip.told c.log_place.new.chip in
+    let t = tables_of c.args.parts.now in
+    let reads = c.in_ok-generation.ensures.looks.reads in
+    frees_behind _ t.places old mid new reads c.in_ok-spot.ensures.costs
+
+-- ---- the header of the merged unit wasn't read
+
+pub returns-in_err-merged-clause-tells : goal.returns-in_err-merged-clause-tells
+returns-in_err-merged-clause-tells g c =
+    let e = err_from_is_err_and c.from_residual-in_err-merged.result
+    c.from_residual-in_err-merged.ensures.1 in
+    let old = g.C.Chip.told c.args.chip.now in
+    let mid = g.C.Chip.told c.read_generation.new.chip in
+    let new = g.C.Chip.told c.log_place.new.chip in
+    let t = tables_of c.args.parts.now in
+    let after = tables_of c.log_place.new.parts in
+    let u = c.args.unit in
+    let reads = c.in_ok-generation.ensures.looks.reads in
+    let holds = subst (λ (n : ℕ). Holds n t after) reads.counts.places c.in_ok-spot.ensures.holds in
+    let spot = c.in_ok-spot.spot in
+    let made = subst (λ (n : ℕ). Charts (MakesRoom IsPlaced n u t after spot) mid new)
+    reads.counts.places c.in_ok-spot.ensures.tells in
+    let last = g.C.Chip.told c.read_generation-2.new.chip in
+    rw e.1 (λ soft. lost_told _ old.places u t after old mid new last holds.known.none_lost
+    holds.active reads c.in_err-merged.ensures.looks.reads.contents spot made)
+
+pub returns-in_err-merged-clause-steps : goal.returns-in_err-merged-clause-steps
+returns-in_err-merged-clause-steps g c =
+    let e = err_from_is_err_and c.from_residual-in_err-merged.result
+    c.from_residual-in_err-merged.ensures.1 in
+    let old = g.C.Chip.told c.args.chip.now in
+    let mid = g.C.Chip.told c.read_generation.new.chip in
+    let new = g.C.Chip.told c.log_place.new.chip in
+    let t = tables_of c.args.parts.now in
+    let after = tables_of c.log_place.new.parts in
+    let u = c.args.unit in
+    let reads = c.in_ok-generation.ensures.looks.reads in
+    let holds = subst (λ (n : ℕ). Holds n t after) reads.counts.places c.in_ok-spot.ensures.holds in
+    let spot = c.in_ok-spot.spot in
+    let made = subst (λ (n : ℕ). MakesRoomInSteps IsPlaced n u t after mid (Ok spot) new)
+    reads.counts.places c.in_ok-spot.ensures.steps in
+    let last = g.C.Chip.told c.read_generation-2.new.chip in
+    rw (e.1, e.2) (lost_steps _ old.places u t after old mid new holds.known.none_lost holds.active
+    reads (g.met.C.Chip.consistent c.args.chip.now)
+    (g.met.C.Chip.consistent c.log_place.new.chip)
+    _ last spot c.in_err-merged.field-0.0
+    (counts_then old mid new reads.counts c.in_ok-spot.ensures.accounts.counts)
+    made c.in_err-merged.ensures.looks.reads)
+
+pub returns-in_err-merged-clause-costs : goal.returns-in_err-merged-clause-costs
+returns-in_err-merged-clause-costs g c =
+    let old = g.C.Chip.told c.args.chip.now in
+    let mid = g.C.Chip.told c.read_generation.new.chip in
+    let new = g.C.Chip.told c.log_place.new.chip in
+    let t = tables_of c.args.parts.now in
+    let reads = c.in_ok-generation.ensures.looks.reads in
+    let last = g.C.Chip.told c.read_generation-2.new.chip in
+    frees_then_reads _ t.places old new last
+    (frees_behind _ t.places old mid new reads c.in_ok-spot.ensures.costs)
+    c.in_err-merged.ensures.looks.reads
+
+pub returns-in_err-merged-clause-accounts : goal.returns-in_err-merged-clause-accounts
+returns-in_err-merged-clause-accounts g c =
+    let e = err_from_is_err_and c.from_residual-in_err-merged.result
+    c.from_residual-in_err-merged.ensures.1 in
+    let old = g.C.Chip.told c.args.chip.now in
+    let mid = g.C.Chip.told c.read_generation.new.chip in
+    let new = g.C.Chip.told c.log_place.new.chip in
+    let t = tables_of c.args.parts.now in
+    let after = tables_of c.log_place.new.parts in
+    let u = c.args.unit in
+    let reads = c.in_ok-generation.ensures.looks.reads in
+    let holds = subst (λ (n : ℕ). Holds n t after) reads.counts.places c.in_ok-spot.ensures.holds in
+    let spot = c.in_ok-spot.spot in
+    let made = subst (λ (n : ℕ). Charts (MakesRoom IsPlaced n u t after spot) mid new)
+    reads.counts.places c.in_ok-spot.ensures.tells in
+    let low : u < old.places - 4 = omega (arith, c.requires.unit) in
+    let last = g.C.Chip.told c.read_generation-2.new.chip in
+    let looks = c.in_err-merged.ensures.looks in
+    let fault = c.in_err-merged.field-0.0 in
+    let counts = counts_then old mid new reads.counts c.in_ok-spot.ensures.accounts.counts in
+    let place = slice_index after.places.current u in
+    let read = subst (λ (p : ℕ). OfContents new (λ y. (head : Sector)
+    → chart_of y p 0 ≡ Some head → IsDataHeader u head → fault ≡ ReadFault))
+    c.current-place.ensures.place c.in_err-merged.ensures.exact in
+    rw (e.1, e.2) (record {
+      counts = counts_then old new last counts looks.reads.counts;
+      cause = lost_cause t u place fault old new last counts
+          (subst (λ (p : ℕ). IsCauseAt (IsAt p 0) fault new last) c.current-place.ensures.place
+          looks.cause)
+          (header_then _ old.places u t after old mid new new holds.known.none_lost holds.active
+          reads refl (fault ≡ ReadFault) low spot made read);
+    })
+
+-- ---- the unit was merged
+
+pub returns-clause-tells : goal.returns-clause-tells
+returns-clause-tells g c =
+    let old = g.C.Chip.told c.args.chip.now in
+    let mid = g.C.Chip.told c.read_generation.new.chip in
+    let new = g.C.Chip.told c.log_place.new.chip in
+    let t = tables_of c.args.parts.now in
+    let after = tables_of c.log_place.new.parts in
+    let u = c.args.unit in
+    let reads = c.in_ok-generation.ensures.looks.reads in
+    let holds = subst (λ (n : ℕ). Holds n t after) reads.counts.places c.in_ok-spot.ensures.holds in
+    let spot = c.in_ok-spot.spot in
+    let made = subst (λ (n : ℕ). Charts (MakesRoom IsPlaced n u t after spot) mid new)
+    reads.counts.places c.in_ok-spot.ensures.tells in
+    let low : u < old.places - 4 = omega (arith, c.requires.unit) in
+    let last = g.C.Chip.told c.read_generation-2.new.chip in
+    let later = c.in_ok-merged.ensures.looks.reads in
+    let says = subst (λ (p : ℕ). OfContents new (Says u p c.in_ok-merged.merged))
+    c.current-place.ensures.place c.in_ok-merged.ensures.exact in
+    found_told _ old.places u t after old mid new last holds.known.none_lost holds.active reads
+    later.contents spot c.in_ok-merged.merged made
+    (λ y told. generation_then old.places t u after c.in_ok-merged.merged old y low
+    (says y (sym later.contents ∙ told)))
+
+pub returns-clause-steps : goal.returns-clause-steps
+returns-clause-steps g c =
+    let old = g.C.Chip.told c.args.chip.now in
+    let mid = g.C.Chip.told c.read_generation.new.chip in
+    let new = g.C.Chip.told c.log_place.new.chip in
+    let t = tables_of c.args.parts.now in
+    let after = tables_of c.log_place.new.parts in
+    let u = c.args.unit in
+    let reads = c.in_ok-generation.ensures.looks.reads in
+    let holds = subst (λ (n : ℕ). Holds n t after) reads.counts.places c.in_ok-spot.ensures.holds in
+    let spot = c.in_ok-spot.spot in
+    let made = subst (λ (n : ℕ). MakesRoomInSteps IsPlaced n u t after mid (Ok spot) new)
+    reads.counts.places c.in_ok-spot.ensures.steps in
+    let low : u < old.places - 4 = omega (arith, c.requires.unit) in
+    let last = g.C.Chip.told c.read_generation-2.new.chip in
+    let later = c.in_ok-merged.ensures.looks.reads in
+    let says = subst (λ (p : ℕ). OfContents new (Says u p c.in_ok-merged.merged))
+    c.current-place.ensures.place c.in_ok-merged.ensures.exact in
+    read_steps _ old.places u t after old mid new holds.known.none_lost holds.active reads
+    (g.met.C.Chip.consistent c.args.chip.now)
+    (g.met.C.Chip.consistent c.log_place.new.chip)
+    _ last spot c.in_ok-merged.merged
+    (counts_then old mid new reads.counts c.in_ok-spot.ensures.accounts.counts)
+    made later
+    (λ y told. generation_then old.places t u after c.in_ok-merged.merged old y low (says y told))
+
+pub returns-clause-costs : goal.returns-clause-costs
+returns-clause-costs g c =
+    let old = g.C.Chip.told c.args.chip.now in
+    let mid = g.C.Chip.told c.read_generation.new.chip in
+    let new = g.C.Chip.told c.log_place.new.chip in
+    let t = tables_of c.args.parts.now in
+    let reads = c.in_ok-generation.ensures.looks.reads in
+    let last = g.C.Chip.told c.read_generation-2.new.chip in
+    frees_then_reads _ t.places old new last
+    (frees_behind _ t.places old mid new reads c.in_ok-spot.ensures.costs)
+    c.in_ok-merged.ensures.looks.reads

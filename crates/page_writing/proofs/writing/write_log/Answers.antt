@@ -1,0 +1,140 @@
+use Rattle.std.proofs.Common.{◌+◌, ℕ, Ok, Err, refl, subst, arith}
+use Rattle.std.proofs.lemmas.Result.{err_from_is_err_and}
+use Rattle.ipl_format.specs.Sector.{Sector}
+use Rattle.ipl_meaning.specs.TableSteps.{with_next}
+use Rattle.selective_merge.specs.Moving.{tables_of}
+use Rattle.page_writing.specs.Writing.{IsAfterLog, IsLogOf}
+use Rattle.page_writing.proofs.LogLemmas.{log_told, log_steps}
+use Rattle.page_writing.proofs.SpotLemmas.{spot_within, spot_drawn, drawn_before, known_drawn, holds_drawn, log_holds}
+use Rattle.page_writing.proofs.writing.write_log.Goals as goal
+
+pub program_log-requires-clause-place : goal.program_log-requires-clause-place
+program_log-requires-clause-place g c =
+    (spot_within (g.C.Chip.told c.args.chip.now).places (tables_of c.args.parts.now) c.args.unit
+    c.args.at.spot.place c.args.at.spot.sector c.requires.known.suits c.requires.unit
+    c.facts.ensures c.facts-2.ensures c.requires.spot).0
+
+pub program_log-requires-clause-sector : goal.program_log-requires-clause-sector
+program_log-requires-clause-sector g c =
+    (spot_within (g.C.Chip.told c.args.chip.now).places (tables_of c.args.parts.now) c.args.unit
+    c.args.at.spot.place c.args.at.spot.sector c.requires.known.suits c.requires.unit
+    c.facts.ensures c.facts-2.ensures c.requires.spot).1
+
+pub use_spot-requires-clause-known : goal.use_spot-requires-clause-known
+use_spot-requires-clause-known g c =
+    rw c.units-places.ensures (known_drawn (g.C.Chip.told c.args.chip.now).places
+    (tables_of c.args.parts.now) c.draw.new.self c.requires.known)
+
+pub use_spot-requires-clause-spot : goal.use_spot-requires-clause-spot
+use_spot-requires-clause-spot g c =
+    spot_drawn (tables_of c.args.parts.now) c.draw.new.self c.args.unit c.args.at.spot.place
+    c.args.at.spot.sector c.requires.spot
+
+pub returns-in_err-program_log-clause-steps : goal.returns-in_err-program_log-clause-steps
+returns-in_err-program_log-clause-steps g c =
+    let e = err_from_is_err_and c.from_residual.result c.from_residual.ensures.1 in
+    let old = g.C.Chip.told c.args.chip.now in
+    let at = c.args.at in
+    let t = tables_of c.args.parts.now in
+    let payload = c.args.payload.now in
+    let sector : Sector = record {
+      kind = 5;
+      version = 1;
+      unit = c.args.unit;
+      generation = at.generation;
+      serial = c.draw.result;
+      payload = payload;
+    } in
+    let is : IsLogOf c.args.unit at.generation t.next payload sector = record {
+      kind = refl;
+      of_unit = refl;
+      of_generation = refl;
+      serial_is = c.draw.ensures.drawn;
+      payload_is = refl;
+    } in
+    let says = c.in_err-program_log.ensures in
+    rw (e.1, e.2) (log_steps old.places c.args.unit at payload t (with_next t c.draw.new.self) sector old
+    (g.C.Chip.told c.program_log.new.chip) (omega (arith, c.requires.unit)) is
+    (Err c.in_err-program_log.field-0.0) c.requires.spot tt says.keeps says.accounts.cause)
+
+pub returns-in_err-program_log-clause-holds : goal.returns-in_err-program_log-clause-holds
+returns-in_err-program_log-clause-holds g c =
+    holds_drawn (g.C.Chip.told c.args.chip.now).places (tables_of c.args.parts.now) c.draw.new.self
+    c.requires.known
+
+pub returns-clause-steps : goal.returns-clause-steps
+returns-clause-steps g c =
+    let old = g.C.Chip.told c.args.chip.now in
+    let at = c.args.at in
+    let u = c.args.unit in
+    let t = tables_of c.args.parts.now in
+    let after = tables_of c.use_spot.new.parts in
+    let payload = c.args.payload.now in
+    let sector : Sector = record {
+      kind = 5;
+      version = 1;
+      unit = u;
+      generation = at.generation;
+      serial = c.draw.result;
+      payload = payload;
+    } in
+    let is : IsLogOf u at.generation t.next payload sector = record {
+      kind = refl;
+      of_unit = refl;
+      of_generation = refl;
+      serial_is = c.draw.ensures.drawn;
+      payload_is = refl;
+    } in
+    let tables : IsAfterLog t after u at.spot.place at.spot.sector (t.next + 1) =
+    drawn_before t after c.draw.new.self u at.spot.place at.spot.sector (t.next + 1)
+    (subst (λ (n : ℕ). IsAfterLog (with_next t c.draw.new.self) after u at.spot.place
+    at.spot.sector n) c.draw.ensures.next c.use_spot.ensures) in
+    let says = c.in_ok-program_log.ensures in
+    log_steps old.places u at payload t after sector old (g.C.Chip.told c.program_log.new.chip)
+    (omega (arith, c.requires.unit)) is (Ok tt) c.requires.spot tables says.keeps
+    says.accounts.cause
+
+pub returns-clause-tells : goal.returns-clause-tells
+returns-clause-tells g c =
+    let old = g.C.Chip.told c.args.chip.now in
+    let at = c.args.at in
+    let u = c.args.unit in
+    let t = tables_of c.args.parts.now in
+    let after = tables_of c.use_spot.new.parts in
+    let payload = c.args.payload.now in
+    let sector : Sector = record {
+      kind = 5;
+      version = 1;
+      unit = u;
+      generation = at.generation;
+      serial = c.draw.result;
+      payload = payload;
+    } in
+    let is : IsLogOf u at.generation t.next payload sector = record {
+      kind = refl;
+      of_unit = refl;
+      of_generation = refl;
+      serial_is = c.draw.ensures.drawn;
+      payload_is = refl;
+    } in
+    let tables : IsAfterLog t after u at.spot.place at.spot.sector (t.next + 1) =
+    drawn_before t after c.draw.new.self u at.spot.place at.spot.sector (t.next + 1)
+    (subst (λ (n : ℕ). IsAfterLog (with_next t c.draw.new.self) after u at.spot.place
+    at.spot.sector n) c.draw.ensures.next c.use_spot.ensures) in
+    let holds = log_holds old.places t u at.spot.place at.spot.sector (t.next + 1)
+    c.requires.known after tables in
+    log_told old.places u at payload t after sector old (g.C.Chip.told c.program_log.new.chip)
+    (omega (arith, c.requires.unit)) is tables holds.known.none_lost
+    c.in_ok-program_log.ensures.tells
+
+pub returns-clause-holds : goal.returns-clause-holds
+returns-clause-holds g c =
+    let at = c.args.at in
+    let u = c.args.unit in
+    let t = tables_of c.args.parts.now in
+    let after = tables_of c.use_spot.new.parts in
+    log_holds (g.C.Chip.told c.args.chip.now).places t u at.spot.place at.spot.sector (t.next + 1)
+    c.requires.known after
+    (drawn_before t after c.draw.new.self u at.spot.place at.spot.sector (t.next + 1)
+    (subst (λ (n : ℕ). IsAfterLog (with_next t c.draw.new.self) after u at.spot.place
+    at.spot.sector n) c.draw.ensures.next c.use_spot.ensures))

@@ -1,0 +1,150 @@
+use Rattle.std.proofs.Common.{ℕ, Ok, Err, ◌∙◌, subst}
+use Rattle.std.proofs.lemmas.Result.{err_from_is_err_and}
+use Rattle.chip_trait.proofs.CountsLemmas.{counts_then}
+use Rattle.unit_io.specs.Charts.{Charts}
+use Rattle.selective_merge.specs.Moving.{tables_of, Holds}
+use Rattle.page_writing.specs.Writing.{WritesLog, WritesLogInSteps}
+use Rattle.page_writing.proofs.CauseLemmas.{stopped_cause}
+use Rattle.page_writing.proofs.OutLemmas.{out_told, out_steps, stopped_told}
+use Rattle.page_writing.proofs.SpendLemmas.{frees_alone, frees_then_logs}
+use Rattle.page_writing.proofs.SpotLemmas.{holds_then}
+use Rattle.page_writing.proofs.writing.write_out.Goals as goal
+
+-- ---- no room was found
+
+pub returns-in_err-at-clause-tells : goal.returns-in_err-at-clause-tells
+returns-in_err-at-clause-tells g c =
+    let e = err_from_is_err_and c.from_residual.result c.from_residual.ensures.1 in
+    rw e.1 (λ soft. c.in_err-at.ensures.tells (λ same. soft (e.2 ∙ same)))
+
+pub returns-in_err-at-clause-steps : goal.returns-in_err-at-clause-steps
+returns-in_err-at-clause-steps g c =
+    let e = err_from_is_err_and c.from_residual.result c.from_residual.ensures.1 in
+    rw (e.1, e.2) (λ m it records h steady rests agrees payload_of.
+    c.in_err-at.ensures.steps m it h steady rests agrees)
+
+pub returns-in_err-at-clause-costs : goal.returns-in_err-at-clause-costs
+returns-in_err-at-clause-costs g c =
+    frees_alone (tables_of c.args.parts.now).places (g.C.Chip.told c.args.chip.now)
+    (g.C.Chip.told c.find_room.new.chip) c.in_err-at.ensures.costs
+
+pub returns-in_err-at-clause-accounts : goal.returns-in_err-at-clause-accounts
+returns-in_err-at-clause-accounts g c =
+    let e = err_from_is_err_and c.from_residual.result c.from_residual.ensures.1 in
+    let says = c.in_err-at.ensures.accounts in
+    rw (e.1, e.2) (record { counts = says.counts; cause = says.cause })
+
+-- ---- the sector wasn't written
+
+pub returns-in_err-write_log-clause-tells : goal.returns-in_err-write_log-clause-tells
+returns-in_err-write_log-clause-tells g c =
+    let e = err_from_is_err_and c.from_residual-in_err-write_log.result
+    c.from_residual-in_err-write_log.ensures.1 in
+    rw (e.1, e.2) (stopped_told (g.C.Chip.told c.args.chip.now).places c.args.unit
+    c.args.payload.now (tables_of c.args.parts.now) (tables_of c.write_log.new.parts)
+    c.in_err-write_log.field-0.0 (g.C.Chip.told c.args.chip.now)
+    (g.C.Chip.told c.write_log.new.chip) c.in_err-write_log.ensures.accounts.cause.0)
+
+pub returns-in_err-write_log-clause-steps : goal.returns-in_err-write_log-clause-steps
+returns-in_err-write_log-clause-steps g c =
+    let e = err_from_is_err_and c.from_residual-in_err-write_log.result
+    c.from_residual-in_err-write_log.ensures.1 in
+    let old = g.C.Chip.told c.args.chip.now in
+    let mid = g.C.Chip.told c.find_room.new.chip in
+    let new = g.C.Chip.told c.write_log.new.chip in
+    let between = tables_of c.find_room.new.parts in
+    let after = tables_of c.write_log.new.parts in
+    let at = c.in_ok-at.at in
+    let found = c.in_ok-at.ensures in
+    rw (e.1, e.2) (out_steps old.places c.args.unit at c.args.payload.now
+    (tables_of c.args.parts.now) between after old mid new (Err c.in_err-write_log.field-0.0)
+    found.accounts.counts found.steps
+    (subst (λ (n : ℕ). WritesLogInSteps n c.args.unit at c.args.payload.now between after mid
+    (Err c.in_err-write_log.field-0.0) new) found.accounts.counts.places
+    c.in_err-write_log.ensures.steps))
+
+pub returns-in_err-write_log-clause-holds : goal.returns-in_err-write_log-clause-holds
+returns-in_err-write_log-clause-holds g c =
+    let old = g.C.Chip.told c.args.chip.now in
+    let between = tables_of c.find_room.new.parts in
+    let after = tables_of c.write_log.new.parts in
+    let found = c.in_ok-at.ensures in
+    holds_then old.places (tables_of c.args.parts.now) between after found.holds
+    (subst (λ (n : ℕ). Holds n between after) found.accounts.counts.places
+    c.in_err-write_log.ensures.holds)
+
+pub returns-in_err-write_log-clause-costs : goal.returns-in_err-write_log-clause-costs
+returns-in_err-write_log-clause-costs g c =
+    frees_then_logs (tables_of c.args.parts.now).places c.in_ok-at.at.spot.place
+    (g.C.Chip.told c.args.chip.now) (g.C.Chip.told c.find_room.new.chip)
+    (g.C.Chip.told c.write_log.new.chip) c.in_ok-at.ensures.costs c.in_err-write_log.ensures.costs
+
+pub returns-in_err-write_log-clause-accounts : goal.returns-in_err-write_log-clause-accounts
+returns-in_err-write_log-clause-accounts g c =
+    let e = err_from_is_err_and c.from_residual-in_err-write_log.result
+    c.from_residual-in_err-write_log.ensures.1 in
+    let old = g.C.Chip.told c.args.chip.now in
+    let mid = g.C.Chip.told c.find_room.new.chip in
+    let new = g.C.Chip.told c.write_log.new.chip in
+    let found = c.in_ok-at.ensures.accounts in
+    let says = c.in_err-write_log.ensures.accounts in
+    rw (e.1, e.2) (record {
+      counts = counts_then old mid new found.counts says.counts;
+      cause = stopped_cause (tables_of c.args.parts.now) c.args.unit _
+          c.in_err-write_log.field-0.0 old mid new found.counts says.cause;
+    })
+
+-- ---- done
+
+pub returns-clause-tells : goal.returns-clause-tells
+returns-clause-tells g c =
+    let old = g.C.Chip.told c.args.chip.now in
+    let mid = g.C.Chip.told c.find_room.new.chip in
+    let new = g.C.Chip.told c.write_log.new.chip in
+    let between = tables_of c.find_room.new.parts in
+    let after = tables_of c.write_log.new.parts in
+    let at = c.in_ok-at.at in
+    let found = c.in_ok-at.ensures in
+    out_told old.places c.args.unit at c.args.payload.now (tables_of c.args.parts.now) between after
+    old mid new found.tells
+    (subst (λ (n : ℕ). Charts (WritesLog n c.args.unit at c.args.payload.now between after) mid new)
+    found.accounts.counts.places c.in_ok-write_log.ensures.tells)
+
+pub returns-clause-steps : goal.returns-clause-steps
+returns-clause-steps g c =
+    let old = g.C.Chip.told c.args.chip.now in
+    let mid = g.C.Chip.told c.find_room.new.chip in
+    let new = g.C.Chip.told c.write_log.new.chip in
+    let between = tables_of c.find_room.new.parts in
+    let after = tables_of c.write_log.new.parts in
+    let at = c.in_ok-at.at in
+    let found = c.in_ok-at.ensures in
+    out_steps old.places c.args.unit at c.args.payload.now (tables_of c.args.parts.now) between
+    after old mid new (Ok tt) found.accounts.counts found.steps
+    (subst (λ (n : ℕ). WritesLogInSteps n c.args.unit at c.args.payload.now between after mid
+    (Ok tt) new) found.accounts.counts.places c.in_ok-write_log.ensures.steps)
+
+pub returns-clause-holds : goal.returns-clause-holds
+returns-clause-holds g c =
+    let old = g.C.Chip.told c.args.chip.now in
+    let between = tables_of c.find_room.new.parts in
+    let after = tables_of c.write_log.new.parts in
+    let found = c.in_ok-at.ensures in
+    holds_then old.places (tables_of c.args.parts.now) between after found.holds
+    (subst (λ (n : ℕ). Holds n between after) found.accounts.counts.places
+    c.in_ok-write_log.ensures.holds)
+
+pub returns-clause-costs : goal.returns-clause-costs
+returns-clause-costs g c =
+    frees_then_logs (tables_of c.args.parts.now).places c.in_ok-at.at.spot.place
+    (g.C.Chip.told c.args.chip.now) (g.C.Chip.told c.find_room.new.chip)
+    (g.C.Chip.told c.write_log.new.chip) c.in_ok-at.ensures.costs c.in_ok-write_log.ensures.costs
+
+pub returns-clause-accounts : goal.returns-clause-accounts
+returns-clause-accounts g c =
+    record {
+      counts = counts_then (g.C.Chip.told c.args.chip.now) (g.C.Chip.told c.find_room.new.chip)
+          (g.C.Chip.told c.write_log.new.chip) c.in_ok-at.ensures.accounts.counts
+          c.in_ok-write_log.ensures.accounts.counts;
+      cause = tt;
+    }

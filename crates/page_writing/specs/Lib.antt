@@ -1,0 +1,5 @@
+pub mod Rooms
+pub mod Writing
+pub mod Spending
+pub mod Causes
+pub mod Laws

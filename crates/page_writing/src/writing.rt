@@ -1,0 +1,137 @@
+//! The records of a page, written as one log sector of its unit.
+ghost use Rattle.std.specs.Prelude.{◌≡◌, ◌<◌, ◌≤◌, ◌+◌, ◌^◌, [], length, false, slice_index, OnOk, OnErr, IsTrue};
+ghost use Rattle.unit_io.specs.Accounts.{Accounts};
+ghost use Rattle.unit_io.specs.Charts.{Charts};
+ghost use Rattle.unit_io.specs.Costs.{ProgramsAt, Spends};
+ghost use Rattle.unit_io.specs.Leads.{IsStopped};
+ghost use Rattle.merge_rules.specs.Known.{KnowsPlaces};
+ghost use Rattle.selective_merge.specs.Moving.{tables_of, Holds};
+ghost use Rattle.selective_merge.specs.Spotting.{IsHomeSpot, IsSpotFor};
+ghost use Rattle.page_writing.specs.Causes.{WritingCause};
+ghost use Rattle.page_writing.specs.Spending.{ErasesAndLogs};
+ghost use Rattle.page_writing.specs.Writing.{
+  IsAfterLog,
+  WritesLog,
+  WritesLogInSteps,
+  WritesOut,
+  WritesOutInSteps,
+};
+
+use crate::rooms::{LogSpot, find_room};
+use chip_trait::Chip;
+use ipl_base::{ChipFault, Spot};
+use log_records::Payload;
+use overflow::overflow_laws;
+use sector_format::Head;
+use selective_merge::Parts;
+use unit_io::program_log;
+
+/// Whether a spot is the first clean log sector at the unit's home.
+fn is_home(parts: &Parts, unit: u32, spot: Spot) -> bool
+    requires { unit < length parts.now.directory.current }
+    ensures home { IsTrue result
+        → IsHomeSpot (tables_of parts.now) unit spot.place spot.sector }
+    ensures other { result ≡ false
+        → ¬ IsHomeSpot (tables_of parts.now) unit spot.place spot.sector }
+{
+    match parts.directory.next_log(unit) {
+        Some(sector) => parts.directory.current(unit) == spot.place && sector == spot.sector,
+        None => false,
+    }
+}
+
+/// Counts a spot as written that was one for a log sector of the unit.
+fn use_spot(parts: &mut Parts, unit: u32, spot: Spot, places: u32)
+    requires known { KnowsPlaces places (tables_of parts.old) }
+    requires unit { unit + 4 < places }
+    requires spot { IsSpotFor (tables_of parts.old) unit spot.place spot.sector }
+    ensures { IsAfterLog (tables_of parts.old) (tables_of parts.new) unit spot.place spot.sector
+        parts.old.counter }
+{
+    overflow_laws();
+    parts.overflow.facts();
+    if is_home(parts, unit, spot) {
+        parts.directory.used_log(unit);
+    } else {
+        parts.overflow.add(unit, spot);
+    }
+}
+
+/// Writes records to a spot for a log sector of their unit, whose generation this is. It fails only
+/// where a write failed.
+fn write_log<C: Chip>(
+    chip: &mut C,
+    parts: &mut Parts,
+    unit: u32,
+    at: LogSpot,
+    payload: &Payload,
+) -> Result<(), ChipFault>
+    requires known { KnowsPlaces (C.told chip.old).places (tables_of parts.old) }
+    requires unit { unit + 4 < (C.told chip.old).places }
+    requires spot { IsSpotFor (tables_of parts.old) unit at.spot.place at.spot.sector }
+    requires left { parts.old.counter + 1 < 2 ^ 64 }
+    ensures tells { OnOk result (Charts (WritesLog (C.told chip.old).places unit at payload.now
+        (tables_of parts.old) (tables_of parts.new)) (C.told chip.old) (C.told chip.new)) }
+    ensures steps { WritesLogInSteps (C.told chip.old).places unit at payload.now
+        (tables_of parts.old) (tables_of parts.new) (C.told chip.old) result (C.told chip.new) }
+    ensures holds { Holds (C.told chip.old).places (tables_of parts.old) (tables_of parts.new) }
+    ensures places { parts.new.directory.current ≡ parts.old.directory.current }
+    ensures drawn { parts.new.counter ≡ parts.old.counter + 1 }
+    ensures costs { Spends (ProgramsAt at.spot.place 1 0 5) (C.told chip.old) (C.told chip.new) }
+    ensures accounts { Accounts IsStopped result (C.told chip.old) (C.told chip.new) }
+{
+    parts.directory.facts();
+    parts.overflow.facts();
+    let places = chip.units();
+    let head = Head {
+        kind: Head::LOG,
+        unit,
+        generation: at.generation,
+        serial: parts.counter.draw(),
+    };
+    program_log(chip, at.spot, &head, payload)?;
+    use_spot(parts, unit, at.spot, places);
+    Ok(())
+}
+
+/// Writes the records of a page that are in memory only to the chip, as one log sector of its unit,
+/// and empties the list. Where no log sector is clean at the unit's home, a merge of the unit or a
+/// new overflow place may come first, by the rules of `log_place`.
+///
+/// Whatever a power cut leaves at any moment stands for the map on which the story rested, and where
+/// no write failed, it rests on that map at the end: nothing makes sure of the sector, which is for
+/// the next barrier. Where it failed, the list is as it was; at most 14 numbers are drawn.
+///
+/// It fails as `log_place` does, where a read or a write failed, and as Malformed where the unit's
+/// header is none of the unit's, which tables that mirror the chip leave out.
+pub fn write_out<C: Chip>(
+    chip: &mut C,
+    parts: &mut Parts,
+    unit: u32,
+    payload: &mut Payload,
+) -> Result<(), ChipFault>
+    requires known { KnowsPlaces (C.told chip.old).places (tables_of parts.old) }
+    requires unit { unit + 4 < (C.told chip.old).places }
+    requires left { parts.old.counter + 14 < 2 ^ 64 }
+
+    // What the chip holds then, and what a power cut leaves.
+    ensures tells { WritesOut (C.told chip.old).places unit payload.old
+        (tables_of parts.old) (tables_of parts.new) (C.told chip.old) result (C.told chip.new) }
+    ensures steps { WritesOutInSteps (C.told chip.old).places payload.old
+        (tables_of parts.old) (tables_of parts.new) (C.told chip.old) result (C.told chip.new) }
+
+    // What is in memory, whatever the chip tells.
+    ensures empty { OnOk result (payload.new ≡ []) }
+    ensures kept { OnErr result (payload.new ≡ payload.old) }
+    ensures holds { Holds (C.told chip.old).places (tables_of parts.old) (tables_of parts.new) }
+    ensures draws { (parts.old.counter ≤ parts.new.counter)
+        × (parts.new.counter ≤ parts.old.counter + 14) }
+    ensures costs { Spends (ErasesAndLogs parts.old.directory) (C.told chip.old) (C.told chip.new) }
+    ensures accounts { Accounts (WritingCause (tables_of parts.old) unit
+        (slice_index parts.new.directory.current unit)) result (C.told chip.old) (C.told chip.new) }
+{
+    let at = find_room(chip, parts, unit)?;
+    write_log(chip, parts, unit, at, payload)?;
+    *payload = Payload::empty();
+    Ok(())
+}
