@@ -17,6 +17,7 @@ words = record {
   formats_first = refl;
   flag_before = refl;
   chip_behind_dashes = refl;
+  says_its_view = refl;
   memory = refl;
   in_file = refl;
 }
@@ -31,6 +32,7 @@ no_words = record {
   two_chips = refl;
   other_chip = refl;
   format_flag = refl;
+  view_flag = refl;
   twice = refl;
   valued = refl;
   short = refl;

@@ -8,7 +8,7 @@ use Rattle.command_line.specs.Ipl.{ipl_command}
 use Rattle.command_line.specs.Chip.{Chip, chip_of, word_view}
 use Rattle.command_line.specs.declared.asked.Asked.{Asked}
 use Rattle.command_line.specs.declared.asked.Request.{Request}
-use Rattle.command_line.specs.declared.asked.Request.TheVariants.{Format, Run}
+use Rattle.command_line.specs.declared.asked.Request.TheVariants.{Format, Run, Serial}
 
 -- what is to be done, with which chip
 pub record Asks : Type 0 where
@@ -25,7 +25,9 @@ is_set id rows = unwrap_or (option_map (λ text. bytes_eq text (codes "true")) (
 
 -- what a subcommand asks to be done
 abbrev pub request_at : Text → List Row → Request
-request_at name rows = if bytes_eq name (codes "format") then Format else Run (is_set (codes "format") rows)
+request_at name rows = if bytes_eq name (codes "format") then Format
+    else if bytes_eq name (codes "serial") then Serial
+    else Run (is_set (codes "format") rows)
 
 -- what a subcommand asks, where its CHIP is in the grammar
 abbrev pub asked_at : Text → List Row → Option Asks

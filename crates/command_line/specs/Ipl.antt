@@ -20,6 +20,10 @@ format_command = with_rule (new_app (codes "format")) chip_rule
 abbrev pub run_command : App
 run_command = with_rule (with_rule (new_app (codes "run")) chip_rule) format_rule
 
+-- serial CHIP
+abbrev pub serial_command : App
+serial_command = with_rule (new_app (codes "serial")) chip_rule
+
 -- the words come without the program's name, and none of them asks for help or a version
 abbrev pub bare : Shape → Shape
 bare s = record s {
@@ -32,4 +36,5 @@ bare s = record s {
 -- ipl
 unfoldable pub ipl_command : App
 ipl_command =
-    with_subcommand (with_subcommand (on_top bare (new_app (codes "ipl"))) format_command.top) run_command.top
+    with_subcommand (with_subcommand (with_subcommand (on_top bare (new_app (codes "ipl")))
+    format_command.top) run_command.top) serial_command.top

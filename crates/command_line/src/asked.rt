@@ -17,6 +17,8 @@ pub enum Request {
     Format,
     /// A script is run, over a chip that is formatted first where that is asked.
     Run { format: bool },
+    /// The serial view of a script is said.
+    Serial,
 }
 
 /// All that valid words ask.
@@ -49,6 +51,9 @@ fn request_at(name: &str, matches: &ArgMatches<'_>) -> Request
 {
     if name == "format" {
         return Request::Format;
+    }
+    if name == "serial" {
+        return Request::Serial;
     }
     Request::Run {
         format: is_set(matches, "format"),

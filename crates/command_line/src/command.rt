@@ -2,7 +2,7 @@
 ghost use Rattle.std.specs.Prelude.{◌≡◌, IfOk, false};
 ghost use Rattle.clap.specs.Words.{app_of, rule_of};
 ghost use Rattle.clap.specs.declared.builder.command.Command.TheViews.{out-Command as fields_of};
-ghost use Rattle.command_line.specs.Ipl.{ipl_command, chip_rule, format_rule, format_command, run_command};
+ghost use Rattle.command_line.specs.Ipl.{ipl_command, chip_rule, format_rule, format_command, run_command, serial_command};
 
 use clap::{Arg, ArgAction, Command};
 use std::alloc::{AllocError, Global};
@@ -43,6 +43,14 @@ fn run_part<'a>(alloc: Global) -> Result<Command<'a>, AllocError>
         .arg(format_flag(alloc))
 }
 
+/// `serial CHIP`.
+fn serial_part<'a>(alloc: Global) -> Result<Command<'a>, AllocError>
+    ensures app { IfOk result (λ c. app_of c ≡ serial_command) }
+    ensures local { IfOk result (λ c. (fields_of c).has_globals ≡ false) }
+{
+    Command::new(alloc, "serial").arg(chip_argument(alloc))
+}
+
 /// The command `ipl`.
 pub(crate) fn ipl<'a>(alloc: Global) -> Result<Command<'a>, AllocError>
     ensures { IfOk result (λ c. app_of c ≡ ipl_command) }
@@ -53,5 +61,6 @@ pub(crate) fn ipl<'a>(alloc: Global) -> Result<Command<'a>, AllocError>
         .disable_help_subcommand(true)
         .disable_version_flag(true)
         .subcommand(format_part(alloc)?)?
-        .subcommand(run_part(alloc)?)
+        .subcommand(run_part(alloc)?)?
+        .subcommand(serial_part(alloc)?)
 }

@@ -1,3 +1,4 @@
 mod EndLemmas
 mod TopLemmas
 mod SayLemmas
+mod ViewLemmas

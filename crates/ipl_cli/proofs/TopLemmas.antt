@@ -13,13 +13,16 @@ use Rattle.unit_store.specs.declared.store.UnitStore.{UnitStore}
 use Rattle.restart.proofs.LookLemmas.{reads_none}
 use Rattle.unit_store.proofs.OpenLemmas.{fine_or_spent, sound_is_opened, spent_is_found}
 use Rattle.command_line.specs.declared.asked.Request.{Request}
-use Rattle.command_line.specs.declared.asked.Request.TheVariants.{Format, Run}
+use Rattle.command_line.specs.declared.asked.Request.TheVariants.{Format, Run, Serial}
 use Rattle.program_end.specs.Ends.{status_of, fault_status}
 use Rattle.program_end.specs.declared.end.End.{End}
 use Rattle.program_end.specs.declared.end.End.TheVariants.{Words, Chip, OutOfMemory, Script, Output, TooLong}
-use Rattle.ipl_cli.specs.Top.{AskedFor, Ending, status_at, note_at, IsAtFault, OpenedCause, FormattedCause, ChipCause, IsTooLong, RequestCause, EndCause, Runs, RunsOpened, RunsFormatted, StopsEarly, IsStopped, RunsOrStops, IsLaidOut, LaysOut, OnlyLooks, but_noted, format_end, IsUntouched, FormatLeaves, FormattedLeaves, OpenedLeaves, EndLeaves, Ends, IsCalm, Suffices, EndsInTime, IsSpent, IsStray}
+use Rattle.ipl_cli.specs.Ending.{AskedFor, Ending, IsUntouched, but_noted, note_at, status_at}
+use Rattle.ipl_cli.specs.Views.{ViewsTold, OnlyViews, OnlyHears, SerialLeaves}
+use Rattle.ipl_cli.specs.Top.{IsAtFault, OpenedCause, FormattedCause, ChipCause, IsTooLong, RequestCause, EndCause, Runs, RunsOpened, RunsFormatted, StopsEarly, IsStopped, RunsOrStops, IsLaidOut, LaysOut, OnlyLooks, format_end, FormatLeaves, FormattedLeaves, OpenedLeaves, EndLeaves, Ends, IsCalm, Suffices, EndsInTime, IsSpent, IsStray}
 use Rattle.ipl_cli.specs.Runs.{StartsFormatted, StartsOpened, RunCause, RunsOver}
 use Rattle.ipl_cli.proofs.EndLemmas.{stopped_early, formatted_stops, opened_stops, runs_none}
+use Rattle.ipl_cli.proofs.ViewLemmas.{serial_left, untouched_hears, hears_views, hears_only}
 
 some_one : {X : Type 0} {a b : X} → Some a ≡ Some b → a ≡ b
 some_one e = cc
@@ -28,6 +31,14 @@ some_one e = cc
 
 untouched : (old new : Told) → new ≡ old → IsUntouched old new
 untouched old new is = subst (λ (t : Told). t ≡ but_noted old t.beside.noted) (sym is) refl
+
+-- memory was wanting for the words
+pub no_memory : (asked : AskedFor) (t : Told) → EndLeaves asked (Err OutOfMemory) t t
+no_memory None t = refl
+no_memory (Some Format) t = refl
+no_memory (Some (Run true)) t = refl
+no_memory (Some (Run false)) t = refl
+no_memory (Some Serial) t = untouched_hears t t refl
 
 abbrev failed : FormatFault → Result (Unit {0}) FormatFault
 failed fault = Err fault
@@ -119,12 +130,15 @@ module _ (old mid : Told) (noted : Option (List ℕ)) where
   request_cause Format (Chip e) c = formatted_cause e c
   request_cause (Run true) (Chip e) c = formatted_cause e c
   request_cause (Run false) (Chip e) c = opened_cause e c
+  request_cause Serial (Chip e) c = c
   request_cause request OutOfMemory c = c
   request_cause Format Script c = c
   request_cause (Run formats) Script c = c
+  request_cause Serial Script c = c
   request_cause request Output c = c
   request_cause Format TooLong c = c
   request_cause (Run formats) TooLong c = record { grew = c.grew; told = c.told }
+  request_cause Serial TooLong c = record { grew = c.grew; told = c.told }
 
   end_cause : (asked : AskedFor) (ending : Ending) → EndCause asked ending old mid → EndCause asked ending old then
   end_cause None (Ok u) c = c
@@ -222,6 +236,7 @@ module _ (old mid : Told) (noted : Option (List ℕ)) where
   end_left (Some Format) ending l = format_left ending l
   end_left (Some (Run true)) ending l = formatted_run_left ending l
   end_left (Some (Run false)) ending l = opened_run_left ending l
+  end_left (Some Serial) ending l = serial_left old mid noted ending l
 
 -- all that is to be known of the end
 pub ends : (asked : AskedFor) (ending : Ending) (old mid new : Told) (status : ℕ) → EndCause asked ending old mid → EndLeaves asked ending old mid → mid.beside.noted ≡ old.beside.noted → status ≡ status_at ending
@@ -283,6 +298,24 @@ module _ (old new : Told) where
   formats_by : (ending : Ending) → FormatLeaves ending old new → status_at ending ≡ 0 → LaysOut old new true
   formats_by (Ok u) l is = l
   formats_by (Err end) l is = absurd (omega (arith, is, above_zero end))
+
+  views_by : (ending : Ending) → SerialLeaves ending old new → ViewsTold old new (status_at ending == 0)
+  views_by (Ok u) l = l.0
+  views_by (Err Words) l = absurd l
+  views_by (Err (Chip e)) l = subst (ViewsTold old new) (sym (not_zero (fault_status e) (above_zero (Chip e)))) (hears_views old new (untouched_hears old new l))
+  views_by (Err OutOfMemory) l = hears_views old new l
+  views_by (Err Script) l = l.0
+  views_by (Err Output) l = l.0
+  views_by (Err TooLong) l = l.0
+
+  only_views_by : (ending : Ending) → SerialLeaves ending old new → OnlyViews old new
+  only_views_by (Ok u) l = l.1
+  only_views_by (Err Words) l = absurd l
+  only_views_by (Err (Chip e)) l = hears_only old new (untouched_hears old new l)
+  only_views_by (Err OutOfMemory) l = hears_only old new l
+  only_views_by (Err Script) l = l.1
+  only_views_by (Err Output) l = l.1
+  only_views_by (Err TooLong) l = l.1
 
   -- what is wrong with contents, but that their numbers are used up, keeps them from standing for a map
   stray : (e : ImageFault) → fault_status e ≡ 4 → IsAtFault old e → IsStray old
@@ -361,20 +394,43 @@ module _ (asked : AskedFor) (old new : Told) (status : ℕ) (e : Ends asked old 
   pub end_formats : asked ≡ Some Format → status ≡ 0 → LaysOut old new true
   end_formats is at = formats_by old new e.ending (leaves_of Format is) (sym e.status_is ∙ at)
 
+  pub end_views : asked ≡ Some Serial → ViewsTold old new (status == 0)
+  end_views is = subst (λ (n : ℕ). ViewsTold old new (n == 0)) (sym e.status_is) (views_by old new e.ending (leaves_of Serial is))
+
+  pub end_only_views : asked ≡ Some Serial → OnlyViews old new
+  end_only_views is = only_views_by old new e.ending (leaves_of Serial is)
+
 -- ---- by the status alone
 
 module _ (old new : Told) where
-  early_by : (asked : AskedFor) (ending : Ending) → EndCause asked ending old new → EndLeaves asked ending old new → (status_at ending ≡ 2) ⊎ (status_at ending ≡ 5) → IsUntouched old new
+  early_by : (asked : AskedFor) (ending : Ending) → EndCause asked ending old new → EndLeaves asked ending old new → status_at ending ≡ 2 → IsUntouched old new
   early_by None ending c l is = l
   early_by (Some request) (Ok u) c l is = absurd (omega (arith, is))
   early_by (Some request) (Err Words) c l is = absurd c
   early_by (Some request) (Err (Chip e)) c l is = absurd (omega (arith, is, chip_status e))
-  early_by (Some Format) (Err OutOfMemory) c l is = l
-  early_by (Some (Run true)) (Err OutOfMemory) c l is = l
-  early_by (Some (Run false)) (Err OutOfMemory) c l is = l
+  early_by (Some request) (Err OutOfMemory) c l is = absurd (omega (arith, is))
   early_by (Some request) (Err Script) c l is = absurd (omega (arith, is))
   early_by (Some request) (Err Output) c l is = absurd (omega (arith, is))
   early_by (Some request) (Err TooLong) c l is = absurd (omega (arith, is))
+
+  abbrev Wanting : AskedFor → Type 0
+  Wanting asked = OnlyHears old new × (asked ≢ Some Serial → IsUntouched old new)
+
+  wanting_untouched : (asked : AskedFor) → IsUntouched old new → Wanting asked
+  wanting_untouched asked l = (untouched_hears old new l, λ apart. l)
+
+  wanting_by : (asked : AskedFor) (ending : Ending) → EndCause asked ending old new → EndLeaves asked ending old new → status_at ending ≡ 5 → Wanting asked
+  wanting_by None ending c l is = wanting_untouched None l
+  wanting_by (Some request) (Ok u) c l is = absurd (omega (arith, is))
+  wanting_by (Some request) (Err Words) c l is = absurd c
+  wanting_by (Some request) (Err (Chip e)) c l is = absurd (omega (arith, is, chip_status e))
+  wanting_by (Some Format) (Err OutOfMemory) c l is = wanting_untouched (Some Format) l
+  wanting_by (Some (Run true)) (Err OutOfMemory) c l is = wanting_untouched (Some (Run true)) l
+  wanting_by (Some (Run false)) (Err OutOfMemory) c l is = wanting_untouched (Some (Run false)) l
+  wanting_by (Some Serial) (Err OutOfMemory) c l is = (l, λ apart. absurd (apart refl))
+  wanting_by (Some request) (Err Script) c l is = absurd (omega (arith, is))
+  wanting_by (Some request) (Err Output) c l is = absurd (omega (arith, is))
+  wanting_by (Some request) (Err TooLong) c l is = absurd (omega (arith, is))
 
   -- a format that fails without a failed write left the chip untouched
   format_looks : (e : ImageFault) → FormattedCause e old new → FormatLeaves (Err (Chip e)) old new → fault_status e ≢ 3 → OnlyLooks old new
@@ -406,6 +462,7 @@ module _ (old new : Told) where
   chip_looks Format e c l other = format_looks e c l other
   chip_looks (Run true) e c l other = formatted_looks e c l other
   chip_looks (Run false) e c l other = l.1 (not_stopped e other)
+  chip_looks Serial e c l other = untouched_looks old new l
 
   looks_by : (asked : AskedFor) (ending : Ending) → EndCause asked ending old new → EndLeaves asked ending old new → (status_at ending ≡ 4) ⊎ (status_at ending ≡ 9) → OnlyLooks old new
   looks_by None ending c l is = untouched_looks old new l
@@ -438,16 +495,19 @@ module _ (old new : Told) where
   chip_by Format e c is = inr ((formatted_image old new e c).1 is)
   chip_by (Run true) e c is = inr ((formatted_image old new e c).1 is)
   chip_by (Run false) e c is = opened_chip old new e c is
+  chip_by Serial e c is = absurd (omega (arith, is, ap fault_status c.0))
 
   image_by : (request : Request) (e : ImageFault) → ChipCause request e old new → fault_status e ≡ 4 → ¬ IsGeometry old.places ⊎ ((Some request ≡ Some (Run false)) × IsStray old)
   image_by Format e c is = inl ((formatted_image old new e c).0 is)
   image_by (Run true) e c is = inl ((formatted_image old new e c).0 is)
   image_by (Run false) e c is = inr (refl, opened_image old new e c is)
+  image_by Serial e c is = inl c.1
 
   spent_by : (request : Request) (e : ImageFault) → ChipCause request e old new → fault_status e ≡ 9 → (Some request ≡ Some (Run false)) × IsSpent old
   spent_by Format e c is = absurd ((formatted_image old new e c).2 is)
   spent_by (Run true) e c is = absurd ((formatted_image old new e c).2 is)
   spent_by (Run false) e c is = (refl, opened_spent old new e c is)
+  spent_by Serial e c is = absurd (omega (arith, is, ap fault_status c.0))
 
   -- a status of a fault of the chip comes with one
   fault_by : (n : ℕ) → n ≢ 0 → n ≢ 2 → n ≢ 5 → n ≢ 6 → n ≢ 7 → n ≢ 8 → (asked : AskedFor) (ending : Ending) → EndCause asked ending old new → status_at ending ≡ n
@@ -469,6 +529,7 @@ module _ (old new : Told) where
   script_by (Some request) (Err OutOfMemory) c is = absurd (omega (arith, is))
   script_by (Some Format) (Err Script) c is = absurd c
   script_by (Some (Run formats)) (Err Script) c is = c
+  script_by (Some Serial) (Err Script) c is = c
   script_by (Some request) (Err Output) c is = absurd (omega (arith, is))
   script_by (Some request) (Err TooLong) c is = absurd (omega (arith, is))
 
@@ -492,6 +553,7 @@ module _ (old new : Told) where
   long_by (Some request) (Err Output) c is = absurd (omega (arith, is))
   long_by (Some Format) (Err TooLong) c is = absurd c
   long_by (Some (Run formats)) (Err TooLong) c is = c
+  long_by (Some Serial) (Err TooLong) c is = c
 
 -- ---- completeness
 
@@ -529,6 +591,7 @@ module _ (old new : Told) (calm : IsCalm old new) where
   chip_never Format holds e c = formatted_never holds e c
   chip_never (Run true) holds e c = formatted_never holds e c
   chip_never (Run false) holds e c = opened_never holds e c
+  chip_never Serial holds e c = c.1 holds
 
   never_long : EndsInTime old new → ¬ IsTooLong old new
   never_long (inl short) long = omega (arith, short, long.grew.at_least)
@@ -541,13 +604,18 @@ module _ (old new : Told) (calm : IsCalm old new) where
   complete_by request holds time (Err OutOfMemory) c = inr refl
   complete_by Format holds time (Err Script) c = absurd c
   complete_by (Run formats) holds time (Err Script) c = absurd (calm.script c)
+  complete_by Serial holds time (Err Script) c = absurd (calm.script c)
   complete_by request holds time (Err Output) c = absurd (calm.says c)
   complete_by Format holds time (Err TooLong) c = absurd c
   complete_by (Run formats) holds time (Err TooLong) c = absurd (never_long time c)
+  complete_by Serial holds time (Err TooLong) c = absurd (never_long time c)
 
 module _ (asked : AskedFor) (old new : Told) (status : ℕ) (e : Ends asked old new status) where
-  pub end_early : (status ≡ 2) ⊎ (status ≡ 5) → IsUntouched old new
-  end_early at = early_by old new asked e.ending e.cause e.leaves (rw e.status_is at at)
+  pub end_early : status ≡ 2 → IsUntouched old new
+  end_early at = early_by old new asked e.ending e.cause e.leaves (sym e.status_is ∙ at)
+
+  pub end_wanting : status ≡ 5 → OnlyHears old new × (asked ≢ Some Serial → IsUntouched old new)
+  end_wanting at = wanting_by old new asked e.ending e.cause e.leaves (sym e.status_is ∙ at)
 
   pub end_looks : (status ≡ 4) ⊎ (status ≡ 9) → OnlyLooks old new
   end_looks at = looks_by old new asked e.ending e.cause e.leaves (rw e.status_is at at)

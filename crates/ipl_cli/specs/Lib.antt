@@ -1,3 +1,5 @@
+pub mod Ending
+pub mod Views
 pub mod Top
 pub mod Runs
 pub mod Failing

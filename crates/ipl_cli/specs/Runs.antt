@@ -17,7 +17,8 @@ use Rattle.unit_store.specs.Keeps.{KeepsUnit, Suits, limits_of, unit_keeping}
 use Rattle.unit_store.specs.Opens.{KeepsFound}
 use Rattle.program_end.specs.declared.end.End.{End}
 use Rattle.program_end.specs.declared.end.End.TheVariants.{Words, Chip, OutOfMemory, Script, Output, TooLong}
-use Rattle.ipl_cli.specs.Top.{Ending, IsTooLong}
+use Rattle.ipl_cli.specs.Ending.{Ending}
+use Rattle.ipl_cli.specs.Top.{IsTooLong}
 
 -- The chip is formatted, and the store keeps no record on it.
 pub record StartsFormatted (old : Told) (store : UnitStore) (new : Told) : Type 0 where

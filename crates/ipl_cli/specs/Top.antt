@@ -1,5 +1,5 @@
 -- The program as a whole: how it ends, what it says, and what it leaves on the chip.
-use Rattle.std.specs.Prelude.{◌≡◌, ◌≢◌, ◌⊎◌, ◌<◌, ◌≤◌, ℕ, ◌+◌, ◌-◌, ◌^◌, min, Bool, true, false, List, [], ◌∷◌, ◌++◌, codes, length, Option, Some, None, Result, Ok, Err}
+use Rattle.std.specs.Prelude.{◌≡◌, ◌≢◌, ◌⊎◌, ◌<◌, ◌≤◌, ℕ, ◌+◌, ◌-◌, ◌^◌, min, Bool, true, false, List, [], ◌∷◌, ◌++◌, codes, length, Some, None, Ok, Err}
 use Rattle.std.specs.FinMap.{empty}
 use Rattle.chip_trait.specs.declared.event.Event.TheVariants.{Said}
 use Rattle.chip_trait.specs.Chart.{says}
@@ -31,38 +31,11 @@ use Rattle.unit_store.specs.Bare.{HasNoLog}
 use Rattle.unit_store.specs.Keeps.{limits_of}
 use Rattle.unit_store.specs.Opens.{opening_fault, StandsWithNumbersLeft}
 use Rattle.command_line.specs.declared.asked.Request.{Request}
-use Rattle.command_line.specs.declared.asked.Request.TheVariants.{Format, Run}
-use Rattle.program_end.specs.Ends.{status_of, note_of}
+use Rattle.command_line.specs.declared.asked.Request.TheVariants.{Format, Run, Serial}
 use Rattle.program_end.specs.declared.end.End.{End}
 use Rattle.program_end.specs.declared.end.End.TheVariants.{Words, Chip, OutOfMemory, Script, Output, TooLong}
-
--- what the words ask, where they are valid
-abbrev pub AskedFor : Type 0
-AskedFor = Option Request
-
--- how the program ends: its script was run to its end, or its chip was formatted; or it ends before
-abbrev pub Ending : Type 0
-Ending = Result (Unit {0}) End
-
--- the status
-abbrev pub status_at : Ending → ℕ
-status_at (Ok u) = 0
-status_at (Err end) = status_of end
-
--- the line that is noted, none at 0
-abbrev pub note_at : Ending → List ℕ
-note_at (Ok u) = []
-note_at (Err end) = note_of end
-
--- ---- what is noted
-
--- nothing but the noted bytes, which are these
-abbrev pub but_noted : Told → Option (List ℕ) → Told
-but_noted t noted = record t { beside = record t.beside { noted = noted } }
-
--- nothing was done but noted
-abbrev pub IsUntouched : Told → Told → Type 0
-IsUntouched old new = new ≡ but_noted old new.beside.noted
+use Rattle.ipl_cli.specs.Ending.{AskedFor, Ending, IsUntouched, but_noted, note_at, status_at}
+use Rattle.ipl_cli.specs.Views.{ViewedCause, SerialLeaves}
 
 -- ---- causes
 
@@ -100,6 +73,7 @@ abbrev pub ChipCause : Request → ImageFault → Told → Told → Type 0
 ChipCause Format e old new = FormattedCause e old new
 ChipCause (Run true) e old new = FormattedCause e old new
 ChipCause (Run false) e old new = OpenedCause e old new
+ChipCause Serial e old new = ViewedCause e old new
 
 -- so many bytes of the script were read; where the script is told it has so many
 pub record IsTooLong (old new : Told) : Type 0 where
@@ -113,9 +87,11 @@ RequestCause request (Chip e) old new = ChipCause request e old new
 RequestCause request OutOfMemory old new = Unit {0}
 RequestCause Format Script old new = ⊥
 RequestCause (Run formats) Script old new = Rose old.beside.script_faults new.beside.script_faults
+RequestCause Serial Script old new = Rose old.beside.script_faults new.beside.script_faults
 RequestCause request Output old new = Rose old.beside.say_faults new.beside.say_faults
 RequestCause Format TooLong old new = ⊥
 RequestCause (Run formats) TooLong old new = IsTooLong old new
+RequestCause Serial TooLong old new = IsTooLong old new
 
 -- when the program ends so
 abbrev pub EndCause : AskedFor → Ending → Told → Told → Type 0
@@ -271,6 +247,7 @@ EndLeaves None ending old new = IsUntouched old new
 EndLeaves (Some Format) ending old new = FormatLeaves ending old new
 EndLeaves (Some (Run true)) ending old new = FormattedLeaves ending old new
 EndLeaves (Some (Run false)) ending old new = OpenedLeaves ending old new
+EndLeaves (Some Serial) ending old new = SerialLeaves ending old new
 
 -- How the program ends: with its status and its line, which is noted alone; for a cause; and what it leaves.
 pub record Ends (asked : AskedFor) (old new : Told) (status : ℕ) : Type 0 where
@@ -290,12 +267,13 @@ pub record IsCalm (old new : Told) : Type 0 where
   pub script : ¬ Rose old.beside.script_faults new.beside.script_faults
   pub says : ¬ Rose old.beside.say_faults new.beside.say_faults
 
--- what a request asks of the chip: 5 to 1,028 places, and where it isn't formatted, contents that stand for a map, with no
+-- what a request asks of the chip: 5 to 1,028 places, and where it is opened, contents that stand for a map, with no
 -- number of 2^63 or more
 abbrev pub Suffices : Request → Told → Type 0
 Suffices Format old = IsGeometry old.places
 Suffices (Run true) old = IsGeometry old.places
 Suffices (Run false) old = (x : Contents) × (m : Map) × (old.contents ≡ Some x) × StandsWithNumbersLeft old.places x m
+Suffices Serial old = IsGeometry old.places
 
 -- the script ends in time: by the count of its bytes, or as it is told
 abbrev pub EndsInTime : Told → Told → Type 0

@@ -6,8 +6,10 @@ ghost use Rattle.ipl_base.specs.Places.{IsGeometry};
 ghost use Rattle.store_trait.specs.Onward.{Further};
 ghost use Rattle.unit_store.specs.Keeps.{Suits};
 ghost use Rattle.command_line.specs.Choice.{requested};
-ghost use Rattle.command_line.specs.declared.asked.Request.TheVariants.{Format, Run};
-ghost use Rattle.ipl_cli.specs.Top.{status_at, note_at, but_noted, format_end, EndCause, RequestCause, FormatLeaves, FormattedLeaves, OpenedLeaves, EndLeaves, IsUntouched, RunsOpened, RunsFormatted, RunsOrStops, LaysOut, OnlyLooks, IsAtFault, IsCalm, Suffices, EndsInTime, IsSpent, IsStray, Ends};
+ghost use Rattle.command_line.specs.declared.asked.Request.TheVariants.{Format, Run, Serial};
+ghost use Rattle.ipl_cli.specs.Ending.{status_at, note_at, but_noted, IsUntouched};
+ghost use Rattle.ipl_cli.specs.Views.{ViewsTold, OnlyViews, OnlyHears, SerialLeaves, view_end};
+ghost use Rattle.ipl_cli.specs.Top.{format_end, EndCause, RequestCause, FormatLeaves, FormattedLeaves, OpenedLeaves, EndLeaves, RunsOpened, RunsFormatted, RunsOrStops, LaysOut, OnlyLooks, IsAtFault, IsCalm, Suffices, EndsInTime, IsSpent, IsStray, Ends};
 ghost use Rattle.ipl_cli.specs.Runs.{StartsFormatted, StartsOpened, RunCause, RunsOver};
 
 use chip_trait::Desk;
@@ -16,6 +18,7 @@ use ipl_base::{ChipFault, FormatFault, Geometry, ImageFault, OpenFault};
 use program_end::{End, NoteLine, status};
 use restart::format;
 use script_run::{Stop, run_script};
+use serial_run::{ViewStop, say_serial_view};
 use std::alloc::Global;
 use store_trait::Fault;
 use unit_store::UnitStore;
@@ -125,6 +128,33 @@ fn run_opened<D: Desk>(alloc: Global, desk: &mut D) -> Result<(), End>
     Ok(())
 }
 
+/// The end that a view is which isn't said to its end.
+fn view_end(stop: ViewStop) -> End
+    ensures { result ≡ view_end stop }
+{
+    match stop {
+        ViewStop::OutOfMemory => End::OutOfMemory,
+        ViewStop::Script => End::Script,
+        ViewStop::TooLong => End::TooLong,
+        ViewStop::Output => End::Output,
+    }
+}
+
+/// Says the serial view of the script. Of the chip only its places are asked.
+fn say_view<D: Desk>(alloc: Global, desk: &mut D) -> Result<(), End>
+    ensures leaves { SerialLeaves result (D.told desk.old) (D.told desk.new) }
+    ensures cause { EndCause (Some Serial) result (D.told desk.old) (D.told desk.new) }
+    ensures noted { (D.told desk.new).beside.noted ≡ (D.told desk.old).beside.noted }
+{
+    let Some(geometry) = Geometry::of(desk.units()) else {
+        return Err(End::Chip(ImageFault::Geometry));
+    };
+    match say_serial_view(alloc, geometry, desk) {
+        Ok(()) => Ok(()),
+        Err(stop) => Err(view_end(stop)),
+    }
+}
+
 /// Does what the words ask for.
 fn run<D: Desk>(alloc: Global, words: &[String], desk: &mut D) -> Result<(), End>
     ensures leaves { EndLeaves (requested (map string_bytes words.now)) result (D.told desk.old) (D.told desk.new) }
@@ -139,6 +169,7 @@ fn run<D: Desk>(alloc: Global, words: &[String], desk: &mut D) -> Result<(), End
         Some(Request::Format) => format_chip(desk),
         Some(Request::Run { format: true }) => run_formatted(alloc, desk),
         Some(Request::Run { format: false }) => run_opened(alloc, desk),
+        Some(Request::Serial) => say_view(alloc, desk),
     }
 }
 
@@ -180,8 +211,17 @@ pub fn top<D: Desk>(alloc: Global, words: &[String], desk: &mut D) -> u8
     ensures formats { requested (map string_bytes words.now) ≡ Some Format → result ≡ 0
         → LaysOut (D.told desk.old) (D.told desk.new) true }
 
-    // At 2 and 5 nothing was asked of the chip, said or read; at 4 and 9 nothing but reads of the chip.
-    ensures early { (result ≡ 2) ⊎ (result ≡ 5) → IsUntouched (D.told desk.old) (D.told desk.new) }
+    // A view is said at 0, and a part of it wherever else the program ends; no sector is touched.
+    ensures views { requested (map string_bytes words.now) ≡ Some Serial
+        → ViewsTold (D.told desk.old) (D.told desk.new) (result == 0) }
+    ensures untouched { requested (map string_bytes words.now) ≡ Some Serial
+        → OnlyViews (D.told desk.old) (D.told desk.new) }
+
+    // At 2 nothing was asked of the chip, said or read, and so at 5, but that a view may have read its script. At 4 and 9
+    // nothing was done but reads of the chip.
+    ensures early { result ≡ 2 → IsUntouched (D.told desk.old) (D.told desk.new) }
+    ensures wanting { result ≡ 5 → OnlyHears (D.told desk.old) (D.told desk.new)
+        × (requested (map string_bytes words.now) ≢ Some Serial → IsUntouched (D.told desk.old) (D.told desk.new)) }
     ensures looks { (result ≡ 4) ⊎ (result ≡ 9) → OnlyLooks (D.told desk.old) (D.told desk.new) }
 
     // Each status but 0 and 5 comes only for its cause.

@@ -1,5 +1,5 @@
-//! Tests of the program over desks in memory: what it says and notes, what power cuts and faults of the chip leave, and what
-//! is opened of changed chips. They stand in a crate of their own so that the crates below are proved once.
+//! Tests of the program over desks in memory: what it says and notes, what power cuts and faults of the chip leave, what is
+//! opened of changed chips, and serial views. They stand in a crate of their own so that the crates below are proved once.
 #![tactic(auto)]
 
 #[cfg(test)]
@@ -8,3 +8,5 @@ mod cuts;
 mod openings;
 #[cfg(test)]
 mod runs;
+#[cfg(test)]
+mod views;

@@ -17,6 +17,9 @@ returns c =
     ∙ ap (on_top (λ (s : Shape). record s { disable_help_subcommand = true })) (ap app_of_fields c.disable_help_flag.ensures
     ∙ ap (on_top (λ (s : Shape). record s { disable_help_flag = true })) named)) in
     let top = λ (a : App). a.top in
-    IfOk-weaker c.subcommand-2.result _ _ (λ r h. h.shape c.in_ok-run_part.ensures.local
-    ∙ ap₂ with_subcommand (c.in_ok-subcommand.ensures.shape c.in_ok-format_part.ensures.local
-    ∙ ap₂ with_subcommand base (ap top c.in_ok-format_part.ensures.app)) (ap top c.in_ok-run_part.ensures.app)) c.subcommand-2.ensures
+    let first = c.in_ok-subcommand.ensures.shape c.in_ok-format_part.ensures.local
+    ∙ ap₂ with_subcommand base (ap top c.in_ok-format_part.ensures.app) in
+    let second = c.in_ok-subcommand-2.ensures.shape c.in_ok-run_part.ensures.local
+    ∙ ap₂ with_subcommand first (ap top c.in_ok-run_part.ensures.app) in
+    IfOk-weaker c.subcommand-3.result _ _ (λ r h. h.shape c.in_ok-serial_part.ensures.local
+    ∙ ap₂ with_subcommand second (ap top c.in_ok-serial_part.ensures.app)) c.subcommand-3.ensures

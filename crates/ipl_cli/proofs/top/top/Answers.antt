@@ -1,7 +1,7 @@
 use Rattle.std.proofs.Common.{map}
 use Rattle.std.specs.String.{string_bytes}
 use Rattle.command_line.specs.Choice.{requested}
-use Rattle.ipl_cli.proofs.TopLemmas.{ends, end_opened, end_formatted, end_part, end_stops, end_formats, end_early, end_looks, end_words, end_chip, end_image, end_script, end_output, end_long, end_spent, end_invalid, end_completes}
+use Rattle.ipl_cli.proofs.TopLemmas.{ends, end_opened, end_formatted, end_part, end_stops, end_formats, end_views, end_only_views, end_early, end_wanting, end_looks, end_words, end_chip, end_image, end_script, end_output, end_long, end_spent, end_invalid, end_completes}
 use Rattle.ipl_cli.proofs.top.top.Goals as goal
 
 pub returns-clause-ends : goal.returns-clause-ends
@@ -23,6 +23,15 @@ returns-clause-stops g c = end_stops (requested (map string_bytes c.args.words.n
 
 pub returns-clause-formats : goal.returns-clause-formats
 returns-clause-formats g c = end_formats (requested (map string_bytes c.args.words.now)) (g.D.Chip.told c.args.desk.now) (g.D.Chip.told c.finish.new.desk) c.finish.result (returns-clause-ends g c)
+
+pub returns-clause-views : goal.returns-clause-views
+returns-clause-views g c = end_views (requested (map string_bytes c.args.words.now)) (g.D.Chip.told c.args.desk.now) (g.D.Chip.told c.finish.new.desk) c.finish.result (returns-clause-ends g c)
+
+pub returns-clause-untouched : goal.returns-clause-untouched
+returns-clause-untouched g c = end_only_views (requested (map string_bytes c.args.words.now)) (g.D.Chip.told c.args.desk.now) (g.D.Chip.told c.finish.new.desk) c.finish.result (returns-clause-ends g c)
+
+pub returns-clause-wanting : goal.returns-clause-wanting
+returns-clause-wanting g c = end_wanting (requested (map string_bytes c.args.words.now)) (g.D.Chip.told c.args.desk.now) (g.D.Chip.told c.finish.new.desk) c.finish.result (returns-clause-ends g c)
 
 pub returns-clause-early : goal.returns-clause-early
 returns-clause-early g c = end_early (requested (map string_bytes c.args.words.now)) (g.D.Chip.told c.args.desk.now) (g.D.Chip.told c.finish.new.desk) c.finish.result (returns-clause-ends g c)
