@@ -65,48 +65,49 @@ module _ (places : ℕ) (m : Map) (h : History) where
       h old new result did stopped
 
   -- a call behind others
-  pub keeps_then : {T : Type 0} (D1 : Story → Type 0) (D2 D3 : Bool → Story → Type 0)
-      (F1 : Chart → Chart → Type 0) (F2 F3 : T → Chart → Chart → Type 0)
-      (G2 G3 : Chart → Chart → Type 0) (old mid new : Told) (result : Result T ChipFault)
-      → (first : SoFar places m D1 F1 h mid) → Counts old mid
-      → KeepsThroughout places m D2 F2 G2 (adds_all first.added h) result mid new
-      → ((a b : Story) → D1 a → D2 (is_ok result) b → D3 (is_ok result) (b ++ a))
-      → IfOk result (λ v. (c d e : Chart) → F1 c d → F2 v d e → F3 v c e)
-      → ((c d e : Chart) → F1 c d → G2 d e → G3 c e)
-      → KeepsThroughout places m D3 F3 G3 h result old new
-  keeps_then {T} D1 D2 D3 F1 F2 F3 G2 G3 old mid new result first counts second both done left =
+  pub keeps_then : {T : Type 0} (DoesFirst : Story → Type 0) (DoesNext DoesAll : Bool → Story → Type 0)
+      (ChartsFirst : Chart → Chart → Type 0) (ChartsNext ChartsAll : T → Chart → Chart → Type 0)
+      (LeavesNext LeavesAll : Chart → Chart → Type 0) (old mid new : Told) (result : Result T ChipFault)
+      → (first : SoFar places m DoesFirst ChartsFirst h mid) → Counts old mid
+      → KeepsThroughout places m DoesNext ChartsNext LeavesNext (adds_all first.added h) result mid new
+      → ((a b : Story) → DoesFirst a → DoesNext (is_ok result) b → DoesAll (is_ok result) (b ++ a))
+      → IfOk result (λ v. (c d e : Chart) → ChartsFirst c d → ChartsNext v d e → ChartsAll v c e)
+      → ((c d e : Chart) → ChartsFirst c d → LeavesNext d e → LeavesAll c e)
+      → KeepsThroughout places m DoesAll ChartsAll LeavesAll h result old new
+  keeps_then {T} DoesFirst DoesNext DoesAll ChartsFirst ChartsNext ChartsAll LeavesNext LeavesAll
+      old mid new result first counts second both done left =
       let k = adds_all first.added h in
-      let ended = outcome_then (EachStands places m) D1 (D2 (is_ok result)) (D3 (is_ok result))
-      (Unit {0}) (Settled result mid new) (λ k. StoryRests places m k × F1 (now h) (now k))
-      (EndsWith result (RestsWith places m F2 k) (RestsBy places m G2 k)) h mid new first tt second
+      let ended = outcome_then (EachStands places m) DoesFirst (DoesNext (is_ok result)) (DoesAll (is_ok result))
+      (Unit {0}) (Settled result mid new) (λ k. StoryRests places m k × ChartsFirst (now h) (now k))
+      (EndsWith result (RestsWith places m ChartsNext k) (RestsBy places m LeavesNext k)) h mid new first tt second
       both in
-      outcome_weaker (EachStands places m) (EachStands places m) (D3 (is_ok result))
-      (D3 (is_ok result)) (Settled result mid new) (Settled result old new)
-      (EndsWith result (RestsWith places m F2 k) (RestsBy places m G2 k))
-      (EndsWith result (RestsWith places m F3 h) (RestsBy places m G3 h)) h new
+      outcome_weaker (EachStands places m) (EachStands places m) (DoesAll (is_ok result))
+      (DoesAll (is_ok result)) (Settled result mid new) (Settled result old new)
+      (EndsWith result (RestsWith places m ChartsNext k) (RestsBy places m LeavesNext k))
+      (EndsWith result (RestsWith places m ChartsAll h) (RestsBy places m LeavesAll h)) h new
       (λ j is. is) (λ a is. is) (settled_later result old mid new counts)
-      (λ settled j. at_end (λ v. RestsWith places m F2 k v j) (λ v. RestsWith places m F3 h v j)
-      (RestsBy places m G2 k j) (RestsBy places m G3 h j) result (each_done result done k j (first.ends tt).1)
+      (λ settled j. at_end (λ v. RestsWith places m ChartsNext k v j) (λ v. RestsWith places m ChartsAll h v j)
+      (RestsBy places m LeavesNext k j) (RestsBy places m LeavesAll h j) result (each_done result done k j (first.ends tt).1)
       (λ is. (is.0, left (now h) (now k) (now j) (first.ends tt).1 is.1))) ended
     where
       each_done : (r : Result T ChipFault)
-          → IfOk r (λ v. (c d e : Chart) → F1 c d → F2 v d e → F3 v c e) → (k j : History)
-          → F1 (now h) (now k)
-          → IfOk r (λ v. RestsWith places m F2 k v j → RestsWith places m F3 h v j)
+          → IfOk r (λ v. (c d e : Chart) → ChartsFirst c d → ChartsNext v d e → ChartsAll v c e) → (k j : History)
+          → ChartsFirst (now h) (now k)
+          → IfOk r (λ v. RestsWith places m ChartsNext k v j → RestsWith places m ChartsAll h v j)
       each_done (Ok v) done k j there = λ is. (is.0, done (now h) (now k) (now j) there is.1)
       each_done (Err e) done k j there = tt
 
   -- a call that failed, where nothing else is done then
-  pub keeps_failed : {T U : Type 0} (D1 D2 : Bool → Story → Type 0)
-      (F1 : T → Chart → Chart → Type 0) (F2 : U → Chart → Chart → Type 0)
-      (G1 G2 : Chart → Chart → Type 0) (old new : Told) (e f : ChipFault)
-      → KeepsThroughout {T = T} places m D1 F1 G1 h (Err e) old new
-      → ((a : Story) → D1 false a → D2 false a) → ((c d : Chart) → G1 c d → G2 c d)
-      → KeepsThroughout {T = U} places m D2 F2 G2 h (Err f) old new
-  keeps_failed D1 D2 F1 F2 G1 G2 old new e f did less left =
-      outcome_weaker (EachStands places m) (EachStands places m) (D1 false) (D2 false)
+  pub keeps_failed : {T U : Type 0} (DoesFirst DoesNext : Bool → Story → Type 0)
+      (ChartsFirst : T → Chart → Chart → Type 0) (ChartsNext : U → Chart → Chart → Type 0)
+      (LeavesFirst LeavesNext : Chart → Chart → Type 0) (old new : Told) (e f : ChipFault)
+      → KeepsThroughout {T = T} places m DoesFirst ChartsFirst LeavesFirst h (Err e) old new
+      → ((a : Story) → DoesFirst false a → DoesNext false a) → ((c d : Chart) → LeavesFirst c d → LeavesNext c d)
+      → KeepsThroughout {T = U} places m DoesNext ChartsNext LeavesNext h (Err f) old new
+  keeps_failed DoesFirst DoesNext ChartsFirst ChartsNext LeavesFirst LeavesNext old new e f did less left =
+      outcome_weaker (EachStands places m) (EachStands places m) (DoesFirst false) (DoesNext false)
       (Settled {T = Unit {0}} (Err e) old new) (Settled {T = Unit {0}} (Err f) old new)
-      (RestsBy places m G1 h) (RestsBy places m G2 h) h new (λ k is. is) less (λ is. is)
+      (RestsBy places m LeavesFirst h) (RestsBy places m LeavesNext h) h new (λ k is. is) less (λ is. is)
       (λ settled k is. (is.0, left (now h) (now k) is.1)) did
 
 -- ---- charts, one after another
@@ -122,16 +123,16 @@ charts_then F G H old mid new first second both x told =
     (z, told_z, both (chart_of x) (chart_of y) (chart_of z) one two)
 
 -- a call behind others
-pub told_then : {T : Type 0} (F1 : Chart → Chart → Type 0) (F2 F3 : T → Chart → Chart → Type 0)
-    (G2 G3 : Chart → Chart → Type 0) (old mid new : Told) (result : Result T ChipFault)
-    → Charts F1 old mid → ChartsThroughout F2 G2 result mid new
-    → IfOk result (λ v. (c d e : Chart) → F1 c d → F2 v d e → F3 v c e)
-    → ((c d e : Chart) → F1 c d → G2 d e → G3 c e)
-    → ChartsThroughout F3 G3 result old new
-told_then F1 F2 F3 G2 G3 old mid new (Ok v) first second done left =
-    charts_then F1 (F2 v) (F3 v) old mid new first second done
-told_then F1 F2 F3 G2 G3 old mid new (Err e) first second done left =
-    λ soft. charts_then F1 G2 G3 old mid new first (second soft) left
+pub told_then : {T : Type 0} (ChartsFirst : Chart → Chart → Type 0) (ChartsNext ChartsAll : T → Chart → Chart → Type 0)
+    (LeavesNext LeavesAll : Chart → Chart → Type 0) (old mid new : Told) (result : Result T ChipFault)
+    → Charts ChartsFirst old mid → ChartsThroughout ChartsNext LeavesNext result mid new
+    → IfOk result (λ v. (c d e : Chart) → ChartsFirst c d → ChartsNext v d e → ChartsAll v c e)
+    → ((c d e : Chart) → ChartsFirst c d → LeavesNext d e → LeavesAll c e)
+    → ChartsThroughout ChartsAll LeavesAll result old new
+told_then ChartsFirst ChartsNext ChartsAll LeavesNext LeavesAll old mid new (Ok v) first second done left =
+    charts_then ChartsFirst (ChartsNext v) (ChartsAll v) old mid new first second done
+told_then ChartsFirst ChartsNext ChartsAll LeavesNext LeavesAll old mid new (Err e) first second done left =
+    λ soft. charts_then ChartsFirst LeavesNext LeavesAll old mid new first (second soft) left
 
 -- a call that only writes
 pub told_written : {T : Type 0} (F : T → Chart → Chart → Type 0) (G : Chart → Chart → Type 0)

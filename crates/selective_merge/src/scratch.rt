@@ -1,4 +1,6 @@
 //! The memory of one merge.
+ghost use Rattle.std.specs.Prelude.{◌≡◌, [], IfOk};
+
 use crate::log::Log;
 use crate::packs::Packs;
 use ipl_base::OutOfMemory;
@@ -16,7 +18,11 @@ pub struct MergeScratch {
 
 impl MergeScratch {
     /// Nothing is in it yet.
-    pub fn new(alloc: Global) -> Result<MergeScratch, OutOfMemory> {
+    pub fn new(alloc: Global) -> Result<MergeScratch, OutOfMemory>
+        ensures sectors { IfOk result (λ scratch. scratch.sectors ≡ []) }
+        ensures log { IfOk result (λ scratch. scratch.log ≡ []) }
+        ensures packs { IfOk result (λ scratch. scratch.packs.closed.items ≡ []) }
+    {
         let sectors = Scratch::new(alloc)?;
         let log = Log::new(alloc)?;
         let packs = Packs::new(alloc)?;
