@@ -16,7 +16,7 @@ use Rattle.pending_writes.proofs.NumberLemmas.{number_here, number_other, number
 
 -- ---- the test after a change
 
-same_truth : (a b : Bool) → (a ≡ true → b ≡ true) → (b ≡ true → a ≡ true) → a ≡ b
+pub same_truth : (a b : Bool) → (a ≡ true → b ≡ true) → (b ≡ true → a ≡ true) → a ≡ b
 same_truth true true to from = refl
 same_truth false false to from = refl
 same_truth true false to from = sym (to refl)
@@ -43,7 +43,7 @@ others_alike numbers active rest s o tells after n before now = same_truth (acti
 
 -- ---- in the tables
 
-among_listed : (l : List ℕ) (n : ℕ) → Contains l n → is_among n l ≡ true
+pub among_listed : (l : List ℕ) (n : ℕ) → Contains l n → is_among n l ≡ true
 among_listed l n is = any_there (λ m. m == n) l n is (eq-eqb n n refl)
 
 pub listed_among : (l : List ℕ) (n : ℕ) → is_among n l ≡ true → Contains l n

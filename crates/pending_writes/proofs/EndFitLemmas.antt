@@ -125,7 +125,7 @@ no_writes (w ∷ older) none =
     let here = cond-true (w.0 == w.0) (Some w.1) (last_write older w.0) (eq-eqb w.0 w.0 refl) in
     absurd (both_ways (is_some (last_write (w ∷ older) w.0)) (none w.0) (ap is_some here))
 
-all_kept : (tid : ℕ) (l : List Record) → All (HasOtherNumber tid) l → l ≡ filter (is_other tid) l
+pub all_kept : (tid : ℕ) (l : List Record) → All (HasOtherNumber tid) l → l ≡ filter (is_other tid) l
 all_kept tid [] others = refl
 all_kept tid (r ∷ l) others =
     let first : is_other tid r ≡ true =

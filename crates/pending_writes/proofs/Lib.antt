@@ -26,3 +26,4 @@ pub mod MemoryFitLemmas
 pub mod ChipFitLemmas
 pub mod EndFitLemmas
 pub mod FirstLemmas
+pub mod ListedLemmas

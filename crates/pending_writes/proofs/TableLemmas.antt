@@ -19,7 +19,7 @@ use Rattle.pending_writes.proofs.ElementLemmas.{contains_there, any_there}
 -- ---- the tables mirror the chart still
 
 -- whose numbers are other ones
-others_mirror : (places : ℕ) (c : Chart) (it : Layout) (t : Tables) (next : ℕ) (active : List ℕ)
+pub others_mirror : (places : ℕ) (c : Chart) (it : Layout) (t : Tables) (next : ℕ) (active : List ℕ)
     → Mirrors places c it t → t.next ≤ next → All (λ n. n < next) active → AllPairs AreApart active
     → All (λ n. it.committed n ≡ false) active
     → Mirrors places c it (record t { next = next; active = active })

@@ -3,7 +3,7 @@ use Rattle.std.specs.Prelude.{ℕ, ◌≡◌, ◌<◌, ◌≤◌, ◌-◌, Bool,
 use Rattle.chip_trait.specs.Told.{History}
 use Rattle.ipl_rules.specs.State.{Map, State, at_rest}
 use Rattle.ipl_rules.specs.Operations as rules
-use Rattle.record_locks.specs.Held.{Slots, number_of, after_begin, after_share, after_write, after_end}
+use Rattle.record_locks.specs.Held.{Slots, number_of, numbers_in, after_begin, after_share, after_write, after_end}
 use Rattle.ipl_format.specs.Record.{Record, IsRecord}
 use Rattle.ipl_meaning.specs.Chart.{Chart}
 use Rattle.ipl_meaning.specs.Layout.{Entry, Shape, Layout, records_of}
@@ -62,6 +62,13 @@ EmptyCommitsFit =
     → Fits places c it t frames slots state → s < length slots → number_of slots s ≡ Some tid
     → ((n : ℕ) → wrote state s n ≡ false) → LocksHold (after_end slots s)
     → Fits places c it (without_active t tid) frames (after_end slots s) (rules.after_commit state s)
+
+-- the tables have the sessions' numbers in the order of their slots
+abbrev pub SessionNumbersFit : Type 0
+SessionNumbersFit =
+    (places : ℕ) (c : Chart) (it : Layout) (t : Tables) (frames : Frames) (slots : Slots) (state : State)
+    → Fits places c it t frames slots state
+    → Fits places c it (record t { active = numbers_in slots }) frames slots state
 
 -- a page is brought into a frame
 abbrev pub LoadsFit : Type 0

@@ -2,7 +2,7 @@
 ghost use Rattle.pending_writes.specs.PendingLaws.{BeginsKeepPending, SharesKeepPending, WritesKeepPending, LogSectorsKeepPending, MergesKeepPending, SameLogsKeepPending, RenewalsKeepPending, CommitsKeepPending, CommitsSayWrites, AbortsKeepPending, RestartsLeaveNone, RecordsStayPending, RecordsAreWrites, ChangedPagesSuffice, FewArePending};
 ghost use Rattle.pending_writes.specs.FrameLaws.{FramesTell, LoadsMakeFrames, BeginsKeepFrames, WritesKeepFrames, OtherWritesKeepFrames, LogSectorsKeepFrames, MergesKeepFrames, OtherStepsKeepFrames, CommitsKeepFrames, AbortsKeepFrames};
 ghost use Rattle.pending_writes.specs.FittingLaws.{APlaceIsFree, SessionsAreSound, MergesAreSmall, RestingPagesSay, RestingPagesKeep, FittingFramesTell, FittingContentsTell, EmptySlotsAreAtRest, FirstStoresFit};
-ghost use Rattle.pending_writes.specs.StepLaws.{BeginsFit, SharesFit, WritesFit, AbortsFit, EmptyCommitsFit, LoadsFit, EvictionsFit, OpeningsFit, LogSectorsFit, MergesFit, OtherStepsFit, RenewalsFit, CommitsFit};
+ghost use Rattle.pending_writes.specs.StepLaws.{BeginsFit, SharesFit, WritesFit, AbortsFit, EmptyCommitsFit, SessionNumbersFit, LoadsFit, EvictionsFit, OpeningsFit, LogSectorsFit, MergesFit, OtherStepsFit, RenewalsFit, CommitsFit};
 
 /// After each step of a store the records on the chip and in memory say what its open sessions
 /// wrote; a commit makes of the map what the writes of its session do; and the records of open
@@ -67,6 +67,7 @@ pub fn memory_laws()
     ensures writes { WritesFit }
     ensures aborts { AbortsFit }
     ensures empty_commits { EmptyCommitsFit }
+    ensures numbers { SessionNumbersFit }
     ensures loads { LoadsFit }
     ensures evictions { EvictionsFit }
     ensures openings { OpeningsFit }

@@ -33,6 +33,12 @@ shared_of slots s = option_map_or (λ h. h.shared) (held_at slots s) []
 abbrev pub is_among : ℕ → List ℕ → Bool
 is_among n names = list_any (λ k. k == n) names
 
+-- the transaction numbers of the open sessions, in the order of their slots
+abbrev pub numbers_in : Slots → List ℕ
+numbers_in [] = []
+numbers_in (None ∷ slots) = numbers_in slots
+numbers_in (Some h ∷ slots) = h.number ∷ numbers_in slots
+
 -- ---- what the calls do
 
 -- a session that has done nothing yet

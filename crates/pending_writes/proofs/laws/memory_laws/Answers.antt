@@ -1,5 +1,6 @@
 use Rattle.pending_writes.proofs.MemoryFitLemmas.{begins_fit, shares_fit, writes_fit, loads_fit, evictions_fit, openings_fit}
 use Rattle.pending_writes.proofs.EndFitLemmas.{aborts_fit, empty_commits_fit}
+use Rattle.pending_writes.proofs.ListedLemmas.{session_numbers_fit}
 use Rattle.pending_writes.proofs.laws.memory_laws.Goals as goal
 
 pub returns : goal.returns
@@ -9,6 +10,7 @@ returns c = record {
   writes = writes_fit;
   aborts = aborts_fit;
   empty_commits = empty_commits_fit;
+  numbers = session_numbers_fit;
   loads = loads_fit;
   evictions = evictions_fit;
   openings = openings_fit;
