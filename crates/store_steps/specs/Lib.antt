@@ -1,5 +1,6 @@
 pub mod Advances
 pub mod Numbers
+pub mod NamedFrames
 pub mod Views
 pub mod Laws
 pub mod SessionLaws

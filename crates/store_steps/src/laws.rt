@@ -28,6 +28,7 @@ ghost use Rattle.store_steps.specs.SessionLaws.{
   EmptyCommitsLead,
   OpenSessionsMayEnd,
 };
+ghost use Rattle.store_steps.specs.NamedFrames.{NamedCommitsSuffice, NamedAbortsSuffice};
 ghost use Rattle.store_steps.specs.Views.{
   SettledFramesAreCommitted,
   DroppedFramesAreAborted,
@@ -82,6 +83,10 @@ pub fn frame_laws()
     ensures aborts { DroppedFramesAreAborted }
     ensures writes { ChangedFramesAreWritten }
     ensures tells { FramesTellState }
+
+    // of the names that a session wrote
+    ensures named_commits { NamedCommitsSuffice }
+    ensures named_aborts { NamedAbortsSuffice }
 {}
 
 /// What calls of a store leave is the work of a command, and looks a record up, as a run over a
