@@ -22,7 +22,7 @@ holder_at slots s n true = ap (λ (es : List (ℕ × rules.Session)). option_map
 holder_at slots s n false = ap (λ (es : List (ℕ × rules.Session)). option_map (λ e. e.0) (find (λ e. not (e.0 == s) && keeps_from false n e.1) es)) (sym (entries-opened (map slot_of slots)))
 
 -- where no test of a list holds, the first doesn't, and none of the others does
-passed : (t : tests.Test) (rest : List tests.Test) → tests.first_of (t ∷ rest) ≡ None → (t.0 ≡ false) × (tests.first_of rest ≡ None)
+pub passed : (t : tests.Test) (rest : List tests.Test) → tests.first_of (t ∷ rest) ≡ None → (t.0 ≡ false) × (tests.first_of rest ≡ None)
 passed t rest none = by_test t.0 none
   where
     by_test : (b : Bool) → cond b (Some t.1) (tests.first_of rest) ≡ None → (b ≡ false) × (tests.first_of rest ≡ None)

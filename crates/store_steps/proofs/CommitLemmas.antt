@@ -22,19 +22,22 @@ use Rattle.unit_io.specs.Leads.{IsSteady}
 use Rattle.steps.specs.Steps.{Settled, NoOtherEnd, TidyWork, RestsAgreeing, Steps}
 use Rattle.steps.proofs.StepLemmas.{outcome_weaker}
 use Rattle.number_set.specs.Numbers.{also}
-use Rattle.txn_status.specs.Adding.{layout_added, Added}
+use Rattle.txn_status.specs.Adding.{with_added, layout_added, Added}
 use Rattle.pending_writes.specs.Pending.{name_at, wrote, with_number}
 use Rattle.pending_writes.specs.PendingLaws.{AreActive, NumberJoins}
-use Rattle.pending_writes.specs.Frames.{Frame, Frames, logs_of, IsCommittedFrame, EachFrameChanges}
+use Rattle.pending_writes.specs.Frames.{Frame, Frames, logs_of, IsCommittedFrame}
 use Rattle.pending_writes.specs.Fits.{LocksHold, is_active, is_another}
 use Rattle.pending_writes.proofs.ActiveLemmas.{is_listed, listed_among, active_ended}
 use Rattle.pending_writes.proofs.EndFitLemmas.{commits_fit}
 use Rattle.pending_writes.proofs.FitLemmas.{wrote_is, resting_pages_say}
 use Rattle.pending_writes.proofs.FollowLemmas.{changed_pages_suffice}
+use Rattle.pending_writes.proofs.ListedLemmas.{session_numbers_fit}
 use Rattle.pending_writes.proofs.SayLemmas.{commits_say_writes}
 use Rattle.store_steps.specs.Advances.{Memory, memory_of, MemoryFits, MemoryFitsStory, ShowsNext, FitsOn}
+use Rattle.store_steps.specs.NamedFrames.{NamedFramesChange}
 use Rattle.store_steps.specs.Numbers.{IsOut, added_to, AddsNumber, AddsNumberInSteps}
 use Rattle.store_steps.specs.Laws.{NamesOutSuffice, NumbersLead, FailedNumbersLead}
+use Rattle.store_steps.proofs.NamedLemmas.{named_commits_suffice}
 use Rattle.store_steps.proofs.ShowLemmas.{commit_shows}
 
 -- ---- all that a session wrote is on the chip
@@ -89,12 +92,16 @@ module _ (s tid : ℕ) (before : Memory) (old new : Told)
   abbrev t : Tables
   t = before.tables
 
+  -- the tables with the number, and the others' numbers as they stood
+  abbrev with_it : Tables
+  with_it = with_added t (tid ∷ []) (1 + t.next) (filter (is_another tid) t.active)
+
   -- over a story
   adds_in_steps : (result : Result (Unit {0}) ChipFault)
       → AddsNumberInSteps old.places t.status t.next tid result old new
       → (places : ℕ) (h : History) (it : Layout) (state : State) → old.places ≡ places
       → IsSteady h old → MemoryFitsStory places h it before state
-      → Steps (EachStandsEither places state.map (after_commit state s).map) t (added_to t tid)
+      → Steps (EachStandsEither places state.map (after_commit state s).map) t with_it
       (λ v k. StoryRests places (after_commit state s).map k) NoOtherEnd h result old new
   adds_in_steps result adds places h it state same steady story =
       let fits = story.fits in
@@ -132,10 +139,10 @@ module _ (s tid : ℕ) (before : Memory) (old new : Told)
       }
 
   module _ (later : Frames) (within : s < length before.slots)
-      (all : EachFrameChanges (IsCommittedFrame tid) before.frames later)
-      (locked : LocksHold (after_end before.slots s)) where
+      (change : NamedFramesChange (IsCommittedFrame tid) (written_of before.slots s) before.frames
+      later) (locked : LocksHold (after_end before.slots s)) where
     abbrev ended : Memory
-    ended = memory_of (added_to t tid) later (after_end before.slots s)
+    ended = memory_of (added_to t tid (after_end before.slots s)) later (after_end before.slots s)
 
     -- over what the chip holds
     fits_added : (places : ℕ) (c y : Chart) (it : Layout) (state : State)
@@ -145,26 +152,28 @@ module _ (s tid : ℕ) (before : Memory) (old new : Told)
         let added = adds it t fits.mirrors (record { status_is = refl; next_is = refl })
         (is_listed (number_of before.slots) t fits.active s tid mine) in
         let written = names_out_suffice places c it before state s tid fits mine out in
-        let tells : AreActive (with_number (number_of before.slots) s None)
-        (is_active (added_to t tid)) =
+        let tells : AreActive (with_number (number_of before.slots) s None) (is_active with_it) =
         active_ended (number_of before.slots) t s tid fits.active mine fits.pending.apart in
         record {
           layout = layout_added it (tid ∷ []);
-          fits = commits_fit places c y it t (added_to t tid) before.frames later before.slots state
-              s tid (also it.committed (tid ∷ [])) fits within mine written
-              (number_joins it.committed tid) all locked added.mirrors fits.none_lost tells
-              added.pages;
+          fits = session_numbers_fit places y (layout_added it (tid ∷ [])) with_it later
+              (after_end before.slots s) (after_commit state s)
+              (commits_fit places c y it t with_it before.frames later before.slots state s tid
+              (also it.committed (tid ∷ [])) fits within mine written
+              (number_joins it.committed tid)
+              (named_commits_suffice places c it before later state s tid fits mine change) locked
+              added.mirrors fits.none_lost tells added.pages);
           shows = shows_added places c y it state fits added;
         }
 
 pub numbers_lead : NumbersLead
-numbers_lead s tid before later old new within mine out adds steps all locked = record {
+numbers_lead s tid before later old new within mine out adds steps change locked = record {
   fits = λ places same settled x told.
       let (y, there, added) = subst (λ (n : ℕ). Charts (AddsNumber n before.tables.status
       before.tables.next tid) old new) same adds x told in (
         y,
         there,
-        λ it state fits. fits_added s tid before old new mine out later within all locked places
+        λ it state fits. fits_added s tid before old new mine out later within change locked places
             (chart_of x) (chart_of y) it state added fits,
       );
   steps = λ places h it state same steady story.
@@ -180,7 +189,7 @@ failed_numbers_lead s tid before after e f old new mine out steps stopped = reco
       let t = before.tables in
       let Soft = Settled {T = Unit {0}} {E = ChipFault} (Err f) old new in
       outcome_weaker (EachStandsEither places m n) (EachStandsEither places m n)
-      (TidyWork (IsCountedClean t) (IsCountedClean (added_to t tid)) Soft)
+      (TidyWork (IsCountedClean t) (IsCountedClean (with_it s tid before old new mine out)) Soft)
       (TidyWork (IsCountedClean t) (IsCountedClean after.tables) Soft) Soft Soft NoOtherEnd
       (StoryRests places m) h new (λ k is. is)
       (λ a is. record {

@@ -1,7 +1,7 @@
 -- What commands leave that a store does in memory alone.
 use Rattle.std.specs.FinMap.{get}
 use Rattle.std.specs.Option.{option_map, option_map_or}
-use Rattle.std.proofs.Common.{◌≡◌, ℕ, ◌-◌, ◌<◌, ◌==◌, Bool, true, false, not, List, [], ◌∷◌, Option, Some, None, is_some, refl, ◌∙◌, ap, subst, if◌then◌else◌}
+use Rattle.std.proofs.Common.{◌≡◌, ℕ, ◌+◌, ◌-◌, ◌<◌, ◌==◌, Bool, true, false, not, List, [], ◌∷◌, Option, Some, None, is_some, refl, ◌∙◌, ap, subst, if◌then◌else◌}
 use Rattle.std.proofs.lemmas.Bool.{cond-true, eq-eqb, both_ways}
 use Rattle.ipl_base.specs.declared.fault.Refusal.TheVariants.{NotOpen}
 use Rattle.ipl_rules.specs.Operations as rules
@@ -15,10 +15,12 @@ use Rattle.pending_writes.specs.Fits.{AreSessionsOf, with_active, without_active
 use Rattle.pending_writes.specs.Frames.{with_frame_at}
 use Rattle.pending_writes.proofs.EndFitLemmas.{aborts_fit, empty_commits_fit}
 use Rattle.pending_writes.proofs.FitLemmas.{wrote_is}
+use Rattle.pending_writes.proofs.ListedLemmas.{session_numbers_fit}
 use Rattle.pending_writes.proofs.MemoryFitLemmas.{begins_fit, shares_fit, writes_fit}
 use Rattle.store_steps.specs.Advances.{memory_of}
-use Rattle.store_steps.specs.SessionLaws.{BeginsLead, SharesLead, WritesLead, AbortsLead, EmptyCommitsLead, OpenSessionsMayEnd}
+use Rattle.store_steps.specs.SessionLaws.{with_numbers_of, BeginsLead, SharesLead, WritesLead, AbortsLead, EmptyCommitsLead, OpenSessionsMayEnd}
 use Rattle.store_steps.proofs.LeadLemmas.{memory_leads}
+use Rattle.store_steps.proofs.NamedLemmas.{named_aborts_suffice}
 
 -- ---- the map stays
 
@@ -58,15 +60,25 @@ no_writes (w ∷ older) none =
     let here = cond-true (w.0 == w.0) (Some w.1) (last_write older w.0) (eq-eqb w.0 w.0 refl) in
     absurd (both_ways (is_some (last_write (w ∷ older) w.0)) (none w.0) (ap is_some here))
 
+-- whose commit leaves the map
+pub empty_commits_keep : (slots : held.Slots) (state : State) (s : ℕ) → AreSessionsOf slots state
+    → written_of slots s ≡ [] → (rules.after_commit state s).map ≡ state.map
+empty_commits_keep slots state s are none =
+    ap (λ (writes : List Write). with_writes writes state.map)
+    (no_writes (writes_of state s) (wrote_none slots state s are none))
+
 -- ---- the commands
 
 pub begins_lead : BeginsLead
 begins_lead s tid before old within closed new locked =
+    let after = held.after_begin before.slots s tid in
     memory_leads (λ state. rules.after_begin state s) before
-    (memory_of (with_active before.tables tid) before.frames (held.after_begin before.slots s tid))
-    old
-    (λ places c it state same fits. begins_fit places c it before.tables before.frames before.slots
-    state s tid fits within closed new locked)
+    (memory_of (with_numbers_of (record before.tables { next = tid + 1 }) after) before.frames
+    after) old
+    (λ places c it state same fits. session_numbers_fit places c it (with_active before.tables tid)
+    before.frames after (rules.after_begin state s)
+    (begins_fit places c it before.tables before.frames before.slots state s tid fits within closed
+    new locked))
     (λ places c it state fits. refl) (λ p k counted. counted)
 
 pub shares_lead : SharesLead
@@ -89,22 +101,26 @@ writes_lead s u r f g before old within mine low valid there written locked =
     (λ p k counted. counted)
 
 pub aborts_lead : AbortsLead
-aborts_lead s tid before later old within mine all locked =
+aborts_lead s tid before later old within mine change locked =
+    let after = held.after_end before.slots s in
     memory_leads (λ state. rules.after_abort state s) before
-    (memory_of (without_active before.tables tid) later (held.after_end before.slots s)) old
-    (λ places c it state same fits. aborts_fit places c it before.tables before.frames later
-    before.slots state s tid fits within mine all locked)
+    (memory_of (with_numbers_of before.tables after) later after) old
+    (λ places c it state same fits. session_numbers_fit places c it
+    (without_active before.tables tid) later after (rules.after_abort state s)
+    (aborts_fit places c it before.tables before.frames later before.slots state s tid fits within
+    mine (named_aborts_suffice places c it before later state s tid fits mine change) locked))
     (λ places c it state fits. refl) (λ p k counted. counted)
 
 pub empty_commits_lead : EmptyCommitsLead
 empty_commits_lead s tid before old within mine none locked =
+    let after = held.after_end before.slots s in
     memory_leads (λ state. rules.after_commit state s) before
-    (memory_of (without_active before.tables tid) before.frames (held.after_end before.slots s)) old
-    (λ places c it state same fits. empty_commits_fit places c it before.tables before.frames
-    before.slots state s tid fits within mine
-    (wrote_none before.slots state s fits.sessions none) locked)
-    (λ places c it state fits. ap (λ (writes : List Write). with_writes writes state.map)
-    (no_writes (writes_of state s) (wrote_none before.slots state s fits.sessions none)))
+    (memory_of (with_numbers_of before.tables after) before.frames after) old
+    (λ places c it state same fits. session_numbers_fit places c it
+    (without_active before.tables tid) before.frames after (rules.after_commit state s)
+    (empty_commits_fit places c it before.tables before.frames before.slots state s tid fits within
+    mine (wrote_none before.slots state s fits.sessions none) locked))
+    (λ places c it state fits. empty_commits_keep before.slots state s fits.sessions none)
     (λ p k counted. counted)
 
 pub open_sessions_may_end : OpenSessionsMayEnd

@@ -22,11 +22,12 @@ use Rattle.unit_io.specs.ReadsAt.{ReadsAt}
 use Rattle.steps.specs.Steps.{Settled}
 use Rattle.steps.specs.Laws.{Preserves}
 use Rattle.pending_writes.specs.Pending.{IsWrittenOut}
-use Rattle.pending_writes.specs.Frames.{Frame, Frames, logs_of, with_frame_at, with_frame_log, IsFrameOf, IsCommittedFrame, EachFrameChanges}
+use Rattle.pending_writes.specs.Frames.{Frame, Frames, logs_of, with_frame_at, with_frame_log, IsFrameOf, IsCommittedFrame}
 use Rattle.pending_writes.specs.FrameLaws.{TellsSlot}
 use Rattle.pending_writes.specs.Fits.{LocksHold, AreSessionsOf, is_active, Fits, FitsStory}
 use Rattle.store_trait.specs.declared.fault.Fault.{Fault}
 use Rattle.store_steps.specs.Advances.{FitsOn, TurnsTables, Memory, memory_of, MemoryFits, KeepsState, LeadsTo}
+use Rattle.store_steps.specs.NamedFrames.{NamedFramesChange}
 use Rattle.store_steps.specs.Numbers.{IsOut, added_to, AddsNumber, AddsNumberInSteps}
 
 -- ---- calls that keep each state
@@ -203,10 +204,11 @@ NumbersLead = (s tid : ℕ) (before : Memory) (later : Frames) (old new : Told)
     → All (IsOut before.frames) (written_of before.slots s)
     → Charts (AddsNumber old.places before.tables.status before.tables.next tid) old new
     → AddsNumberInSteps old.places before.tables.status before.tables.next tid (Ok tt) old new
-    → EachFrameChanges (IsCommittedFrame tid) before.frames later
+    → NamedFramesChange (IsCommittedFrame tid) (written_of before.slots s) before.frames later
     → LocksHold (after_end before.slots s)
     → LeadsTo {T = Unit {0}} {E = ChipFault} (λ state. after_commit state s) before old (Ok tt)
-    (memory_of (added_to before.tables tid) later (after_end before.slots s)) new
+    (memory_of (added_to before.tables tid (after_end before.slots s)) later
+    (after_end before.slots s)) new
 
 -- It wasn't added: nobody knows whether the number is committed, so nothing is said of the memory.
 abbrev pub FailedNumbersLead : Type 0

@@ -4,6 +4,7 @@ use Rattle.chip_trait.specs.Told.{History, Told}
 use Rattle.ipl_base.specs.Places.{home_of}
 use Rattle.ipl_base.specs.declared.fault.ChipFault.{ChipFault}
 use Rattle.ipl_rules.specs.State.{Map}
+use Rattle.record_locks.specs.Held.{Slots, numbers_in}
 use Rattle.ipl_meaning.specs.Chart.{Chart}
 use Rattle.ipl_meaning.specs.Layout.{Layout}
 use Rattle.ipl_meaning.specs.Stands.{Says}
@@ -24,9 +25,9 @@ IsOut frames n = logs_of frames (home_of n).unit (home_of n).page ≡ []
 
 -- ---- what it leaves
 
--- the tables once the number is committed: its session is closed, and one number was drawn
-abbrev pub added_to : Tables → ℕ → Tables
-added_to t tid = with_added t (tid ∷ []) (1 + t.next) (filter (is_another tid) t.active)
+-- the tables once the number is committed, with these sessions open still: one number was drawn
+abbrev pub added_to : Tables → ℕ → Slots → Tables
+added_to t tid slots = with_added t (tid ∷ []) (1 + t.next) (numbers_in slots)
 
 -- Whatever tables of this status and this counter mirrored the old chart, with the number among
 -- those of open sessions: with the number committed they mirror the new one, and its pages are

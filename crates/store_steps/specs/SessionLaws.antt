@@ -1,15 +1,21 @@
 -- What commands leave that a store does in memory alone.
-use Rattle.std.specs.Prelude.{ℕ, ◌≡◌, ◌<◌, ◌≤◌, ◌-◌, [], length, Some, None, Ok}
+use Rattle.std.specs.Prelude.{ℕ, ◌≡◌, ◌<◌, ◌≤◌, ◌+◌, ◌-◌, [], length, Some, None, Ok}
 use Rattle.chip_trait.specs.Told.{Told}
 use Rattle.ipl_base.specs.declared.fault.ChipFault.{ChipFault}
 use Rattle.ipl_rules.specs.Operations as rules
 use Rattle.ipl_format.specs.Record.{Record, IsRecord}
-use Rattle.record_locks.specs.Held.{Slots, number_of, written_of, after_begin, after_share, after_write, after_end}
+use Rattle.record_locks.specs.Held.{Slots, number_of, numbers_in, written_of, after_begin, after_share, after_write, after_end}
+use Rattle.ipl_meaning.specs.Tables.{Tables}
 use Rattle.record_locks.specs.Locks.{refuses_end}
 use Rattle.pending_writes.specs.Pending.{name_at}
-use Rattle.pending_writes.specs.Frames.{Frame, Frames, with_frame_at, IsWrittenFrame, IsAbortedFrame, EachFrameChanges}
-use Rattle.pending_writes.specs.Fits.{LocksHold, with_active, without_active}
+use Rattle.pending_writes.specs.Frames.{Frame, Frames, with_frame_at, IsWrittenFrame, IsAbortedFrame}
+use Rattle.pending_writes.specs.Fits.{LocksHold}
 use Rattle.store_steps.specs.Advances.{Memory, memory_of, LeadsTo}
+use Rattle.store_steps.specs.NamedFrames.{NamedFramesChange}
+
+-- the tables have the numbers of these sessions
+abbrev pub with_numbers_of : Tables → Slots → Tables
+with_numbers_of t slots = record t { active = numbers_in slots }
 
 -- a session is opened, under a number that the counter gave
 abbrev pub BeginsLead : Type 0
@@ -17,7 +23,8 @@ BeginsLead = (s tid : ℕ) (before : Memory) (old : Told) → s < length before.
     → number_of before.slots s ≡ None → before.tables.next ≤ tid
     → LocksHold (after_begin before.slots s tid)
     → LeadsTo {T = Unit {0}} {E = ChipFault} (λ state. rules.after_begin state s) before old (Ok tt)
-    (memory_of (with_active before.tables tid) before.frames (after_begin before.slots s tid)) old
+    (memory_of (with_numbers_of (record before.tables { next = tid + 1 })
+    (after_begin before.slots s tid)) before.frames (after_begin before.slots s tid)) old
 
 -- a session shares a name
 abbrev pub SharesLead : Type 0
@@ -37,14 +44,15 @@ WritesLead = (s u : ℕ) (r : Record) (f g : Frame) (before : Memory) (old : Tol
     (memory_of before.tables (with_frame_at before.frames u r.page (Some g))
     (after_write before.slots s (name_at u r.page r.slot))) old
 
--- a session is aborted: its changes are dropped from all frames
+-- a session is aborted: its changes are dropped from the frames of its names
 abbrev pub AbortsLead : Type 0
 AbortsLead = (s tid : ℕ) (before : Memory) (later : Frames) (old : Told) → s < length before.slots
     → number_of before.slots s ≡ Some tid
-    → EachFrameChanges (IsAbortedFrame tid) before.frames later
+    → NamedFramesChange (IsAbortedFrame tid) (written_of before.slots s) before.frames later
     → LocksHold (after_end before.slots s)
     → LeadsTo {T = Unit {0}} {E = ChipFault} (λ state. rules.after_abort state s) before old (Ok tt)
-    (memory_of (without_active before.tables tid) later (after_end before.slots s)) old
+    (memory_of (with_numbers_of before.tables (after_end before.slots s)) later
+    (after_end before.slots s)) old
 
 -- one that wrote nothing is committed without the chip
 abbrev pub EmptyCommitsLead : Type 0
@@ -52,8 +60,8 @@ EmptyCommitsLead = (s tid : ℕ) (before : Memory) (old : Told) → s < length b
     → number_of before.slots s ≡ Some tid → written_of before.slots s ≡ []
     → LocksHold (after_end before.slots s)
     → LeadsTo {T = Unit {0}} {E = ChipFault} (λ state. rules.after_commit state s) before old
-    (Ok tt) (memory_of (without_active before.tables tid) before.frames (after_end before.slots s))
-    old
+    (Ok tt) (memory_of (with_numbers_of before.tables (after_end before.slots s)) before.frames
+    (after_end before.slots s)) old
 
 -- a session that has a number is open, and may be closed
 abbrev pub OpenSessionsMayEnd : Type 0
