@@ -7,6 +7,7 @@ ghost use Rattle.log_records.specs.Reading.{records_of};
 ghost use Rattle.log_records.specs.View.{change_of, record_of};
 ghost use Rattle.mem_log_sector.specs.MemLogs.{without_tid, IsMemLog};
 
+use ipl_base::PAYLOAD_LEN;
 use log_records::{Change, Payload, Record, put, records};
 use std::marker::Model;
 use std::mem;
@@ -52,6 +53,14 @@ impl MemLog {
         self.payload.bytes().is_empty()
     }
 
+    /// Whether a record fits in a log sector with them.
+    pub fn fits(&self, rec: &Record) -> bool
+        ensures { IsTrue result
+            ↔ (size_of_all self.now + size_of (record_of rec.now) ≤ 480) }
+    {
+        self.payload.bytes().len() + 12 + value_len(&rec.change) <= PAYLOAD_LEN
+    }
+
     /// Adds a record, of page 0 to 14 and slot 0 to 63, behind the others. False exactly where it
     /// doesn't fit in a log sector with them; they are then as they were.
     pub fn push(&mut self, rec: &Record) -> bool
@@ -74,6 +83,20 @@ impl MemLog {
         ensures { self.new ≡ without_tid tid self.old }
     {
         self.payload = others(&self.payload, tid);
+    }
+
+    /// Drops all records.
+    pub fn clear(&mut self)
+        ensures { self.new ≡ [] }
+    {
+        *self = MemLog::empty();
+    }
+
+    /// A copy of the records, as the payload of a log sector.
+    pub fn payload(&self) -> Payload
+        ensures { SpellsLog result self.now }
+    {
+        Payload::of(self.payload.bytes())
     }
 
     /// Takes all records away, as the payload of a log sector.
@@ -101,15 +124,14 @@ fn others(payload: &Payload, tid: u64) -> Payload
     kept
 }
 
-/// A value has at most 108 bytes.
-fn short(change: &Change)
-    ensures { length (value_of (change_of change.now)) ≤ 108 }
+/// How many bytes the value of a change has, at most 108.
+fn value_len(change: &Change) -> usize
+    ensures len { result ≡ length (value_of (change_of change.now)) }
+    ensures short { result ≤ 108 }
 {
     match change {
-        Change::Put(value) => {
-            let _ = value.bytes();
-        }
-        Change::Delete => {}
+        Change::Put(value) => value.bytes().len(),
+        Change::Delete => 0,
     }
 }
 
@@ -120,5 +142,5 @@ fn valid(rec: &Record)
     ensures { IsRecord (record_of rec.now) }
 {
     let _ = rec.tid.to_be_bytes();
-    short(&rec.change);
+    let _ = value_len(&rec.change);
 }
