@@ -4,7 +4,7 @@ use Rattle.std.proofs.lemmas.Bool.{cases_Bool, cases_eq, eqb-true, eq-eqb, and_p
 use Rattle.std.proofs.Math.Path.{fun_ext}
 use Rattle.slab.specs.Slab.{Slab, get, Updates}
 use Rattle.buffer_pool.specs.declared.pool.Buffer.{Buffer}
-use Rattle.buffer_pool.specs.Pools.{HasPage, AreOnce, new_buffer}
+use Rattle.buffer_pool.specs.Pools.{HasPage, IsAbsent, AreOnce, new_buffer}
 use Rattle.buffer_pool.specs.Lending.{changed_at}
 use Rattle.buffer_pool.specs.Laws.{buffer_in, buffer_of, with_buffer, SamePage, BuffersAreTold, PinnedStay, BringsAddABuffer, EvictsTakeABuffer, PinsChangeABuffer, LoansChangeABuffer}
 use Rattle.buffer_pool.proofs.IndexLemmas.{some_is, no_some}
@@ -280,3 +280,26 @@ evicts_take_a_buffer old new unit page key once has did =
         let differs : k ≢ key = λ same. gone unit page (subst (HasPage new unit page) same here) in
         absurd (differs (once unit page k key
         (before old new key unit page k None did differs here) has))
+
+-- ---- what a search tells
+
+-- the buffer under the key that has the page is the page's
+pub buffer_found : (buffers : Slab Buffer) (u page key : ℕ) (b : Buffer) → AreOnce buffers
+    → get buffers key ≡ Some b → HasPage buffers u page key → buffer_of buffers u page ≡ Some b
+buffer_found buffers u page key b once stored has =
+    let one : has.buffer ≡ b = some_is has.buffer b (sym has.stored ∙ stored) in
+    (buffers_are_told buffers once).found u page key b stored
+    (ap (λ (e : Buffer). e.unit) (sym one) ∙ has.unit_is)
+    (ap (λ (e : Buffer). e.page) (sym one) ∙ has.page_is)
+
+-- a page that is in no buffer has none
+pub buffer_absent : (buffers : Slab Buffer) (u page : ℕ) → AreOnce buffers
+    → IsAbsent buffers u page → buffer_of buffers u page ≡ None
+buffer_absent buffers u page once absent = go (buffer_of buffers u page) refl
+  where
+    go : (o : Option Buffer) → buffer_of buffers u page ≡ o → buffer_of buffers u page ≡ None
+    go None is = is
+    go (Some b) is =
+        let (k, stored, unit_is, page_is) = (buffers_are_told buffers once).stands u page b is in
+        absurd (absent k
+        (record { buffer = b; stored = stored; unit_is = unit_is; page_is = page_is }))

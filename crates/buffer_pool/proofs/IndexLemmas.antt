@@ -1,13 +1,15 @@
 -- Pages' numbers in rising order, each with a key.
-use Rattle.std.proofs.Common.{◌≡◌, ◌≢◌, ℕ, zero, suc, ◌<◌, ◌≤◌, eqb, List, [], ◌∷◌, length, get_or, Some, None, Result, Ok, Err, IfOk, IfErr, inl, inr, refl, sym, ◌∙◌, ap, subst, arith}
+use Rattle.std.proofs.Common.{◌≡◌, ◌≢◌, ℕ, zero, suc, ◌<◌, ◌≤◌, eqb, List, [], ◌∷◌, length, get_or, map, Some, None, Contains, Result, Ok, Err, IfOk, IfErr, inl, inr, refl, sym, ◌∙◌, ap, subst, arith}
 use Rattle.std.specs.List.{insert, remove}
 use Rattle.std.specs.List.Sorted.{IsSearchInRange, IsBinarySearchResult, IsNonDecreasingBy}
 use Rattle.std.specs.Ordering.{nat_cmp, ordering_index}
-use Rattle.std.proofs.lemmas.Bool.{cases_Bool, cases_eq, cases_lt, eqb-true, eq-eqb, ne_eqb}
+use Rattle.std.proofs.lemmas.Bool.{cases_Bool, cases_eq, cases_lt, eqb-true, eq-eqb, ne_eqb, false≢true}
 use Rattle.std.proofs.lemmas.Bool.Decides.{nat_tests}
 use Rattle.std.proofs.lemmas.Cmp.{ranked}
+use Rattle.std.proofs.lemmas.List.{get_or-map, length-map}
 use Rattle.std.proofs.lemmas.List.Sorted.{IsNonDecreasingBy-from_default}
-use Rattle.buffer_pool.specs.Index.{key_of, with_key, IsAbove, IsRising, number_at, IsAt, IsGapFor}
+use Rattle.slab.proofs.SlabLemmas.{Contains-cons, Contains-cons_cases}
+use Rattle.buffer_pool.specs.Index.{key_of, with_key, numbers_of, EachIsAboveTheLast, IsAbove, IsRising, number_at, IsAt, IsGapFor}
 
 pub some_is : {X : Type 0} (x y : X) → Some x ≡ Some y → x ≡ y
 some_is x y same = cc same
@@ -156,6 +158,47 @@ key_remove ((m, k) ∷ rest) (suc at) number rise is n =
           rw (same, ne_eqb number n other) refl
       | inr differs ↦ rw differs (key_remove rest at number rise.1 later n)
     ]
+
+-- ---- the numbers, in their order
+
+pub numbers_at : (l : List (ℕ × ℕ)) (i : ℕ) → i < length l → get_or (numbers_of l) i 0 ≡ number_at l i
+numbers_at l i within = get_or-map (λ (e : ℕ × ℕ). e.0) l i (0, 0) 0 within
+
+pub length-numbers : (l : List (ℕ × ℕ)) → length (numbers_of l) ≡ length l
+length-numbers l = length-map l (λ (e : ℕ × ℕ). e.0)
+
+pub numbers_rise : (l : List (ℕ × ℕ)) → IsRising l → EachIsAboveTheLast (numbers_of l)
+numbers_rise l rise i j less within =
+    let inside : j < length l = omega (arith, within, length-numbers l) in
+    let more : number_at l i < number_at l j = rising_at l i j rise less inside in
+    omega (arith, more, numbers_at l i (omega (arith, less, inside)), numbers_at l j inside)
+
+-- those in the order have keys, and no others
+pub ordered_key : (l : List (ℕ × ℕ)) (n : ℕ) → Contains (numbers_of l) n
+    → (key : ℕ) × (key_of l n ≡ Some key)
+ordered_key [] n has = absurd (omega (arith, has.1))
+ordered_key ((m, key) ∷ rest) n has = elim (cases_Bool (eqb m n)) [
+  | inl same ↦ (key, rw same refl)
+  | inr differs ↦ elim (Contains-cons_cases m n (numbers_of rest) has) [
+    | inl here ↦ absurd (false≢true (sym differs ∙ eq-eqb m n here))
+    | inr later ↦ let (k, is) = ordered_key rest n later in (k, rw differs is)
+  ]
+]
+
+pub key_ordered : (l : List (ℕ × ℕ)) (n key : ℕ) → key_of l n ≡ Some key
+    → Contains (numbers_of l) n
+key_ordered [] n key is = absurd (no_some key is)
+key_ordered ((m, k) ∷ rest) n key is = elim (cases_Bool (eqb m n)) [
+  | inl same ↦ (0, omega arith, eqb-true m n same)
+  | inr differs ↦
+      Contains-cons m n (numbers_of rest) (key_ordered rest n key (rw differs at is))
+]
+
+-- the number at a place has the key there
+pub key_there : (l : List (ℕ × ℕ)) (i : ℕ) → IsRising l → i < length l
+    → key_of l (number_at l i) ≡ Some (get_or l i (0, 0)).1
+key_there l i rise within =
+    key_at l i (number_at l i) rise (record { within = within; number_is = refl })
 
 -- ---- a search
 

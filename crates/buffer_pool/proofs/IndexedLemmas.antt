@@ -10,7 +10,7 @@ use Rattle.buffer_pool.specs.Pools.{HasPage, HasNumber, IsAbsent, IsIndexed, Are
 number_of : Buffer → ℕ
 number_of b = page_number b.unit b.page
 
-same_number : (a b : Buffer) → a ≡ b → page_number a.unit a.page ≡ page_number b.unit b.page
+pub same_number : (a b : Buffer) → a ≡ b → page_number a.unit a.page ≡ page_number b.unit b.page
 same_number a b same = ap (λ (x : Buffer). page_number x.unit x.page) same
 
 -- two pages of one number are one

@@ -5,3 +5,4 @@ pub mod RoomLemmas
 pub mod LentLemmas
 pub mod BufferLemmas
 pub mod CallerLemmas
+pub mod HoldingLemmas

@@ -1,22 +1,68 @@
 -- What a pool keeps, seen from inside and by its callers.
-use Rattle.std.proofs.Common.{◌≡◌, ℕ, ◌<◌, ◌+◌, cond, List, length, Option, Some, None, IsSome, is_some, IfSome, IfNone, refl, sym, ◌∙◌, ap, subst, arith}
+use Rattle.std.proofs.Common.{◌≡◌, ℕ, ◌<◌, ◌+◌, cond, List, length, get_or, Option, Some, None, IsSome, is_some, IfSome, IfNone, refl, sym, ◌∙◌, ap, subst, arith}
 use Rattle.std.proofs.lemmas.List.Sums.{sum_by-set}
 use Rattle.slab.specs.Slab.{Slab, get, slab_len, with_value, Updates}
 use Rattle.slab.proofs.SlabLemmas.{ContainsKey-within, Updates-with_value}
 use Rattle.buffer_pool.specs.declared.pool.Buffer.{Buffer}
 use Rattle.buffer_pool.specs.declared.pool.Pool.TheInside.{Inside}
-use Rattle.buffer_pool.specs.Index.{page_number, key_of, with_key}
-use Rattle.buffer_pool.specs.Pools.{PoolView, view_of, HasPage, IsAbsent, IsSound, IsSoundPool, Changes}
-use Rattle.buffer_pool.proofs.IndexedLemmas.{told, are_once, none_listed, index_stays, index_added, index_removed}
+use Rattle.buffer_pool.specs.Index.{page_number, key_of, with_key, number_at, IsRising}
+use Rattle.buffer_pool.specs.Pools.{PoolView, view_of, HasPage, IsThere, IsAbsent, AreOnce, IsSound, IsSoundPool, Changes}
+use Rattle.buffer_pool.proofs.IndexLemmas.{some_is, numbers_at, length-numbers, numbers_rise, ordered_key, key_ordered}
+use Rattle.buffer_pool.proofs.IndexedLemmas.{same_number, told, are_once, found_page, page_listed, none_listed, index_stays, index_added, index_removed}
 
 module _ (p : Inside) (v : PoolView) (sound : IsSound p) (same : view_of p ≡ v) where
-  pub sound_pool : IsSoundPool v
-  sound_pool = subst IsSoundPool same (record {
+  pub sound_pool : IsRising p.index → IsSoundPool v
+  sound_pool rise = subst IsSoundPool same (record {
     once = are_once p.index p.buffers sound.indexed;
     pages = sound.indexed.pages;
     holds = sound.holds;
     few = sound.few;
+    rising = numbers_rise p.index rise;
+    listed = λ u page low. (
+      λ has.
+          let (key, is) = ordered_key p.index (page_number u page) has in
+          record { key = key; has = found_page p.index p.buffers sound.indexed u page key low is },
+      λ is.
+          key_ordered p.index (page_number u page) is.key
+          (page_listed p.index p.buffers sound.indexed u page is.key is.has),
+    );
   })
+
+  pub once_pool : AreOnce v.buffers
+  once_pool = subst (λ (w : PoolView). AreOnce w.buffers) same
+      (are_once p.index p.buffers sound.indexed)
+
+  -- how many pages are in order
+  pub length_is : slab_len p.buffers ≡ length v.order
+  length_is = sym sound.indexed.len ∙ sym (length-numbers p.index)
+      ∙ ap (λ (w : PoolView). length w.order) same
+
+  -- the place is one of the index
+  pub within_index : (i : ℕ) → i < length v.order → i < length p.index
+  within_index i within =
+      let length_same = ap (λ (w : PoolView). length w.order) same in
+      omega (arith, within, length_same, length-numbers p.index)
+
+  -- what stands at a place of the order
+  pub number_stands : (i key : ℕ) (b : Buffer) → i < length v.order
+      → key_of p.index (number_at p.index i) ≡ Some key → get p.buffers key ≡ Some b
+      → page_number b.unit b.page ≡ get_or v.order i 0
+  number_stands i key b within is there =
+      let has = sound.indexed.found (number_at p.index i) key is in
+      let one : b ≡ has.buffer = some_is b has.buffer (sym there ∙ has.stored) in
+      same_number b has.buffer one ∙ has.number_is
+      ∙ sym (numbers_at p.index i (within_index i within))
+      ∙ ap (λ (w : PoolView). get_or w.order i 0) same
+
+  pub page_stands : (key : ℕ) (b : Buffer) → get p.buffers key ≡ Some b
+      → (b.page < 15) × IsThere v.buffers b.unit b.page
+  page_stands key b there = (
+    sound.indexed.pages key b there,
+    subst (λ (w : PoolView). IsThere w.buffers b.unit b.page) same (record {
+      key = key;
+      has = record { buffer = b; stored = there; unit_is = refl; page_is = refl };
+    }),
+  )
 
   -- what a search in the index says
   pub told_of : (u page : ℕ) (r : Option ℕ) → page < 15 → r ≡ key_of p.index (page_number u page)
@@ -125,3 +171,10 @@ sound_lent p key was now sound there unit page =
     let did = Updates-with_value p.buffers key now (subst IsSome (sym there) refl) in
     sound_stays p (with_value p.buffers key now) key p.clock was now sound there did unit page
     (same_count p.buffers key was now there) refl
+
+-- a change inside is one of what is seen
+pub changes_seen : (p : Inside) (v : PoolView) (new : Slab Buffer) (key : ℕ)
+    (change : Buffer → Buffer) → view_of p ≡ v → Changes p.buffers new key change
+    → Changes v.buffers new key change
+changes_seen p v new key change same did =
+    subst (λ (w : PoolView). Changes w.buffers new key change) same did

@@ -1,5 +1,5 @@
 -- Which buffer has which page: the pages' numbers in rising order, each with a key.
-use Rattle.std.specs.Prelude.{ℕ, ◌≡◌, ◌<◌, ◌≤◌, ◌+◌, ◌*◌, ◌==◌, List, [], ◌∷◌, length, slice_index_or, Option, Some, None, if◌then◌else◌}
+use Rattle.std.specs.Prelude.{ℕ, ◌≡◌, ◌<◌, ◌≤◌, ◌+◌, ◌*◌, ◌==◌, List, [], ◌∷◌, length, map, slice_index_or, Option, Some, None, if◌then◌else◌}
 
 -- the number of a page among all pages of a chip
 abbrev pub page_number : ℕ → ℕ → ℕ
@@ -9,6 +9,10 @@ page_number unit page = 15 * unit + page
 abbrev pub key_of : List (ℕ × ℕ) → ℕ → Option ℕ
 key_of [] n = None
 key_of ((number, key) ∷ rest) n = if number == n then Some key else key_of rest n
+
+-- the numbers, in their order
+abbrev pub numbers_of : List (ℕ × ℕ) → List ℕ
+numbers_of l = map (λ e. e.0) l
 
 -- the number has this key now, or none
 abbrev pub with_key : (ℕ → Option ℕ) → ℕ → Option ℕ → ℕ → Option ℕ
@@ -23,6 +27,10 @@ IsAbove low ((number, key) ∷ rest) = (low < number) × IsAbove low rest
 abbrev pub IsRising : List (ℕ × ℕ) → Type 0
 IsRising [] = Unit {0}
 IsRising ((number, key) ∷ rest) = IsAbove number rest × IsRising rest
+
+-- each is above the one before
+abbrev pub EachIsAboveTheLast : List ℕ → Type 0
+EachIsAboveTheLast l = (i j : ℕ) → i < j → j < length l → slice_index_or l i 0 < slice_index_or l j 0
 
 -- ---- a search among them
 

@@ -3,3 +3,5 @@ pub mod Pools
 pub mod Rooms
 pub mod Lending
 pub mod Laws
+pub mod Holding
+pub mod HoldingLaws

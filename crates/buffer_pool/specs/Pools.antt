@@ -1,20 +1,27 @@
 -- What a contract sees of a pool of frames.
-use Rattle.std.specs.Prelude.{ℕ, ◌≡◌, ◌≢◌, ◌<◌, ◌≤◌, ◌+◌, ◌-◌, min, List, [], length, Some}
+use Rattle.std.specs.Prelude.{ℕ, ◌≡◌, ◌≢◌, ◌<◌, ◌≤◌, ◌+◌, ◌-◌, ◌↔◌, min, List, [], length, Some, Contains}
 use Rattle.slab.specs.Slab.{Slab, slab_len, get}
 use Rattle.page_ops.specs.Frames.{empty_frame}
 use Rattle.buffer_pool.specs.declared.pool.Buffer.{Buffer}
 use Rattle.buffer_pool.specs.declared.pool.Pin.{Pin}
 use Rattle.buffer_pool.specs.declared.pool.Pool.TheInside.{Inside}
-use Rattle.buffer_pool.specs.Index.{page_number, key_of}
+use Rattle.buffer_pool.specs.Index.{page_number, key_of, numbers_of, EachIsAboveTheLast}
 
--- the buffers under their keys, how many there may be, and the clock that orders their uses
+-- the buffers under their keys, how many there may be, the clock that orders their uses, and the
+-- numbers of the pages that are in buffers, in rising order
 pub record PoolView : Type 0 where
   pub buffers : Slab Buffer
   pub limit : ℕ
   pub clock : ℕ
+  pub order : List ℕ
 
 abbrev pub view_of : Inside → PoolView
-view_of p = record { buffers = p.buffers; limit = p.limit; clock = p.clock }
+view_of p = record {
+  buffers = p.buffers;
+  limit = p.limit;
+  clock = p.clock;
+  order = numbers_of p.index;
+}
 
 -- the pool with other buffers
 abbrev pub with_buffers : PoolView → Slab Buffer → PoolView
@@ -50,12 +57,16 @@ AreOnce buffers = (unit page key other : ℕ)
 
 -- ---- what always holds
 
--- no page has two buffers, pages are 0 to 14, and there are no more buffers than the limit, at most 64
+-- No page has two buffers, pages are 0 to 14, and there are no more buffers than the limit, at most
+-- 64. The order rises, and has the numbers of the pages that are in buffers, and no others.
 pub record IsSoundPool (p : PoolView) : Type 0 where
   pub once : AreOnce p.buffers
   pub pages : (key : ℕ) (buffer : Buffer) → get p.buffers key ≡ Some buffer → buffer.page < 15
   pub holds : slab_len p.buffers ≤ p.limit
   pub few : p.limit ≤ 64
+  pub rising : EachIsAboveTheLast p.order
+  pub listed : (unit page : ℕ) → page < 15
+      → Contains p.order (page_number unit page) ↔ IsThere p.buffers unit page
 
 -- the buffer under a key has the page of this number
 pub record HasNumber (buffers : Slab Buffer) (number key : ℕ) : Type 0 where

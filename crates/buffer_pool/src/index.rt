@@ -1,6 +1,6 @@
 //! Which buffer has which page, by rising number of the page.
 ghost use Rattle.std.specs.Prelude.{◌≡◌, ◌<◌, ◌+◌, ◌*◌, ℕ, [], Some, None, IfOk, IfErr, IsSome, length};
-ghost use Rattle.buffer_pool.specs.Index.{key_of, page_number, with_key, IsAt, IsGapFor};
+ghost use Rattle.buffer_pool.specs.Index.{key_of, number_at, page_number, with_key, IsAt, IsGapFor, IsRising};
 
 use arrayvec::ArrayVec;
 use ipl_base::PAGES;
@@ -45,6 +45,21 @@ impl PageIndex {
         ensures { self.new ≡ [] }
     {
         self.entries.clear();
+    }
+
+    /// What always holds: the numbers rise.
+    pub fn facts(&self)
+        ensures { IsRising self.now }
+    {
+        let _ = &self.entries;
+    }
+
+    /// The key of the page at a place of the order.
+    pub fn key_at(&self, at: usize) -> usize
+        requires { at < length self.now }
+        ensures { key_of self.now (number_at self.now at) ≡ Some result }
+    {
+        self.entries.as_slice()[at].1
     }
 
     /// The key of a page, by a search that halves what is left.

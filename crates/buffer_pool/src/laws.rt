@@ -1,5 +1,6 @@
 //! Laws of the pool, proved: a body that does nothing, and a contract that is the law.
 ghost use Rattle.buffer_pool.specs.Laws.{BuffersAreTold, PinnedStay, BringsAddABuffer, EvictsTakeABuffer, PinsChangeABuffer, LoansChangeABuffer};
+ghost use Rattle.buffer_pool.specs.HoldingLaws.{NothingKeepsPins, BothKeepPins, KeptPinsAreAsMany, KeptPinsRest, PinsGivenBackAreKept, PagesBroughtKeepPins, EvictionsKeepPins, ChangesKeepPins, LoansKeepPins, PagesAtRestMayBePinned, ARestingPoolHasRoom};
 
 /// A page has one buffer at most, so the buffers are a function of unit and page, and each call changes
 /// it at one page. And a pinned page stays in its frame.
@@ -10,4 +11,20 @@ pub fn pool_laws()
     ensures evicts { EvictsTakeABuffer }
     ensures pins { PinsChangeABuffer }
     ensures loans { LoansChangeABuffer }
+{}
+
+/// Calls that give back the pins that they take keep all that were. A pool at rest, between calls, stays
+/// so then, and has a frame whose page isn't held.
+pub fn holding_laws()
+    ensures nothing { NothingKeepsPins }
+    ensures both { BothKeepPins }
+    ensures as_many { KeptPinsAreAsMany }
+    ensures rest { KeptPinsRest }
+    ensures pins { PinsGivenBackAreKept }
+    ensures brings { PagesBroughtKeepPins }
+    ensures evicts { EvictionsKeepPins }
+    ensures changes { ChangesKeepPins }
+    ensures loans { LoansKeepPins }
+    ensures may_pin { PagesAtRestMayBePinned }
+    ensures room { ARestingPoolHasRoom }
 {}

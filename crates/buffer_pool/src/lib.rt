@@ -2,6 +2,7 @@
 //! and no page has two.
 #![tactic(auto)]
 
+mod holding;
 mod index;
 mod laws;
 mod pool;
@@ -9,6 +10,6 @@ mod room;
 #[cfg(test)]
 mod tests;
 
-pub use laws::pool_laws;
+pub use laws::{holding_laws, pool_laws};
 pub use pool::{Pin, Pool};
 pub use room::Room;

@@ -1,11 +1,13 @@
 //! A pool of frames.
-ghost use Rattle.std.specs.Prelude.{◌≡◌, ◌≢◌, ◌<◌, ◌≤◌, ◌+◌, ℕ, Some, None, IfOk, IfSome, IfNone, IsSome, []};
+ghost use Rattle.std.specs.Prelude.{◌≡◌, ◌≢◌, ◌<◌, ◌≤◌, ◌+◌, ℕ, Some, None, IfOk, IfSome, IfNone, IsSome, [], length, option_map, slice_index_or};
 ghost use Rattle.std.specs.Borrow.{sem};
 ghost use Rattle.slab.specs.Slab.{get, slab_len, Updates};
 ghost use Rattle.buffer_pool.specs.declared.pool.Buffer.{Buffer as BufferFields};
 ghost use Rattle.buffer_pool.specs.Pools.{HasPage, IsThere, IsAbsent, MayLeave, MayPin, Changes, CountsUse, IsPinned, IsSoundPool, new_buffer, with_pin, without_pin};
 ghost use Rattle.buffer_pool.specs.Rooms.{IsRoom, IsOldest, AreAllPinned};
 ghost use Rattle.buffer_pool.specs.Lending.{LendsFrame, LendsLog};
+ghost use Rattle.buffer_pool.specs.Index.{page_number};
+ghost use Rattle.buffer_pool.specs.Laws.{buffer_of};
 
 use crate::index::{PageIndex, page_number};
 use crate::room::{Oldest, Room, older};
@@ -30,15 +32,15 @@ pub struct Buffer {
 
 /// A pin on a page in memory. It must be given back by `Pool::unpin`.
 pub struct Pin {
-    key: usize,
-    unit: u32,
-    page: u32,
+    pub(crate) key: usize,
+    pub(crate) unit: u32,
+    pub(crate) page: u32,
 }
 
 /// At most 64 buffers, each with a page. No two have one page. Memory is taken by `new` alone.
 #[derive(Drop)]
 pub struct Pool {
-    buffers: Slab<Buffer>,
+    pub(crate) buffers: Slab<Buffer>,
     // The page of each buffer, with the buffer's key, so that a page is found without a look at each.
     index: PageIndex,
     limit: usize,
@@ -61,6 +63,7 @@ impl Pool {
     pub fn new(alloc: Global, frames: u32) -> Result<Pool, OutOfMemory>
         requires { frames ≤ 64 }
         ensures empty { IfOk result (λ p. p.buffers.slots ≡ []) }
+        ensures order { IfOk result (λ p. p.order ≡ []) }
         ensures limit { IfOk result (λ p. p.limit ≡ frames) }
     {
         let limit = frames as usize;
@@ -76,6 +79,7 @@ impl Pool {
     /// Frees all frames. It takes no memory.
     pub fn reset(&mut self)
         ensures empty { self.new.buffers.slots ≡ [] }
+        ensures order { self.new.order ≡ [] }
         ensures limit { self.new.limit ≡ self.old.limit }
     {
         self.buffers.clear();
@@ -84,11 +88,29 @@ impl Pool {
     }
 
     /// What always holds: no page has two frames, pages are 0 to 14, and no more frames are taken than
-    /// there are.
+    /// there are. The pages rise by unit and page in their order.
     pub fn facts(&self)
         ensures { IsSoundPool self.now }
     {
-        let _ = &self.index;
+        self.index.facts();
+    }
+
+    /// How many pages are in frames.
+    pub fn len(&self) -> usize
+        ensures { result ≡ length self.now.order }
+    {
+        self.buffers.len()
+    }
+
+    /// The unit and the page at a place of the order.
+    pub fn page_at(&self, i: usize) -> (u32, u32)
+        requires { i < length self.now.order }
+        ensures number { page_number result.0 result.1 ≡ slice_index_or self.now.order i 0 }
+        ensures page { result.1 < 15 }
+        ensures there { IsThere self.now.buffers result.0 result.1 }
+    {
+        let buffer = &self.buffers[self.index.key_at(i)];
+        (buffer.unit, buffer.page)
     }
 
     /// The key of the frame that has a page (0 to 14 of a unit), by a search that halves what is left.
@@ -172,6 +194,7 @@ impl Pool {
             (with_pin self.old.clock) }
         ensures len { slab_len self.new.buffers ≡ slab_len self.old.buffers }
         ensures counts { CountsUse self.old self.new }
+        ensures order { self.new.order ≡ self.old.order }
     {
         match self.find(unit, page) {
             Some(key) => {
@@ -191,6 +214,7 @@ impl Pool {
         ensures len { slab_len self.new.buffers ≡ slab_len self.old.buffers }
         ensures limit { self.new.limit ≡ self.old.limit }
         ensures clock { self.new.clock ≡ self.old.clock }
+        ensures order { self.new.order ≡ self.old.order }
     {
         let Pin {
             key,
@@ -233,6 +257,52 @@ impl Pool {
 }
 
 impl Pool {
+    /// The frame of a page (0 to 14 of a unit), where it is in one.
+    pub fn look(&self, unit: u32, page: u32) -> Option<&Frame>
+        requires { page < 15 }
+        ensures { option_map (λ f. f.now) result
+            ≡ option_map (λ b. b.frame) (buffer_of self.now.buffers unit page) }
+    {
+        match self.find(unit, page) {
+            Some(key) => Some(&self.buffers[key].frame),
+            None => None,
+        }
+    }
+
+    /// The records of a page that aren't on the chip yet, where it is in a frame.
+    pub fn records(&self, unit: u32, page: u32) -> Option<&MemLog>
+        requires { page < 15 }
+        ensures { option_map (λ m. m.now) result
+            ≡ option_map (λ b. b.log) (buffer_of self.now.buffers unit page) }
+    {
+        match self.find(unit, page) {
+            Some(key) => Some(&self.buffers[key].log),
+            None => None,
+        }
+    }
+
+    /// The frame under a key, for writing. No other frame changes, and no records.
+    pub fn frame_under(&mut self, key: usize) -> &mut Frame
+        requires { IsSome (get self.old.buffers key) }
+        ensures* lends { sem 𝓛 (LendsFrame self.entry key result) }
+        ensures value { (buffer : BufferFields) → get self.old.buffers key ≡ Some buffer
+            → result.now ≡ buffer.frame }
+    {
+        &mut self.buffers[key].frame
+    }
+
+    /// The records under a key, for writing. No frame changes, and no other page's records.
+    pub fn log_under(&mut self, key: usize) -> &mut MemLog
+        requires { IsSome (get self.old.buffers key) }
+        ensures* lends { sem 𝓛 (LendsLog self.entry key result) }
+        ensures value { (buffer : BufferFields) → get self.old.buffers key ≡ Some buffer
+            → result.now ≡ buffer.log }
+    {
+        &mut self.buffers[key].log
+    }
+}
+
+impl Pool {
     // The page without a pin that was used longest ago.
     fn oldest(&self) -> Option<Oldest>
         ensures oldest { IfSome result (IsOldest self.now.buffers) }
@@ -261,7 +331,7 @@ fn add_pin(buffers: &mut Slab<Buffer>, key: usize, now: u64)
 }
 
 // Counts one pin fewer.
-fn drop_pin(buffers: &mut Slab<Buffer>, key: usize)
+pub(crate) fn drop_pin(buffers: &mut Slab<Buffer>, key: usize)
     requires { (buffer : BufferFields) × (get buffers.old key ≡ Some buffer) × (0 < buffer.pins) }
     ensures changes { Changes buffers.old buffers.new key without_pin }
     ensures len { slab_len buffers.new ≡ slab_len buffers.old }
