@@ -92,6 +92,7 @@ module _ (places : ℕ) (t : Tables) (p next : ℕ) (known : KnowsPlaces places 
       ],
     );
     two = omega (arith, few, length-append t.overflow.in_use ((p, 1) ∷ []));
+    status_placed = known.status_placed;
   }
 
 pub known_places_take_overflows : KnownPlacesTakeOverflows

@@ -192,6 +192,7 @@ module _ (places : ℕ) (t after : Tables) (u p used next : ℕ) (known : KnowsP
           (subst (Contains (overflow_places t)) status_then (overflow_then _ has)),
     );
     two = moved.two;
+    status_placed = omega (arith, status_then, known.status_placed);
   }
 
 pub known_places_move : KnownPlacesMove

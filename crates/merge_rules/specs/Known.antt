@@ -1,5 +1,5 @@
 -- What the tables know of the places of a chip.
-use Rattle.std.specs.Prelude.{ℕ, ◌≡◌, ◌⊎◌, ◌≤◌, ◌+◌, length, AllPairs, Contains}
+use Rattle.std.specs.Prelude.{ℕ, ◌≡◌, ◌⊎◌, ◌<◌, ◌≤◌, ◌+◌, length, AllPairs, Contains}
 use Rattle.ipl_meaning.specs.Mirrors.{AreApart, NoneIsLost}
 use Rattle.ipl_meaning.specs.Tables.{IsFree, Tables, overflow_places}
 
@@ -15,7 +15,8 @@ IsNamed t p =
     Contains t.places.current p ⊎ (p ≡ t.status.place) ⊎ Contains (overflow_places t) p
 
 -- The tables know each place: it is in use exactly where it is a unit's, the status place or an
--- overflow place; no place is two of these, and there are at most two overflow places.
+-- overflow place; no place is two of these, there are at most two overflow places, and the status
+-- place is one of the chip's.
 pub record KnowsPlaces (places : ℕ) (t : Tables) : Type 0 where
   pub suits : Suits places t
   pub none_lost : NoneIsLost places t
@@ -26,3 +27,4 @@ pub record KnowsPlaces (places : ℕ) (t : Tables) : Type 0 where
   pub status_apart :
       (¬ Contains t.places.current t.status.place) × (¬ Contains (overflow_places t) t.status.place)
   pub two : length t.overflow.in_use ≤ 2
+  pub status_placed : t.status.place < places

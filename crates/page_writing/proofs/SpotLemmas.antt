@@ -122,6 +122,7 @@ known_drawn places t n known = record {
   no_home = known.no_home;
   status_apart = known.status_apart;
   two = known.two;
+  status_placed = known.status_placed;
 }
 
 pub holds_drawn : (places : ℕ) (t : Tables) (n : ℕ) → KnowsPlaces places t
@@ -159,6 +160,7 @@ module _ (places : ℕ) (t : Tables) (u p s next : ℕ) (known : KnowsPlaces pla
     no_home = known.no_home;
     status_apart = known.status_apart;
     two = known.two;
+    status_placed = known.status_placed;
   }
 
   abbrev over : Tables
@@ -201,6 +203,7 @@ module _ (places : ℕ) (t : Tables) (u p s next : ℕ) (known : KnowsPlaces pla
     no_home = λ q has. known.no_home q (back q has);
     status_apart = (known.status_apart.0, λ has. known.status_apart.1 (back t.status.place has));
     two = omega (arith, known.two, length-map t.overflow.in_use (with_next_spot p));
+    status_placed = known.status_placed;
   }
 
   pub log_known : (after : Tables) → IsAfterLog t after u p s next → KnowsPlaces places after

@@ -206,4 +206,5 @@ module _ (heads : List (Option KeptHeader)) (current : List (Option Winner)) (wi
       no_home = no_home;
       status_apart = (status_no_home, status_no_overflow);
       two = omega (arith, as_many held (length heads) lists.in_use in_use, few);
+      status_placed = omega (arith, placed, status_best.within, sized);
     }

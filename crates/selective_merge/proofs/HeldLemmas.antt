@@ -43,6 +43,7 @@ knows_next places t next known = record {
   no_home = known.no_home;
   status_apart = known.status_apart;
   two = known.two;
+  status_placed = known.status_placed;
 }
 
 pub taken_but : (t : Tables) (p n places : ℕ) → KnowsPlaces places t

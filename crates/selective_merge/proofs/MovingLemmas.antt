@@ -1,14 +1,14 @@
 -- A unit that moves, in the tables.
-use Rattle.std.proofs.Common.{◌≡◌, ◌≢◌, ◌⊎◌, ◌<◌, ◌≤◌, ◌+◌, ℕ, zero, suc, true, false, List, [], ◌∷◌, length, map, get_or, slice_index, slice_set, Option, Some, None, inl, inr, refl, sym, ◌∙◌, ap, subst, arith}
+use Rattle.std.proofs.Common.{◌≡◌, ◌≢◌, ◌⊎◌, ◌<◌, ◌≤◌, ◌+◌, ℕ, zero, suc, true, false, List, [], ◌∷◌, length, map, get_or, slice_index, slice_set, Option, Some, None, IfSome, inl, inr, refl, sym, ◌∙◌, ap, subst, arith}
 use Rattle.std.specs.List.{AllPairs, Contains}
 use Rattle.std.proofs.lemmas.Bool.{cases_Bool, cases_eq}
-use Rattle.std.proofs.lemmas.List.{get_or-set_same, get_or-set_other, length-set, set-set}
+use Rattle.std.proofs.lemmas.List.{get_or-set_same, get_or-map, get_or-set_other, length-map, length-set, set-set}
 use Rattle.std.proofs.lemmas.List.Elements.{Contains-get_or}
 use Rattle.ipl_meaning.specs.Mirrors.{AreApart}
 use Rattle.ipl_meaning.specs.Tables.{Places, IsFree, Status, OverflowLists, Tables, overflow_places, place_of, with_written}
 use Rattle.ipl_meaning.specs.TableSteps.{IsMoved, with_next}
 use Rattle.overflow.specs.Laws.{DropsMove}
-use Rattle.overflow.specs.Lists.{after_drop, places_left, listed}
+use Rattle.overflow.specs.Lists.{IsSoundOverflow, after_drop, places_left, listed}
 use Rattle.merge_rules.specs.Packs.{among}
 use Rattle.merge_rules.proofs.PacksLemmas.{among_contains, contains_among}
 use Rattle.selective_merge.specs.Moving.{places_moved, Frees, NoneIsLostBut}
@@ -68,6 +68,29 @@ other_default : (l : List ℕ) (i d : ℕ) → i < length l → get_or l i d ≡
 other_default [] i d within = absurd (omega (arith, within))
 other_default (x ∷ l) zero d within = refl
 other_default (x ∷ l) (suc i) d within = other_default l i d (omega (arith, within))
+
+-- as many places as before
+pub in_use_moved : (it : Places) (u p used : ℕ) (d : Places) → d ≡ places_moved it u p used
+    → length d.in_use ≡ length it.in_use
+in_use_moved it u p used d is = ap (λ (x : Places). length x.in_use) is
+    ∙ length-set it.in_use (slice_index it.current u) false
+
+-- an overflow place that is left is one of the chip's
+pub left_within : DropsMove → (it : OverflowLists) (u : ℕ) (left : List (Option ℕ)) (i n : ℕ)
+    → IsSoundOverflow it → listed left ≡ places_left it u → length it.spots + 4 ≡ n
+    → IfSome (get_or left i None) (λ p. p < n)
+left_within drops it u left i n sound is sized = case (get_or left i None) refl
+  where
+    case : (o : Option ℕ) → get_or left i None ≡ o → IfSome o (λ p. p < n)
+    case None at = tt
+    case (Some q) at =
+        let (j, low, same) = ((drops it u).left q (subst (λ (l : List ℕ). Contains l q) is
+        (listed_at left i q at))).0 in
+        let less : j < length it.in_use = omega (arith, low, length-map it.in_use place_of) in
+        let there = sound.placed j (0, 0) less in
+        let placed : place_of (get_or it.in_use j (0, 0)) ≡ q =
+        sym (get_or-map place_of it.in_use j (0, 0) q less) ∙ same in
+        omega (arith, there, placed, sized)
 
 -- what is so once a unit moved: the home first, then the overflow places that are left
 pub record HasMovedTo (t after : Tables) (u p used : ℕ) (one two : Places)

@@ -79,6 +79,7 @@ module _ (status : Status) (next : ℕ) (active : List ℕ) (at_two : status.pla
       λ overflow. let never : overflow.0 < 0 = overflow.1 in omega (arith, never),
     );
     two = omega arith;
+    status_placed = omega (arith, at_two);
   }
 
 -- however they were made

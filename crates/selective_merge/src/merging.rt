@@ -91,7 +91,7 @@ fn merge_packed<C: Chip>(
         &mut parts.counter,
     ) {
         Ok(()) => {
-            move_unit(parts, unit, place, used, places);
+            move_unit(parts, unit, place, used);
             Ok(())
         }
         Err(fault) => {

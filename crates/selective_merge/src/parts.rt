@@ -1,10 +1,9 @@
 //! The tables of a store, as a merge needs them.
-ghost use Rattle.std.specs.Prelude.{◌≡◌, ◌≢◌, ◌<◌, ◌≤◌, ◌+◌, AllPairs, length, slice_index};
+ghost use Rattle.std.specs.Prelude.{◌≡◌, ◌≢◌, ◌<◌, ◌≤◌, ◌+◌, AllPairs, IfSome, length, slice_index};
 ghost use Rattle.ipl_meaning.specs.Mirrors.{AreApart, NoneIsLost};
 ghost use Rattle.ipl_meaning.specs.Tables.{IsFree, overflow_places};
 ghost use Rattle.ipl_meaning.specs.TableSteps.{IsMoved};
 ghost use Rattle.unit_directory.specs.Free.{free_count};
-ghost use Rattle.merge_rules.specs.Known.{Suits};
 ghost use Rattle.selective_merge.specs.Moving.{tables_of, places_moved, Frees, NoneIsLostBut};
 
 use crate::{Active, MergeScratch};
@@ -42,32 +41,30 @@ fn move_home(directory: &mut Directory, unit: u32, place: u32, used: u32)
 }
 
 /// Gives a place of the chip back, where there is one.
-fn free_one(directory: &mut Directory, place: Option<u32>, places: u32)
-    requires { places ≡ length directory.old.in_use }
+fn free_one(directory: &mut Directory, place: Option<u32>)
+    requires { IfSome place (λ p. p < length directory.old.in_use) }
     ensures { Frees directory.old directory.new place }
 {
     directory_laws();
     if let Some(place) = place {
-        if place < places {
-            directory.give_back(place);
-        }
+        directory.give_back(place);
     }
 }
 
 /// The unit stands at a place that was taken, with so many log sectors written there, at most 12.
 /// Its old place is free, and so are overflow places that no list names any more.
-pub fn move_unit(parts: &mut Parts, unit: u32, place: u32, used: u32, places: u32)
-    requires suits { Suits places (tables_of parts.old) }
-    requires unit { unit + 4 < places }
-    requires place { place < places }
+pub fn move_unit(parts: &mut Parts, unit: u32, place: u32, used: u32)
+    requires overflow { length parts.old.overflow.spots + 4 ≡ length parts.old.directory.in_use }
+    requires unit { unit < length parts.old.directory.current }
+    requires place { place < length parts.old.directory.in_use }
     requires another { place ≢ slice_index parts.old.directory.current unit }
     requires few { used ≤ 12 }
     ensures moved { AllPairs AreApart (overflow_places (tables_of parts.old))
         → IsMoved (tables_of parts.old) (tables_of parts.new) unit place used }
     ensures stands { slice_index parts.new.directory.current unit ≡ place }
     ensures room { slice_index parts.new.directory.written unit ≡ used }
-    ensures lost { NoneIsLostBut place places (tables_of parts.old)
-        → NoneIsLost places (tables_of parts.new) }
+    ensures lost { NoneIsLostBut place (length parts.old.directory.in_use) (tables_of parts.old)
+        → NoneIsLost (length parts.old.directory.in_use) (tables_of parts.new) }
     ensures free { ¬ IsFree parts.old.directory (slice_index parts.old.directory.current unit)
         → free_count parts.old.directory.in_use + 1 ≤ free_count parts.new.directory.in_use }
     ensures counter { parts.new.counter ≡ parts.old.counter }
@@ -75,9 +72,10 @@ pub fn move_unit(parts: &mut Parts, unit: u32, place: u32, used: u32, places: u3
     overflow_laws();
     directory_laws();
     parts.directory.facts();
+    parts.overflow.facts();
     move_home(&mut parts.directory, unit, place, used);
     let left = parts.overflow.drop_unit(unit);
     parts.overflow.facts();
-    free_one(&mut parts.directory, left[0], places);
-    free_one(&mut parts.directory, left[1], places);
+    free_one(&mut parts.directory, left[0]);
+    free_one(&mut parts.directory, left[1]);
 }

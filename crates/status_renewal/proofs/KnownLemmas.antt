@@ -1,5 +1,5 @@
 -- The places that the tables know, once the status has a new one.
-use Rattle.std.proofs.Common.{◌≡◌, ◌<◌, ◌+◌, ℕ, true, false, List, length, slice_set, inl, inr, sym, ◌∙◌, ap, subst}
+use Rattle.std.proofs.Common.{◌≡◌, ◌<◌, ◌+◌, ℕ, true, false, List, length, slice_set, inl, inr, sym, ◌∙◌, ap, subst, arith}
 use Rattle.std.specs.List.{AllPairs, Contains}
 use Rattle.std.proofs.lemmas.List.{length-set}
 use Rattle.ipl_meaning.specs.Mirrors.{AreApart}
@@ -79,6 +79,7 @@ module _ (takes : UsesTake) (gives_back : DisusesGiveBack) (places p : ℕ) (d :
       λ there. unnamed (inr (inr (subst (Contains (overflow_places t)) place_is there))),
     );
     two = known.two;
+    status_placed = omega (arith, place_is, within);
   }
 
 -- and where nothing has changed but the counter
@@ -101,4 +102,5 @@ known_same places t after new drawn same still known =
       no_home = known.no_home;
       status_apart = known.status_apart;
       two = known.two;
+      status_placed = known.status_placed;
     }))

@@ -1,6 +1,6 @@
 //! The status place, renewed in all tables.
 ghost use Rattle.std.specs.Prelude.{◌≡◌, ◌≤◌, ◌<◌, ◌+◌, ◌^◌, ℕ, length, Some, OnOk, OnErr, is_ok, false};
-ghost use Rattle.ipl_meaning.specs.Tables.{IsFree, Tables, with_use};
+ghost use Rattle.ipl_meaning.specs.Tables.{IsFree, Tables};
 ghost use Rattle.merge_rules.specs.Known.{KnowsPlaces};
 ghost use Rattle.number_set.specs.Numbers.{AreRising};
 ghost use Rattle.txn_status.specs.Status.{parts_of, room_of};
@@ -15,16 +15,6 @@ use chip_trait::Chip;
 use ipl_base::{ChipFault, Counter};
 use txn_status::Status;
 use unit_directory::{Directory, directory_laws};
-
-/// Gives a place back that was left, where it is one of the chip's.
-fn free_place(directory: &mut Directory, left: u32, places: u32)
-    requires { places ≡ length directory.old.in_use }
-    ensures { directory.new ≡ with_use directory.old left false }
-{
-    if left < places {
-        directory.give_back(left);
-    }
-}
 
 /// Makes the lowest free place the status place, with exactly these numbers, at most 3,840 in rising
 /// order: the place is taken and written, and the old status place is free then. It fails only where
@@ -42,6 +32,7 @@ pub fn renew_place<C: Chip>(
     requires size { length directory.old.in_use ≡ (C.told chip.old).places }
     requires free { 0 < free_count directory.old.in_use }
     requires held { ¬ IsFree directory.old status.old.place }
+    requires placed { status.old.place < (C.told chip.old).places }
     requires rising { AreRising kept.now }
     requires few { length kept.now ≤ 3840 }
     requires left { counter.old + 65 < 2 ^ 64 }
@@ -51,8 +42,7 @@ pub fn renew_place<C: Chip>(
         directory.new status.new) }
     ensures same { OnErr result ((directory.new ≡ directory.old) × (status.new ≡ status.old)) }
     ensures room { OnOk result (191 ≤ room_of status.new) }
-    ensures free { status.old.place < (C.told chip.old).places
-        → free_count directory.new.in_use ≡ free_count directory.old.in_use }
+    ensures free { free_count directory.new.in_use ≡ free_count directory.old.in_use }
     ensures known { (t : Tables) → HasTables t directory.old status.old counter.old
         → KnowsPlaces (C.told chip.old).places t
         → KnowsPlaces (C.told chip.old).places
@@ -73,12 +63,11 @@ pub fn renew_place<C: Chip>(
 {
     directory_laws();
     directory.facts();
-    let places = chip.units();
     let old = status.place();
     let place = directory.take_free();
     match status.switch(chip, counter, place, kept) {
         Ok(()) => {
-            free_place(directory, old, places);
+            directory.give_back(old);
             Ok(())
         }
         Err(fault) => {

@@ -1,5 +1,5 @@
 //! Numbers of log records that join, and a small chip whose status gets new places.
-ghost use Rattle.std.specs.Prelude.{◌≡◌, IfOk, length, true};
+ghost use Rattle.std.specs.Prelude.{◌≡◌, ◌<◌, IfOk, length, true};
 ghost use Rattle.ipl_meaning.specs.Tables.{IsFree, with_use};
 ghost use Rattle.txn_status.specs.Status.{empty_status};
 ghost use Rattle.unit_directory.specs.Directory.{empty_places};
@@ -65,6 +65,7 @@ fn renews(
 ) -> Result<(), ChipFault>
     requires size { length directory.old.in_use ≡ 5 }
     requires held { ¬ IsFree directory.old status.old.place }
+    requires placed { status.old.place < 5 }
 {
     assert!(rt; chip.units() == 5);
     assert!(rt; 0 < directory.free_count() && counter.next() < 20_000 && kept.len() <= 3840);

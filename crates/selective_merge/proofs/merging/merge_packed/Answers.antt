@@ -1,4 +1,5 @@
-use Rattle.std.proofs.Common.{◌≡◌, ◌<◌, ◌≤◌, ◌+◌, ℕ, false, length, slice_index, refl, sym, ◌∙◌, ap, subst, arith}
+use Rattle.std.proofs.Common.{◌≡◌, ◌<◌, ◌≤◌, ◌+◌, ℕ, true, false, length, slice_index, refl, sym, ◌∙◌, ap, subst, arith}
+use Rattle.std.proofs.lemmas.List.{length-set}
 use Rattle.ipl_meaning.specs.Chart.{chart_of}
 use Rattle.ipl_meaning.specs.Mirrors.{NoneIsLost}
 use Rattle.ipl_meaning.specs.Rests.{now}
@@ -30,6 +31,16 @@ write_unit-requires-clause-another g c = λ same.
     home_used _ (tables_of c.args.parts.now) c.args.unit c.requires.known c.requires.unit
     (subst (IsFree c.args.parts.now.directory) (sym same ∙ c.requires.place)
     c.take_free-place.ensures.free)
+
+pub move_unit-requires-clause-overflow : goal.move_unit-requires-clause-overflow
+move_unit-requires-clause-overflow g c =
+    omega (
+      arith,
+      c.requires.known.suits.overflow,
+      c.requires.known.suits.all,
+      length-set c.args.parts.now.directory.in_use c.take_free-place.result true,
+      ap (λ (d : Places). length d.in_use) c.take_free-place.ensures.taken,
+    )
 
 pub returns-in-Ok-clause-steps : goal.returns-in-Ok-clause-steps
 returns-in-Ok-clause-steps g c = λ m it h steady rests agrees source.
@@ -145,7 +156,8 @@ returns-in-Ok-clause-holds g c =
     (c.move_unit.ensures.moved c.requires.known.overflows_apart))
     (subst (λ (n : ℕ). NoneIsLostBut p n (taken_in c.take_free-place.new.self)
     → NoneIsLost n after)
-    c.units-places.ensures c.move_unit.ensures.lost
+    (ap (λ (d : Places). length d.in_use) c.take_free-place.ensures.taken
+    ∙ length-set t.places.in_use p true ∙ c.requires.known.suits.all) c.move_unit.ensures.lost
     (subst (λ (d : Places). NoneIsLostBut p places (taken_in d))
     (sym c.take_free-place.ensures.taken) (taken_but t p next places c.requires.known)))
 

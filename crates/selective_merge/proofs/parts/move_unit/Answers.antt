@@ -1,7 +1,22 @@
 use Rattle.std.proofs.Common.{refl, arith}
 use Rattle.selective_merge.specs.Moving.{tables_of}
-use Rattle.selective_merge.proofs.MovingLemmas.{is_moved, none_lost}
+use Rattle.selective_merge.proofs.MovingLemmas.{is_moved, none_lost, left_within, in_use_moved}
 use Rattle.selective_merge.proofs.parts.move_unit.Goals as goal
+
+pub free_one-requires : goal.free_one-requires
+free_one-requires c =
+    left_within c.overflow_laws.ensures.drops c.args.parts.now.overflow c.args.unit
+    c.drop_unit-left.result 0 _ c.facts-2.ensures c.drop_unit-left.ensures.left
+    (omega (arith, c.requires.overflow, in_use_moved c.args.parts.now.directory c.args.unit
+    c.args.place c.args.used c.move_home.new.directory c.move_home.ensures))
+
+pub free_one-requires-2 : goal.free_one-requires-2
+free_one-requires-2 c =
+    let first = c.free_one.ensures.all in
+    left_within c.overflow_laws.ensures.drops c.args.parts.now.overflow c.args.unit
+    c.drop_unit-left.result 1 _ c.facts-2.ensures c.drop_unit-left.ensures.left
+    (omega (arith, c.requires.overflow, first, in_use_moved c.args.parts.now.directory c.args.unit
+    c.args.place c.args.used c.move_home.new.directory c.move_home.ensures))
 
 pub returns-clause-moved : goal.returns-clause-moved
 returns-clause-moved c =
@@ -16,7 +31,7 @@ returns-clause-moved c =
       status = refl;
       next = refl;
       active = refl;
-      few = c.facts-2.ensures.two;
+      few = c.facts-3.ensures.two;
     })
 
 pub returns-clause-lost : goal.returns-clause-lost
@@ -32,7 +47,6 @@ returns-clause-lost c = λ none q less used.
       status = refl;
       next = refl;
       active = refl;
-      few = c.facts-2.ensures.two;
+      few = c.facts-3.ensures.two;
     })
-    c.args.places (omega (arith, c.facts.ensures.units, c.requires.unit, c.requires.suits.units))
-    c.requires.place c.requires.suits.all (omega arith) q less used none
+    _ c.requires.unit c.requires.place refl (omega arith) q less used none

@@ -12,13 +12,13 @@ returns-in-Ok-clause-tells g c =
     let next = c.args.counter.now in
     let kept = c.args.kept.now in
     let old = g.C.Chip.told c.args.chip.now in
-    let after = c.free_place.new.directory in
+    let after = c.give_back.new.self in
     let new = c.switch.new.self in
     let drawn = c.switch.new.counter in
     let low : p < old.places =
     omega (arith, c.take_free-place.ensures.in_range, c.requires.size) in
     let is = moved_to p c.place-old.result d c.take_free-place.new.self after status new next drawn
-    kept c.take_free-place.ensures.taken c.place-old.ensures c.free_place.ensures
+    kept c.take_free-place.ensures.taken c.place-old.ensures c.give_back.ensures
     c.in-Ok.ensures.switched c.in-Ok.ensures.drawn in
     renews_told c.directory_laws.ensures.takes c.directory_laws.ensures.gives_back old.places p d
     status next kept c.requires.size c.take_free-place.ensures.free low after new drawn is old
@@ -32,13 +32,13 @@ returns-in-Ok-clause-steps g c =
     let next = c.args.counter.now in
     let kept = c.args.kept.now in
     let old = g.C.Chip.told c.args.chip.now in
-    let after = c.free_place.new.directory in
+    let after = c.give_back.new.self in
     let new = c.switch.new.self in
     let drawn = c.switch.new.counter in
     let low : p < old.places =
     omega (arith, c.take_free-place.ensures.in_range, c.requires.size) in
     let is = moved_to p c.place-old.result d c.take_free-place.new.self after status new next drawn
-    kept c.take_free-place.ensures.taken c.place-old.ensures c.free_place.ensures
+    kept c.take_free-place.ensures.taken c.place-old.ensures c.give_back.ensures
     c.in-Ok.ensures.switched c.in-Ok.ensures.drawn in
     renews_in_steps c.directory_laws.ensures.takes c.directory_laws.ensures.gives_back old.places p
     d status next kept c.requires.size c.take_free-place.ensures.free low after new drawn is old
@@ -48,7 +48,7 @@ pub returns-in-Err-clause-same : goal.returns-in-Err-clause-same
 returns-in-Err-clause-same g c =
     let p = c.take_free-place.result in
     let d = c.args.directory.now in (
-      c.give_back.ensures
+      c.give_back-in-Err.ensures
           ∙ ap (λ (e : Places). with_use e p false) c.take_free-place.ensures.taken
           ∙ given_back d p c.take_free-place.ensures.free,
       c.in-Err.ensures.same,
@@ -64,7 +64,7 @@ returns-in-Err-clause-steps g c =
     omega (arith, c.take_free-place.ensures.in_range, c.requires.size) in
     failed_in_steps c.directory_laws.ensures.takes c.directory_laws.ensures.gives_back old.places p
     d status c.args.counter.now c.args.kept.now c.requires.size c.take_free-place.ensures.free low
-    c.give_back.new.self c.switch.new.self c.switch.new.counter c.in-Err.fault c.in-Err.fault
+    c.give_back-in-Err.new.self c.switch.new.self c.switch.new.counter c.in-Err.fault c.in-Err.fault
     old (g.C.Chip.told c.switch.new.chip) c.in-Err.ensures.steps
 
 pub returns-in-Ok-clause-known : goal.returns-in-Ok-clause-known
@@ -75,13 +75,13 @@ returns-in-Ok-clause-known g c =
     let next = c.args.counter.now in
     let kept = c.args.kept.now in
     let old = g.C.Chip.told c.args.chip.now in
-    let after = c.free_place.new.directory in
+    let after = c.give_back.new.self in
     let new = c.switch.new.self in
     let drawn = c.switch.new.counter in
     let low : p < old.places =
     omega (arith, c.take_free-place.ensures.in_range, c.requires.size) in
     let is = moved_to p c.place-old.result d c.take_free-place.new.self after status new next drawn
-    kept c.take_free-place.ensures.taken c.place-old.ensures c.free_place.ensures
+    kept c.take_free-place.ensures.taken c.place-old.ensures c.give_back.ensures
     c.in-Ok.ensures.switched c.in-Ok.ensures.drawn in
     known_renewed c.directory_laws.ensures.takes c.directory_laws.ensures.gives_back old.places p d
     status next kept c.requires.size c.take_free-place.ensures.free low after new drawn is
@@ -89,9 +89,9 @@ returns-in-Ok-clause-known g c =
 pub returns-in-Err-clause-known : goal.returns-in-Err-clause-known
 returns-in-Err-clause-known g c = λ t has known.
     let p = c.take_free-place.result in
-    let back = c.give_back.ensures
+    let back = c.give_back-in-Err.ensures
     ∙ ap (λ (e : Places). with_use e p false) c.take_free-place.ensures.taken
     ∙ given_back c.args.directory.now p c.take_free-place.ensures.free in
-    known_same (g.C.Chip.told c.args.chip.now).places t c.give_back.new.self
+    known_same (g.C.Chip.told c.args.chip.now).places t c.give_back-in-Err.new.self
     c.switch.new.self c.switch.new.counter (back ∙ sym has.places_is)
     (c.in-Err.ensures.same ∙ sym has.status_is) known
