@@ -10,3 +10,4 @@ pub mod ViewLemmas
 pub mod NumberLemmas
 pub mod KeepLemmas
 pub mod FaultLemmas
+pub mod RefusalLemmas

@@ -5,3 +5,4 @@ pub mod Views
 pub mod Laws
 pub mod SessionLaws
 pub mod Keeps
+pub mod Refusals

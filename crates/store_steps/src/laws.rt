@@ -34,7 +34,29 @@ ghost use Rattle.store_steps.specs.Views.{
   DroppedFramesAreAborted,
   ChangedFramesAreWritten,
 };
-ghost use Rattle.store_steps.specs.Keeps.{LeadsAreWork, KeepersLookUp, OpenedStoresKeep, IdleFaultsAreWork, IdleFaultsLookUp, FaultsThatLeaveDown};
+ghost use Rattle.store_steps.specs.Keeps.{
+  LeadsAreWork,
+  KeepersLookUp,
+  OpenedStoresKeep,
+  IdleFaultsAreWork,
+  IdleFaultsLookUp,
+  FaultsThatLeaveDown,
+};
+ghost use Rattle.store_steps.specs.Refusals.{
+  SessionsRefuse,
+  RefusalsAnswer,
+  AcceptedAreDone,
+  RefusalsLead,
+  AcceptedLead,
+  PassedBegins,
+  PassedGets,
+  PassedShares,
+  PassedPuts,
+  PassedDels,
+  PassedEnds,
+  PassedLists,
+  PassedMerges,
+};
 
 /// Calls that keep each state: none, one after another, one that failed, reads, a page read into a
 /// frame, a page that left its frame or was written to a log sector, and calls that turn the tables
@@ -75,6 +97,29 @@ pub fn session_laws()
     ensures aborts { AbortsLead }
     ensures empty_commits { EmptyCommitsLead }
     ensures may_end { OpenSessionsMayEnd }
+{}
+
+/// Sessions refuse what the state does that they are of. What is refused changes nothing, and what
+/// isn't is done.
+pub fn refusal_laws()
+    ensures refuse { SessionsRefuse }
+    ensures answer { RefusalsAnswer }
+    ensures done { AcceptedAreDone }
+    ensures refused_lead { RefusalsLead }
+    ensures accepted_lead { AcceptedLead }
+{}
+
+/// What is known of an operation that isn't refused: its session is open, or may be opened; its
+/// names and its unit are the chip's; and the locks don't refuse it.
+pub fn passing_laws()
+    ensures begins { PassedBegins }
+    ensures gets { PassedGets }
+    ensures shares { PassedShares }
+    ensures puts { PassedPuts }
+    ensures dels { PassedDels }
+    ensures ends { PassedEnds }
+    ensures lists { PassedLists }
+    ensures merges { PassedMerges }
 {}
 
 /// What calls on a frame make of it is what the condition of a store asks.

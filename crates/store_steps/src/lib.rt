@@ -8,5 +8,7 @@
 mod laws;
 mod numbers;
 
-pub use laws::{frame_laws, keeper_laws, keeping_laws, leading_laws, session_laws};
+pub use laws::{
+    frame_laws, keeper_laws, keeping_laws, leading_laws, passing_laws, refusal_laws, session_laws,
+};
 pub use numbers::add_number;

@@ -1,0 +1,205 @@
+-- What a store refuses, and what it knows of what it doesn't.
+use Rattle.std.proofs.Common.{◌≡◌, ℕ, ◌<◌, ◌≤◌, ◌*◌, ◌||◌, Bool, true, false, not, nat_le, nat_lt, [], ◌∷◌, List, length, Option, Some, None, is_some, Result, Ok, refl, sym, ◌∙◌, ap, arith}
+use Rattle.std.specs.Option.{option_map, option_map_or}
+use Rattle.std.proofs.lemmas.Bool.{not-false}
+use Rattle.std.proofs.lemmas.Bool.Decides.{nat_tests}
+use Rattle.ipl_base.specs.declared.fault.Refusal.{Refusal}
+use Rattle.ipl_base.specs.declared.fault.Refusal.TheVariants.{BadName, AlreadyOpen, NotOpen, BadUnit}
+use Rattle.ipl_rules.specs.Refusals.{Test, first_of, bad_session, bad_name, too_long, already_open, not_open, conflict, writes_full, shares_full, pending_full}
+use Rattle.ipl_rules.specs.State.{State, Limits, is_open, holder_for_share, holder_for_write}
+use Rattle.ipl_model.specs.declared.command.Command.TheVariants as command
+use Rattle.ipl_model.specs.declared.reply.Reply.TheVariants as reply
+use Rattle.ipl_model.specs.declared.command.Command.{Command}
+use Rattle.ipl_model.specs.Step.{Stepped, refusal_of, accepted, step}
+use Rattle.record_locks.specs.Held.{Held, Slots, held_at, number_of}
+use Rattle.record_locks.specs.Names.{TestsAlike}
+use Rattle.record_locks.specs.Standing.{state_of}
+use Rattle.record_locks.proofs.CallLemmas.{passed}
+use Rattle.record_locks.proofs.SameLemmas.{alike}
+use Rattle.record_locks.proofs.StandingLemmas.{open_at}
+use Rattle.pending_writes.specs.Fits.{AreSessionsOf}
+use Rattle.store_steps.specs.Advances.{Memory}
+use Rattle.store_steps.specs.Keeps.{limits_of}
+use Rattle.store_steps.specs.Refusals.{SessionsRefuse, RefusalsAnswer, AcceptedAreDone, RefusalsLead, AcceptedLead, IsOpenSession, ReachesName, MayWriteName, PassedBegins, PassedGets, PassedShares, PassedPuts, PassedDels, PassedEnds, PassedLists, PassedMerges}
+use Rattle.store_steps.proofs.LeadLemmas.{memory_leads, next_states_are_alike, answers_are_alike}
+
+-- ---- the sessions refuse as the state does
+
+pub sessions_refuse : SessionsRefuse
+sessions_refuse limits slots state c are = by_command c
+  where
+    tests : (s n : ℕ) → TestsAlike (state_of slots) state s n
+    tests s n = alike (state_of slots) state are.names s n
+
+    by_command : (c : Command) → refusal_of limits (state_of slots) c ≡ refusal_of limits state c
+    by_command (command.Begin s) =
+        λ i. first_of (bad_session limits s ∷ ((tests s 0).opens i, AlreadyOpen) ∷ [])
+    by_command (command.Get s n) = λ i. first_of (bad_session limits s ∷ bad_name limits n
+        ∷ (not ((tests s n).opens i), NotOpen) ∷ [])
+    by_command (command.Share s n) = λ i. first_of (bad_session limits s ∷ bad_name limits n
+        ∷ (not ((tests s n).opens i), NotOpen) ∷ conflict ((tests s n).shares i)
+        ∷ (tests s n).full_shares i ∷ [])
+    by_command (command.Put s n bytes) = λ i. first_of (bad_session limits s ∷ bad_name limits n
+        ∷ too_long bytes ∷ (not ((tests s n).opens i), NotOpen) ∷ conflict ((tests s n).writes i)
+        ∷ (tests s n).full_writes i ∷ (tests s n).full_unit i ∷ [])
+    by_command (command.Del s n) = λ i. first_of (bad_session limits s ∷ bad_name limits n
+        ∷ (not ((tests s n).opens i), NotOpen) ∷ conflict ((tests s n).writes i)
+        ∷ (tests s n).full_writes i ∷ (tests s n).full_unit i ∷ [])
+    by_command (command.Commit s) =
+        λ i. first_of (bad_session limits s ∷ (not ((tests s 0).opens i), NotOpen) ∷ [])
+    by_command (command.Abort s) =
+        λ i. first_of (bad_session limits s ∷ (not ((tests s 0).opens i), NotOpen) ∷ [])
+    by_command (command.List a b) = refl
+    by_command (command.Merge u) = refl
+    by_command command.Restart = refl
+    by_command command.Syntax = refl
+
+-- ---- what the model does then
+
+-- a refusal, or what the command does
+abbrev step_by : State → Command → Option Refusal → Stepped
+step_by state c o = option_map_or (λ r. (state, reply.Refused r ∷ [])) o (accepted state c)
+
+pub refused_steps : (limits : Limits) (state : State) (c : Command) (r : Refusal)
+    → refusal_of limits state c ≡ Some r → step limits state c ≡ (state, reply.Refused r ∷ [])
+refused_steps limits state c r is = ap (step_by state c) is
+
+pub accepted_steps : (limits : Limits) (state : State) (c : Command)
+    → refusal_of limits state c ≡ None → step limits state c ≡ accepted state c
+accepted_steps limits state c is = ap (step_by state c) is
+
+pub refusals_answer : RefusalsAnswer
+refusals_answer limits slots state c r are is =
+    refused_steps limits state c r (sym (sessions_refuse limits slots state c are) ∙ is)
+
+pub accepted_are_done : AcceptedAreDone
+accepted_are_done limits slots state c are is =
+    accepted_steps limits state c (sym (sessions_refuse limits slots state c are) ∙ is)
+
+pub refusals_lead : RefusalsLead
+refusals_lead units c r before old is =
+    next_states_are_alike (λ state. state) (λ state. (step (limits_of units) state c).0) before before
+    (Ok (reply.Refused r)) old old
+    (λ places y it state fits. sym (ap (λ (x : Stepped). x.0)
+    (refusals_answer (limits_of units) before.slots state c r fits.sessions is)))
+    (answers_are_alike (λ state. state) before before (Ok tt) (Ok (reply.Refused r)) old old refl
+    (memory_leads (λ state. state) before before old (λ places y it state same fits. fits)
+    (λ places y it state fits. refl) (λ p k counted. counted)))
+
+pub accepted_lead : AcceptedLead
+accepted_lead units c before after result old new is =
+    next_states_are_alike (λ state. (accepted state c).0)
+    (λ state. (step (limits_of units) state c).0) before after result old new
+    (λ places y it state fits. sym (ap (λ (x : Stepped). x.0)
+    (accepted_are_done (limits_of units) before.slots state c fits.sessions is)))
+
+-- ---- what isn't refused
+
+-- the tests of the locks
+abbrev open_tests : Slots → ℕ → List Test → List Test
+open_tests slots s rest = not_open (state_of slots) s ∷ rest
+
+abbrev share_tests : Slots → ℕ → ℕ → List Test
+share_tests slots s n = conflict (holder_for_share (state_of slots) s n)
+    ∷ shares_full (state_of slots) s n ∷ []
+
+abbrev write_tests : Slots → ℕ → ℕ → List Test
+write_tests slots s n = conflict (holder_for_write (state_of slots) s n)
+    ∷ writes_full (state_of slots) s n ∷ pending_full (state_of slots) s n ∷ []
+
+-- a slot that isn't empty has a number
+numbered : (o : Option Held) → is_some o ≡ true
+    → (tid : ℕ) × (option_map (λ h. h.number) o ≡ Some tid)
+numbered None is = absurd (cc is)
+numbered (Some h) is = (h.number, refl)
+
+unnumbered : (o : Option Held) → is_some o ≡ false → option_map (λ h. h.number) o ≡ None
+unnumbered None is = refl
+unnumbered (Some h) is = absurd (cc is)
+
+-- one of the 32 that passed the test of being open
+is_open_session : (slots : Slots) (s : ℕ) (rest : List Test) → nat_le 32 s ≡ false
+    → first_of (open_tests slots s rest) ≡ None → IsOpenSession slots s
+is_open_session slots s rest low none =
+    let open_is = passed (not_open (state_of slots) s) rest none in
+    let opens : is_open (state_of slots) s ≡ true =
+    not-false (is_open (state_of slots) s) open_is.0 in
+    let (tid, is) = numbered (held_at slots s) (sym (open_at slots s) ∙ opens) in record {
+      low = grind (arith, nat_tests);
+      number = tid;
+      number_is = is;
+      may_end = rw opens refl;
+    }
+
+pub passed_begins : PassedBegins
+passed_begins units slots s none =
+    let opened = already_open (state_of slots) s in
+    let (low, rest) = passed (bad_session (limits_of units) s) (opened ∷ []) none in
+    let in_range : nat_le 32 s ≡ false = low in
+    let closed = (passed opened [] rest).0 in
+    (grind (arith, nat_tests), unnumbered (held_at slots s) (sym (open_at slots s) ∙ closed), rest)
+
+pub passed_ends : PassedEnds
+passed_ends units slots s none =
+    let (low, rest) = passed (bad_session (limits_of units) s) (open_tests slots s []) none in
+    is_open_session slots s [] low rest
+
+-- a session and a name that passed the first tests
+passed_name : (units : ℕ) (slots : Slots) (s n : ℕ) (rest : List Test)
+    → first_of (bad_session (limits_of units) s ∷ bad_name (limits_of units) n
+    ∷ open_tests slots s rest) ≡ None
+    → ReachesName units slots s n × (first_of (open_tests slots s rest) ≡ None)
+passed_name units slots s n rest none =
+    let (low, named) = passed (bad_session (limits_of units) s)
+    (bad_name (limits_of units) n ∷ open_tests slots s rest) none in
+    let (known, then) = passed (bad_name (limits_of units) n) (open_tests slots s rest) named in
+    let in_range : nat_le (960 * units) n ≡ false = known in (
+      record { session = is_open_session slots s rest low then; name = grind (arith, nat_tests) },
+      then,
+    )
+
+pub passed_gets : PassedGets
+passed_gets units slots s n none = (passed_name units slots s n [] none).0
+
+pub passed_shares : PassedShares
+passed_shares units slots s n none = passed_name units slots s n (share_tests slots s n) none
+
+pub passed_dels : PassedDels
+passed_dels units slots s n none =
+    let (reaches, may) = passed_name units slots s n (write_tests slots s n) none in
+    record { reaches = reaches; may = may }
+
+-- the third test may be left out
+without_third : (a b d : Test) (rest : List Test) → first_of (a ∷ b ∷ d ∷ rest) ≡ None
+    → (d.0 ≡ false) × (first_of (a ∷ b ∷ rest) ≡ None)
+without_third a b d rest none =
+    let (first, then) = passed a (b ∷ d ∷ rest) none in
+    let (second, last) = passed b (d ∷ rest) then in
+    let (third, more) = passed d rest last in
+    (third, rw (first, second) more)
+
+pub passed_puts : PassedPuts
+passed_puts units slots s n bytes none =
+    let (short, others) = without_third (bad_session (limits_of units) s)
+    (bad_name (limits_of units) n) (too_long bytes) (open_tests slots s (write_tests slots s n))
+    none in
+    let in_range : nat_lt 108 (length bytes) ≡ false = short in
+    (passed_dels units slots s n others, grind (arith, nat_tests))
+
+-- neither of two tests holds
+neither : (a b : Bool) (r : Refusal) → first_of ((a || b, r) ∷ []) ≡ None
+    → (a ≡ false) × (b ≡ false)
+neither true b r none = absurd (cc none)
+neither false true r none = absurd (cc none)
+neither false false r none = (refl, refl)
+
+pub passed_lists : PassedLists
+passed_lists units a b none =
+    let (low, high) = neither (nat_le (960 * units) a) (nat_le (960 * units) b) BadName none in
+    (grind (arith, nat_tests), grind (arith, nat_tests))
+
+pub passed_merges : PassedMerges
+passed_merges units u none =
+    let (low, rest) = passed (nat_le units u, BadUnit) [] none in
+    let in_range : nat_le units u ≡ false = low in
+    grind (arith, nat_tests)
