@@ -17,6 +17,7 @@ use Rattle.ipl_meaning.specs.Stands.{Says}
 use Rattle.ipl_meaning.specs.Rests.{now, StoryRests}
 use Rattle.ipl_meaning.specs.Agrees.{IsTidy}
 use Rattle.unit_io.specs.Leads.{IsSteady}
+use Rattle.unit_io.specs.Reads.{OfContents}
 use Rattle.steps.specs.Steps.{Settled, EndsWith, Steps}
 use Rattle.pending_writes.specs.Fits.{AreSessionsOf}
 use Rattle.store_trait.specs.declared.fault.Fault.{Fault}
@@ -197,7 +198,7 @@ leads_are_work c before after result old new consistent suits units up leads rep
 
     by_end : (r : Result Reply Fault)
         → IfOk r (λ reply. (state : State) → KeepsStore (limits_of before.units) before old state
-        → (step (limits_of before.units) state c).1 ≡ reply ∷ [])
+        → OfContents old (λ x. (step (limits_of before.units) state c).1 ≡ reply ∷ []))
         → (Settled r old new → KeepsStore (limits_of before.units) after new
         (state_then r (λ state. (step (limits_of before.units) state c).0) state))
         → MatchResult r
@@ -205,7 +206,7 @@ leads_are_work c before after result old new consistent suits units up leads rep
         (step (limits_of before.units) state c).0
         × ((step (limits_of before.units) state c).1 ≡ reply ∷ []))
         (λ fault. Unrisen old new → KeepsStore (limits_of before.units) after new state)
-    by_end (Ok reply) answers kept = (kept tt, answers state own)
+    by_end (Ok reply) answers kept = (kept tt, answers state own (held h.start h.story) here.there)
     by_end (Err fault) answers kept = kept
 
 pub keepers_look_up : KeepersLookUp
@@ -243,11 +244,12 @@ keepers_look_up n before after result old new consistent suits units up slots ke
 
     by_end : (r : Result (Option (List ℕ)) Fault)
         → IfOk r (λ found. (state : State) → KeepsStore (limits_of before.units) before old state
-        → n < 960 * before.units → found ≡ get state.map n)
+        → n < 960 * before.units → OfContents old (λ x. found ≡ get state.map n))
         → (Settled r old new → KeepsStore (limits_of before.units) after new
         (state_then r (λ state. state) state))
         → MatchResult r
         (λ found. KeepsStore (limits_of before.units) after new state × (found ≡ get state.map n))
         (λ fault. Unrisen old new → KeepsStore (limits_of before.units) after new state)
-    by_end (Ok found) found_is kept = (kept tt, found_is state own low_here)
+    by_end (Ok found) found_is kept =
+        (kept tt, found_is state own low_here (held h.start h.story) here.there)
     by_end (Err fault) found_is kept = kept

@@ -11,3 +11,4 @@ pub mod NumberLemmas
 pub mod KeepLemmas
 pub mod FaultLemmas
 pub mod RefusalLemmas
+pub mod KeptLemmas

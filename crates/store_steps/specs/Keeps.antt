@@ -1,5 +1,5 @@
 -- How a store keeps a state on a chip, as a run over a script asks for it.
-use Rattle.std.specs.Prelude.{ℕ, ◌≡◌, ◌≢◌, ◌<◌, ◌≤◌, ◌+◌, ◌*◌, Bool, true, false, [], ◌∷◌, ◌++◌, List, Option, Some, None, refl, Result, Err, IfOk}
+use Rattle.std.specs.Prelude.{ℕ, ◌≡◌, ◌≢◌, ◌<◌, ◌≤◌, ◌+◌, ◌*◌, Bool, true, false, [], ◌∷◌, ◌++◌, List, Option, Some, None, refl, Result, Ok, Err, IfOk}
 use Rattle.std.specs.Option.{option_map}
 use Rattle.std.specs.FinMap.{get}
 use Rattle.std.proofs.Common.{sym, ◌∙◌, subst, arith}
@@ -11,7 +11,8 @@ use Rattle.ipl_base.specs.declared.fault.ChipFault.{ChipFault}
 use Rattle.ipl_base.specs.declared.fault.ChipFault.TheVariants.{ReadFault, Stopped, Damaged, Malformed}
 use Rattle.ipl_base.specs.declared.fault.ImageFault.{ImageFault}
 use Rattle.ipl_base.specs.declared.fault.ImageFault.TheVariants as image
-use Rattle.ipl_rules.specs.State.{Map, State, Limits, at_rest}
+use Rattle.ipl_base.specs.Places.{home_of}
+use Rattle.ipl_rules.specs.State.{Map, State, Limits, at_rest, see}
 use Rattle.ipl_model.specs.declared.command.Command.{Command}
 use Rattle.ipl_model.specs.declared.reply.Reply.{Reply}
 use Rattle.ipl_model.specs.Step.{step}
@@ -28,6 +29,8 @@ use Rattle.ipl_meaning.proofs.StoryLemmas.{says_keep}
 use Rattle.unit_io.specs.Leads.{IsSteady}
 use Rattle.unit_io.specs.Reads.{OfContents}
 use Rattle.steps.specs.Laws.{Preserves}
+use Rattle.page_ops.specs.Pending.{seen_by}
+use Rattle.pending_writes.specs.Frames.{Frame, Frames}
 use Rattle.pending_writes.specs.Fits.{AreSessionsOf}
 use Rattle.store_trait.specs.declared.fault.Fault.{Fault}
 use Rattle.store_trait.specs.declared.fault.Fault.TheVariants.{Chip, Image, Spent}
@@ -218,8 +221,8 @@ OpenedStoresKeep = (units : ℕ) (t : Tables) (slots : Slots) (told : Told) (m :
     → RestsOnMap (opened_with units t slots) told m h × IsTidy h.story t)
     → KeepsStore (limits_of units) (opened_with units t slots) told (at_rest m)
 
--- What a call leaves that leads to the model's next state, and answers the model's reply, is the
--- work of the command.
+-- What a call leaves that leads to the model's next state, and answers the model's reply where the
+-- chip tells what it holds, is the work of the command.
 abbrev pub LeadsAreWork : Type 0
 LeadsAreWork = (c : Command) (before after : View) (result : Result Reply Fault) (old new : Told)
     → IsConsistent old → before.units + 4 ≡ old.places → after.units ≡ before.units
@@ -227,10 +230,27 @@ LeadsAreWork = (c : Command) (before after : View) (result : Result Reply Fault)
     → LeadsTo (λ state. (step (limits_of before.units) state c).0) before.memory old result
     after.memory new
     → IfOk result (λ reply. (state : State) → KeepsStore (limits_of before.units) before old state
-    → (step (limits_of before.units) state c).1 ≡ reply ∷ [])
+    → OfContents old (λ x. (step (limits_of before.units) state c).1 ≡ reply ∷ []))
     → Works store_keeping c before old result after new
 
--- What a call leaves that keeps each state, and answers a record of its map, looks the record up.
+-- what the frame of its page tells of a name: the record, and what each session sees
+pub record TellsName (slots : Slots) (state : State) (n : ℕ) (f : Frame) : Type 0 where
+  pub committed : f.values (home_of n).slot ≡ get state.map n
+  pub seen : (s tid : ℕ) → number_of slots s ≡ Some tid
+      → seen_by tid (f.values (home_of n).slot) (f.pending (home_of n).slot) ≡ see state s n
+
+-- after a call that keeps each state and was done, where the chip told what it held
+abbrev pub KeptFramesTell : Type 0
+KeptFramesTell = (n : ℕ) (store : View) (t : Tables) (later : Frames) (f : Frame) (state : State)
+    (old new : Told) → store.units + 4 ≡ old.places → store.down ≡ false
+    → KeepsState {T = Unit {0}} {E = ChipFault} store.memory.tables store.memory.frames old (Ok tt)
+    t later new
+    → later (home_of n).unit (home_of n).page ≡ Some f
+    → KeepsStore (limits_of store.units) store old state
+    → OfContents old (λ x. TellsName store.memory.slots state n f)
+
+-- What a call leaves that keeps each state, and answers a record of its map where the chip tells
+-- what it holds, looks the record up.
 abbrev pub KeepersLookUp : Type 0
 KeepersLookUp = (n : ℕ) (before after : View) (result : Result (Option (List ℕ)) Fault)
     (old new : Told)
@@ -239,7 +259,7 @@ KeepersLookUp = (n : ℕ) (before after : View) (result : Result (Option (List �
     → KeepsState before.memory.tables before.memory.frames old result after.memory.tables
     after.memory.frames new
     → IfOk result (λ found. (state : State) → KeepsStore (limits_of before.units) before old state
-    → n < 960 * before.units → found ≡ get state.map n)
+    → n < 960 * before.units → OfContents old (λ x. found ≡ get state.map n))
     → LooksUp store_keeping n before old result after new
 
 -- ---- faults

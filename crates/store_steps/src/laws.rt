@@ -37,6 +37,7 @@ ghost use Rattle.store_steps.specs.Views.{
 ghost use Rattle.store_steps.specs.Keeps.{
   LeadsAreWork,
   KeepersLookUp,
+  KeptFramesTell,
   OpenedStoresKeep,
   IdleFaultsAreWork,
   IdleFaultsLookUp,
@@ -140,6 +141,7 @@ pub fn frame_laws()
 pub fn keeping_laws()
     ensures work { LeadsAreWork }
     ensures looks_up { KeepersLookUp }
+    ensures tells { KeptFramesTell }
     ensures opened { OpenedStoresKeep }
 
     // faults
