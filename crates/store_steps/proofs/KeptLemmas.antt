@@ -1,18 +1,14 @@
 -- What is known of a state that a store keeps which isn't down.
-use Rattle.std.proofs.Common.{◌≡◌, ℕ, ◌+◌, ◌*◌, ◌-◌, ◌<◌, false, Some, Result, Ok, sym, ◌∙◌, ap, subst, arith}
+use Rattle.std.proofs.Common.{◌≡◌, ℕ, ◌+◌, false, Some, Ok, sym, ◌∙◌, ap, arith}
 use Rattle.std.specs.FinMap.{get}
-use Rattle.chip_trait.specs.Story.{Contents}
 use Rattle.chip_trait.specs.Told.{Told}
 use Rattle.ipl_base.specs.Places.{home_of}
 use Rattle.ipl_rules.specs.State.{Limits, State, see}
-use Rattle.record_locks.specs.Held.{number_of}
 use Rattle.ipl_meaning.specs.Chart.{chart_of}
 use Rattle.ipl_meaning.specs.Tables.{Tables}
 use Rattle.unit_io.specs.Reads.{OfContents}
-use Rattle.page_ops.specs.Pending.{seen_by}
 use Rattle.pending_writes.specs.Pending.{name_at}
 use Rattle.pending_writes.specs.Frames.{Frame, Frames}
-use Rattle.pending_writes.specs.FrameLaws.{TellsSlot}
 use Rattle.pending_writes.specs.Fits.{AreSessionsOf}
 use Rattle.store_steps.specs.Advances.{KeepsState}
 use Rattle.store_steps.specs.Keeps.{View, limits_of, ShowsState, KeepsStore, TellsName, KeptFramesTell}

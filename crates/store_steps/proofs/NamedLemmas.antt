@@ -3,10 +3,10 @@ use Rattle.std.proofs.Common.{◌≡◌, ◌≢◌, ◌⊎◌, ℕ, ◌-◌, ◌
 use Rattle.std.specs.List.{All, Contains, filter}
 use Rattle.std.proofs.lemmas.Bool.{cases_eq, eq-eqb, not-true}
 use Rattle.std.proofs.lemmas.List.Elements.{All-contains, Contains-append_right}
-use Rattle.std.proofs.lemmas.Option.{none-some, same_Some}
+use Rattle.std.proofs.lemmas.Option.{none-some}
 use Rattle.ipl_base.specs.Places.{home_of}
 use Rattle.ipl_rules.specs.State.{State}
-use Rattle.ipl_format.specs.Record.{Record, IsRecord}
+use Rattle.ipl_format.specs.Record.{Record}
 use Rattle.record_locks.specs.Held.{number_of, written_of}
 use Rattle.ipl_meaning.specs.Chart.{Chart}
 use Rattle.ipl_meaning.specs.Layout.{Layout, records_of}
@@ -14,7 +14,7 @@ use Rattle.ipl_meaning.specs.Last.{last_that}
 use Rattle.ipl_meaning.specs.Values.{counts_for}
 use Rattle.page_ops.specs.Pending.{seen_by, without_pending}
 use Rattle.pending_writes.specs.Pending.{is_other, name_at, records_at, IsPending, HasOtherNumber}
-use Rattle.pending_writes.specs.Frames.{Frame, Frames, logs_of, IsFrameOf, IsCommittedFrame, IsAbortedFrame, ChangesSo, EachFrameChanges}
+use Rattle.pending_writes.specs.Frames.{Frame, Frames, logs_of, IsCommittedFrame, IsAbortedFrame, ChangesSo, EachFrameChanges}
 use Rattle.pending_writes.specs.Fits.{is_active}
 use Rattle.pending_writes.proofs.ActiveLemmas.{listed_among}
 use Rattle.pending_writes.proofs.ElementLemmas.{all_listed, contains_filter}
@@ -26,7 +26,7 @@ use Rattle.pending_writes.proofs.LastLemmas.{counted, last_listed}
 use Rattle.pending_writes.proofs.MemoryLemmas.{valid_at}
 use Rattle.pending_writes.proofs.SameLemmas.{log_in}
 use Rattle.store_steps.specs.Advances.{Memory, MemoryFits}
-use Rattle.store_steps.specs.NamedFrames.{IsSameOr, ChangesPageOf, NamedFramesChange, NamedCommitsSuffice, NamedAbortsSuffice}
+use Rattle.store_steps.specs.NamedFrames.{IsSameOr, NamedFramesChange, NamedCommitsSuffice, NamedAbortsSuffice}
 
 -- where a frame that stayed changed so too, each did
 each_changes : (R : Frame → Frame → Type 0) (names : List ℕ) (old new : Frames)

@@ -1,5 +1,5 @@
 -- What a store refuses, and what it knows of what it doesn't.
-use Rattle.std.proofs.Common.{◌≡◌, ℕ, ◌<◌, ◌≤◌, ◌*◌, ◌||◌, Bool, true, false, not, nat_le, nat_lt, [], ◌∷◌, List, length, Option, Some, None, is_some, Result, Ok, refl, sym, ◌∙◌, ap, arith}
+use Rattle.std.proofs.Common.{◌≡◌, ℕ, ◌*◌, ◌||◌, Bool, true, false, not, nat_le, nat_lt, [], ◌∷◌, List, length, Option, Some, None, is_some, Ok, refl, sym, ◌∙◌, ap, arith}
 use Rattle.std.specs.Option.{option_map, option_map_or}
 use Rattle.std.proofs.lemmas.Bool.{not-false}
 use Rattle.std.proofs.lemmas.Bool.Decides.{nat_tests}
@@ -11,16 +11,14 @@ use Rattle.ipl_model.specs.declared.command.Command.TheVariants as command
 use Rattle.ipl_model.specs.declared.reply.Reply.TheVariants as reply
 use Rattle.ipl_model.specs.declared.command.Command.{Command}
 use Rattle.ipl_model.specs.Step.{Stepped, refusal_of, accepted, step}
-use Rattle.record_locks.specs.Held.{Held, Slots, held_at, number_of}
+use Rattle.record_locks.specs.Held.{Held, Slots, held_at}
 use Rattle.record_locks.specs.Names.{TestsAlike}
 use Rattle.record_locks.specs.Standing.{state_of}
 use Rattle.record_locks.proofs.CallLemmas.{passed}
 use Rattle.record_locks.proofs.SameLemmas.{alike}
 use Rattle.record_locks.proofs.StandingLemmas.{open_at}
-use Rattle.pending_writes.specs.Fits.{AreSessionsOf}
-use Rattle.store_steps.specs.Advances.{Memory}
 use Rattle.store_steps.specs.Keeps.{limits_of}
-use Rattle.store_steps.specs.Refusals.{SessionsRefuse, RefusalsAnswer, AcceptedAreDone, RefusalsLead, AcceptedLead, IsOpenSession, ReachesName, MayWriteName, PassedBegins, PassedGets, PassedShares, PassedPuts, PassedDels, PassedEnds, PassedLists, PassedMerges}
+use Rattle.store_steps.specs.Refusals.{SessionsRefuse, RefusalsAnswer, AcceptedAreDone, RefusalsLead, AcceptedLead, IsOpenSession, ReachesName, PassedBegins, PassedGets, PassedShares, PassedPuts, PassedDels, PassedEnds, PassedLists, PassedMerges}
 use Rattle.store_steps.proofs.LeadLemmas.{memory_leads, next_states_are_alike, answers_are_alike}
 
 -- ---- the sessions refuse as the state does
