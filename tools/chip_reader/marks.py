@@ -1,0 +1,182 @@
+"""What a picture of a chip marks: each sector's fill, each place's label, and a few lines over all."""
+from __future__ import annotations
+
+from dataclasses import dataclass
+from enum import Enum
+from typing import Iterable, Iterator, List, Optional, Set
+
+from .recovery import (Fault, Layout, Spot, faults, greatest_found, missing_units, records,
+                       unit_log)
+from .sectors import Bad, Erased, Kind, SECTORS, Sector, Strange
+
+MOST_FAULTS = 12
+MOST_RANGES = 12
+
+
+class Fill(Enum):
+    """What stands in a sector, with its letter and its words in the legend."""
+    HEADER = ("H", "header")
+    BASE = ("B", "base sector")
+    LOG = ("L", "log sector")
+    COMMIT = ("C", "commit sector")
+    OLD_HEADER = ("h", "header, left over")
+    OLD_BASE = ("b", "base sector, left over")
+    OLD_LOG = ("l", "log sector, left over")
+    OLD_COMMIT = ("c", "commit sector, left over")
+    ERASED = (".", "erased")
+    TORN = ("x", "torn: its sum is wrong")
+    STRANGE = ("?", "strange: another rule is broken")
+    FAULT = ("!", "at fault")
+
+    def __init__(self, letter: str, words: str) -> None:
+        self.letter = letter
+        self.words = words
+
+
+# The fill of a sector that checks: where it counts, and where it is left over.
+FILLS_BY_KIND = {
+    Kind.DATA: (Fill.HEADER, Fill.OLD_HEADER),
+    Kind.STATUS: (Fill.HEADER, Fill.OLD_HEADER),
+    Kind.OVERFLOW: (Fill.HEADER, Fill.OLD_HEADER),
+    Kind.BASE: (Fill.BASE, Fill.OLD_BASE),
+    Kind.LOG: (Fill.LOG, Fill.OLD_LOG),
+    Kind.COMMIT: (Fill.COMMIT, Fill.OLD_COMMIT),
+}
+
+
+class Use(Enum):
+    """Whether anything counts at a place."""
+    CURRENT = "current"
+    LEFT_OVER = "left over"
+    FREE = "free"
+
+
+@dataclass(frozen=True)
+class PlaceMark:
+    """What a picture shows of one place."""
+    place: int
+    kind: str
+    numbers: str
+    use: Use
+    fills: List[Fill]
+
+
+@dataclass(frozen=True)
+class ChipMarks:
+    """What a picture shows of a chip."""
+    lines: List[str]
+    fault_lines: List[str]
+    places: List[PlaceMark]
+
+
+def counting_spots(layout: Layout) -> Set[Spot]:
+    """The sectors that count: what an opening or the reading of a page goes by."""
+    header_places = [*layout.homes.values(), *layout.overflow_places]
+    if layout.status is not None:
+        header_places.append(layout.status)
+    spots = {Spot(place, 0) for place in header_places}
+    spots.update(layout.commits, layout.live)
+    for unit in layout.homes:
+        header = layout.data_header(unit)
+        for page in range(len(header.base_counts) if header else 0):
+            spots.update(layout.base_spots(unit, page))
+    return spots
+
+
+def fill_at(layout: Layout, spot: Spot, counting: Set[Spot], at_fault: Set[Spot]) -> Fill:
+    sector = layout.at(spot)
+    if spot in at_fault:
+        return Fill.FAULT
+    if isinstance(sector, Erased):
+        return Fill.ERASED
+    if isinstance(sector, Bad):
+        return Fill.TORN
+    if isinstance(sector, Strange):
+        return Fill.STRANGE
+    counts, left_over = FILLS_BY_KIND[sector.kind]
+    return counts if spot in counting else left_over
+
+
+def kind_words(layout: Layout, place: int, fills: List[Fill]) -> str:
+    """What a place is for, by its sector 0."""
+    first = layout.chart[place][0]
+    if isinstance(first, Erased):
+        is_free = all(fill == Fill.ERASED for fill in fills)
+        return "erased" if is_free else "no header"
+    if not isinstance(first, Sector):
+        return "unreadable header"
+    if first.kind == Kind.DATA:
+        return f"data of unit {first.unit}"
+    if first.kind.is_header:
+        return first.kind.name.lower()
+    return f"no header but a {first.kind.name.lower()} sector"
+
+
+def number_words(header: Optional[Sector]) -> str:
+    """The generation of a place, and the serial of its header where it is another number."""
+    if header is None:
+        return ""
+    serial = "" if header.serial == header.generation else f", serial {header.serial}"
+    return f"generation {header.generation}{serial}"
+
+
+def place_mark(layout: Layout, place: int, counting: Set[Spot], at_fault: Set[Spot]) -> PlaceMark:
+    spots = (Spot(place, sector) for sector in range(SECTORS))
+    fills = [fill_at(layout, spot, counting, at_fault) for spot in spots]
+    kind = kind_words(layout, place, fills)
+    use = Use.FREE if kind == "erased" else Use.LEFT_OVER
+    if Spot(place, 0) in counting:
+        use = Use.CURRENT
+    return PlaceMark(place, kind, number_words(layout.headers.get(place)), use, fills)
+
+
+def counted(number: int, one: str, many: str = "") -> str:
+    return f"{number} {one if number == 1 else many or one + 's'}"
+
+
+def ranges(numbers: List[int]) -> Iterator[str]:
+    """Rising numbers as runs: 1, 2, 3, 7 are 1 to 3, and 7."""
+    start = 0
+    for end in range(1, len(numbers) + 1):
+        if end == len(numbers) or numbers[end] != numbers[end - 1] + 1:
+            first, last = numbers[start], numbers[end - 1]
+            yield str(first) if first == last else f"{first} to {last}"
+            start = end
+
+
+def at_most(most: int, words: Iterable[str]) -> List[str]:
+    """The first of some words, and how many more there are."""
+    listed = list(words)
+    more = len(listed) - most
+    return listed[:most] + ([f"and {more} more"] if more > 0 else [])
+
+
+def log_line(layout: Layout) -> str:
+    """How much log counts, and how many of its records are committed."""
+    found = [record for unit in layout.logs for record in unit_log(layout, unit)]
+    committed = sum(record.transaction in layout.committed for record in found)
+    sectors = counted(len(layout.live), "live log sector")
+    return f"{sectors} with {counted(len(found), 'record')}, {committed} of them committed"
+
+
+def summary(layout: Layout, found_faults: List[Fault]) -> List[str]:
+    """The lines over all: the size, what the chip stands for, its log, its numbers."""
+    size = f"{len(layout.chart)} places, {counted(layout.units, 'unit')}"
+    holds = "no records, for its faults" if found_faults else counted(len(records(layout)), "record")
+    numbers = counted(len(layout.committed), "committed number")
+    lines = [f"chip of {size}: {holds}", f"{numbers}; {log_line(layout)}",
+             f"greatest number found: {greatest_found(layout)}"]
+    missing = missing_units(layout)
+    if missing:
+        listed = ", ".join(at_most(MOST_RANGES, ranges(missing)))
+        lines.append(f"units without a current header: {listed}")
+    return lines
+
+
+def chip_marks(layout: Layout) -> ChipMarks:
+    found_faults = faults(layout)
+    counting = counting_spots(layout)
+    at_fault = {fault.spot for fault in found_faults if fault.spot is not None}
+    places = [place_mark(layout, place, counting, at_fault) for place in range(len(layout.chart))]
+    fault_lines = at_most(MOST_FAULTS, (f"fault: {fault}" for fault in found_faults))
+    return ChipMarks(summary(layout, found_faults), fault_lines, places)

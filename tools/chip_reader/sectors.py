@@ -1,0 +1,216 @@
+"""The bytes of a chip, by docs/FORMAT.md: what a sector says, and the grammar of each payload."""
+from __future__ import annotations
+
+import struct
+import zlib
+from dataclasses import dataclass
+from enum import IntEnum
+from typing import BinaryIO, Dict, List, Optional, Sequence, Tuple, Union
+
+SECTOR_BYTES = 512
+SECTORS = 256
+PLACE_BYTES = SECTORS * SECTOR_BYTES
+FEWEST_PLACES, MOST_PLACES = 5, 1028
+# A chip has so many units fewer than places.
+SPARE_PLACES = 4
+
+PAGES = 15
+SLOTS = 64
+MOST_PIECES = 16
+PIECE_BYTES = 480
+MOST_VALUE_BYTES = 108
+MOST_CARRIED = 12
+MOST_COMMITTED = 60
+# The sectors of a data place from this one on are its unit's log sectors.
+FIRST_LOG_SECTOR = 241
+
+HEAD = struct.Struct(">4sBBHIQQI")
+RECORD_HEAD = struct.Struct(">BBBBQ")
+MARKER = b"IPL1"
+VERSION = 1
+SUM_AT = 28
+PUT, DELETE = 1, 2
+BLANK = b"\xff" * SECTOR_BYTES
+
+
+class Kind(IntEnum):
+    """The kinds of sector, with their numbers on the chip."""
+    DATA = 1
+    STATUS = 2
+    OVERFLOW = 3
+    BASE = 4
+    LOG = 5
+    COMMIT = 6
+
+    @property
+    def is_header(self) -> bool:
+        return self <= Kind.OVERFLOW
+
+
+KINDS = frozenset(int(kind) for kind in Kind)
+
+
+@dataclass(frozen=True)
+class Erased:
+    """A sector of bytes FF."""
+
+
+@dataclass(frozen=True)
+class Bad:
+    """A sector whose stored sum isn't that of its other bytes."""
+    stored: int
+    computed: int
+
+
+@dataclass(frozen=True)
+class Strange:
+    """A sector whose sum is right, and which breaks another rule."""
+
+
+@dataclass(frozen=True)
+class Sector:
+    """A sector that checks, and what it says."""
+    kind: Kind
+    unit: int
+    generation: int
+    serial: int
+    payload: bytes
+
+
+ERASED = Erased()
+SectorClass = Union[Erased, Bad, Strange, Sector]
+# By place and sector, what a chip holds.
+Chart = Sequence[Sequence[SectorClass]]
+
+
+class NotAChip(Exception):
+    """A file that has the length of no chip."""
+
+
+def sum_of(sector: bytes) -> int:
+    """The CRC-32 of all bytes of a sector but its own four."""
+    return zlib.crc32(sector[HEAD.size:], zlib.crc32(sector[:SUM_AT]))
+
+
+def class_of(sector: bytes) -> SectorClass:
+    """What 512 bytes are, by the first rule that applies."""
+    if sector == BLANK:
+        return ERASED
+    marker, kind, version, used, unit, generation, serial, stored = HEAD.unpack_from(sector)
+    computed = sum_of(sector)
+    if stored != computed:
+        return Bad(stored, computed)
+    is_known = marker == MARKER and kind in KINDS and version == VERSION
+    if not is_known or used > PIECE_BYTES or any(sector[HEAD.size + used:]):
+        return Strange()
+    return Sector(Kind(kind), unit, generation, serial, sector[HEAD.size:HEAD.size + used])
+
+
+def count_places(length: int) -> int:
+    """How many places a file of so many bytes has; no chip has any other length."""
+    places, rest = divmod(length, PLACE_BYTES)
+    if rest:
+        raise NotAChip(f"{length} bytes are no whole number of places of {PLACE_BYTES} bytes")
+    if not FEWEST_PLACES <= places <= MOST_PLACES:
+        raise NotAChip(f"{places} places, and a chip has {FEWEST_PLACES} to {MOST_PLACES}")
+    return places
+
+
+def chart_of_place(contents: bytes) -> List[SectorClass]:
+    starts = range(0, PLACE_BYTES, SECTOR_BYTES)
+    return [class_of(contents[start:start + SECTOR_BYTES]) for start in starts]
+
+
+def read_chart(file: BinaryIO) -> Chart:
+    """Reads a chip file from its beginning, a place at a time."""
+    places = count_places(file.seek(0, 2))
+    file.seek(0)
+    chart = []
+    for place in range(places):
+        contents = file.read(PLACE_BYTES)
+        if len(contents) < PLACE_BYTES:
+            raise NotAChip(f"the file ends within place {place}")
+        chart.append(chart_of_place(contents))
+    return chart
+
+
+@dataclass(frozen=True)
+class DataHeader:
+    """The payload of a data header but its number of units."""
+    base_counts: Tuple[int, ...]
+    carried: int
+
+
+def units_of(payload: bytes) -> Optional[int]:
+    """The number of units that a header's payload begins with, where it is as long as that."""
+    return int.from_bytes(payload[:4], "big") if len(payload) >= 4 else None
+
+
+def data_header(payload: bytes) -> Optional[DataHeader]:
+    """What a data header's payload says, or none where it isn't in the grammar."""
+    if len(payload) != 4 + PAGES + 1:
+        return None
+    header = DataHeader(tuple(payload[4:4 + PAGES]), payload[4 + PAGES])
+    if max(header.base_counts) > MOST_PIECES or header.carried > MOST_CARRIED:
+        return None
+    return header
+
+
+def page_slots(text: bytes) -> Optional[Dict[int, bytes]]:
+    """The records of a page's text by slot, or none where it is no page's text."""
+    slots: Dict[int, bytes] = {}
+    at, least = 0, 0
+    while at < len(text):
+        if len(text) < at + 2:
+            return None
+        slot, length = text[at], text[at + 1]
+        value = text[at + 2:at + 2 + length]
+        if not least <= slot < SLOTS or length > MOST_VALUE_BYTES or len(value) < length:
+            return None
+        slots[slot] = value
+        at, least = at + 2 + length, slot + 1
+    return slots
+
+
+@dataclass(frozen=True)
+class LogRecord:
+    """A change of a slot by a transaction; without a value a delete."""
+    page: int
+    slot: int
+    transaction: int
+    value: Optional[bytes]
+
+
+def log_record_at(payload: bytes, at: int) -> Optional[Tuple[LogRecord, int]]:
+    """The record that begins at a byte of a log payload, and where the next one begins."""
+    if len(payload) < at + RECORD_HEAD.size:
+        return None
+    page, kind, slot, length, transaction = RECORD_HEAD.unpack_from(payload, at)
+    start = at + RECORD_HEAD.size
+    value = payload[start:start + length]
+    if page >= PAGES or slot >= SLOTS or length > MOST_VALUE_BYTES or len(value) < length:
+        return None
+    if kind not in (PUT, DELETE) or (kind == DELETE and length > 0):
+        return None
+    return LogRecord(page, slot, transaction, value if kind == PUT else None), start + length
+
+
+def log_records(payload: bytes) -> Optional[List[LogRecord]]:
+    """The records of a log payload in order, or none where it isn't in the grammar."""
+    records = []
+    at = 0
+    while at < len(payload):
+        read = log_record_at(payload, at)
+        if read is None:
+            return None
+        record, at = read
+        records.append(record)
+    return records
+
+
+def transaction_numbers(payload: bytes) -> Optional[List[int]]:
+    """The numbers of a commit payload, or none where it isn't in the grammar."""
+    count, rest = divmod(len(payload), 8)
+    if rest or not 1 <= count <= MOST_COMMITTED:
+        return None
+    return list(struct.unpack(f">{count}Q", payload))

@@ -1,0 +1,237 @@
+"""A picture of a chip as SVG: a row for each place, with a cell for each of its sectors.
+
+Fills differ in lightness too, and what is left over in shape: it has half a cell."""
+from __future__ import annotations
+
+from dataclasses import dataclass
+from typing import Dict, Iterator, List, Tuple
+from xml.sax.saxutils import escape
+
+from .marks import ChipMarks, Fill, PlaceMark, Use
+from .sectors import FIRST_LOG_SECTOR, SECTORS
+
+CELLS_IN_ROW = 32
+ROWS = SECTORS // CELLS_IN_ROW
+MARGIN = 20
+LINE = 16
+# The width of a letter, as far as it matters for where the next entry of the legend begins.
+LETTER = 6.5
+# Chips of more places than this have small cells, in columns.
+MOST_IN_ONE_COLUMN = 64
+
+# From dark to light.
+HEADER_COLOUR = "#14213d"
+COMMIT_COLOUR = "#7b2cbf"
+FAULT_COLOUR = "#d62828"
+BASE_COLOUR = "#3a86c8"
+LOG_COLOUR = "#f4a300"
+
+COLOURS = {
+    Fill.HEADER: HEADER_COLOUR, Fill.OLD_HEADER: HEADER_COLOUR,
+    Fill.COMMIT: COMMIT_COLOUR, Fill.OLD_COMMIT: COMMIT_COLOUR,
+    Fill.BASE: BASE_COLOUR, Fill.OLD_BASE: BASE_COLOUR,
+    Fill.LOG: LOG_COLOUR, Fill.OLD_LOG: LOG_COLOUR,
+    Fill.FAULT: FAULT_COLOUR,
+}
+LEFT_OVER = {Fill.OLD_HEADER, Fill.OLD_BASE, Fill.OLD_LOG, Fill.OLD_COMMIT}
+# What is drawn as strokes within the cell: a cross, or one slanted line.
+STROKE_COLOURS = {Fill.TORN: "#333333", Fill.STRANGE: "#333333", Fill.FAULT: "#ffffff"}
+
+STYLE = """\
+text { font-family: sans-serif; font-size: 12px; fill: #1b1b1b; }
+text.title { font-size: 16px; font-weight: bold; }
+text.place { font-weight: bold; }
+text.fault { fill: #a01010; font-weight: bold; }
+text.small { font-size: 9px; fill: #555555; text-anchor: end; }"""
+
+
+@dataclass(frozen=True)
+class Sheet:
+    """The sizes of a picture: of a cell, of a place's label and row, and how many columns."""
+    cell: int
+    columns: int
+    label_width: int
+    row_height: int
+    has_numbers: bool
+
+    @property
+    def grid_width(self) -> int:
+        return CELLS_IN_ROW * self.cell
+
+    @property
+    def grid_height(self) -> int:
+        return ROWS * self.cell
+
+    @property
+    def column_width(self) -> int:
+        return self.label_width + self.grid_width + MARGIN
+
+
+LARGE_CELLS = Sheet(cell=12, columns=1, label_width=210, row_height=112, has_numbers=True)
+SMALL_CELLS = Sheet(cell=5, columns=4, label_width=150, row_height=72, has_numbers=False)
+
+Runs = List[Tuple[int, int, int]]
+
+
+def text_at(x: float, y: float, words: str, style: str = "") -> str:
+    named = f' class="{style}"' if style else ""
+    return f'<text x="{x:g}" y="{y:g}"{named}>{escape(words)}</text>'
+
+
+def runs_by_fill(fills: List[Fill]) -> Dict[Fill, Runs]:
+    """For each fill its runs of sectors in one row: the row, the first cell, and how many."""
+    runs: Dict[Fill, Runs] = {}
+    start = 0
+    for end in range(1, len(fills) + 1):
+        is_cut = end % CELLS_IN_ROW == 0 or end == len(fills) or fills[end] != fills[start]
+        if is_cut:
+            row, column = divmod(start, CELLS_IN_ROW)
+            runs.setdefault(fills[start], []).append((row, column, end - start))
+            start = end
+    runs.pop(Fill.ERASED, None)
+    return runs
+
+
+def bar(cell: int, row: int, column: int, count: int, is_half: bool) -> str:
+    """The outline of a run: whole cells, or half ones in the middle of their row."""
+    height = (cell + 1) // 2 if is_half else cell
+    top = row * cell + (cell - height) / 2
+    width = count * cell
+    return f"M{column * cell} {top:g}h{width}v{height}h-{width}z"
+
+
+def strokes(cell: int, row: int, column: int, is_cross: bool) -> str:
+    """The lines within one cell: a cross, or one slanted line."""
+    gap = cell / 5
+    length = cell - 2 * gap
+    left, top = column * cell + gap, row * cell + gap
+    slanted = f"M{left:g} {top + length:g}l{length:g} -{length:g}"
+    return slanted + (f"M{left:g} {top:g}l{length:g} {length:g}" if is_cross else "")
+
+
+def fill_paths(sheet: Sheet, fill: Fill, runs: Runs) -> Iterator[str]:
+    """All cells of one fill in a place."""
+    if fill in COLOURS:
+        is_half = fill in LEFT_OVER
+        outline = "".join(bar(sheet.cell, *run, is_half) for run in runs)
+        yield f'<path fill="{COLOURS[fill]}" d="{outline}"/>'
+    if fill in STROKE_COLOURS:
+        cells = ((row, first + step) for row, first, count in runs for step in range(count))
+        lines = "".join(strokes(sheet.cell, *cell, fill != Fill.STRANGE) for cell in cells)
+        width = 1.5 if sheet.has_numbers else 1
+        colour = STROKE_COLOURS[fill]
+        yield f'<path fill="none" stroke="{colour}" stroke-width="{width}" d="{lines}"/>'
+
+
+def grid(sheet: Sheet) -> str:
+    """The lines between cells, over a place; the fills lie below them."""
+    size = f'width="{sheet.grid_width}" height="{sheet.grid_height}"'
+    return f'<rect {size} fill="url(#cells)" stroke="#8a8f98" stroke-width="0.5"/>'
+
+
+def dashed(x: int, y: int, width: int, height: int) -> str:
+    size = f'x="{x}" y="{y}" width="{width}" height="{height}"'
+    return f'<rect {size} fill="none" stroke="#333333" stroke-dasharray="3 2"/>'
+
+
+def log_outline(sheet: Sheet) -> str:
+    """A line around the sectors of a data place in which log sectors may stand."""
+    row, column = divmod(FIRST_LOG_SECTOR, CELLS_IN_ROW)
+    width = (CELLS_IN_ROW - column) * sheet.cell
+    return dashed(column * sheet.cell, row * sheet.cell, width, sheet.cell)
+
+
+def label(sheet: Sheet, mark: PlaceMark) -> Iterator[str]:
+    """The words beside a place, and the numbers of the first sector of each row."""
+    words = [mark.kind, mark.numbers, "" if mark.use == Use.FREE else mark.use.value]
+    yield text_at(-sheet.label_width, 11, f"place {mark.place}", "place")
+    for line, said in enumerate(filter(None, words), start=1):
+        yield text_at(-sheet.label_width, 11 + line * (LINE - 1), said)
+    for row in range(ROWS if sheet.has_numbers else 0):
+        yield text_at(-5, (row + 0.8) * sheet.cell, str(row * CELLS_IN_ROW), "small")
+
+
+def place_group(sheet: Sheet, mark: PlaceMark, x: int, y: int) -> str:
+    """A place with its label, its grid's upper left corner at this point."""
+    parts = [f'<g transform="translate({x} {y})">', *label(sheet, mark)]
+    for fill, runs in runs_by_fill(mark.fills).items():
+        parts.extend(fill_paths(sheet, fill, runs))
+    parts.append(grid(sheet))
+    if mark.kind.startswith("data"):
+        parts.append(log_outline(sheet))
+    return "\n".join([*parts, "</g>"])
+
+
+def sample(fill: Fill) -> str:
+    """One cell of a fill."""
+    size = f'width="{LARGE_CELLS.cell}" height="{LARGE_CELLS.cell}"'
+    drawn = "" if fill == Fill.ERASED else "".join(fill_paths(LARGE_CELLS, fill, [(0, 0, 1)]))
+    return f'{drawn}<rect {size} fill="none" stroke="#8a8f98" stroke-width="0.5"/>'
+
+
+def legend_entries() -> List[Tuple[str, str]]:
+    """What is drawn in a picture, each with its words."""
+    cell = LARGE_CELLS.cell
+    outline = dashed(0, 0, cell, cell), "around the log sectors of a data place"
+    return [*((sample(fill), fill.words) for fill in Fill), outline]
+
+
+def legend(width: int, top: int) -> Tuple[List[str], int]:
+    """The legend in rows that are no wider than the picture, and where the rows end."""
+    parts = []
+    x, y, cell = MARGIN, top, LARGE_CELLS.cell
+    for drawn, words in legend_entries():
+        needed = cell + 24 + int(LETTER * len(words))
+        if x + needed > width:
+            x, y = MARGIN, y + LINE + 4
+        said = text_at(cell + 6, cell - 2, words)
+        parts.append(f'<g transform="translate({x} {y})">{drawn}{said}</g>')
+        x += needed
+    return parts, y + LINE
+
+
+def heading(marks: ChipMarks) -> Tuple[List[str], int]:
+    """The lines over all, and where they end."""
+    title, *others = marks.lines
+    parts = [text_at(MARGIN, MARGIN + 12, title, "title")]
+    y = MARGIN + 12
+    styled = [(line, "") for line in others] + [(line, "fault") for line in marks.fault_lines]
+    for line, style in styled:
+        y += LINE
+        parts.append(text_at(MARGIN, y, line, style))
+    return parts, y + LINE
+
+
+def place_groups(sheet: Sheet, marks: ChipMarks, top: int) -> Tuple[List[str], int]:
+    """All places, down each column and then in the next one, and where the columns end."""
+    rows = -(-len(marks.places) // sheet.columns)
+    parts = []
+    for mark in marks.places:
+        column, row = divmod(mark.place, rows)
+        x = MARGIN + column * sheet.column_width + sheet.label_width
+        parts.append(place_group(sheet, mark, x, top + row * sheet.row_height))
+    return parts, top + rows * sheet.row_height
+
+
+def cell_pattern(sheet: Sheet) -> str:
+    size = f'width="{sheet.cell}" height="{sheet.cell}"'
+    lines = f'<path d="M{sheet.cell} 0H0V{sheet.cell}" fill="none" stroke="#c4c8ce"/>'
+    return f'<pattern id="cells" {size} patternUnits="userSpaceOnUse">{lines}</pattern>'
+
+
+def svg_picture(marks: ChipMarks) -> str:
+    sheet = LARGE_CELLS if len(marks.places) <= MOST_IN_ONE_COLUMN else SMALL_CELLS
+    width = MARGIN + sheet.columns * sheet.column_width
+    head, top = heading(marks)
+    entries, top = legend(width, top)
+    groups, height = place_groups(sheet, marks, top + MARGIN)
+    size = f'width="{width}" height="{height}" viewBox="0 0 {width} {height}"'
+    parts = [
+        '<?xml version="1.0" encoding="UTF-8"?>',
+        f'<svg xmlns="http://www.w3.org/2000/svg" {size}>',
+        f"<title>{escape(marks.lines[0])}</title>",
+        f"<style>\n{STYLE}\n</style>",
+        f"<defs>{cell_pattern(sheet)}</defs>",
+        f'<rect width="{width}" height="{height}" fill="#ffffff"/>',
+        *head, *entries, *groups, "</svg>"]
+    return "\n".join(parts) + "\n"
