@@ -153,6 +153,8 @@ def at_most(most: int, words: Iterable[str]) -> List[str]:
 
 def log_line(layout: Layout) -> str:
     """How much log counts, and how many of its records are committed."""
+    if not layout.live:
+        return "no live log sector"
     found = [record for unit in layout.logs for record in unit_log(layout, unit)]
     committed = sum(record.transaction in layout.committed for record in found)
     sectors = counted(len(layout.live), "live log sector")
@@ -161,8 +163,8 @@ def log_line(layout: Layout) -> str:
 
 def summary(layout: Layout, found_faults: List[Fault]) -> List[str]:
     """The lines over all: the size, what the chip stands for, its log, its numbers."""
-    size = f"{len(layout.chart)} places, {counted(layout.units, 'unit')}"
-    holds = "no records, for its faults" if found_faults else counted(len(records(layout)), "record")
+    size = f"{len(layout.chart)} places and {counted(layout.units, 'unit')}"
+    holds = "no records are listed, for its faults" if found_faults else counted(len(records(layout)), "record")
     numbers = counted(len(layout.committed), "committed number")
     lines = [f"chip of {size}: {holds}", f"{numbers}; {log_line(layout)}",
              f"greatest number found: {greatest_found(layout)}"]

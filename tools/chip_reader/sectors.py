@@ -117,6 +117,8 @@ def count_places(length: int) -> int:
 
 
 def chart_of_place(contents: bytes) -> List[SectorClass]:
+    if contents == BLANK * SECTORS:
+        return [ERASED] * SECTORS
     starts = range(0, PLACE_BYTES, SECTOR_BYTES)
     return [class_of(contents[start:start + SECTOR_BYTES]) for start in starts]
 

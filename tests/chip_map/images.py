@@ -1,0 +1,175 @@
+"""Chip images, built byte by byte by docs/FORMAT.md. Shares no code with the tool that is tried."""
+import struct
+
+SECTOR_BYTES = 512
+PLACE_BYTES = 256 * SECTOR_BYTES
+DATA, STATUS, OVERFLOW, BASE, LOG, COMMIT = range(1, 7)
+PUT, DELETE = 1, 2
+
+# The examples at the end of docs/FORMAT.md: bytes 0..28 of a sector, its sum, its payload.
+FORMATTED_HEADER = ("49 50 4c 31 01 01 00 14 00 00 00 00 00 00 00 00 00 00 00 01 00 00 00 00 00 00 00 01",
+                    "06 e4 b2 58", "00 00 00 01" + 16 * " 00")
+BASE_SECTOR = ("49 50 4c 31 04 01 00 04 00 00 00 00 00 00 00 00 00 00 00 04 00 00 00 00 00 00 00 00",
+               "d0 98 d1 48", "05 02 68 69")
+PUT_RECORD = bytes.fromhex("00 01 05 02 00 00 00 00 00 00 00 07 68 69")
+DELETE_RECORD = bytes.fromhex("0e 02 3f 00 00 00 00 00 00 00 00 04")
+PAGE_TEXT = bytes.fromhex("00 02 68 69 03 00")
+
+
+def crc32(data):
+    """The sum as docs/FORMAT.md describes it, bit by bit."""
+    register = 0xFFFFFFFF
+    for byte in data:
+        register ^= byte
+        for _ in range(8):
+            register = register >> 1 ^ (0xEDB88320 if register & 1 else 0)
+    return register ^ 0xFFFFFFFF
+
+
+def spelled(head, total, payload):
+    """A sector of the documents' hexadecimal bytes, its payload filled up with zeros."""
+    said = bytes.fromhex(payload)
+    return bytes.fromhex(head) + bytes.fromhex(total) + said + bytes(480 - len(said))
+
+
+def raw_sector(head, payload):
+    """A sector of any bytes 0..28 and 32..512, with its right sum."""
+    return head + struct.pack(">I", crc32(head + payload)) + payload
+
+
+def sector(kind, unit, generation, serial, payload=b""):
+    head = struct.pack(">4sBBHIQQ", b"IPL1", kind, 1, len(payload), unit, generation, serial)
+    return raw_sector(head, payload + bytes(480 - len(payload)))
+
+
+def data_header(generation, units=1, counts=None, carried=0, unit=0, serial=None):
+    """A data header; counts has the number of base sectors of some pages, by page."""
+    numbers = bytes((counts or {}).get(page, 0) for page in range(15))
+    payload = struct.pack(">I", units) + numbers + bytes([carried])
+    return sector(DATA, unit, generation, generation if serial is None else serial, payload)
+
+
+def status_header(generation, units=1, serial=None):
+    serial = generation if serial is None else serial
+    return sector(STATUS, 0, generation, serial, struct.pack(">I", units))
+
+
+def overflow_header(generation, units=1):
+    return sector(OVERFLOW, 0, generation, generation, struct.pack(">I", units))
+
+
+def text_of(slots):
+    """The text of a page from its values by slot."""
+    return b"".join(bytes([slot, len(slots[slot])]) + slots[slot] for slot in sorted(slots))
+
+
+def base(generation, page, text, piece=0, unit=0):
+    return sector(BASE, unit, generation, 16 * page + piece, text)
+
+
+def record(page, slot, transaction, value=None):
+    """A log record; without a value it is a delete."""
+    kind = DELETE if value is None else PUT
+    said = value or b""
+    return struct.pack(">BBBBQ", page, kind, slot, len(said), transaction) + said
+
+
+def log(generation, serial, *records, unit=0):
+    return sector(LOG, unit, generation, serial, b"".join(records))
+
+
+def commit(generation, serial, *numbers):
+    return sector(COMMIT, 0, generation, serial, struct.pack(f">{len(numbers)}Q", *numbers))
+
+
+class Image:
+    """The bytes of a chip, erased at first."""
+
+    def __init__(self, places=5):
+        self.bytes = bytearray(b"\xff") * (places * PLACE_BYTES)
+
+    def put(self, place, number, contents):
+        at = (place * 256 + number) * SECTOR_BYTES
+        self.bytes[at:at + SECTOR_BYTES] = contents
+        return self
+
+    def erase(self, place):
+        self.bytes[place * PLACE_BYTES:(place + 1) * PLACE_BYTES] = b"\xff" * PLACE_BYTES
+        return self
+
+    def flip(self, place, number, byte):
+        """Changes a bit of one byte of a sector."""
+        self.bytes[(place * 256 + number) * SECTOR_BYTES + byte] ^= 1
+        return self
+
+
+def formatted(places=5):
+    """A chip just formatted: each unit at the place of its number, and then the status."""
+    image = Image(places)
+    units = places - 4
+    for unit in range(units):
+        image.put(unit, 0, data_header(1 + unit, units, unit=unit))
+    return image.put(units, 0, status_header(1 + units, units))
+
+
+def first_record():
+    """Case "One record, byte for byte" of docs/CASES.md, after its first commit."""
+    image = formatted()
+    image.put(2, 1, spelled(*BASE_SECTOR))
+    return image.put(2, 0, data_header(4, counts={0: 1}))
+
+
+def meter():
+    """The chip after examples/meter.ipl, a unit written anew at places 2, 0 and 2 in turn.
+
+    The numbers: 3 begins and 4 is its place's generation, then 5 and 6, 7 and 8; 9 and 10 begin
+    transactions that write nothing that lasts."""
+    page_0 = text_of({0: b"M4711-03", 1: b"\x02"})
+    january = bytes.fromhex("20260131001398cc")
+    february = bytes.fromhex("2026022800173856")
+    image = Image().put(1, 0, status_header(2))
+    image.put(0, 0, data_header(6, counts={0: 1, 1: 1}))
+    image.put(0, 1, base(6, 0, page_0)).put(0, 17, base(6, 1, text_of({0: january})))
+    image.put(2, 0, data_header(8, counts={0: 1, 1: 1})).put(2, 1, base(8, 0, page_0))
+    return image.put(2, 17, base(8, 1, text_of({0: january, 1: february})))
+
+
+def opened():
+    """A chip formatted and opened: status header 3 at place 2, before the first commit."""
+    return formatted().put(2, 0, status_header(3))
+
+
+def sixteen_commits():
+    """The second case of power cuts of docs/CASES.md before its last three programs.
+
+    Fifteen commits of one byte at name 5: the n-th has number, log serial and commit serial in
+    a row, but for the first one, whose place has generation 5."""
+    image = opened().put(1, 0, data_header(5))
+    image.put(1, 241, log(5, 6, record(0, 5, 4, b"\x01"))).put(2, 1, commit(3, 7, 4))
+    for turn in range(2, 16):
+        number = 8 + 3 * (turn - 2)
+        image.put(1, 240 + turn, log(5, number + 1, record(0, 5, number, bytes([turn]))))
+        image.put(2, turn, commit(3, number + 2, number))
+    return image
+
+
+def full_log():
+    """The third case of power cuts of docs/CASES.md before its overflow place is taken."""
+    image = opened().put(1, 0, data_header(5))
+    for index in range(9):
+        names = range(4 * index, 4 * index + 4)
+        image.put(1, 241 + index, log(5, 6 + index, *(record(0, n, 4, b"x" * 108) for n in names)))
+    for turn in range(1, 7):
+        number = 15 + 3 * (turn - 1)
+        image.put(1, 249 + turn, log(5, number + 1, record(1, 0, number, bytes([turn]))))
+        image.put(2, turn, commit(3, number + 2, number))
+    return image.erase(0)
+
+
+def merged_log():
+    """The third case of power cuts of docs/CASES.md at its end."""
+    image = full_log().put(0, 0, overflow_header(34))
+    image.put(0, 1, log(5, 35, record(1, 0, 33, b"\x07"))).put(2, 7, commit(3, 36, 33))
+    image.put(3, 17, base(38, 1, text_of({0: b"\x07"}))).put(3, 0, data_header(38, counts={1: 1}))
+    image.put(3, 241, log(38, 39, record(1, 0, 37, b"\x08")))
+    return image.put(2, 8, commit(3, 40, 37))
