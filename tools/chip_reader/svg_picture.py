@@ -7,7 +7,7 @@ from dataclasses import dataclass
 from typing import Dict, Iterator, List, Tuple
 from xml.sax.saxutils import escape
 
-from .marks import ChipMarks, Fill, PlaceMark, Use
+from .marks import ChipMarks, Fill, PlaceMark
 from .sectors import FIRST_LOG_SECTOR, SECTORS
 
 CELLS_IN_ROW = 32
@@ -25,17 +25,18 @@ COMMIT_COLOUR = "#7b2cbf"
 FAULT_COLOUR = "#d62828"
 BASE_COLOUR = "#3a86c8"
 LOG_COLOUR = "#f4a300"
+STROKE_COLOUR = "#333333"
+EDGE_COLOUR = "#8a8f98"
+LINE_COLOUR = "#c4c8ce"
 
-COLOURS = {
+PAINTS = {
     Fill.HEADER: HEADER_COLOUR, Fill.OLD_HEADER: HEADER_COLOUR,
     Fill.COMMIT: COMMIT_COLOUR, Fill.OLD_COMMIT: COMMIT_COLOUR,
     Fill.BASE: BASE_COLOUR, Fill.OLD_BASE: BASE_COLOUR,
     Fill.LOG: LOG_COLOUR, Fill.OLD_LOG: LOG_COLOUR,
-    Fill.FAULT: FAULT_COLOUR,
+    Fill.TORN: "url(#torn)", Fill.STRANGE: "url(#strange)", Fill.FAULT: "url(#fault)",
 }
 LEFT_OVER = {Fill.OLD_HEADER, Fill.OLD_BASE, Fill.OLD_LOG, Fill.OLD_COMMIT}
-# What is drawn as strokes within the cell: a cross, or one slanted line.
-STROKE_COLOURS = {Fill.TORN: "#333333", Fill.STRANGE: "#333333", Fill.FAULT: "#ffffff"}
 
 STYLE = """\
 text { font-family: sans-serif; font-size: 12px; fill: #1b1b1b; }
@@ -66,9 +67,13 @@ class Sheet:
     def column_width(self) -> int:
         return self.label_width + self.grid_width + MARGIN
 
+    @property
+    def width(self) -> int:
+        return MARGIN + self.columns * self.column_width
+
 
 LARGE_CELLS = Sheet(cell=12, columns=1, label_width=210, row_height=112, has_numbers=True)
-SMALL_CELLS = Sheet(cell=5, columns=4, label_width=150, row_height=72, has_numbers=False)
+SMALL_CELLS = Sheet(cell=6, columns=4, label_width=150, row_height=60, has_numbers=False)
 
 Runs = List[Tuple[int, int, int]]
 
@@ -100,38 +105,21 @@ def bar(cell: int, row: int, column: int, count: int, is_half: bool) -> str:
     return f"M{column * cell} {top:g}h{width}v{height}h-{width}z"
 
 
-def strokes(cell: int, row: int, column: int, is_cross: bool) -> str:
-    """The lines within one cell: a cross, or one slanted line."""
-    gap = cell / 5
-    length = cell - 2 * gap
-    left, top = column * cell + gap, row * cell + gap
-    slanted = f"M{left:g} {top + length:g}l{length:g} -{length:g}"
-    return slanted + (f"M{left:g} {top:g}l{length:g} {length:g}" if is_cross else "")
-
-
-def fill_paths(sheet: Sheet, fill: Fill, runs: Runs) -> Iterator[str]:
+def fill_path(sheet: Sheet, fill: Fill, runs: Runs) -> str:
     """All cells of one fill in a place."""
-    if fill in COLOURS:
-        is_half = fill in LEFT_OVER
-        outline = "".join(bar(sheet.cell, *run, is_half) for run in runs)
-        yield f'<path fill="{COLOURS[fill]}" d="{outline}"/>'
-    if fill in STROKE_COLOURS:
-        cells = ((row, first + step) for row, first, count in runs for step in range(count))
-        lines = "".join(strokes(sheet.cell, *cell, fill != Fill.STRANGE) for cell in cells)
-        width = 1.5 if sheet.has_numbers else 1
-        colour = STROKE_COLOURS[fill]
-        yield f'<path fill="none" stroke="{colour}" stroke-width="{width}" d="{lines}"/>'
+    outline = "".join(bar(sheet.cell, *run, fill in LEFT_OVER) for run in runs)
+    return f'<path fill="{PAINTS[fill]}" d="{outline}"/>'
 
 
 def grid(sheet: Sheet) -> str:
     """The lines between cells, over a place; the fills lie below them."""
     size = f'width="{sheet.grid_width}" height="{sheet.grid_height}"'
-    return f'<rect {size} fill="url(#cells)" stroke="#8a8f98" stroke-width="0.5"/>'
+    return f'<rect {size} fill="url(#cells)" stroke="{EDGE_COLOUR}" stroke-width="0.5"/>'
 
 
 def dashed(x: int, y: int, width: int, height: int) -> str:
     size = f'x="{x}" y="{y}" width="{width}" height="{height}"'
-    return f'<rect {size} fill="none" stroke="#333333" stroke-dasharray="3 2"/>'
+    return f'<rect {size} fill="none" stroke="{STROKE_COLOUR}" stroke-dasharray="3 2"/>'
 
 
 def log_outline(sheet: Sheet) -> str:
@@ -143,10 +131,9 @@ def log_outline(sheet: Sheet) -> str:
 
 def label(sheet: Sheet, mark: PlaceMark) -> Iterator[str]:
     """The words beside a place, and the numbers of the first sector of each row."""
-    words = [mark.kind, mark.numbers, "" if mark.use == Use.FREE else mark.use.value]
-    yield text_at(-sheet.label_width, 11, f"place {mark.place}", "place")
-    for line, said in enumerate(filter(None, words), start=1):
-        yield text_at(-sheet.label_width, 11 + line * (LINE - 1), said)
+    yield text_at(-sheet.label_width, 11, f"place {mark.place}: {mark.use.value}", "place")
+    yield text_at(-sheet.label_width, 11 + LINE, mark.kind)
+    yield text_at(-sheet.label_width, 11 + 2 * LINE, mark.numbers)
     for row in range(ROWS if sheet.has_numbers else 0):
         yield text_at(-5, (row + 0.8) * sheet.cell, str(row * CELLS_IN_ROW), "small")
 
@@ -155,34 +142,34 @@ def place_group(sheet: Sheet, mark: PlaceMark, x: int, y: int) -> str:
     """A place with its label, its grid's upper left corner at this point."""
     parts = [f'<g transform="translate({x} {y})">', *label(sheet, mark)]
     for fill, runs in runs_by_fill(mark.fills).items():
-        parts.extend(fill_paths(sheet, fill, runs))
+        parts.append(fill_path(sheet, fill, runs))
     parts.append(grid(sheet))
     if mark.kind.startswith("data"):
         parts.append(log_outline(sheet))
     return "\n".join([*parts, "</g>"])
 
 
-def sample(fill: Fill) -> str:
-    """One cell of a fill."""
-    size = f'width="{LARGE_CELLS.cell}" height="{LARGE_CELLS.cell}"'
-    drawn = "" if fill == Fill.ERASED else "".join(fill_paths(LARGE_CELLS, fill, [(0, 0, 1)]))
-    return f'{drawn}<rect {size} fill="none" stroke="#8a8f98" stroke-width="0.5"/>'
+def sample(sheet: Sheet, fill: Fill) -> str:
+    """One cell of a fill, as large as large cells are."""
+    drawn = "" if fill == Fill.ERASED else fill_path(sheet, fill, [(0, 0, 1)])
+    edge = f'<rect width="{sheet.cell}" height="{sheet.cell}" fill="none" stroke="{EDGE_COLOUR}"/>'
+    return f'<g transform="scale({LARGE_CELLS.cell / sheet.cell:g})">{drawn}{edge}</g>'
 
 
-def legend_entries() -> List[Tuple[str, str]]:
+def legend_entries(sheet: Sheet) -> List[Tuple[str, str]]:
     """What is drawn in a picture, each with its words."""
     cell = LARGE_CELLS.cell
     outline = dashed(0, 0, cell, cell), "around the log sectors of a data place"
-    return [*((sample(fill), fill.words) for fill in Fill), outline]
+    return [*((sample(sheet, fill), fill.words) for fill in Fill), outline]
 
 
-def legend(width: int, top: int) -> Tuple[List[str], int]:
+def legend(sheet: Sheet, top: int) -> Tuple[List[str], int]:
     """The legend in rows that are no wider than the picture, and where the rows end."""
     parts = []
     x, y, cell = MARGIN, top, LARGE_CELLS.cell
-    for drawn, words in legend_entries():
+    for drawn, words in legend_entries(sheet):
         needed = cell + 24 + int(LETTER * len(words))
-        if x + needed > width:
+        if x + needed > sheet.width:
             x, y = MARGIN, y + LINE + 4
         said = text_at(cell + 6, cell - 2, words)
         parts.append(f'<g transform="translate({x} {y})">{drawn}{said}</g>')
@@ -213,25 +200,38 @@ def place_groups(sheet: Sheet, marks: ChipMarks, top: int) -> Tuple[List[str], i
     return parts, top + rows * sheet.row_height
 
 
-def cell_pattern(sheet: Sheet) -> str:
+def pattern(sheet: Sheet, name: str, drawn: str) -> str:
+    """A drawing that stands in each cell of what is filled with it."""
     size = f'width="{sheet.cell}" height="{sheet.cell}"'
-    lines = f'<path d="M{sheet.cell} 0H0V{sheet.cell}" fill="none" stroke="#c4c8ce"/>'
-    return f'<pattern id="cells" {size} patternUnits="userSpaceOnUse">{lines}</pattern>'
+    return f'<pattern id="{name}" {size} patternUnits="userSpaceOnUse">{drawn}</pattern>'
+
+
+def patterns(sheet: Sheet) -> Iterator[str]:
+    """The lines between cells, and the cells that are more than one colour."""
+    cell, near, far = sheet.cell, sheet.cell / 5, sheet.cell * 4 / 5
+    slanted = f"M{near:g} {far:g}L{far:g} {near:g}"
+    cross = f"{slanted}M{near:g} {near:g}L{far:g} {far:g}"
+    stroke = f'fill="none" stroke-width="{cell / 8:g}"'
+    whole = f'<rect width="{cell}" height="{cell}" fill="{FAULT_COLOUR}"/>'
+    lines = f'<path d="M{cell} 0H0V{cell}" fill="none" stroke="{LINE_COLOUR}"/>'
+    yield pattern(sheet, "cells", lines)
+    yield pattern(sheet, "torn", f'<path d="{cross}" stroke="{STROKE_COLOUR}" {stroke}/>')
+    yield pattern(sheet, "strange", f'<path d="{slanted}" stroke="{STROKE_COLOUR}" {stroke}/>')
+    yield pattern(sheet, "fault", f'{whole}<path d="{cross}" stroke="#ffffff" {stroke}/>')
 
 
 def svg_picture(marks: ChipMarks) -> str:
     sheet = LARGE_CELLS if len(marks.places) <= MOST_IN_ONE_COLUMN else SMALL_CELLS
-    width = MARGIN + sheet.columns * sheet.column_width
     head, top = heading(marks)
-    entries, top = legend(width, top)
+    entries, top = legend(sheet, top)
     groups, height = place_groups(sheet, marks, top + MARGIN)
-    size = f'width="{width}" height="{height}" viewBox="0 0 {width} {height}"'
+    size = f'width="{sheet.width}" height="{height}"'
     parts = [
         '<?xml version="1.0" encoding="UTF-8"?>',
-        f'<svg xmlns="http://www.w3.org/2000/svg" {size}>',
+        f'<svg xmlns="http://www.w3.org/2000/svg" {size} viewBox="0 0 {sheet.width} {height}">',
         f"<title>{escape(marks.lines[0])}</title>",
         f"<style>\n{STYLE}\n</style>",
-        f"<defs>{cell_pattern(sheet)}</defs>",
-        f'<rect width="{width}" height="{height}" fill="#ffffff"/>',
+        "<defs>", *patterns(sheet), "</defs>",
+        f'<rect {size} fill="#ffffff"/>',
         *head, *entries, *groups, "</svg>"]
     return "\n".join(parts) + "\n"
