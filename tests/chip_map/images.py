@@ -7,10 +7,12 @@ DATA, STATUS, OVERFLOW, BASE, LOG, COMMIT = range(1, 7)
 PUT, DELETE = 1, 2
 
 # The examples at the end of docs/FORMAT.md: bytes 0..28 of a sector, its sum, its payload.
-FORMATTED_HEADER = ("49 50 4c 31 01 01 00 14 00 00 00 00 00 00 00 00 00 00 00 01 00 00 00 00 00 00 00 01",
-                    "06 e4 b2 58", "00 00 00 01" + 16 * " 00")
-BASE_SECTOR = ("49 50 4c 31 04 01 00 04 00 00 00 00 00 00 00 00 00 00 00 04 00 00 00 00 00 00 00 00",
-               "d0 98 d1 48", "05 02 68 69")
+FORMATTED_HEADER = (
+    "49 50 4c 31 01 01 00 14 00 00 00 00 00 00 00 00 00 00 00 01 00 00 00 00 00 00 00 01",
+    "06 e4 b2 58", "00 00 00 01" + 16 * " 00")
+BASE_SECTOR = (
+    "49 50 4c 31 04 01 00 04 00 00 00 00 00 00 00 00 00 00 00 04 00 00 00 00 00 00 00 00",
+    "d0 98 d1 48", "05 02 68 69")
 PUT_RECORD = bytes.fromhex("00 01 05 02 00 00 00 00 00 00 00 07 68 69")
 DELETE_RECORD = bytes.fromhex("0e 02 3f 00 00 00 00 00 00 00 00 04")
 PAGE_TEXT = bytes.fromhex("00 02 68 69 03 00")

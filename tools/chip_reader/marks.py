@@ -1,13 +1,14 @@
-"""What a picture of a chip marks: each sector's fill, each place's label, and a few lines over all."""
+"""What a picture marks: the fill of each sector, the words for each place, a few lines over all."""
 from __future__ import annotations
 
 from dataclasses import dataclass
 from enum import Enum
 from typing import Iterable, Iterator, List, Optional, Set
 
-from .recovery import (Fault, Layout, Spot, faults, greatest_found, missing_units, records,
-                       unit_log)
+from .faults import faults, greatest_found, missing_units
+from .layout import Layout, Spot
 from .sectors import Bad, Erased, Kind, SECTORS, Sector, Strange
+from .values import Fault, records, unit_log
 
 MOST_FAULTS = 12
 MOST_RANGES = 12
@@ -164,7 +165,9 @@ def log_line(layout: Layout) -> str:
 def summary(layout: Layout, found_faults: List[Fault]) -> List[str]:
     """The lines over all: the size, what the chip stands for, its log, its numbers."""
     size = f"{len(layout.chart)} places and {counted(layout.units, 'unit')}"
-    holds = "no records are listed, for its faults" if found_faults else counted(len(records(layout)), "record")
+    holds = "no records are listed, for its faults"
+    if not found_faults:
+        holds = counted(len(records(layout)), "record")
     numbers = counted(len(layout.committed), "committed number")
     lines = [f"chip of {size}: {holds}", f"{numbers}; {log_line(layout)}",
              f"greatest number found: {greatest_found(layout)}"]

@@ -1,0 +1,162 @@
+"""Cases of what is wrong with a chip, and of which fault is told first."""
+from asking import Picture, case, wants, wants_fault, wants_letters, wants_records
+from images import (COMMIT, DATA, LOG, OVERFLOW, PUT_RECORD, STATUS, base, commit, data_header,
+                    first_record, formatted, log, overflow_header, raw_sector, record, sector,
+                    text_of)
+
+
+@case
+def a_damaged_base_sector_is_named_with_its_sums():
+    image = first_record()
+    image.bytes[262691] = ord("j")
+    note = "damaged place 2 sector 1 stored d098d148 computed 5574a417"
+    wants_fault("a changed byte", image, note)
+    wants_letters("a changed byte", image, (2, 0, "H!."))
+
+
+@case
+def a_long_page_stands_in_pieces():
+    slots = {slot: bytes([slot]) * 108 for slot in range(64)}
+    pieces = [text_of(slots)[at:at + 480] for at in range(0, 7040, 480)]
+    image = formatted().put(2, 0, data_header(5, counts={14: 15}))
+    for piece, text in enumerate(pieces):
+        image.put(2, 225 + piece, base(5, 14, text, piece))
+    wants_records("a page of 64 records", image, [f"{896 + n} {slots[n].hex()}" for n in range(64)])
+    wants_letters("a page of 64 records", image, (2, 224, "." + 15 * "B" + ".."))
+    image.put(2, 230, b"\xff" * 512)
+    wants_fault("a piece is missing", image, "malformed place 2 sector 230")
+    wants_letters("a piece is missing", image, (2, 224, ".BBBBB!BBBBBBBBB"))
+
+
+@case
+def texts_that_are_no_page_are_malformed():
+    texts = ["03 00 00 00", "03 00 03 00", "40 00", "00 6d" + 109 * " 00", "00 02 68",
+             "00 02 68 69 03"]
+    for text in texts:
+        image = first_record().put(2, 1, base(4, 0, bytes.fromhex(text)))
+        wants_fault(text, image, "malformed place 2 sector 1")
+
+
+@case
+def base_sectors_of_other_pages_are_malformed():
+    text = text_of({5: b"hi"})
+    others = [base(5, 0, text), base(4, 1, text), base(4, 0, text, piece=1),
+              base(4, 0, text, unit=1), sector(LOG, 0, 4, 0, text), base(4, 0, b""), b"\xff" * 512,
+              raw_sector(base(4, 0, text)[:28], text + bytes(475) + b"\x01")]
+    for other in others:
+        wants_fault("another sector", first_record().put(2, 1, other), "malformed place 2 sector 1")
+
+
+@case
+def log_payloads_out_of_the_grammar_are_malformed():
+    payloads = [b"\x00\x03" + PUT_RECORD[2:], b"\x00\x02\x05\x01" + bytes(8) + b"a",
+                PUT_RECORD[:11], b"\x0f" + PUT_RECORD[1:], b"\x00\x01\x40" + PUT_RECORD[3:],
+                PUT_RECORD[:-1], PUT_RECORD + b"\x00", record(0, 0, 4, b"x" * 109)]
+    for payload in payloads:
+        image = formatted().put(0, 250, sector(LOG, 0, 1, 9, payload))
+        wants_fault(payload.hex(), image, "malformed place 0 sector 250")
+        wants_records("dead ones", formatted().put(0, 250, sector(LOG, 0, 3, 9, payload)), [])
+    wants_records("an empty one", formatted().put(0, 250, log(1, 9)), [])
+
+
+@case
+def commit_payloads_out_of_the_grammar_are_malformed():
+    for payload in (b"", bytes(12), bytes(7)):
+        image = formatted().put(1, 3, sector(COMMIT, 0, 2, 9, payload))
+        wants_fault(payload.hex(), image, "malformed place 1 sector 3")
+        wants_letters("at fault", image, (1, 0, "H..!."))
+    wants_records("sixty numbers", formatted().put(1, 255, commit(2, 9, *range(60))), [])
+
+
+@case
+def header_payloads_out_of_the_grammar_are_malformed():
+    said = data_header(1)[32:52]
+    payloads = [said[:19], said + b"\x00", said[:2], said[:4] + b"\x11" + said[5:],
+                said[:19] + b"\x0d"]
+    for payload in payloads:
+        image = formatted().put(0, 0, sector(DATA, 0, 1, 1, payload))
+        wants_fault(payload.hex(), image, "malformed place 0 sector 0")
+    for payload in (b"", said[:3], said[:4] + b"\x00"):
+        image = formatted().put(1, 0, sector(STATUS, 0, 2, 2, payload))
+        wants_fault(payload.hex(), image, "malformed place 1 sector 0")
+    other = formatted().put(3, 0, sector(OVERFLOW, 0, 4, 4, b"anything"))
+    wants_records("an overflow header's payload isn't looked at", other, [])
+
+
+@case
+def faults_come_in_the_order_of_telling():
+    # From the last group to the first: each fault is put before those that are there already.
+    image = formatted(8)
+    steps = [(2, 0, data_header(30, 4, {0: 1}, unit=2), "malformed place 2 sector 1"),
+             (0, 250, log(1, 2 ** 63), "numbers spent"),
+             (0, 241, log(1, 2 ** 63), "malformed place 0 sector 250"),
+             (4, 9, sector(COMMIT, 0, 5, 40), "malformed place 4 sector 9"),
+             (4, 0, sector(STATUS, 0, 5, 5, b"\x00\x00\x00\x04\x00"), "malformed place 4 sector 0"),
+             (3, 0, sector(DATA, 3, 4, 4, b"\x00\x00\x00\x04"), "malformed place 3 sector 0"),
+             (1, 0, b"\xff" * 512, "missing unit 1"),
+             (0, 0, data_header(1, 5), "geometry"),
+             (4, 0, b"\xff" * 512, "not formatted")]
+    for place, number, contents, note in steps:
+        wants_fault(note, image.put(place, number, contents), note)
+
+
+@case
+def at_most_sixteen_log_sectors_of_a_unit_stand_elsewhere():
+    image = formatted(6).put(3, 0, overflow_header(5, 2))
+    for number in range(1, 17):
+        image.put(3, number, log(1, 10 + number, record(0, 0, 9, b"")))
+    image.put(3, 200, log(2, 50, record(0, 0, 9, b""), unit=1))
+    wants_records("sixteen", image, [])
+    image.put(3, 30, log(1, 60))
+    wants_fault("seventeen", image, "malformed place 3 sector 30")
+    image.put(0, 241, log(1, 61))
+    wants_fault("seventeen and one at home", image, "malformed place 3 sector 30")
+
+
+@case
+def at_most_two_overflow_places_are_in_use():
+    image = formatted(7)
+    for place in (4, 5, 6):
+        image.put(place, 0, overflow_header(place, 3)).put(place, 1, log(9, 10 + place))
+    wants_records("none is in use", image, [])
+    for place in (4, 5, 6):
+        image.put(place, 2, log(1, 20 + place))
+    wants_fault("three are in use", image, "no spare 3")
+
+
+@case
+def two_live_log_sectors_with_one_serial_are_malformed():
+    image = formatted().put(0, 241, log(1, 9)).put(0, 251, log(1, 8)).put(0, 255, log(1, 9))
+    wants_fault("one serial", image, "malformed place 0 sector 255")
+
+
+@case
+def a_number_of_2_to_the_63_is_spent():
+    wants_records("below", formatted().put(0, 241, log(1, 2 ** 63 - 1)), [])
+    wants_fault("at the limit", formatted().put(0, 241, log(1, 2 ** 63)), "numbers spent")
+
+
+@case
+def strange_sectors_are_told_from_torn_ones():
+    whole = log(1, 9, record(0, 0, 4, b"\x01"))
+    head, payload = whole[:28], whole[32:]
+    strange = [(b"IPL2" + head[4:], payload), (head[:4] + b"\x07" + head[5:], payload),
+               (head[:4] + b"\x00" + head[5:], payload), (head[:5] + b"\x02" + head[6:], payload),
+               (head[:6] + b"\x01\xe1" + head[8:], payload), (head, payload[:479] + b"\x01")]
+    for parts in strange:
+        image = formatted().put(0, 241, raw_sector(*parts)).put(1, 1, commit(2, 9, 4))
+        wants_letters("strange", image, (0, 241, "?."))
+        wants_records("strange", image, [])
+    image = formatted().put(0, 241, whole).flip(0, 241, 40).put(1, 1, commit(2, 9, 4))
+    wants_letters("torn", image, (0, 241, "x."))
+    wants_records("torn", image, [])
+
+
+@case
+def units_without_a_header_are_said():
+    image = formatted(12)
+    for place in (1, 3, 4, 5):
+        image.erase(place)
+    head = Picture(image).head
+    wants("missing", "units without a current header: 1, 3 to 5" in head, True)
+    wants_fault("the least one", image, "missing unit 1")

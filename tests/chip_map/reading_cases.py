@@ -1,0 +1,229 @@
+"""Cases of what counts on a chip and which records it stands for."""
+from asking import Picture, case, wants, wants_fault, wants_letters, wants_records
+from images import (BASE_SECTOR, DELETE_RECORD, FORMATTED_HEADER, Image, LOG, PAGE_TEXT, PUT_RECORD,
+                    base, commit, crc32, data_header, first_record, formatted, full_log, log,
+                    merged_log, overflow_header, record, sector, sixteen_commits, spelled,
+                    status_header, text_of)
+
+
+@case
+def sums_are_those_of_the_format():
+    wants("sum of 123456789", crc32(b"123456789"), 0xCBF43926)
+    wants("sum of no bytes", crc32(b""), 0)
+    wants("sum of 512 bytes FF", crc32(b"\xff" * 512), 0xBD7BC39F)
+    wants("the worked header", data_header(1), spelled(*FORMATTED_HEADER))
+    wants("the worked base sector", base(4, 0, b"\x05\x02hi"), spelled(*BASE_SECTOR))
+    wants("the worked put", record(0, 5, 7, b"hi"), PUT_RECORD)
+    wants("the worked delete", record(14, 63, 4), DELETE_RECORD)
+    wants("the worked text", text_of({3: b"", 0: b"hi"}), PAGE_TEXT)
+
+
+@case
+def a_blank_chip_shows_its_places():
+    picture = Picture(Image())
+    wants("labels", picture.labels, dict.fromkeys(range(5), "erased, free"))
+    wants("rows", picture.rows, {})
+    wants("faults", picture.faults, ["not formatted", "missing unit 0"])
+    wants_fault("a blank chip", Image(), "not formatted")
+
+
+@case
+def a_formatted_chip_has_no_records():
+    image = Image().put(0, 0, spelled(*FORMATTED_HEADER)).put(1, 0, status_header(2))
+    picture = wants_letters("a formatted chip", image, (0, 0, "H."), (1, 0, "H."))
+    wants("place 0", picture.labels[0], "data of unit 0, generation 1, current")
+    wants("place 1", picture.labels[1], "status, generation 2, current")
+    wants("place 2", picture.labels[2], "erased, free")
+    wants("faults", picture.faults, [])
+    wants("greatest number found", picture.number("greatest number found: "), 2)
+    wants_records("a formatted chip", image, [])
+
+
+@case
+def the_worked_record_is_read():
+    image = first_record()
+    picture = wants_letters("one record", image, (0, 0, "h."), (2, 0, "HB."))
+    wants("place 0", picture.labels[0], "data of unit 0, generation 1, left over")
+    wants("place 2", picture.labels[2], "data of unit 0, generation 4, current")
+    wants_records("one record", image, ["5 6869"])
+
+
+@case
+def a_torn_header_leaves_the_one_from_before():
+    for byte in (0, 30, 511):
+        image = first_record().flip(2, 0, byte)
+        picture = wants_letters("a torn header", image, (0, 0, "H."), (2, 0, "xb."))
+        wants("place 2", picture.labels[2], "unreadable header, left over")
+        wants("place 0", picture.labels[0], "data of unit 0, generation 1, current")
+        wants_records("a torn header", image, [])
+
+
+@case
+def a_header_that_is_not_written_yet_counts_for_nothing():
+    image = first_record().put(2, 0, b"\xff" * 512)
+    picture = wants_letters("no header", image, (0, 0, "H."), (2, 0, ".b."))
+    wants("place 2", picture.labels[2], "no header, left over")
+    wants_records("no header", image, [])
+
+
+@case
+def the_younger_header_of_a_unit_counts():
+    # Each: generation and serial of the header at place 0 and at place 2, and which one wins.
+    for first, second, winner in [((7, 7), (4, 4), 0), ((4, 4), (7, 7), 2), ((4, 4), (4, 4), 0),
+                                  ((9, 4), (3, 5), 2), ((3, 5), (9, 5), 0)]:
+        image = formatted()
+        for place, (generation, serial), value in [(0, first, b"\x01"), (2, second, b"\x02")]:
+            image.put(place, 0, data_header(generation, counts={0: 1}, serial=serial))
+            image.put(place, 1, base(generation, 0, text_of({0: value})))
+        wants_records(f"{first} against {second}", image, ["0 01" if winner == 0 else "0 02"])
+        wants_letters("winner", image, (winner, 0, "HB."), (2 - winner, 0, "hb."))
+
+
+@case
+def the_younger_status_counts_with_its_own_commits():
+    image = formatted().put(0, 241, log(1, 5, record(0, 0, 4, b"\x01"), record(0, 1, 6, b"\x02")))
+    image.put(1, 1, commit(2, 7, 4)).put(1, 2, commit(3, 8, 6))
+    wants_records("one status place", image, ["0 01"])
+    image.put(3, 0, status_header(9)).put(3, 255, commit(9, 10, 6))
+    wants_records("a younger one", image, ["1 02"])
+    wants_letters("two", image, (1, 0, "hcc."), (3, 0, "H."), (3, 254, ".C"))
+
+
+@case
+def only_records_of_committed_transactions_count():
+    # 4 is committed, 5 was aborted, 6 is open; the serials run against the sectors.
+    image = first_record().put(1, 1, commit(2, 20, 10, 11))
+    image.put(2, 243, log(4, 12, record(0, 5, 10), record(0, 6, 10, b"\x01"), PUT_RECORD))
+    image.put(2, 242, log(4, 13, record(14, 63, 11, b"\xaa"), record(0, 6, 11, b"\x02")))
+    image.put(2, 241, log(4, 14, record(0, 7, 15, b"\x03"), record(14, 63, 16)))
+    wants_records("a log", image, ["6 02", "959 aa"])
+    picture = wants_letters("a log", image, (2, 240, ".LLL."), (1, 0, "HC."))
+    wants("log", picture.head[1], "2 committed numbers; 3 live log sectors with 7 records, "
+                                  "4 of them committed")
+
+
+@case
+def an_empty_value_is_a_record():
+    image = formatted().put(0, 241, log(1, 4, record(0, 3, 3, b""), record(0, 4, 3, b"")))
+    image.put(1, 1, commit(2, 5, 3)).put(0, 242, log(1, 6, record(0, 4, 3)))
+    wants_records("an empty value", image, ["3 -"])
+
+
+@case
+def a_log_sector_elsewhere_is_not_live():
+    dead = [(0, 240, log(1, 9, record(0, 0, 4, b"\x01"))),
+            (0, 241, log(2, 9, record(0, 0, 4, b"\x01"))),
+            (0, 241, log(1, 9, record(0, 0, 4, b"\x01"), unit=1)),
+            (1, 241, log(1, 9, record(0, 0, 4, b"\x01"))),
+            (2, 241, log(1, 9, record(0, 0, 4, b"\x01")))]
+    for place, number, contents in dead:
+        image = formatted().put(1, 1, commit(2, 5, 4)).put(place, number, contents)
+        wants_records(f"place {place} sector {number}", image, [])
+        wants_letters("dead", image, (place, number, "l"))
+
+
+@case
+def an_overflow_place_with_live_log_sectors_is_current():
+    image = formatted().put(1, 1, commit(2, 9, 3)).put(3, 0, overflow_header(4))
+    image.put(3, 1, log(1, 5, record(1, 0, 3, b"\x01")))
+    image.put(3, 255, log(7, 6, record(0, 0, 3, b"")))
+    picture = wants_letters("overflow", image, (3, 0, "HL."), (3, 254, ".l"))
+    wants("place 3", picture.labels[3], "overflow, generation 4, current")
+    wants_records("overflow", image, ["64 01"])
+    image.put(3, 1, log(8, 5, record(1, 0, 3, b"\x01")))
+    picture = wants_letters("no live sector", image, (3, 0, "hl."))
+    wants("place 3", picture.labels[3], "overflow, generation 4, left over")
+
+
+@case
+def the_logs_of_units_are_apart():
+    image = formatted(7).put(3, 1, commit(4, 20, 9)).put(5, 0, overflow_header(8, 3))
+    image.put(5, 1, log(2, 11, record(0, 0, 9, b"\x01"), unit=1))
+    image.put(5, 2, log(3, 11, record(14, 63, 9, b"\x02"), unit=2))
+    image.put(5, 3, log(3, 12, record(0, 0, 9, b"\x03"), unit=1))
+    image.put(0, 241, log(1, 11, record(0, 0, 9, b"\x04")))
+    wants_records("three units", image, ["0 04", "960 01", "2879 02"])
+    wants_letters("three units", image, (5, 0, "HLLl."))
+
+
+@case
+def power_cuts_of_the_first_case():
+    # The rows of docs/CASES.md: what is programmed next, the greatest number found, the records.
+    image = formatted()
+    rows = [(2, 0, status_header(3), 3, []), (1, 0, data_header(5), 5, []),
+            (1, 241, log(5, 6, record(0, 5, 4, b"hi")), 6, []),
+            (2, 1, commit(3, 7, 4), 7, ["5 6869"])]
+    greatest, lines = 2, []
+    for place, number, contents, greatest_after, lines_after in rows:
+        if (place, number) == (1, 0):
+            image.erase(1)
+        for torn in (b"\xff" * 512, contents[:100] + b"\xff" * 412):
+            image.put(place, number, torn)
+            wants("not whole", Picture(image).number("found: "), greatest)
+            wants_records("not whole", image, lines)
+        greatest, lines = greatest_after, lines_after
+        image.put(place, number, contents)
+        wants("whole", Picture(image).number("found: "), greatest)
+        wants_records("whole", image, lines)
+
+
+@case
+def a_merge_takes_the_log_over():
+    image = sixteen_commits()
+    picture = wants_letters("a full log", image, (1, 240, "." + 15 * "L"),
+                            (2, 0, "H" + 15 * "C" + "."))
+    wants("greatest", picture.number("found: "), 49)
+    wants_records("a full log", image, ["5 0f"])
+    image.erase(0).put(0, 1, base(51, 0, text_of({5: b"\x0f"})))
+    image.put(0, 0, data_header(51, counts={0: 1}))
+    image.put(0, 241, log(51, 52, record(0, 5, 50, b"\x10")))
+    picture = wants_letters("a merge", image, (0, 0, "HB."), (0, 240, ".L."), (1, 0, "h."),
+                            (1, 240, "." + 15 * "l"))
+    wants("greatest", picture.number("found: "), 52)
+    wants_records("a merge", image, ["5 0f"])
+    wants_records("a merge and a commit", image.put(2, 16, commit(3, 53, 50)), ["5 10"])
+
+
+@case
+def an_overflow_place_takes_what_the_log_cannot():
+    image = full_log()
+    wants("greatest", Picture(image).number("found: "), 32)
+    wants_records("before", image, ["64 06"])
+    image.put(0, 0, overflow_header(34)).put(0, 1, log(5, 35, record(1, 0, 33, b"\x07")))
+    picture = wants_letters("elsewhere", image, (0, 0, "HL."), (1, 240, "." + 15 * "L"))
+    wants("greatest", picture.number("found: "), 35)
+    wants_records("elsewhere", image, ["64 06"])
+    wants_records("committed", image.put(2, 7, commit(3, 36, 33)), ["64 07"])
+    picture = wants_letters("merged", merged_log(), (0, 0, "hl."), (1, 240, "." + 15 * "l"),
+                            (2, 0, "H" + 8 * "C"), (3, 0, "H" + 16 * "." + "B."), (3, 240, ".L."))
+    wants("greatest", picture.number("found: "), 40)
+    wants_records("merged", merged_log(), ["64 08"])
+
+
+@case
+def numbers_are_found_where_an_opening_reads():
+    # Each: where the number 99 stands, and whether it is found there.
+    old = [(2, 0, data_header(99, 1, unit=7), True), (2, 0, overflow_header(99), True),
+           (2, 0, data_header(0, serial=99), True), (0, 1, base(99, 0, b"\x00\x00"), False),
+           (0, 241, log(99, 1), True), (0, 241, log(1, 99), True), (0, 240, log(99, 99), False),
+           (0, 241, log(7, 1, record(0, 0, 99, b"")), True), (0, 241, log(1, 1, unit=99), False),
+           (0, 241, sector(LOG, 0, 7, 1, record(0, 0, 99) + b"\x00"), False),
+           (1, 1, commit(2, 99, 1), True), (1, 1, commit(2, 1, 99), True),
+           (1, 1, commit(99, 1, 1), False), (1, 1, log(99, 99), False),
+           (3, 241, log(99, 99), False)]
+    for place, number, contents, is_found in old:
+        image = formatted().put(place, number, contents)
+        what = f"place {place} sector {number} {contents[:32].hex()}"
+        wants(what, Picture(image).number("found: ") == 99, is_found)
+
+
+@case
+def places_are_told_by_their_first_sector():
+    image = formatted(8).put(5, 0, data_header(9, 4, unit=9))
+    image.put(6, 0, log(1, 1)).put(7, 9, log(1, 1))
+    labels = Picture(image).labels
+    wants("place 5", labels[5], "data of unit 9, generation 9, left over")
+    wants("place 6", labels[6], "no header but a log sector, left over")
+    wants("place 7", labels[7], "no header, left over")
+    image = formatted().put(2, 0, data_header(9, serial=8))
+    wants("place 2", Picture(image).labels[2], "data of unit 0, generation 9, serial 8, current")

@@ -1,0 +1,137 @@
+"""What counts on a chip, by docs/RECOVERY.md: the winners of the headers, commits, the live log."""
+from __future__ import annotations
+
+from functools import cached_property
+from typing import Dict, Iterator, List, NamedTuple, Optional, Set, Tuple
+
+from .sectors import (Chart, DataHeader, FIRST_LOG_SECTOR, Kind, MOST_PIECES, SECTORS, SPARE_PLACES,
+                      Sector, SectorClass, data_header, transaction_numbers)
+
+
+class Spot(NamedTuple):
+    """Where a sector stands. Spots are in rising order of place and sector."""
+    place: int
+    sector: int
+
+    def __str__(self) -> str:
+        return f"place {self.place} sector {self.sector}"
+
+
+class Layout:
+    """What counts on a chip: the winners among the headers, the committed numbers, the live log."""
+
+    def __init__(self, chart: Chart) -> None:
+        self.chart = chart
+        self.units = len(chart) - SPARE_PLACES
+
+    def at(self, spot: Spot) -> SectorClass:
+        return self.chart[spot.place][spot.sector]
+
+    def payload_at(self, spot: Spot) -> bytes:
+        """The payload of a sector that checks, else no bytes."""
+        sector = self.at(spot)
+        return sector.payload if isinstance(sector, Sector) else b""
+
+    @cached_property
+    def headers(self) -> Dict[int, Sector]:
+        """The headers that check, by place."""
+        firsts = ((place, sectors[0]) for place, sectors in enumerate(self.chart))
+        return {place: first for place, first in firsts
+                if isinstance(first, Sector) and first.kind.is_header}
+
+    def places_of(self, kind: Kind) -> List[int]:
+        return [place for place, header in self.headers.items() if header.kind == kind]
+
+    def is_younger(self, place: int, other: Optional[int]) -> bool:
+        """Whether the header of a place wins over that of a lower one, if there is any."""
+        return other is None or self.headers[place].serial > self.headers[other].serial
+
+    @cached_property
+    def homes(self) -> Dict[int, int]:
+        """The current place of each unit that has one."""
+        homes: Dict[int, int] = {}
+        for place in self.places_of(Kind.DATA):
+            unit = self.headers[place].unit
+            if unit < self.units and self.is_younger(place, homes.get(unit)):
+                homes[unit] = place
+        return homes
+
+    @cached_property
+    def status(self) -> Optional[int]:
+        """The status place."""
+        status = None
+        for place in self.places_of(Kind.STATUS):
+            if self.is_younger(place, status):
+                status = place
+        return status
+
+    def home_header(self, unit: int) -> Sector:
+        return self.headers[self.homes[unit]]
+
+    def data_header(self, unit: int) -> Optional[DataHeader]:
+        """What the current header of a unit says, where its payload is in the grammar."""
+        return data_header(self.home_header(unit).payload)
+
+    @cached_property
+    def commits(self) -> Dict[Spot, Sector]:
+        """The commit sectors that count, in rising order."""
+        if self.status is None:
+            return {}
+        generation = self.headers[self.status].generation
+        return {spot: sector for spot, sector in self.checked(self.status, 1)
+                if sector.kind == Kind.COMMIT and sector.generation == generation}
+
+    @cached_property
+    def committed(self) -> Set[int]:
+        """The numbers of the committed transactions."""
+        payloads = (transaction_numbers(sector.payload) for sector in self.commits.values())
+        return {number for numbers in payloads for number in numbers or ()}
+
+    def checked(self, place: int, first: int) -> Iterator[Tuple[Spot, Sector]]:
+        """The sectors of a place that check, from one on."""
+        for number in range(first, SECTORS):
+            sector = self.chart[place][number]
+            if isinstance(sector, Sector):
+                yield Spot(place, number), sector
+
+    @cached_property
+    def log_sectors(self) -> Dict[Spot, Sector]:
+        """The log sectors that check where log sectors may stand, live or not, in rising order."""
+        first_log_sector = dict.fromkeys(self.homes.values(), FIRST_LOG_SECTOR)
+        first_log_sector.update(dict.fromkeys(self.places_of(Kind.OVERFLOW), 1))
+        return {spot: sector for place in sorted(first_log_sector)
+                for spot, sector in self.checked(place, first_log_sector[place])
+                if sector.kind == Kind.LOG}
+
+    def is_live(self, spot: Spot, sector: Sector) -> bool:
+        """Whether a log sector counts, that stands where log sectors may stand."""
+        home = self.homes.get(sector.unit)
+        if home is None or sector.generation != self.headers[home].generation:
+            return False
+        return spot.place == home or self.headers[spot.place].kind == Kind.OVERFLOW
+
+    @cached_property
+    def live(self) -> Dict[Spot, Sector]:
+        """The log sectors that count, in rising order of place and sector."""
+        return {spot: sector for spot, sector in self.log_sectors.items()
+                if self.is_live(spot, sector)}
+
+    @cached_property
+    def logs(self) -> Dict[int, List[Spot]]:
+        """The live log sectors of each unit that has some, by rising serial."""
+        logs: Dict[int, List[Spot]] = {}
+        for spot in sorted(self.live, key=lambda spot: self.live[spot].serial):
+            logs.setdefault(self.live[spot].unit, []).append(spot)
+        return logs
+
+    @cached_property
+    def overflow_places(self) -> List[int]:
+        """The overflow places that have live log sectors."""
+        places = {spot.place for spot in self.live}
+        return sorted(places.difference(self.homes.values()))
+
+    def base_spots(self, unit: int, page: int) -> List[Spot]:
+        """Where the base sectors of a page stand, by the unit's current header."""
+        header = self.data_header(unit)
+        count = header.base_counts[page] if header else 0
+        return [Spot(self.homes[unit], 1 + MOST_PIECES * page + piece) for piece in range(count)]
