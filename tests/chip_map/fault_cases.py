@@ -35,6 +35,10 @@ def texts_that_are_no_page_are_malformed():
     for text in texts:
         image = first_record().put(2, 1, base(4, 0, bytes.fromhex(text)))
         wants_fault(text, image, "malformed place 2 sector 1")
+    whole = text_of({slot: b"x" * 108 for slot in range(5)})
+    image = formatted().put(2, 0, data_header(4, counts={3: 2}))
+    image.put(2, 49, base(4, 3, whole[:480])).put(2, 50, base(4, 3, whole[480:-1], piece=1))
+    wants_fault("two pieces, of which the first is named", image, "malformed place 2 sector 49")
 
 
 @case
@@ -107,10 +111,12 @@ def at_most_sixteen_log_sectors_of_a_unit_stand_elsewhere():
         image.put(3, number, log(1, 10 + number, record(0, 0, 9, b"")))
     image.put(3, 200, log(2, 50, record(0, 0, 9, b""), unit=1))
     wants_records("sixteen", image, [])
+    image.erase(0).put(5, 0, data_header(1, 2)).put(5, 241, log(1, 70))
+    wants_records("sixteen, and one at home in a later place", image, [])
     image.put(3, 30, log(1, 60))
     wants_fault("seventeen", image, "malformed place 3 sector 30")
-    image.put(0, 241, log(1, 61))
-    wants_fault("seventeen and one at home", image, "malformed place 3 sector 30")
+    image.put(5, 242, log(1, 61))
+    wants_fault("seventeen and two at home", image, "malformed place 3 sector 30")
 
 
 @case
@@ -118,8 +124,8 @@ def at_most_two_overflow_places_are_in_use():
     image = formatted(7)
     for place in (4, 5, 6):
         image.put(place, 0, overflow_header(place, 3)).put(place, 1, log(9, 10 + place))
-    wants_records("none is in use", image, [])
     for place in (4, 5, 6):
+        wants_records("at most two are in use", image, [])
         image.put(place, 2, log(1, 20 + place))
     wants_fault("three are in use", image, "no spare 3")
 

@@ -120,6 +120,9 @@ def a_log_sector_elsewhere_is_not_live():
         image = formatted().put(1, 1, commit(2, 5, 4)).put(place, number, contents)
         wants_records(f"place {place} sector {number}", image, [])
         wants_letters("dead", image, (place, number, "l"))
+    image = formatted(6).put(2, 1, commit(3, 5, 4))
+    image.put(0, 241, log(2, 9, record(0, 0, 4, b"\x01"), unit=1))
+    wants_records("at the place of another unit", image, [])
 
 
 @case
