@@ -2,7 +2,7 @@
 from asking import Picture, case, wants, wants_fault, wants_letters, wants_records
 from images import (COMMIT, DATA, LOG, OVERFLOW, PUT_RECORD, STATUS, base, commit, data_header,
                     first_record, formatted, log, overflow_header, raw_sector, record, sector,
-                    text_of)
+                    status_header, text_of)
 
 
 @case
@@ -85,6 +85,15 @@ def header_payloads_out_of_the_grammar_are_malformed():
         wants_fault(payload.hex(), image, "malformed place 1 sector 0")
     other = formatted().put(3, 0, sector(OVERFLOW, 0, 4, 4, b"anything"))
     wants_records("an overflow header's payload isn't looked at", other, [])
+
+
+@case
+def headers_of_a_chip_of_another_size_are_told():
+    longer = sector(STATUS, 0, 2, 2, b"\x00\x00\x00\x02\x00")
+    for place, header in [(1, status_header(2, 2)), (1, longer), (0, data_header(1, 2))]:
+        wants_fault("another size", formatted().put(place, 0, header), "geometry")
+    image = formatted().put(2, 0, data_header(1, 2)).put(3, 0, status_header(1, 2))
+    wants_records("left over", image.put(4, 0, overflow_header(9, 2)), [])
 
 
 @case

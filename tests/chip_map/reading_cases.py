@@ -1,9 +1,9 @@
 """Cases of what counts on a chip and which records it stands for."""
 from asking import Picture, case, wants, wants_fault, wants_letters, wants_records
 from images import (BASE_SECTOR, DELETE_RECORD, FORMATTED_HEADER, Image, LOG, PAGE_TEXT, PUT_RECORD,
-                    base, commit, crc32, data_header, first_record, formatted, full_log, log,
-                    merged_log, overflow_header, record, sector, sixteen_commits, spelled,
-                    status_header, text_of)
+                    STATUS_HEADER, base, commit, crc32, data_header, first_record, formatted,
+                    full_log, log, merged_log, overflow_header, record, sector, sixteen_commits,
+                    spelled, status_header, text_of)
 
 
 @case
@@ -12,6 +12,7 @@ def sums_are_those_of_the_format():
     wants("sum of no bytes", crc32(b""), 0)
     wants("sum of 512 bytes FF", crc32(b"\xff" * 512), 0xBD7BC39F)
     wants("the worked header", data_header(1), spelled(*FORMATTED_HEADER))
+    wants("the worked status header", status_header(2), spelled(*STATUS_HEADER))
     wants("the worked base sector", base(4, 0, b"\x05\x02hi"), spelled(*BASE_SECTOR))
     wants("the worked put", record(0, 5, 7, b"hi"), PUT_RECORD)
     wants("the worked delete", record(14, 63, 4), DELETE_RECORD)
@@ -29,7 +30,7 @@ def a_blank_chip_shows_its_places():
 
 @case
 def a_formatted_chip_has_no_records():
-    image = Image().put(0, 0, spelled(*FORMATTED_HEADER)).put(1, 0, status_header(2))
+    image = Image().put(0, 0, spelled(*FORMATTED_HEADER)).put(1, 0, spelled(*STATUS_HEADER))
     picture = wants_letters("a formatted chip", image, (0, 0, "H."), (1, 0, "H."))
     wants("place 0", picture.labels[0], "data of unit 0, generation 1, current")
     wants("place 1", picture.labels[1], "status, generation 2, current")
