@@ -21,13 +21,22 @@ DELETE_RECORD = bytes.fromhex("0e 02 3f 00 00 00 00 00 00 00 00 04")
 PAGE_TEXT = bytes.fromhex("00 02 68 69 03 00")
 
 
+def shifted(register):
+    """A register after eight of the shifts of docs/FORMAT.md."""
+    for _ in range(8):
+        register = register >> 1 ^ (0xEDB88320 if register & 1 else 0)
+    return register
+
+
+# Of a register only the low byte decides what is added to it while it is shifted eight times.
+SHIFTED = [shifted(byte) for byte in range(256)]
+
+
 def crc32(data):
-    """The sum as docs/FORMAT.md describes it, bit by bit."""
+    """The sum as docs/FORMAT.md describes it."""
     register = 0xFFFFFFFF
     for byte in data:
-        register ^= byte
-        for _ in range(8):
-            register = register >> 1 ^ (0xEDB88320 if register & 1 else 0)
+        register = register >> 8 ^ SHIFTED[(register ^ byte) & 0xFF]
     return register ^ 0xFFFFFFFF
 
 
