@@ -7,8 +7,8 @@ from typing import Iterable, Iterator, List, Optional, Set
 
 from .faults import faults, greatest_found, missing_units
 from .layout import Layout, Spot
-from .sectors import Bad, Erased, Kind, SECTORS, Sector, Strange
-from .values import Fault, records, unit_log
+from .sectors import Bad, Erased, Kind, PAGES, Sector, SectorClass, Strange
+from .values import Fault, records, sound_spots, unit_log
 
 MOST_FAULTS = 12
 MOST_RANGES = 12
@@ -78,24 +78,31 @@ def counting_spots(layout: Layout) -> Set[Spot]:
     spots = {Spot(place, 0) for place in header_places}
     spots.update(layout.commits, layout.live)
     for unit in layout.homes:
-        header = layout.data_header(unit)
-        for page in range(len(header.base_counts) if header else 0):
-            spots.update(layout.base_spots(unit, page))
+        for page in range(PAGES):
+            spots.update(sound_spots(layout, unit, page))
     return spots
 
 
-def fill_at(layout: Layout, spot: Spot, counting: Set[Spot], at_fault: Set[Spot]) -> Fill:
-    sector = layout.at(spot)
-    if spot in at_fault:
-        return Fill.FAULT
+def fill_of(sector: SectorClass, counts: bool) -> Fill:
     if isinstance(sector, Erased):
         return Fill.ERASED
     if isinstance(sector, Bad):
         return Fill.TORN
     if isinstance(sector, Strange):
         return Fill.STRANGE
-    counts, left_over = FILLS_BY_KIND[sector.kind]
-    return counts if spot in counting else left_over
+    counting, left_over = FILLS_BY_KIND[sector.kind]
+    return counting if counts else left_over
+
+
+def fills_by_place(layout: Layout, found_faults: List[Fault]) -> List[List[Fill]]:
+    """The fill of each sector of each place."""
+    fills = [[fill_of(sector, False) for sector in sectors] for sectors in layout.chart]
+    for spot in counting_spots(layout):
+        fills[spot.place][spot.sector] = fill_of(layout.at(spot), True)
+    for fault in found_faults:
+        if fault.spot is not None:
+            fills[fault.spot.place][fault.spot.sector] = Fill.FAULT
+    return fills
 
 
 def kind_words(layout: Layout, place: int, fills: List[Fill]) -> str:
@@ -121,18 +128,23 @@ def number_words(header: Optional[Sector]) -> str:
     return f"generation {header.generation}{serial}"
 
 
-def place_mark(layout: Layout, place: int, counting: Set[Spot], at_fault: Set[Spot]) -> PlaceMark:
-    spots = (Spot(place, sector) for sector in range(SECTORS))
-    fills = [fill_at(layout, spot, counting, at_fault) for spot in spots]
+def is_in_use(layout: Layout, place: int) -> bool:
+    """Whether a place is that of a unit, the status place or an overflow place in use."""
+    header = layout.headers.get(place)
+    is_home = header is not None and layout.homes.get(header.unit) == place
+    return is_home or place == layout.status or place in layout.overflow_places
+
+
+def place_mark(layout: Layout, place: int, fills: List[Fill]) -> PlaceMark:
     kind = kind_words(layout, place, fills)
     use = Use.FREE if kind == "erased" else Use.LEFT_OVER
-    if Spot(place, 0) in counting:
+    if is_in_use(layout, place):
         use = Use.CURRENT
     return PlaceMark(place, kind, number_words(layout.headers.get(place)), use, fills)
 
 
-def counted(number: int, one: str, many: str = "") -> str:
-    return f"{number} {one if number == 1 else many or one + 's'}"
+def counted(number: int, one: str) -> str:
+    return f"{number} {one}" if number == 1 else f"{number} {one}s"
 
 
 def ranges(numbers: List[int]) -> Iterator[str]:
@@ -180,8 +192,7 @@ def summary(layout: Layout, found_faults: List[Fault]) -> List[str]:
 
 def chip_marks(layout: Layout) -> ChipMarks:
     found_faults = faults(layout)
-    counting = counting_spots(layout)
-    at_fault = {fault.spot for fault in found_faults if fault.spot is not None}
-    places = [place_mark(layout, place, counting, at_fault) for place in range(len(layout.chart))]
+    fills = fills_by_place(layout, found_faults)
+    places = [place_mark(layout, place, fills[place]) for place in range(len(fills))]
     fault_lines = at_most(MOST_FAULTS, (f"fault: {fault}" for fault in found_faults))
     return ChipMarks(summary(layout, found_faults), fault_lines, places)

@@ -46,6 +46,12 @@ def base_fault(layout: Layout, unit: int, spot: Spot, is_last: bool) -> Optional
     return None if is_its_own and is_filled else malformed(spot)
 
 
+def sound_spots(layout: Layout, unit: int, page: int) -> List[Spot]:
+    """The base sectors of a page with which nothing is wrong by themselves."""
+    spots = layout.base_spots(unit, page)
+    return [spot for spot in spots if base_fault(layout, unit, spot, spot == spots[-1]) is None]
+
+
 def base_page(layout: Layout, unit: int, page: int) -> Union[Slots, Fault]:
     """The values of a page without its log, or the first fault of its base sectors."""
     spots = layout.base_spots(unit, page)
