@@ -133,7 +133,7 @@ evicts_stay_once old new key once did =
     stay_once old new key None once did
     (λ u q other has was. absurd (no_some has.buffer (sym did.changed ∙ has.stored)))
 
-changes_stay_once : (old new : Slab Buffer) (key : ℕ) (was now : Buffer) → AreOnce old
+pub changes_stay_once : (old new : Slab Buffer) (key : ℕ) (was now : Buffer) → AreOnce old
     → get old key ≡ Some was → SamePage now was → Updates old new key (Some now) → AreOnce new
 changes_stay_once old new key was now once stored same did =
     stay_once old new key (Some now) once did (λ u q other has was_other.

@@ -1,0 +1,178 @@
+-- What is written through loans of one page's frame and records.
+use Rattle.std.proofs.Common.{◌≡◌, ◌≤◌, ◌<◌, ◌+◌, ◌++◌, ◌∷◌, [], ℕ, List, Bool, true, false, IsTrue, ◌↔◌, Option, Some, None, IsSome, arith, refl, sym, ◌∙◌, ap, subst}
+use Rattle.std.specs.Bool.{OnTrue}
+use Rattle.std.specs.Option.{option_map}
+use Rattle.std.proofs.lemmas.Bool.{false≢true}
+use Rattle.mem_log_sector.proofs.MemLemmas.{done_as_it_fits}
+use Rattle.buffer_pool.proofs.IndexLemmas.{some_is}
+use Rattle.slab.specs.Slab.{Slab, get, Updates}
+use Rattle.ipl_format.specs.Record.{Record}
+use Rattle.ipl_meaning.specs.Last.{size_of, size_of_all}
+use Rattle.page_ops.specs.Frames.{FrameView, pending_in, IsSettled, IsDropped}
+use Rattle.page_ops.specs.Pending.{with_pending}
+use Rattle.mem_log_sector.specs.MemLogs.{without_tid}
+use Rattle.buffer_pool.specs.declared.pool.Buffer.{Buffer}
+use Rattle.buffer_pool.specs.Pools.{PoolView, HasPage, IsAbsent, AreOnce, with_buffers}
+use Rattle.buffer_pool.specs.Lending.{changed_at, with_frame, with_log}
+use Rattle.buffer_pool.specs.Holding.{KeepsPins}
+use Rattle.buffer_pool.proofs.LentLemmas.{changed_is}
+use Rattle.buffer_pool.proofs.BufferLemmas.{changes_stay_once, buffer_absent}
+use Rattle.buffer_pool.proofs.HoldingLemmas.{both_keep, loans_keep}
+use Rattle.pending_writes.specs.Frames.{Frame, Frames, with_frame_at, IsWrittenFrame, IsCommittedFrame, IsAbortedFrame}
+use Rattle.store_steps.specs.Views.{frame_of}
+use Rattle.store_steps.proofs.ViewLemmas.{settled_frames_are_committed, dropped_frames_are_aborted, changed_frames_are_written}
+use Rattle.frame_changes.specs.Views.{frame_in, frames_of}
+use Rattle.frame_changes.specs.Changes.{FrameChanges, IsClearedFrame, MayPut}
+use Rattle.frame_changes.proofs.FrameLemmas.{frame_found, loans_change_a_frame, put_again}
+
+-- a page that is in no frame has none
+pub no_frame : (p : PoolView) (u page : ℕ) → AreOnce p.buffers → IsAbsent p.buffers u page
+    → frames_of p u page ≡ None
+no_frame p u page once absent =
+    ap (option_map frame_in) (buffer_absent p.buffers u page once absent)
+
+pub not_absent : (p : PoolView) (u page : ℕ) (f : Frame) → AreOnce p.buffers
+    → frames_of p u page ≡ Some f → IsAbsent p.buffers u page → ⊥
+not_absent p u page f once there absent =
+    some_none f (sym there ∙ no_frame p u page once absent)
+  where
+    some_none : (x : Frame) → Some x ≡ None → ⊥
+    some_none x same = absurd (cc same)
+
+pub none_there : (p : PoolView) (u page : ℕ) → AreOnce p.buffers → IsSome (frames_of p u page)
+    → IsAbsent p.buffers u page → ⊥
+none_there p u page once there absent =
+    absurd (false≢true (subst IsSome (no_frame p u page once absent) there))
+
+-- the pool with another frame under the key, and with other records
+abbrev pub with_frame_under : PoolView → ℕ → FrameView → PoolView
+with_frame_under p key f = with_buffers p (changed_at p.buffers key (with_frame f))
+
+abbrev pub with_log_under : PoolView → ℕ → List Record → PoolView
+with_log_under p key log = with_buffers p (changed_at p.buffers key (with_log log))
+
+module _ (p : PoolView) (u page key : ℕ) (once : AreOnce p.buffers)
+    (has : HasPage p.buffers u page key) where
+  some_there : IsSome (get p.buffers key)
+  some_there = subst IsSome (sym has.stored) refl
+
+  -- what is under the key once the frame is written
+  pub stored_then : (f : FrameView)
+      → get (with_frame_under p key f).buffers key ≡ Some (with_frame f has.buffer)
+  stored_then f = (changed_is p.buffers key (with_frame f) has.buffer has.stored).changed
+
+  pub some_then : (f : FrameView) → IsSome (get (with_frame_under p key f).buffers key)
+  some_then f = subst IsSome (sym (stored_then f)) refl
+
+  once_then : (f : FrameView) → AreOnce (with_frame_under p key f).buffers
+  once_then f =
+      changes_stay_once p.buffers (with_frame_under p key f).buffers key has.buffer
+      (with_frame f has.buffer) once has.stored (refl, refl)
+      (changed_is p.buffers key (with_frame f) has.buffer has.stored)
+
+  -- the frame is written
+  pub frame_changes : (R : Frame → Frame → Type 0) (f : FrameView)
+      → R (frame_in has.buffer) (frame_of f has.buffer.log)
+      → FrameChanges R (frames_of p) (frames_of (with_frame_under p key f)) u page
+  frame_changes R f did = record {
+    was = frame_in has.buffer;
+    now = frame_of f has.buffer.log;
+    there = frame_found p u page key once has;
+    changes = did;
+    frames = loans_change_a_frame p u page key (with_frame f) once has (refl, refl);
+  }
+
+  pub frame_pins : (f : FrameView) → KeepsPins p (with_frame_under p key f)
+  frame_pins f = loans_keep p key (with_frame f) some_there (λ b. ((refl, refl), refl))
+
+  -- the records are
+  pub log_changes : (R : Frame → Frame → Type 0) (log : List Record)
+      → R (frame_in has.buffer) (frame_of has.buffer.frame log)
+      → FrameChanges R (frames_of p) (frames_of (with_log_under p key log)) u page
+  log_changes R log did = record {
+    was = frame_in has.buffer;
+    now = frame_of has.buffer.frame log;
+    there = frame_found p u page key once has;
+    changes = did;
+    frames = loans_change_a_frame p u page key (with_log log) once has (refl, refl);
+  }
+
+  pub log_pins : (log : List Record) → KeepsPins p (with_log_under p key log)
+  log_pins log = loans_keep p key (with_log log) some_there (λ b. ((refl, refl), refl))
+
+  -- both are
+  pub both_change : (R : Frame → Frame → Type 0) (f : FrameView) (log : List Record)
+      → R (frame_in has.buffer) (frame_of f log)
+      → FrameChanges R (frames_of p) (frames_of (with_log_under (with_frame_under p key f) key log))
+      u page
+  both_change R f log did =
+      let mid = with_frame_under p key f in
+      let has_then : HasPage mid.buffers u page key = record {
+        buffer = with_frame f has.buffer;
+        stored = stored_then f;
+        unit_is = has.unit_is;
+        page_is = has.page_is;
+      } in record {
+        was = frame_in has.buffer;
+        now = frame_of f log;
+        there = frame_found p u page key once has;
+        changes = did;
+        frames = loans_change_a_frame mid u page key (with_log log) (once_then f) has_then (refl, refl)
+            ∙ ap (λ (frames : Frames). with_frame_at frames u page (Some (frame_of f log)))
+            (loans_change_a_frame p u page key (with_frame f) once has (refl, refl))
+            ∙ put_again (frames_of p) u page (Some (frame_of f has.buffer.log))
+            (Some (frame_of f log));
+      }
+
+  pub both_pins : (f : FrameView) (log : List Record)
+      → KeepsPins p (with_log_under (with_frame_under p key f) key log)
+  both_pins f log =
+      let mid = with_frame_under p key f in
+      both_keep p mid (with_log_under mid key log) (frame_pins f)
+      (loans_keep mid key (with_log log) (some_then f) (λ b. ((refl, refl), refl)))
+
+  -- ---- what was written
+
+  -- a record came to the frame and to the records
+  pub written : (r : Record) (f before : FrameView) (log new : List Record) (pushed : Bool) (g : Frame)
+      → before ≡ has.buffer.frame → f.page ≡ before.page
+      → ((k : ℕ) → pending_in f k ≡ with_pending (pending_in before) r.slot (r.tid, r.change) k)
+      → frames_of p u page ≡ Some g → size_of_all g.log + size_of r ≤ 480
+      → log ≡ has.buffer.log → (IsTrue pushed ↔ (size_of_all log + size_of r ≤ 480))
+      → OnTrue pushed (new ≡ log ++ r ∷ [])
+      → IsWrittenFrame r (frame_in has.buffer) (frame_of f new)
+  written r f before log new pushed g framed same pending there fits logged when is =
+      let b = has.buffer in
+      let own : g ≡ frame_in b = some_is g (frame_in b)
+      (sym there ∙ frame_found p u page key once has) in
+      let size = ap size_of_all (ap (λ (x : Frame). x.log) own ∙ sym logged) in
+      let added : new ≡ log ++ r ∷ [] = done_as_it_fits pushed (size_of_all log + size_of r ≤ 480)
+      (new ≡ log ++ r ∷ []) when (omega (arith, fits, size)) is in
+      let wrote : IsWrittenFrame r (frame_of b.frame b.log) (frame_of f (b.log ++ r ∷ [])) =
+      changed_frames_are_written r b.frame f b.log (same ∙ ap (λ (x : FrameView). x.page) framed)
+      (λ k. pending k ∙ ap (λ (x : FrameView). with_pending (pending_in x) r.slot (r.tid, r.change) k)
+      framed) in
+      subst (λ (l : List Record). IsWrittenFrame r (frame_in b) (frame_of f l))
+      (sym (added ∙ ap (λ (l : List Record). l ++ r ∷ []) logged)) wrote
+
+  pub cleared : (log : List Record) → log ≡ []
+      → IsClearedFrame (frame_in has.buffer) (frame_of has.buffer.frame log)
+  cleared log none = ap (frame_of has.buffer.frame) none
+
+  pub settled : (tid : ℕ) (f before : FrameView) → before ≡ has.buffer.frame
+      → IsSettled tid before f
+      → IsCommittedFrame tid (frame_in has.buffer) (frame_of f has.buffer.log)
+  settled tid f before framed is =
+      settled_frames_are_committed tid has.buffer.frame f has.buffer.log
+      (subst (λ (x : FrameView). IsSettled tid x f) framed is)
+
+  pub dropped : (tid : ℕ) (f before : FrameView) (log new : List Record)
+      → before ≡ has.buffer.frame → IsDropped tid before f → log ≡ has.buffer.log
+      → new ≡ without_tid tid log → IsAbortedFrame tid (frame_in has.buffer) (frame_of f new)
+  dropped tid f before log new framed is logged without =
+      let b = has.buffer in
+      let did : IsAbortedFrame tid (frame_of b.frame b.log) (frame_of f (without_tid tid b.log)) =
+      dropped_frames_are_aborted tid b.frame f b.log
+      (subst (λ (x : FrameView). IsDropped tid x f) framed is) in
+      subst (λ (l : List Record). IsAbortedFrame tid (frame_in b) (frame_of f l))
+      (sym (without ∙ ap (without_tid tid) logged)) did

@@ -1,0 +1,30 @@
+use Rattle.std.proofs.Common.{refl, ◌∙◌}
+use Rattle.pending_writes.specs.Frames.{IsAbortedFrame}
+use Rattle.buffer_pool.proofs.HoldingLemmas.{nothing_keeps, both_keep}
+use Rattle.frame_changes.specs.Views.{frames_of}
+use Rattle.frame_changes.proofs.NameLemmas.{no_names, names_turn, names_all, aborts_join}
+use Rattle.frame_changes.proofs.ends.drop_names.Goals as goal
+
+pub loop-name-init : goal.loop-name-init
+loop-name-init c =
+    let p = c.args.pool.now in
+    (no_names (IsAbortedFrame c.args.tid) (frames_of p), nothing_keeps p, refl)
+
+pub loop-name-preserved : goal.loop-name-preserved
+loop-name-preserved c =
+    let l = c.loop-name in
+    let so = l.invariant in
+    let did = c.drop_home.ensures in
+    let new = c.drop_home.new.pool in (
+      names_turn (IsAbortedFrame c.args.tid) c.args.names.now l.name-index (frames_of c.args.pool.now)
+          (frames_of l.pool) so.0 (aborts_join c.args.tid) (frames_of new) (record { 0 = 0 })
+          c.loop-name-test.true did.changes,
+      both_keep c.args.pool.now l.pool new so.1 did.pins,
+      did.order ∙ so.2,
+    )
+
+pub returns-clause-dropped : goal.returns-clause-dropped
+returns-clause-dropped c =
+    let l = c.loop-name in
+    names_all (IsAbortedFrame c.args.tid) c.args.names.now l.name-index (frames_of c.args.pool.now)
+    (frames_of l.pool) l.invariant.0 c.loop-name-test.false

@@ -1,0 +1,36 @@
+use Rattle.page_ops.specs.Frames.{FrameView}
+use Rattle.log_records.specs.View.{record_of}
+use Rattle.buffer_pool.specs.Lending.{with_frame}
+use Rattle.pending_writes.specs.Frames.{IsWrittenFrame}
+use Rattle.frame_changes.proofs.PutLemmas.{not_absent, both_change, both_pins, some_then, stored_then, written}
+use Rattle.frame_changes.proofs.writes.put_record.Goals as goal
+
+pub unreachable-requires : goal.unreachable-requires
+unreachable-requires c =
+    let may = c.requires.fits in
+    not_absent c.args.pool.now c.args.unit c.args.rec.now.page may.frame c.facts.ensures.once
+    may.there c.in-None.ensures.none
+
+pub returns-clause-put : goal.returns-clause-put
+returns-clause-put c =
+    let p = c.args.pool.now in
+    let key = c.in-Some.key in
+    let page = c.args.rec.now.page in
+    let once = c.facts.ensures.once in
+    let has = c.in-Some.ensures.found in
+    let f = c.set_pending.new.self in
+    let set = c.set_pending.ensures in
+    let may = c.requires.fits in
+    let log = c.log_under.ensures.value (with_frame f has.buffer)
+    (stored_then p c.args.unit page key once has f) in
+    both_change p c.args.unit page key once has (IsWrittenFrame (record_of c.args.rec.now)) f
+    c.push.new.self
+    (written p c.args.unit page key once has (record_of c.args.rec.now) f c.frame_under.result.now
+    c.log_under.result.now c.push.new.self c.push.result may.frame
+    (c.frame_under.ensures.value has.buffer has.stored) set.page set.pending may.there may.fits log
+    c.push.ensures.fits c.push.ensures.pushed)
+
+pub returns-clause-pins : goal.returns-clause-pins
+returns-clause-pins c =
+    both_pins c.args.pool.now c.args.unit c.args.rec.now.page c.in-Some.key c.facts.ensures.once
+    c.in-Some.ensures.found c.set_pending.new.self c.push.new.self

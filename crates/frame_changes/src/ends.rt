@@ -1,0 +1,64 @@
+//! The end of a session, in the frames of the names that it wrote.
+ghost use Rattle.std.specs.Prelude.{◌≡◌, ◌<◌, map};
+ghost use Rattle.buffer_pool.specs.Holding.{KeepsPins};
+ghost use Rattle.pending_writes.specs.Frames.{IsCommittedFrame, IsAbortedFrame};
+ghost use Rattle.frame_changes.specs.Views.{frames_of};
+ghost use Rattle.frame_changes.specs.Changes.{EachNamedFrame, OnlyPageChanges};
+
+use buffer_pool::Pool;
+use ipl_base::{Name, home};
+
+/// Makes what is pending under this number a value, in the frames of these names' pages, as a commit
+/// does. Pages that are in no frame are passed over.
+pub fn settle_names(pool: &mut Pool, names: &[Name], tid: u64)
+    ensures settled { EachNamedFrame (IsCommittedFrame tid) (map (λ n. n.0) names.now)
+        (frames_of pool.old) (frames_of pool.new) }
+    ensures pins { KeepsPins pool.old pool.new }
+    ensures order { pool.new.order ≡ pool.old.order }
+{
+    for name in names {
+        settle_home(pool, *name, tid);
+    }
+}
+
+/// Drops what is pending under this number and its records, in the frames of these names' pages, as an
+/// abort does. Pages that are in no frame are passed over.
+pub fn drop_names(pool: &mut Pool, names: &[Name], tid: u64)
+    ensures dropped { EachNamedFrame (IsAbortedFrame tid) (map (λ n. n.0) names.now)
+        (frames_of pool.old) (frames_of pool.new) }
+    ensures pins { KeepsPins pool.old pool.new }
+    ensures order { pool.new.order ≡ pool.old.order }
+{
+    for name in names {
+        drop_home(pool, *name, tid);
+    }
+}
+
+// Makes what is pending under this number a value, in the frame of a name's page.
+fn settle_home(pool: &mut Pool, name: Name, tid: u64)
+    ensures changes { OnlyPageChanges (IsCommittedFrame tid) (frames_of pool.old)
+        (frames_of pool.new) name.0 }
+    ensures pins { KeepsPins pool.old pool.new }
+    ensures order { pool.new.order ≡ pool.old.order }
+{
+    pool.facts();
+    let at = home(name);
+    if let Some(key) = pool.find(at.unit, at.page) {
+        pool.frame_under(key).settle_tid(tid);
+    }
+}
+
+// Drops what is pending under this number and its records, in the frame of a name's page.
+fn drop_home(pool: &mut Pool, name: Name, tid: u64)
+    ensures changes { OnlyPageChanges (IsAbortedFrame tid) (frames_of pool.old)
+        (frames_of pool.new) name.0 }
+    ensures pins { KeepsPins pool.old pool.new }
+    ensures order { pool.new.order ≡ pool.old.order }
+{
+    pool.facts();
+    let at = home(name);
+    if let Some(key) = pool.find(at.unit, at.page) {
+        pool.frame_under(key).drop_tid(tid);
+        pool.log_under(key).drop_tid(tid);
+    }
+}

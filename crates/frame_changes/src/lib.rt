@@ -1,0 +1,16 @@
+//! What commands do to the frames of pages, in memory alone: a record is put behind a page's records
+//! and its change is pending, records that are on the chip are dropped, and what a session wrote
+//! becomes values or is dropped; and what a slot holds is lent. It stands on the frames and their
+//! records (`page_ops`, `mem_log_sector`) in their pool (`buffer_pool`). A contract sees the pool's
+//! frames by unit and page, as the condition of a store does (`Frames` of `pending_writes`).
+#![tactic(auto)]
+
+mod ends;
+mod laws;
+mod values;
+mod writes;
+
+pub use ends::{drop_names, settle_names};
+pub use laws::buffer_laws;
+pub use values::{committed_value, seen_value};
+pub use writes::{clear_log, put_record};
