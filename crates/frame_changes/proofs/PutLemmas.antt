@@ -1,10 +1,10 @@
 -- What is written through loans of one page's frame and records.
 use Rattle.std.proofs.Common.{◌≡◌, ◌≤◌, ◌<◌, ◌+◌, ◌++◌, ◌∷◌, [], ℕ, List, Bool, true, false, IsTrue, ◌↔◌, Option, Some, None, IsSome, arith, refl, sym, ◌∙◌, ap, subst}
 use Rattle.std.specs.Bool.{OnTrue}
-use Rattle.std.specs.Option.{option_map}
+use Rattle.std.specs.Option.{option_map, option_map_or}
 use Rattle.std.proofs.lemmas.Bool.{false≢true}
 use Rattle.mem_log_sector.proofs.MemLemmas.{done_as_it_fits}
-use Rattle.buffer_pool.proofs.IndexLemmas.{some_is}
+use Rattle.buffer_pool.proofs.IndexLemmas.{some_is, no_some}
 use Rattle.slab.specs.Slab.{Slab, get, Updates}
 use Rattle.ipl_format.specs.Record.{Record}
 use Rattle.ipl_meaning.specs.Last.{size_of, size_of_all}
@@ -14,11 +14,12 @@ use Rattle.mem_log_sector.specs.MemLogs.{without_tid}
 use Rattle.buffer_pool.specs.declared.pool.Buffer.{Buffer}
 use Rattle.buffer_pool.specs.Pools.{PoolView, HasPage, IsAbsent, AreOnce, with_buffers}
 use Rattle.buffer_pool.specs.Lending.{changed_at, with_frame, with_log}
+use Rattle.buffer_pool.specs.Laws.{buffer_of}
 use Rattle.buffer_pool.specs.Holding.{KeepsPins}
 use Rattle.buffer_pool.proofs.LentLemmas.{changed_is}
 use Rattle.buffer_pool.proofs.BufferLemmas.{changes_stay_once, buffer_absent}
 use Rattle.buffer_pool.proofs.HoldingLemmas.{both_keep, loans_keep}
-use Rattle.pending_writes.specs.Frames.{Frame, Frames, with_frame_at, IsWrittenFrame, IsCommittedFrame, IsAbortedFrame}
+use Rattle.pending_writes.specs.Frames.{Frame, Frames, logs_of, with_frame_at, IsWrittenFrame, IsCommittedFrame, IsAbortedFrame}
 use Rattle.store_steps.specs.Views.{frame_of}
 use Rattle.store_steps.proofs.ViewLemmas.{settled_frames_are_committed, dropped_frames_are_aborted, changed_frames_are_written}
 use Rattle.frame_changes.specs.Views.{frame_in, frames_of}
@@ -43,6 +44,78 @@ pub none_there : (p : PoolView) (u page : ℕ) → AreOnce p.buffers → IsSome 
     → IsAbsent p.buffers u page → ⊥
 none_there p u page once there absent =
     absurd (false≢true (subst IsSome (no_frame p u page once absent) there))
+
+-- ---- what the records of a page tell
+
+record HasLog (p : PoolView) (u page : ℕ) (log : List Record) : Type 0 where
+  pub buffer : Buffer
+  pub frame : frames_of p u page ≡ Some (frame_in buffer)
+  pub log_is : buffer.log ≡ log
+
+has_log : (p : PoolView) (u page : ℕ) (log : List Record)
+    → Some log ≡ option_map (λ b. b.log) (buffer_of p.buffers u page) → HasLog p u page log
+has_log p u page log is = go (buffer_of p.buffers u page) refl
+  where
+    go : (o : Option Buffer) → buffer_of p.buffers u page ≡ o → HasLog p u page log
+    go None none =
+        absurd (no_some log (sym (is ∙ ap (option_map (λ (b : Buffer). b.log)) none)))
+    go (Some b) there = record {
+      buffer = b;
+      frame = ap (option_map frame_in) there;
+      log_is = sym (some_is log b.log (is ∙ ap (option_map (λ (x : Buffer). x.log)) there));
+    }
+
+-- a page without records is in no frame
+no_log : (p : PoolView) (u page : ℕ)
+    → None ≡ option_map (λ b. b.log) (buffer_of p.buffers u page) → frames_of p u page ≡ None
+no_log p u page is = go (buffer_of p.buffers u page) refl
+  where
+    go : (o : Option Buffer) → buffer_of p.buffers u page ≡ o → frames_of p u page ≡ None
+    go None none = ap (option_map frame_in) none
+    go (Some b) there =
+        absurd (no_some b.log (is ∙ ap (option_map (λ (x : Buffer). x.log)) there))
+
+pub room_if : (p : PoolView) (u : ℕ) (r : Record) (log : List Record) (fits : Bool)
+    → Some log ≡ option_map (λ b. b.log) (buffer_of p.buffers u r.page)
+    → (IsTrue fits ↔ (size_of_all log + size_of r ≤ 480))
+    → IsTrue fits ↔ MayPut (frames_of p) u r
+room_if p u r log fits is when =
+    let has = has_log p u r.page log is in (
+      λ yes. record {
+        frame = frame_in has.buffer;
+        there = has.frame;
+        fits = subst (λ (l : List Record). size_of_all l + size_of r ≤ 480) (sym has.log_is) (when.0 yes);
+      },
+      λ may.
+          let own : may.frame ≡ frame_in has.buffer =
+          some_is may.frame (frame_in has.buffer) (sym may.there ∙ has.frame) in
+          when.1 (subst (λ (l : List Record). size_of_all l + size_of r ≤ 480)
+          (ap (λ (f : Frame). f.log) own ∙ has.log_is) may.fits),
+    )
+
+pub no_room : (p : PoolView) (u : ℕ) (r : Record)
+    → None ≡ option_map (λ b. b.log) (buffer_of p.buffers u r.page)
+    → IsTrue false ↔ MayPut (frames_of p) u r
+no_room p u r is = (
+  λ yes. absurd (false≢true yes),
+  λ may. absurd (no_some may.frame (sym (no_log p u r.page is) ∙ may.there)),
+)
+
+-- the records in memory are those of the page's log
+pub log_of_page : (p : PoolView) (u page : ℕ) (log : List Record)
+    → Some log ≡ option_map (λ b. b.log) (buffer_of p.buffers u page)
+    → log ≡ logs_of (frames_of p) u page
+log_of_page p u page log is =
+    let has = has_log p u page log is in
+    sym has.log_is ∙ sym (ap (λ (o : Option Frame). option_map_or (λ f. f.log) o []) has.frame)
+
+pub no_log_of_page : (p : PoolView) (u page : ℕ)
+    → None ≡ option_map (λ b. b.log) (buffer_of p.buffers u page)
+    → logs_of (frames_of p) u page ≡ []
+no_log_of_page p u page is =
+    ap (λ (o : Option Frame). option_map_or (λ f. f.log) o []) (no_log p u page is)
+
+-- ---- one frame
 
 -- the pool with another frame under the key, and with other records
 abbrev pub with_frame_under : PoolView → ℕ → FrameView → PoolView

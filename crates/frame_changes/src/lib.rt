@@ -13,4 +13,4 @@ mod writes;
 pub use ends::{drop_names, settle_names};
 pub use laws::buffer_laws;
 pub use values::{committed_value, seen_value};
-pub use writes::{clear_log, put_record};
+pub use writes::{clear_log, has_room, log_payload, put_record};
