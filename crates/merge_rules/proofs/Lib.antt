@@ -5,3 +5,4 @@ pub mod CountLemmas
 pub mod KnownLemmas
 pub mod GrownLemmas
 pub mod MergeLemmas
+pub mod FaultLemmas

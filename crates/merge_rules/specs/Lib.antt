@@ -5,3 +5,5 @@ pub mod Merged
 pub mod Known
 pub mod Laws
 pub mod KnownLaws
+pub mod Faults
+pub mod FaultLaws

@@ -1,5 +1,6 @@
 //! The laws of merges, proved: a body that does nothing, and a contract that is the law.
 ghost use Rattle.merge_rules.specs.Laws.{FilledPlacesAreReady, StandsAfterFilling, TablesFollowFilling, MergesKeepTheLast};
+ghost use Rattle.merge_rules.specs.FaultLaws.{MergeableUnitsHaveNoFault, FaultsAreOfThePlace, SaidUnitsAreMergeable};
 ghost use Rattle.merge_rules.specs.KnownLaws.{KnownPlacesLeaveOne, KnownPlacesMove, KnownPlacesTakeOverflows};
 
 /// A place that was filled by a merge is ready for its header; with it the chip stands for the same
@@ -17,4 +18,12 @@ pub fn known_laws()
     ensures free { KnownPlacesLeaveOne }
     ensures moves { KnownPlacesMove }
     ensures overflows { KnownPlacesTakeOverflows }
+{}
+
+/// What is wrong with a unit that is to be merged: nothing, where its pages read well and few log
+/// sectors would be carried, as they do where the pages say a map; and it is so by its place alone.
+pub fn fault_laws()
+    ensures none { MergeableUnitsHaveNoFault }
+    ensures place { FaultsAreOfThePlace }
+    ensures said { SaidUnitsAreMergeable }
 {}

@@ -82,6 +82,16 @@ generation_read places c it t u generation mirrors low says =
     says (it.units u).head
     (ap (λ (p : ℕ). c p 0) (mirrors.directory.current u low) ∙ unit.chosen.here) unit.chosen.fits
 
+-- what is so of the header at a unit's place is so
+pub header_first : (places : ℕ) (c : Chart) (it : Layout) (t : Tables) (u : ℕ) (P : Type 0)
+    → Mirrors places c it t → u < places - 4
+    → ((head : Sector) → c (slice_index t.places.current u) 0 ≡ Some head → IsDataHeader u head → P)
+    → P
+header_first places c it t u P mirrors low says =
+    let unit = mirrors.laid.each u low in
+    says (it.units u).head
+    (ap (λ (p : ℕ). c p 0) (mirrors.directory.current u low) ∙ unit.chosen.here) unit.chosen.fits
+
 -- a unit that stands where it stood wasn't merged
 pub unmerged : (places : ℕ) (c y : Chart) (it : Layout) (t : Tables) (u : ℕ) (after : Tables)
     (new : Layout) → Mirrors places c it t → u < places - 4

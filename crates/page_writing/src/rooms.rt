@@ -10,6 +10,7 @@ ghost use Rattle.unit_io.specs.Kinds.{sector_named};
 ghost use Rattle.unit_io.specs.Reads.{OfContents};
 ghost use Rattle.unit_log.specs.Looks.{IsAt, LooksAt};
 ghost use Rattle.merge_rules.specs.Known.{KnowsPlaces};
+ghost use Rattle.selective_merge.specs.Merging.{FailsAsMerge, CompletesMerge};
 ghost use Rattle.selective_merge.specs.Moving.{tables_of, Holds};
 ghost use Rattle.selective_merge.specs.Spending.{ErasesFree};
 ghost use Rattle.selective_merge.specs.Spotting.{IsSpotFor};
@@ -71,6 +72,10 @@ pub fn find_room<C: Chip>(chip: &mut C, parts: &mut Parts, unit: u32) -> Result<
         (tables_of parts.old) (tables_of parts.new) (C.told chip.old) result (C.told chip.new) }
     ensures steps { FindsRoomInSteps (C.told chip.old).places unit
         (tables_of parts.old) (tables_of parts.new) (C.told chip.old) result (C.told chip.new) }
+    ensures fault { FailsAsMerge (C.told chip.old).places (tables_of parts.old) unit result
+        (C.told chip.old) }
+    ensures complete { CompletesMerge (C.told chip.old).places (tables_of parts.old) unit result
+        (C.told chip.old) }
     ensures spot { IfOk result (λ at.
         IsSpotFor (tables_of parts.new) unit at.spot.place at.spot.sector) }
     ensures holds { Holds (C.told chip.old).places (tables_of parts.old) (tables_of parts.new) }

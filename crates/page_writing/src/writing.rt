@@ -5,6 +5,7 @@ ghost use Rattle.unit_io.specs.Charts.{Charts};
 ghost use Rattle.unit_io.specs.Costs.{ProgramsAt, Spends};
 ghost use Rattle.unit_io.specs.Leads.{IsStopped};
 ghost use Rattle.merge_rules.specs.Known.{KnowsPlaces};
+ghost use Rattle.selective_merge.specs.Merging.{FailsAsMerge, CompletesMerge};
 ghost use Rattle.selective_merge.specs.Moving.{tables_of, Holds};
 ghost use Rattle.selective_merge.specs.Spotting.{IsHomeSpot, IsSpotFor};
 ghost use Rattle.page_writing.specs.Causes.{WritingCause};
@@ -119,6 +120,13 @@ pub fn write_out<C: Chip>(
         (tables_of parts.old) (tables_of parts.new) (C.told chip.old) result (C.told chip.new) }
     ensures steps { WritesOutInSteps (C.told chip.old).places payload.old
         (tables_of parts.old) (tables_of parts.new) (C.told chip.old) result (C.told chip.new) }
+
+    // Why it fails over what the chip holds: where the unit's pages read well and few log sectors
+    // would be carried, only where a call of the chip failed.
+    ensures fault { FailsAsMerge (C.told chip.old).places (tables_of parts.old) unit result
+        (C.told chip.old) }
+    ensures complete { CompletesMerge (C.told chip.old).places (tables_of parts.old) unit result
+        (C.told chip.old) }
 
     // What is in memory, whatever the chip tells.
     ensures empty { OnOk result (payload.new ≡ []) }

@@ -19,3 +19,4 @@ mod RoomLemmas
 mod SpendLemmas
 mod FewLemmas
 mod SmallLemmas
+pub mod CompleteLemmas

@@ -1,18 +1,20 @@
 -- What a merge leaves.
-use Rattle.std.specs.Prelude.{ℕ, ◌≡◌, ◌<◌, ◌≤◌, ◌⊎◌, Result, MatchResult}
+use Rattle.std.specs.Prelude.{ℕ, ◌≡◌, ◌<◌, ◌≤◌, ◌⊎◌, Result, MatchResult, IfErr}
 use Rattle.chip_trait.specs.Told.{History, Told}
 use Rattle.ipl_base.specs.declared.fault.ChipFault.{ChipFault}
 use Rattle.ipl_base.specs.declared.fault.ChipFault.TheVariants.{Malformed, ReadFault}
 use Rattle.ipl_rules.specs.State.{Map}
 use Rattle.ipl_meaning.specs.Agrees.{IsTidy, Agrees}
-use Rattle.ipl_meaning.specs.Chart.{Chart}
+use Rattle.ipl_meaning.specs.Chart.{Chart, chart_of}
 use Rattle.ipl_meaning.specs.Layout.{Layout}
 use Rattle.ipl_meaning.specs.Mirrors.{Mirrors}
 use Rattle.ipl_meaning.specs.Rests.{now, EachStands, StoryRests}
 use Rattle.ipl_meaning.specs.Steps.{KeepsPages}
 use Rattle.ipl_meaning.specs.Tables.{Tables}
 use Rattle.unit_io.specs.Leads.{IsSteady}
+use Rattle.unit_io.specs.Reads.{OfContents}
 use Rattle.steps.specs.Steps.{Steps, RestsAgreeing}
+use Rattle.merge_rules.specs.Faults.{merge_fault, IsMergeable, IsTheFault, TellsTheFault, FailsByChipAlone}
 use Rattle.merge_rules.specs.Merged.{source_of, IsMergedUnit}
 use Rattle.merge_rules.specs.Moved.{Source}
 
@@ -39,6 +41,26 @@ abbrev pub CarriesFew : {T : Type 0} → ℕ → ℕ → Result T ChipFault → 
 CarriesFew place n result = MatchResult result (λ done. n ≤ 12) (λ fault.
     (fault ≡ Malformed place 0 → 12 < n)
     × (12 < n → (fault ≡ ReadFault) ⊎ (fault ≡ Malformed place 0)))
+
+-- ---- why it fails over what the chip holds
+
+-- it tells what is wrong with the unit, or that nothing is; unless a call of the chip failed
+abbrev pub TellsMergeFault : {T : Type 0} → ℕ → Tables → ℕ → Result T ChipFault → Told → Type 0
+TellsMergeFault places t u result told = OfContents told (λ x. (it : Layout)
+    → Mirrors places (chart_of x) it t → TellsTheFault (merge_fault x t (it.units u) u) result)
+
+-- where it fails, this is what is wrong with the unit
+abbrev pub FailsAsMerge : {T : Type 0} → ℕ → Tables → ℕ → Result T ChipFault → Told → Type 0
+FailsAsMerge places t u result told = OfContents told (λ x. (it : Layout)
+    → Mirrors places (chart_of x) it t
+    → IfErr result (IsTheFault (merge_fault x t (it.units u) u)))
+
+-- where the unit's pages read well and few log sectors would be carried, it fails only where a call
+-- of the chip failed
+abbrev pub CompletesMerge : {T : Type 0} → ℕ → Tables → ℕ → Result T ChipFault → Told → Type 0
+CompletesMerge places t u result told = OfContents told (λ x. (it : Layout)
+    → Mirrors places (chart_of x) it t → IsMergeable (chart_of x) t (it.units u) u
+    → FailsByChipAlone result)
 
 -- ---- what a power cut leaves
 

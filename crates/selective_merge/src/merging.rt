@@ -9,6 +9,7 @@ ghost use Rattle.unit_directory.specs.Free.{free_count};
 ghost use Rattle.unit_io.specs.Accounts.{Accounts};
 ghost use Rattle.unit_io.specs.Costs.{Spends};
 ghost use Rattle.unit_io.specs.Reads.{OfContents};
+ghost use Rattle.merge_rules.specs.Faults.{pages_fault, fault_with, TellsTheFault};
 ghost use Rattle.merge_rules.specs.Known.{KnowsPlaces};
 ghost use Rattle.merge_rules.specs.Pages.{IsFew};
 ghost use Rattle.merge_rules.specs.Packs.{among, packs_of, payloads_of};
@@ -21,6 +22,8 @@ ghost use Rattle.selective_merge.specs.Merging.{
   StaysMirrored,
   MergesInSteps,
   MergesFromInSteps,
+  TellsMergeFault,
+  CompletesMerge,
 };
 ghost use Rattle.selective_merge.specs.Spending.{ErasesFor};
 ghost use Rattle.selective_merge.specs.Throughout.{ChartsThroughout};
@@ -59,6 +62,8 @@ fn merge_packed<C: Chip>(
         (tables_of parts.old) (tables_of parts.new))
         (StaysMirrored (C.told chip.old).places (tables_of parts.old) (tables_of parts.new))
         result (C.told chip.old) (C.told chip.new) }
+    ensures fault { OfContents (C.told chip.old) (λ x. TellsTheFault
+        (pages_fault x (from_home home.now parts.old.status.numbers parts.old.scratch.log)) result) }
     ensures few { length (packs_of parts.old.active parts.old.scratch.log) ≤ 12 }
     ensures room { OnOk result (slice_index parts.new.directory.written unit ≤ 12) }
     ensures holds { Holds (C.told chip.old).places (tables_of parts.old) (tables_of parts.new) }
@@ -124,6 +129,9 @@ fn merge_known<C: Chip>(
         (tables_of parts.old) (tables_of parts.new))
         (StaysMirrored (C.told chip.old).places (tables_of parts.old) (tables_of parts.new))
         result (C.told chip.old) (C.told chip.new) }
+    ensures fault { OfContents (C.told chip.old) (λ x. TellsTheFault
+        (fault_with x (from_home home.now parts.old.status.numbers parts.old.scratch.log)
+        (length (packs_of parts.old.active parts.old.scratch.log))) result) }
     ensures few { CarriesFew home.now.place
         (length (packs_of parts.old.active parts.old.scratch.log)) result }
     ensures room { OnOk result (slice_index parts.new.directory.written unit ≤ 12) }
@@ -158,8 +166,10 @@ fn merge_known<C: Chip>(
 /// and programs nothing elsewhere.
 ///
 /// It fails where a read or a write failed, where a base sector of a page is damaged or malformed, or
-/// where the log isn't what it must be: over contents that the tables mirror, only where more than 12
-/// log sectors would be carried, which is Malformed at sector 0 of the unit's place.
+/// where the log isn't what it must be. Over contents that the tables mirror it tells exactly what is
+/// wrong with the unit: that more than 12 log sectors would be carried, which is Malformed at sector 0
+/// of its place, or the fault of its first page that doesn't read well; and where neither is so, it
+/// fails only where a read or a write failed.
 pub fn merge<C: Chip>(chip: &mut C, parts: &mut Parts, unit: u32) -> Result<(), ChipFault>
     requires known { KnowsPlaces (C.told chip.old).places (tables_of parts.old) }
     requires unit { unit + 4 < (C.told chip.old).places }
@@ -176,6 +186,13 @@ pub fn merge<C: Chip>(chip: &mut C, parts: &mut Parts, unit: u32) -> Result<(), 
         → Mirrors (C.told chip.old).places (chart_of x) it (tables_of parts.old)
         → CarriesFew (slice_index parts.old.directory.current unit)
         (carried_count (among parts.old.active) (it.units unit).log) result) }
+
+    // Why it fails over what the chip holds: where the unit's pages read well and few log sectors
+    // would be carried, only where a call of the chip failed.
+    ensures fault { TellsMergeFault (C.told chip.old).places (tables_of parts.old) unit result
+        (C.told chip.old) }
+    ensures complete { CompletesMerge (C.told chip.old).places (tables_of parts.old) unit result
+        (C.told chip.old) }
 
     // What the tables have, whatever the chip tells.
     ensures room { OnOk result (slice_index parts.new.directory.written unit ≤ 12) }

@@ -1,9 +1,12 @@
 //! The pages of a unit, moved to another place with the committed records applied.
-ghost use Rattle.std.specs.Prelude.{◌≡◌, ◌≢◌, ◌<◌, ◌≤◌, ◌↔◌, ℕ, IfOk};
+ghost use Rattle.std.specs.Prelude.{◌≡◌, ◌≢◌, ◌<◌, ◌≤◌, ◌↔◌, ℕ, IfOk, OnOk};
 ghost use Rattle.ipl_format.specs.Page.{IsPage, value_in};
 ghost use Rattle.log_records.specs.View.{record_of};
 ghost use Rattle.unit_io.specs.Accounts.{Accounts};
+ghost use Rattle.unit_io.specs.Charts.{Spares};
 ghost use Rattle.unit_io.specs.Costs.{ProgramsAt, Spends};
+ghost use Rattle.unit_io.specs.Reads.{OfContents};
+ghost use Rattle.merge_rules.specs.Faults.{page_fault_from, pages_fault, TellsTheFault};
 ghost use Rattle.merge_rules.specs.Pages.{IsFew};
 ghost use Rattle.merge_rules.specs.Packs.{among};
 ghost use Rattle.merge_rules.specs.Moved.{IsRebased, MovesPage, HasMoved, IsAside};
@@ -78,6 +81,9 @@ fn move_page<C: Chip>(
         (MovesPage (from_home home.now status.now.numbers log.now) place head.now.generation page)
         (IsAside place) result (C.told chip.old) (C.told chip.new) }
     ensures few { IfOk result (λ n. n ≤ 16) }
+    ensures fault { OfContents (C.told chip.old) (λ x. TellsTheFault
+        (page_fault_from x (from_home home.now status.now.numbers log.now) page) result) }
+    ensures spares { OnOk result (Spares place (C.told chip.old) (C.told chip.new)) }
     ensures costs { Spends (ProgramsAt place 16 0 4) (C.told chip.old) (C.told chip.new) }
     ensures accounts { Accounts (MoveCause home.now.place) result
         (C.told chip.old) (C.told chip.new) }
@@ -112,6 +118,9 @@ pub fn move_pages<C: Chip>(
         head.now.generation pieces 15)
         (IsAside place) result (C.told chip.old) (C.told chip.new) }
     ensures few { IfOk result IsFew }
+    ensures fault { OfContents (C.told chip.old) (λ x. TellsTheFault
+        (pages_fault x (from_home home.now status.now.numbers log.now)) result) }
+    ensures spares { OnOk result (Spares place (C.told chip.old) (C.told chip.new)) }
     ensures costs { Spends (ProgramsAt place 240 0 4) (C.told chip.old) (C.told chip.new) }
     ensures accounts { Accounts (MoveCause home.now.place) result
         (C.told chip.old) (C.told chip.new) }

@@ -4,6 +4,8 @@ ghost use Rattle.unit_io.specs.Accounts.{Accounts};
 ghost use Rattle.unit_io.specs.Charts.{Charts};
 ghost use Rattle.unit_io.specs.Costs.{ErasesOnce, ProgramsAt, Spends};
 ghost use Rattle.unit_io.specs.Leads.{IsStopped};
+ghost use Rattle.unit_io.specs.Reads.{OfContents};
+ghost use Rattle.merge_rules.specs.Faults.{pages_fault, TellsTheFault};
 ghost use Rattle.merge_rules.specs.Pages.{IsFew};
 ghost use Rattle.merge_rules.specs.Moved.{IsUnsealed};
 ghost use Rattle.merge_rules.specs.Merged.{IsFilled};
@@ -49,6 +51,8 @@ fn fill<C: Chip>(
         (λ pieces. IsFilled (from_home home.now status.now.numbers log.now) place
         head.now.generation counter.old pieces payloads.now)
         (IsUnsealed place) result (C.told chip.old) (C.told chip.new) }
+    ensures fault { OfContents (C.told chip.old) (λ x. TellsTheFault
+        (pages_fault x (from_home home.now status.now.numbers log.now)) result) }
     ensures few { IfOk result IsFew }
     ensures drawn { OnOk result (counter.new ≡ counter.old + length payloads.now) }
     ensures draws { (counter.old ≤ counter.new)
@@ -132,6 +136,8 @@ pub fn write_unit<C: Chip>(
         (λ done. TellsWritten (C.told chip.old).places
         (from_home home.now status.now.numbers log.now) place generation counter.old payloads.now)
         (IsUnsealed place) result (C.told chip.old) (C.told chip.new) }
+    ensures fault { OfContents (C.told chip.old) (λ x. TellsTheFault
+        (pages_fault x (from_home home.now status.now.numbers log.now)) result) }
     ensures drawn { OnOk result (counter.new ≡ counter.old + length payloads.now) }
     ensures draws { (counter.old ≤ counter.new)
         × (counter.new ≤ counter.old + length payloads.now) }

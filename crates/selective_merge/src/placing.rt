@@ -7,7 +7,7 @@ ghost use Rattle.unit_io.specs.Costs.{Spends};
 ghost use Rattle.unit_io.specs.ReadsAt.{ReadsAt};
 ghost use Rattle.merge_rules.specs.Known.{KnowsPlaces};
 ghost use Rattle.selective_merge.specs.Homes.{MergeCause};
-ghost use Rattle.selective_merge.specs.Merging.{Merges, StaysMirrored, MergesInSteps};
+ghost use Rattle.selective_merge.specs.Merging.{Merges, StaysMirrored, MergesInSteps, FailsAsMerge, CompletesMerge};
 ghost use Rattle.selective_merge.specs.Moving.{tables_of, Holds};
 ghost use Rattle.selective_merge.specs.Placing.{IsElsewhere, IsPlaced, MakesRoom, MakesRoomInSteps};
 ghost use Rattle.selective_merge.specs.Spotting.{HasHomeSpot, IsHomeSpot, IsSpotFor};
@@ -35,6 +35,8 @@ fn merged_spot<C: Chip>(chip: &mut C, parts: &mut Parts, unit: u32) -> Result<Sp
         result (C.told chip.old) (C.told chip.new) }
     ensures steps { MergesInSteps (C.told chip.old).places unit
         (tables_of parts.old) (tables_of parts.new) (C.told chip.old) result (C.told chip.new) }
+    ensures fault { FailsAsMerge (C.told chip.old).places (tables_of parts.old) unit result
+        (C.told chip.old) }
     ensures spot { IfOk result (λ spot.
         IsHomeSpot (tables_of parts.new) unit spot.place spot.sector) }
     ensures holds { Holds (C.told chip.old).places (tables_of parts.old) (tables_of parts.new) }
@@ -63,6 +65,8 @@ fn elsewhere<C: Chip>(chip: &mut C, parts: &mut Parts, unit: u32) -> Result<Spot
         result (C.told chip.old) (C.told chip.new) }
     ensures steps { MakesRoomInSteps IsElsewhere (C.told chip.old).places unit
         (tables_of parts.old) (tables_of parts.new) (C.told chip.old) result (C.told chip.new) }
+    ensures fault { FailsAsMerge (C.told chip.old).places (tables_of parts.old) unit result
+        (C.told chip.old) }
     ensures spot { IfOk result (λ spot.
         IsSpotFor (tables_of parts.new) unit spot.place spot.sector) }
     ensures holds { Holds (C.told chip.old).places (tables_of parts.old) (tables_of parts.new) }
@@ -100,6 +104,13 @@ pub fn log_place<C: Chip>(chip: &mut C, parts: &mut Parts, unit: u32) -> Result<
         result (C.told chip.old) (C.told chip.new) }
     ensures steps { MakesRoomInSteps IsPlaced (C.told chip.old).places unit
         (tables_of parts.old) (tables_of parts.new) (C.told chip.old) result (C.told chip.new) }
+
+    // Why it fails over what the chip holds: where the unit's pages read well and few log sectors
+    // would be carried, only where a call of the chip failed.
+    ensures fault { FailsAsMerge (C.told chip.old).places (tables_of parts.old) unit result
+        (C.told chip.old) }
+    ensures complete { CompletesMerge (C.told chip.old).places (tables_of parts.old) unit result
+        (C.told chip.old) }
 
     // What the tables have, whatever the chip tells.
     ensures spot { IfOk result (λ spot.

@@ -12,3 +12,4 @@ pub mod CauseLemmas
 pub mod RestLemmas
 pub mod CostLemmas
 pub mod RecoverLemmas
+pub mod CompleteLemmas

@@ -12,6 +12,7 @@ use Rattle.ipl_meaning.specs.Mirrors.{Mirrors}
 use Rattle.ipl_meaning.specs.Rests.{StoryRests}
 use Rattle.ipl_meaning.specs.Steps.{KeepsPages}
 use Rattle.ipl_meaning.specs.Tables.{Tables}
+use Rattle.merge_rules.specs.Faults.{IsMergeable, FailsByChipAlone}
 use Rattle.merge_rules.specs.Known.{KnowsPlaces}
 use Rattle.merge_rules.specs.Pages.{IsBaseSpotBelow}
 use Rattle.merge_rules.specs.Packs.{among, packs_of, entries_from}
@@ -19,6 +20,7 @@ use Rattle.steps.specs.Laws.{Preserves}
 use Rattle.txn_status.specs.Status.{room_of}
 use Rattle.unit_io.specs.Costs.{Costs}
 use Rattle.unit_io.specs.Leads.{IsSteady}
+use Rattle.unit_io.specs.Reads.{OfContents}
 use Rattle.status_renewal.specs.Joins.{joined}
 use Rattle.status_renewal.specs.Keeps.{IsLoggedBelow, KeepsBelow}
 
@@ -130,6 +132,19 @@ pub record HoldsRenewed (places : ℕ) (before : Tables) (result : Result (Unit 
   pub known : KnowsPlaces places after
   pub ends : MatchResult result
       (λ _. 191 ≤ room_of after.status) (λ _. after.status ≡ before.status)
+
+-- ---- why it fails over what the chip holds
+
+-- each unit's pages read well, and at most 12 log sectors of it would be carried
+abbrev pub AreMergeable : ℕ → Chart → Layout → Tables → Type 0
+AreMergeable places c it t = (u : ℕ) → u < places - 4 → IsMergeable c t (it.units u) u
+
+-- over contents that the tables mirror, where all units are such, it fails only where a call of the
+-- chip failed
+abbrev pub CompletesRenewal : ℕ → Tables → Result (Unit {0}) ChipFault → Told → Type 0
+CompletesRenewal places t result told = OfContents told (λ x. (it : Layout)
+    → Mirrors places (chart_of x) it t → AreMergeable places (chart_of x) it t
+    → FailsByChipAlone result)
 
 -- ---- costs
 

@@ -1,5 +1,5 @@
 -- What an opening leaves that ends with a new status place.
-use Rattle.std.specs.Prelude.{ℕ, ◌≡◌, ◌≢◌, ◌⊎◌, ◌↔◌, ◌≤◌, ◌-◌, [], true, IsTrue, is_ok, Some, None, Result, MatchResult}
+use Rattle.std.specs.Prelude.{ℕ, ◌≡◌, ◌≢◌, ◌⊎◌, ◌↔◌, ◌≤◌, ◌-◌, [], true, IsTrue, is_ok, Some, None, Result, MatchResult, IfErr}
 use Rattle.chip_trait.specs.Story.{Contents}
 use Rattle.chip_trait.specs.Told.{History, Told, Rose}
 use Rattle.ipl_base.specs.declared.fault.ChipFault.{ChipFault}
@@ -11,6 +11,7 @@ use Rattle.ipl_meaning.specs.Chart.{Chart, chart_of}
 use Rattle.ipl_meaning.specs.Layout.{Layout}
 use Rattle.ipl_meaning.specs.Mirrors.{Mirrors}
 use Rattle.ipl_meaning.specs.Rests.{EachStands, StoryRests}
+use Rattle.ipl_meaning.specs.Stands.{Says}
 use Rattle.ipl_meaning.specs.Steps.{KeepsPages}
 use Rattle.ipl_meaning.specs.Tables.{Tables, IsCountedClean}
 use Rattle.merge_rules.specs.Known.{KnowsPlaces}
@@ -19,6 +20,7 @@ use Rattle.opening_rules.specs.LaidOut.{layout_in}
 use Rattle.steps.specs.Steps.{Settled, EndsWith, Outcome, TidyWork}
 use Rattle.txn_status.specs.Status.{room_of}
 use Rattle.unit_io.specs.Leads.{IsSteady}
+use Rattle.unit_io.specs.Reads.{OfContents}
 use Rattle.status_renewal.specs.Keeps.{IsLoggedBelow}
 use Rattle.status_renewal.specs.Passes.{TellsChart}
 
@@ -45,6 +47,17 @@ abbrev pub RecoversTold : ℕ → Told → Result (Unit {0}) ImageFault → Tabl
 RecoversTold places old result after new = (x : Contents) → old.contents ≡ Some x
     → MatchResult result (λ _. TellsChart (HasOpened places (chart_of x) after) new)
     (λ e. e ≢ Chip ReadFault → e ≢ Chip Stopped → IsOpeningFault places (chart_of x) e)
+
+-- a call of the chip failed
+abbrev pub FailsByCallAlone : ImageFault → Type 0
+FailsByCallAlone e = (e ≡ Chip ReadFault) ⊎ (e ≡ Chip Stopped)
+
+-- over contents that have no fault and whose pages say a map, it fails only so
+abbrev pub CompletesOpening : ℕ → Result (Unit {0}) ImageFault → Told → Type 0
+CompletesOpening places result told = OfContents told (λ x. (m : Map)
+    → first_fault (chart_of x) places ≡ None
+    → Says places (chart_of x) (layout_in (chart_of x) places) m
+    → IfErr result FailsByCallAlone)
 
 -- ---- what a power cut leaves
 

@@ -5,11 +5,12 @@ ghost use Rattle.ipl_meaning.specs.Chart.{Chart, chart_of};
 ghost use Rattle.ipl_meaning.specs.Layout.{Layout};
 ghost use Rattle.ipl_meaning.specs.Mirrors.{Mirrors};
 ghost use Rattle.ipl_meaning.specs.Tables.{Tables};
+ghost use Rattle.merge_rules.specs.Faults.{FailsByChipAlone};
 ghost use Rattle.merge_rules.specs.Known.{KnowsPlaces};
 ghost use Rattle.selective_merge.specs.Moving.{tables_of, Holds};
 ghost use Rattle.unit_io.specs.Accounts.{Accounts};
 ghost use Rattle.unit_io.specs.Costs.{Spends};
-ghost use Rattle.status_renewal.specs.Passes.{HasPassed, PassEnds, KeepsInSteps, ErasesAtMost, RenewCause};
+ghost use Rattle.status_renewal.specs.Passes.{HasPassed, PassEnds, KeepsInSteps, AreMergeable, CompletesRenewal, ErasesAtMost, RenewCause};
 
 use crate::kept::KeptNumbers;
 use chip_trait::Chip;
@@ -33,6 +34,10 @@ fn take_unit<C: Chip>(
         → HasPassed places unit c it t kept.old (C.told chip.old) (tables_of parts.old)
         → PassEnds places it t result (C.told chip.new) (tables_of parts.new)
         (HasPassed places (unit + 1) c it t kept.new (C.told chip.new) (tables_of parts.new)) }
+    ensures complete { (places : ℕ) (c : Chart) (it : Layout) (t : Tables)
+        → (C.told chip.old).places ≡ places → Holds places t (tables_of parts.old)
+        → HasPassed places unit c it t kept.old (C.told chip.old) (tables_of parts.old)
+        → AreMergeable places c it t → FailsByChipAlone result }
     ensures steps { (places : ℕ) → (C.told chip.old).places ≡ places
         → KeepsInSteps places (tables_of parts.old) (tables_of parts.new)
         (C.told chip.old) result (C.told chip.new) }
@@ -71,6 +76,8 @@ pub fn pass<C: Chip>(
         → PassEnds places it (tables_of parts.old) result (C.told chip.new) (tables_of parts.new)
         (HasPassed places (places - 4) (chart_of x) it (tables_of parts.old) kept.new
         (C.told chip.new) (tables_of parts.new)) }
+    ensures complete { CompletesRenewal (C.told chip.old).places (tables_of parts.old) result
+        (C.told chip.old) }
     ensures steps { (places : ℕ) → (C.told chip.old).places ≡ places
         → KeepsInSteps places (tables_of parts.old) (tables_of parts.new)
         (C.told chip.old) result (C.told chip.new) }

@@ -7,7 +7,7 @@ ghost use Rattle.unit_io.specs.Accounts.{Accounts};
 ghost use Rattle.unit_io.specs.Costs.{Spends};
 ghost use Rattle.unit_io.specs.Reads.{OfContents};
 ghost use Rattle.status_renewal.specs.Passes.{ErasesAtMost};
-ghost use Rattle.status_renewal.specs.Recovers.{RecoversTold, RecoversInSteps, HoldsOpened, OpeningCause};
+ghost use Rattle.status_renewal.specs.Recovers.{CompletesOpening, RecoversTold, RecoversInSteps, HoldsOpened, OpeningCause};
 
 use crate::kept::KeptNumbers;
 use crate::renewing::renew;
@@ -41,6 +41,10 @@ pub fn recover<C: Chip>(
         ≤ greatest_found (chart_of x) (C.told chip.old).places + 1 + 2 ^ 14)) }
     ensures steps { RecoversInSteps (C.told chip.old).places (C.told chip.old) result
         (tables_of parts.new) (C.told chip.new) }
+
+    // Why it fails over what the chip holds: where that has no fault and its pages say a map, only
+    // where a call of the chip failed.
+    ensures complete { CompletesOpening (C.told chip.old).places result (C.told chip.old) }
 
     // What the tables have, whatever the chip tells.
     ensures holds { OnOk result (HoldsOpened (C.told chip.old).places (tables_of parts.new)) }

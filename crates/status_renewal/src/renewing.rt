@@ -4,7 +4,7 @@ ghost use Rattle.merge_rules.specs.Known.{KnowsPlaces};
 ghost use Rattle.selective_merge.specs.Moving.{tables_of};
 ghost use Rattle.unit_io.specs.Accounts.{Accounts};
 ghost use Rattle.unit_io.specs.Costs.{Spends};
-ghost use Rattle.status_renewal.specs.Passes.{RenewsTold, HoldsRenewed, KeepsInSteps, ErasesAtMost, RenewCause};
+ghost use Rattle.status_renewal.specs.Passes.{RenewsTold, HoldsRenewed, KeepsInSteps, CompletesRenewal, ErasesAtMost, RenewCause};
 
 use crate::kept::KeptNumbers;
 use crate::passing::pass;
@@ -34,6 +34,11 @@ pub fn renew<C: Chip>(
         (C.told chip.old) result (C.told chip.new) }
     ensures steps { KeepsInSteps (C.told chip.old).places (tables_of parts.old)
         (tables_of parts.new) (C.told chip.old) result (C.told chip.new) }
+
+    // Why it fails over what the chip holds: where all units' pages read well and few log sectors of
+    // each would be carried, only where a call of the chip failed.
+    ensures complete { CompletesRenewal (C.told chip.old).places (tables_of parts.old) result
+        (C.told chip.old) }
 
     // What the tables have, whatever the chip tells.
     ensures holds { HoldsRenewed (C.told chip.old).places (tables_of parts.old) result

@@ -12,3 +12,4 @@ pub mod HeldLemmas
 pub mod PlainLemmas
 pub mod ReadsAtLemmas
 pub mod CostLemmas
+pub mod SparesLemmas

@@ -1,5 +1,5 @@
 -- What a call makes of the chart of a chip.
-use Rattle.std.specs.Prelude.{ℕ, ◌≡◌, ◌<◌, List, Some, None}
+use Rattle.std.specs.Prelude.{ℕ, ◌≡◌, ◌≢◌, ◌<◌, List, Some, None}
 use Rattle.chip_trait.specs.Story.{Contents}
 use Rattle.chip_trait.specs.Told.{Told}
 use Rattle.chip_trait.specs.Chart.{with_sector}
@@ -14,6 +14,11 @@ use Rattle.unit_io.specs.Spots.{IsPieceSpot}
 -- a chip that tells its contents goes on telling them, and their chart is related so to the one before
 abbrev pub Charts : (Chart → Chart → Type 0) → Told → Told → Type 0
 Charts F old new = (x : Contents) → old.contents ≡ Some x → (y : Contents) × (new.contents ≡ Some y) × F (chart_of x) (chart_of y)
+
+-- a chip that tells its contents goes on telling them, and all other places have the bytes they had
+abbrev pub Spares : ℕ → Told → Told → Type 0
+Spares p old new = (x : Contents) → old.contents ≡ Some x
+    → (y : Contents) × (new.contents ≡ Some y) × ((q s : ℕ) → q ≢ p → y q s ≡ x q s)
 
 -- nothing checks at the place, and elsewhere the chart is as it was
 pub record IsCleared (p : ℕ) (c y : Chart) : Type 0 where

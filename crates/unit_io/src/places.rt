@@ -15,7 +15,7 @@ ghost use Rattle.unit_io.specs.Accounts.{Accounts};
 ghost use Rattle.unit_io.specs.Leads.{IsSteady, KeepsMap, SwitchesMap, IsStopped};
 ghost use Rattle.unit_io.specs.Spots.{Clears, Programs, IsSpot};
 ghost use Rattle.unit_io.specs.Costs.{ErasesOnce, ProgramsAt, Spends};
-ghost use Rattle.unit_io.specs.Charts.{Charts, IsCleared, Gains};
+ghost use Rattle.unit_io.specs.Charts.{Charts, Spares, IsCleared, Gains};
 ghost use Rattle.unit_io.specs.Plain.{AddsPlain, IsPlain, IsPlainSector};
 
 use crate::calls::{barrier, erase, program};
@@ -34,6 +34,7 @@ pub fn begin_unit<C: Chip>(chip: &mut C, place: u32) -> Result<(), ChipFault>
         h result (C.told chip.new) }
     ensures tells { OnOk result (Charts (IsCleared place) (C.told chip.old) (C.told chip.new)) }
     ensures plain { AddsPlain (C.told chip.old) (C.told chip.new) }
+    ensures spares { OnOk result (Spares place (C.told chip.old) (C.told chip.new)) }
     ensures costs { Spends (ErasesOnce place 1 (is_ok result)) (C.told chip.old) (C.told chip.new) }
     ensures accounts { Accounts IsStopped result (C.told chip.old) (C.told chip.new) }
 {
@@ -52,6 +53,7 @@ fn add_header<C: Chip>(chip: &mut C, place: u32, bytes: &[u8; 512]) -> Result<()
         (λ done. Gains place 0 said) h result (C.told chip.new) }
     ensures tells { (said : Sector) → sector_in bytes.now ≡ Some said → OnOk result (Charts (Gains place 0 said) (C.told chip.old) (C.told chip.new)) }
     ensures plain { IsPlain bytes.now → AddsPlain (C.told chip.old) (C.told chip.new) }
+    ensures spares { OnOk result (Spares place (C.told chip.old) (C.told chip.new)) }
     ensures costs { (said : Sector) → sector_in bytes.now ≡ Some said
         → Spends (ProgramsAt place 1 1 said.kind) (C.told chip.old) (C.told chip.new) }
     ensures accounts { Accounts IsStopped result (C.told chip.old) (C.told chip.new) }
@@ -76,6 +78,7 @@ pub fn seal<C: Chip>(chip: &mut C, place: u32, head: &Head, payload: &[u8]) -> R
         (λ done. Gains place 0 (sector_of head.now payload.now)) h result (C.told chip.new) }
     ensures tells { OnOk result (Charts (Gains place 0 (sector_of head.now payload.now)) (C.told chip.old) (C.told chip.new)) }
     ensures plain { IsPlainSector (sector_of head.now payload.now) → AddsPlain (C.told chip.old) (C.told chip.new) }
+    ensures spares { OnOk result (Spares place (C.told chip.old) (C.told chip.new)) }
     ensures costs { Spends (ProgramsAt place 1 2 head.now.kind) (C.told chip.old) (C.told chip.new) }
     ensures accounts { Accounts IsStopped result (C.told chip.old) (C.told chip.new) }
 {

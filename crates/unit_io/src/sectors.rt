@@ -13,7 +13,7 @@ ghost use Rattle.unit_io.specs.Accounts.{Accounts};
 ghost use Rattle.unit_io.specs.Leads.{IsSteady, KeepsMap, IsStopped};
 ghost use Rattle.unit_io.specs.Spots.{Programs, IsSpot};
 ghost use Rattle.unit_io.specs.Costs.{ProgramsAt, Spends};
-ghost use Rattle.unit_io.specs.Charts.{Charts, Gains};
+ghost use Rattle.unit_io.specs.Charts.{Charts, Spares, Gains};
 ghost use Rattle.unit_io.specs.Plain.{AddsPlain, IsPlain};
 
 use crate::calls::program;
@@ -37,6 +37,7 @@ pub(crate) fn program_aside<C: Chip>(
         (λ done. Gains place sector said) h result (C.told chip.new) }
     ensures tells { (said : Sector) → sector_in bytes.now ≡ Some said → OnOk result (Charts (Gains place sector said) (C.told chip.old) (C.told chip.new)) }
     ensures plain { IsPlain bytes.now → AddsPlain (C.told chip.old) (C.told chip.new) }
+    ensures spares { OnOk result (Spares place (C.told chip.old) (C.told chip.new)) }
     ensures costs { (said : Sector) → sector_in bytes.now ≡ Some said
         → Spends (ProgramsAt place 1 0 said.kind) (C.told chip.old) (C.told chip.new) }
     ensures accounts { Accounts IsStopped result (C.told chip.old) (C.told chip.new) }
@@ -68,6 +69,7 @@ pub fn program_log<C: Chip>(
         → KeepsMap (C.told chip.old).places m (Programs spot.place (IsSpot spot.sector))
         (λ done. Gains spot.place spot.sector (sector_of head.now payload.now)) h result (C.told chip.new) }
     ensures tells { OnOk result (Charts (Gains spot.place spot.sector (sector_of head.now payload.now)) (C.told chip.old) (C.told chip.new)) }
+    ensures spares { OnOk result (Spares spot.place (C.told chip.old) (C.told chip.new)) }
     ensures costs { Spends (ProgramsAt spot.place 1 0 5) (C.told chip.old) (C.told chip.new) }
     ensures accounts { Accounts IsStopped result (C.told chip.old) (C.told chip.new) }
 {

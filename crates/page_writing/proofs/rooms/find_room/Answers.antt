@@ -16,6 +16,9 @@ use Rattle.page_writing.proofs.CauseLemmas.{unread_cause, unplaced_cause, lost_c
 use Rattle.page_writing.proofs.FoundLemmas.{Says, generation_first, generation_then, told_unread, found_told, lost_told, header_then, unplaced_told}
 use Rattle.page_writing.proofs.RoomStepLemmas.{unread_steps, unplaced_steps, room_steps, read_steps, lost_steps}
 use Rattle.page_writing.proofs.SpendLemmas.{frees_read, frees_behind, frees_then_reads}
+use Rattle.merge_rules.proofs.FaultLemmas.{fault_as, fault_unread}
+use Rattle.selective_merge.proofs.CompleteLemmas.{fails_behind, fails_complete}
+use Rattle.page_writing.proofs.RoomLemmas.{header_first}
 use Rattle.page_writing.proofs.rooms.find_room.Goals as goal
 
 -- ---- the header wasn't read
@@ -329,3 +332,72 @@ returns-clause-costs g c =
     frees_then_reads _ t.places old new last
     (frees_behind _ t.places old mid new reads c.in_ok-spot.ensures.costs)
     c.in_ok-merged.ensures.looks.reads
+
+-- ---- why it failed
+
+pub returns-in_err-generation-clause-fault : goal.returns-in_err-generation-clause-fault
+returns-in_err-generation-clause-fault g c = λ x told it mirrors.
+    let e = err_from_is_err_and c.from_residual.result c.from_residual.ensures.1 in
+    let old = g.C.Chip.told c.args.chip.now in
+    let t = tables_of c.args.parts.now in
+    let u = c.args.unit in
+    let low : u < old.places - 4 = omega (arith, c.requires.unit) in
+    let fault = c.in_err-generation.field-0.0 in
+    rw e.1 (fault_unread _ e.0 (e.2 ∙ header_first old.places (chart_of x) it t u
+    (fault ≡ ReadFault) mirrors low
+    (subst (λ (p : ℕ). (head : Sector) → chart_of x p 0 ≡ Some head → IsDataHeader u head
+    → fault ≡ ReadFault) c.current-home.ensures.place
+    (c.in_err-generation.ensures.exact x told))))
+
+pub returns-in_err-spot-clause-fault : goal.returns-in_err-spot-clause-fault
+returns-in_err-spot-clause-fault g c = λ x told it mirrors.
+    let e = err_from_is_err_and c.from_residual-in_err-spot.result
+    c.from_residual-in_err-spot.ensures.1 in
+    let reads = c.in_ok-generation.ensures.looks.reads in
+    rw e.1 (fault_as _ e.0 c.in_err-spot.field-0.0 e.2
+    (fails_behind {T = Unit {0}} (tables_of c.args.parts.now) c.args.unit
+    (g.C.Chip.told c.args.chip.now) (g.C.Chip.told c.read_generation.new.chip)
+    (Err c.in_err-spot.field-0.0) reads.counts.places reads.contents
+    c.in_err-spot.ensures.fault x told it mirrors))
+
+pub returns-in_err-merged-clause-fault : goal.returns-in_err-merged-clause-fault
+returns-in_err-merged-clause-fault g c = λ x told it mirrors.
+    let e = err_from_is_err_and c.from_residual-in_err-merged.result
+    c.from_residual-in_err-merged.ensures.1 in
+    let old = g.C.Chip.told c.args.chip.now in
+    let mid = g.C.Chip.told c.read_generation.new.chip in
+    let new = g.C.Chip.told c.log_place.new.chip in
+    let t = tables_of c.args.parts.now in
+    let after = tables_of c.log_place.new.parts in
+    let u = c.args.unit in
+    let reads = c.in_ok-generation.ensures.looks.reads in
+    let holds = subst (λ (n : ℕ). Holds n t after) reads.counts.places c.in_ok-spot.ensures.holds in
+    let spot = c.in_ok-spot.spot in
+    let made = subst (λ (n : ℕ). Charts (MakesRoom IsPlaced n u t after spot) mid new)
+    reads.counts.places c.in_ok-spot.ensures.tells in
+    let low : u < old.places - 4 = omega (arith, c.requires.unit) in
+    let fault = c.in_err-merged.field-0.0 in
+    let read = subst (λ (p : ℕ). OfContents new (λ y. (head : Sector)
+    → chart_of y p 0 ≡ Some head → IsDataHeader u head → fault ≡ ReadFault))
+    c.current-place.ensures.place c.in_err-merged.ensures.exact in
+    rw e.1 (fault_unread _ e.0 (e.2 ∙ header_then _ old.places u t after old mid new new
+    holds.known.none_lost holds.active reads refl (fault ≡ ReadFault) low spot made read x told it
+    mirrors))
+
+pub returns-in_err-generation-clause-complete : goal.returns-in_err-generation-clause-complete
+returns-in_err-generation-clause-complete g c =
+    let old = g.C.Chip.told c.args.chip.now in
+    fails_complete old.places (tables_of c.args.parts.now) c.args.unit c.from_residual.result old
+    (returns-in_err-generation-clause-fault g c)
+
+pub returns-in_err-spot-clause-complete : goal.returns-in_err-spot-clause-complete
+returns-in_err-spot-clause-complete g c =
+    let old = g.C.Chip.told c.args.chip.now in
+    fails_complete old.places (tables_of c.args.parts.now) c.args.unit
+    c.from_residual-in_err-spot.result old (returns-in_err-spot-clause-fault g c)
+
+pub returns-in_err-merged-clause-complete : goal.returns-in_err-merged-clause-complete
+returns-in_err-merged-clause-complete g c =
+    let old = g.C.Chip.told c.args.chip.now in
+    fails_complete old.places (tables_of c.args.parts.now) c.args.unit
+    c.from_residual-in_err-merged.result old (returns-in_err-merged-clause-fault g c)

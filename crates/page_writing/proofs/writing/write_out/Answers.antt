@@ -8,6 +8,8 @@ use Rattle.page_writing.proofs.CauseLemmas.{stopped_cause}
 use Rattle.page_writing.proofs.OutLemmas.{out_told, out_steps, stopped_told}
 use Rattle.page_writing.proofs.SpendLemmas.{frees_alone, frees_then_logs}
 use Rattle.page_writing.proofs.SpotLemmas.{holds_then}
+use Rattle.merge_rules.proofs.FaultLemmas.{fault_as, fault_stopped}
+use Rattle.selective_merge.proofs.CompleteLemmas.{fails_complete}
 use Rattle.page_writing.proofs.writing.write_out.Goals as goal
 
 -- ---- no room was found
@@ -148,3 +150,28 @@ returns-clause-accounts g c =
           c.in_ok-write_log.ensures.accounts.counts;
       cause = tt;
     }
+
+-- ---- why it failed
+
+pub returns-in_err-at-clause-fault : goal.returns-in_err-at-clause-fault
+returns-in_err-at-clause-fault g c = λ x told it mirrors.
+    let e = err_from_is_err_and c.from_residual.result c.from_residual.ensures.1 in
+    rw e.1 (fault_as _ e.0 c.in_err-at.field-0.0 e.2 (c.in_err-at.ensures.fault x told it mirrors))
+
+pub returns-in_err-write_log-clause-fault : goal.returns-in_err-write_log-clause-fault
+returns-in_err-write_log-clause-fault g c = λ x told it mirrors.
+    let e = err_from_is_err_and c.from_residual-in_err-write_log.result
+    c.from_residual-in_err-write_log.ensures.1 in
+    rw e.1 (fault_stopped _ e.0 (e.2 ∙ c.in_err-write_log.ensures.accounts.cause.0))
+
+pub returns-in_err-at-clause-complete : goal.returns-in_err-at-clause-complete
+returns-in_err-at-clause-complete g c =
+    let old = g.C.Chip.told c.args.chip.now in
+    fails_complete old.places (tables_of c.args.parts.now) c.args.unit c.from_residual.result old
+    (returns-in_err-at-clause-fault g c)
+
+pub returns-in_err-write_log-clause-complete : goal.returns-in_err-write_log-clause-complete
+returns-in_err-write_log-clause-complete g c =
+    let old = g.C.Chip.told c.args.chip.now in
+    fails_complete old.places (tables_of c.args.parts.now) c.args.unit
+    c.from_residual-in_err-write_log.result old (returns-in_err-write_log-clause-fault g c)

@@ -12,6 +12,8 @@ use Rattle.selective_merge.specs.Throughout.{ChartsThroughout}
 use Rattle.selective_merge.proofs.FewLemmas.{few_unread}
 use Rattle.selective_merge.proofs.SpendLemmas.{for_read, erases_for_behind}
 use Rattle.selective_merge.proofs.WholeLemmas.{merge_behind, merged_told, merge_unread, told_unread}
+use Rattle.merge_rules.proofs.FaultLemmas.{fault_unread}
+use Rattle.selective_merge.proofs.CompleteLemmas.{merge_told, merge_completes}
 use Rattle.selective_merge.proofs.merging.merge.Goals as goal
 
 pub returns-in_err-home-clause-steps : goal.returns-in_err-home-clause-steps
@@ -99,3 +101,31 @@ returns-clause-few g c = λ x told it mirrors.
     (length (packs_of t.active log)) c.merge_known.result) home.log_is
     (subst (λ (p : ℕ). CarriesFew p (length (packs_of t.active c.learn.new.scratch.log))
     c.merge_known.result) c.in_ok-home.ensures.place c.merge_known.ensures.few)
+
+pub returns-in_err-home-clause-fault : goal.returns-in_err-home-clause-fault
+returns-in_err-home-clause-fault g c = λ x told it mirrors.
+    let e = err_from_is_err_and c.from_residual.result c.from_residual.ensures.1 in
+    rw e.1 (fault_unread _ e.0 (e.2 ∙ c.in_err-home.ensures.learns x told it
+    (tables_of c.args.parts.now)
+    (record { mirrors = mirrors; directory_is = refl; overflow_is = refl })))
+
+pub returns-clause-fault : goal.returns-clause-fault
+returns-clause-fault g c = λ x told it mirrors.
+    let t = tables_of c.args.parts.now in
+    let home = c.in_ok-home.ensures.learns x told it t
+    (record { mirrors = mirrors; directory_is = refl; overflow_is = refl }) in
+    merge_told x t (it.units c.args.unit) c.args.unit c.in_ok-home.home c.learn.new.scratch.log
+    c.merge_known.result home
+    (c.merge_known.ensures.fault x (c.in_ok-home.ensures.looks.reads.contents ∙ told))
+
+pub returns-in_err-home-clause-complete : goal.returns-in_err-home-clause-complete
+returns-in_err-home-clause-complete g c =
+    let old = g.C.Chip.told c.args.chip.now in
+    merge_completes old.places (tables_of c.args.parts.now) c.args.unit c.from_residual.result old
+    (returns-in_err-home-clause-fault g c)
+
+pub returns-clause-complete : goal.returns-clause-complete
+returns-clause-complete g c =
+    let old = g.C.Chip.told c.args.chip.now in
+    merge_completes old.places (tables_of c.args.parts.now) c.args.unit c.merge_known.result old
+    (returns-clause-fault g c)

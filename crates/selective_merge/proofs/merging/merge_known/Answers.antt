@@ -1,10 +1,14 @@
-use Rattle.std.proofs.Common.{refl}
+use Rattle.std.proofs.Common.{Option, refl, sym, subst}
 use Rattle.ipl_base.specs.declared.fault.ChipFault.TheVariants.{Malformed}
 use Rattle.unit_io.proofs.ReadsAtLemmas.{at_none}
 use Rattle.selective_merge.specs.Moving.{tables_of}
 use Rattle.selective_merge.proofs.FewLemmas.{few_packed, too_many}
 use Rattle.selective_merge.proofs.SpendLemmas.{for_none}
 use Rattle.selective_merge.proofs.WholeLemmas.{merge_unread}
+use Rattle.ipl_base.specs.declared.fault.ChipFault.{ChipFault}
+use Rattle.merge_rules.specs.Faults.{TellsTheFault}
+use Rattle.merge_rules.proofs.FaultLemmas.{fault_with_few, fault_with_many}
+use Rattle.selective_merge.specs.Homes.{from_home}
 use Rattle.selective_merge.proofs.merging.merge_known.Goals as goal
 
 pub returns-then-not-pack_carried-clause-steps : goal.returns-then-not-pack_carried-clause-steps
@@ -35,3 +39,15 @@ returns-clause-few g c =
     few_packed c.args.home.now.place _ _ (g.C.Chip.told c.args.chip.now)
     (g.C.Chip.told c.merge_packed.new.chip) c.merge_packed.result c.merge_packed.ensures.few
     c.merge_packed.ensures.accounts.cause
+
+pub returns-then-not-pack_carried-clause-fault : goal.returns-then-not-pack_carried-clause-fault
+returns-then-not-pack_carried-clause-fault g c = λ x told read stopped.
+    fault_with_many x (from_home c.args.home.now c.args.parts.now.status.numbers
+    c.args.parts.now.scratch.log) _ c.if-not-pack_carried.ensures.full
+
+pub returns-clause-fault : goal.returns-clause-fault
+returns-clause-fault g c = λ x told.
+    let from = from_home c.args.home.now c.args.parts.now.status.numbers
+    c.args.parts.now.scratch.log in
+    subst (λ (o : Option ChipFault). TellsTheFault o c.merge_packed.result)
+    (sym (fault_with_few x from _ c.merge_packed.ensures.few)) (c.merge_packed.ensures.fault x told)

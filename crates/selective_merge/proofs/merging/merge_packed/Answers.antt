@@ -289,3 +289,9 @@ returns-in-Err-clause-few g c =
     packs_few c.args.parts.now.active c.args.parts.now.scratch.log
     c.args.parts.now.scratch.packs.closed.items _ c.payloads-payloads.ensures.all c.requires.packed
     c.payloads-payloads.ensures.few
+
+pub returns-in-Ok-clause-fault : goal.returns-in-Ok-clause-fault
+returns-in-Ok-clause-fault g c = λ x told. c.in-Ok.ensures.fault x told
+
+pub returns-in-Err-clause-fault : goal.returns-in-Err-clause-fault
+returns-in-Err-clause-fault g c = λ x told. c.in-Err.ensures.fault x told

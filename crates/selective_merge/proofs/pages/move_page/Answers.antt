@@ -5,6 +5,9 @@ use Rattle.selective_merge.specs.Homes.{from_home}
 use Rattle.selective_merge.proofs.PageMoveLemmas.{page_unread, page_moves, page_tells}
 use Rattle.selective_merge.proofs.SpendLemmas.{spends_read, programs_behind}
 use Rattle.selective_merge.proofs.ThroughoutLemmas.{page_asked_at}
+use Rattle.unit_io.proofs.SparesLemmas.{spares_none, spares_behind}
+use Rattle.merge_rules.specs.Faults.{page_fault_from}
+use Rattle.merge_rules.proofs.FaultLemmas.{fault_as, page_told, page_fine, tells_written}
 use Rattle.selective_merge.proofs.pages.move_page.Goals as goal
 
 pub returns-in_err-read_page-clause-moves : goal.returns-in_err-read_page-clause-moves
@@ -64,3 +67,29 @@ returns-clause-costs g c =
     programs_behind _ c.args.place 16 4 old mid (g.C.Chip.told c.program_page.new.chip)
     (page_asked_at {T = Unit {0}} c.args.home.now.place c.args.page c.from-count.result (Ok tt) old
     mid read.asks read.accounts.counts) c.program_page.ensures.costs
+
+pub returns-in_err-read_page-clause-fault : goal.returns-in_err-read_page-clause-fault
+returns-in_err-read_page-clause-fault g c = λ x told.
+    let from = from_home c.args.home.now c.args.status.now.numbers c.args.log.now in
+    let e = err_from_is_err_and c.from_residual.result c.from_residual.ensures.1 in
+    rw e.1 (fault_as _ e.0 c.in_err-read_page.field-0.0 e.2
+    (page_told x from c.args.page c.from-count.result c.in_err-read_page.field-0.0
+    c.from-count.ensures (c.in_err-read_page.ensures.exact x told)))
+
+pub returns-clause-fault : goal.returns-clause-fault
+returns-clause-fault g c = λ x told.
+    let from = from_home c.args.home.now c.args.status.now.numbers c.args.log.now in
+    tells_written (page_fault_from x from c.args.page) (g.C.Chip.told c.read_page.new.chip)
+    (g.C.Chip.told c.program_page.new.chip) c.program_page.result
+    (page_fine x from c.args.page c.from-count.result c.from-count.ensures
+    (c.in_ok-read_page.ensures.exact x told)) c.program_page.ensures.accounts.cause
+
+pub returns-clause-spares : goal.returns-clause-spares
+returns-clause-spares g c =
+    let old = g.C.Chip.told c.args.chip.now in
+    let mid = g.C.Chip.told c.read_page.new.chip in
+    let read = c.in_ok-read_page.ensures in
+    spares_behind c.args.place old mid (g.C.Chip.told c.program_page.new.chip) c.program_page.result
+    (spares_none c.args.place old mid (page_asked_at {T = Unit {0}} c.args.home.now.place
+    c.args.page c.from-count.result (Ok tt) old mid read.asks read.accounts.counts).contents)
+    c.program_page.ensures.spares

@@ -1,4 +1,4 @@
-use Rattle.std.proofs.Common.{◌≡◌, ◌+◌, ◌*◌, ◌<◌, ◌≤◌, ℕ, replicate, Ok, Err, subst, arith, refl, ◌∙◌}
+use Rattle.std.proofs.Common.{◌≡◌, ◌+◌, ◌*◌, ◌<◌, ◌≤◌, ℕ, replicate, Ok, Err, subst, arith, refl, sym, ◌∙◌}
 use Rattle.std.proofs.lemmas.List.{length-set}
 use Rattle.std.proofs.lemmas.Result.{err_from_is_err_and}
 use Rattle.chip_trait.proofs.CountsLemmas.{counts_none, counts_then}
@@ -10,6 +10,12 @@ use Rattle.selective_merge.specs.Writing.{MovesOnePage}
 use Rattle.selective_merge.proofs.MoveLemmas.{few_none, few_more, moved_none, moved_more, moved_aside, aside_then}
 use Rattle.selective_merge.proofs.PageMoveLemmas.{MovedSoFar, moved_so_far_none, moved_so_far_more, page_failed}
 use Rattle.selective_merge.proofs.ThroughoutLemmas.{charts_none, charts_then}
+use Rattle.std.specs.Prelude.{None}
+use Rattle.ipl_base.specs.First.{first_below}
+use Rattle.ipl_base.proofs.FirstLemmas.{first_more}
+use Rattle.unit_io.proofs.SparesLemmas.{spares_none, spares_then}
+use Rattle.merge_rules.specs.Faults.{page_fault_from}
+use Rattle.merge_rules.proofs.FaultLemmas.{fault_as, page_from_alike, first_page}
 use Rattle.selective_merge.proofs.pages.move_pages.Goals as goal
 
 pub loop-page-init : goal.loop-page-init
@@ -24,6 +30,8 @@ loop-page-init g c =
           (moved_none from c.args.place generation (replicate 15 0));
       costs = spends_none (ProgramsAt c.args.place 0 0 4) told (nothing_at c.args.place 0 0 4);
       counts = counts_none told;
+      sound = λ x _. refl;
+      spares = spares_none c.args.place told told refl;
       few = few_none 15;
       long = refl;
     }
@@ -56,6 +64,11 @@ loop-page-preserved g c =
       costs = spends_at_most p (16 * k + 16) (16 * (k + 1)) 0 0 4 old new (omega arith) (omega arith)
           (spends_at_then p (16 * k) 16 0 0 4 old mid new so.costs says.costs);
       counts = counts_then old mid new so.counts says.accounts.counts;
+      sound = λ x told.
+          let (y, told_y, same) = so.spares x told in
+          first_more (page_fault_from x from) k (so.sound x told)
+          (sym (page_from_alike x y from p c.requires.another same k) ∙ says.fault y told_y);
+      spares = spares_then p old mid new so.spares says.spares;
       few = few_more pieces k n (omega (arith, low, so.long)) so.few small;
       long = length-set pieces k n ∙ so.long;
     }
@@ -123,3 +136,24 @@ returns-clause-costs g c =
     let done : k ≡ 15 = omega arith in
     spends_at_most c.args.place (16 * k) 240 0 0 4 (g.C.Chip.told c.args.chip.now)
     (g.C.Chip.told c.loop-page.chip) (omega (arith, done)) (omega arith) c.loop-page.invariant.costs
+
+pub returns-in_err-count-clause-fault : goal.returns-in_err-count-clause-fault
+returns-in_err-count-clause-fault g c = λ x told.
+    let from = from_home c.args.home.now c.args.status.now.numbers c.args.log.now in
+    let so = c.loop-page.invariant in
+    let low : c.loop-page.page < 15 = omega arith in
+    let (y, told_y, same) = so.spares x told in
+    let e = err_from_is_err_and c.from_residual.result c.from_residual.ensures.1 in
+    rw e.1 (fault_as _ e.0 c.in_err-count.field-0.0 e.2
+    (first_page x y from c.args.place c.requires.another same c.loop-page.page _ low
+    (so.sound x told) (c.in_err-count.ensures.fault y told_y)))
+
+pub returns-clause-fault : goal.returns-clause-fault
+returns-clause-fault g c = λ x told.
+    let from = from_home c.args.home.now c.args.status.now.numbers c.args.log.now in
+    let done : c.loop-page.page ≡ 15 = omega arith in
+    subst (λ (k : ℕ). first_below (page_fault_from x from) k ≡ None) done
+    (c.loop-page.invariant.sound x told)
+
+pub returns-clause-spares : goal.returns-clause-spares
+returns-clause-spares g c = c.loop-page.invariant.spares

@@ -3,7 +3,10 @@ use Rattle.chip_trait.specs.Lawful.{Clean, age}
 use Rattle.chip_trait.specs.Told.{Told, History, Counts}
 use Rattle.ipl_rules.specs.State.{Map}
 use Rattle.ipl_meaning.specs.Rests.{now, StoryRests}
-use Rattle.unit_io.specs.Charts.{Charts}
+use Rattle.ipl_base.specs.First.{first_below}
+use Rattle.unit_io.specs.Charts.{Charts, Spares}
+use Rattle.unit_io.specs.Reads.{OfContents}
+use Rattle.merge_rules.specs.Faults.{page_fault_from}
 use Rattle.unit_io.specs.Costs.{ProgramsAt, Spends}
 use Rattle.unit_io.specs.Leads.{IsSteady}
 use Rattle.merge_rules.specs.Moved.{Source, HasMoved}
@@ -22,6 +25,8 @@ pub record AreMoved (from : Source) (p generation : ℕ) (first t : Told) (k : �
   pub tells : Charts (HasMoved from p generation pieces k) first t
   pub costs : Spends (ProgramsAt p (16 * k) 0 4) first t
   pub counts : Counts first t
+  pub sound : OfContents first (λ x. first_below (page_fault_from x from) k ≡ None)
+  pub spares : Spares p first t
   pub few : IsFew pieces
   pub long : length pieces ≡ 15
 

@@ -1,10 +1,13 @@
-use Rattle.std.proofs.Common.{true, false, length, ◌∙◌, ℕ, Ok, Err, subst}
+use Rattle.std.proofs.Common.{true, false, length, ◌∙◌, ℕ, Ok, Err, Option, sym, subst}
 use Rattle.std.proofs.lemmas.Result.{err_from_is_err_and}
 use Rattle.chip_trait.proofs.CountsLemmas.{counts_then}
 use Rattle.unit_io.proofs.CostLemmas.{spends_once_then}
 use Rattle.selective_merge.specs.Homes.{from_home}
 use Rattle.selective_merge.specs.Writing.{MovesPages, WritesLogs}
 use Rattle.selective_merge.proofs.FillLemmas.{erase_failed, pages_failed, logged, logs_failed, paged_told, filled_told}
+use Rattle.ipl_base.specs.declared.fault.ChipFault.{ChipFault}
+use Rattle.merge_rules.specs.Faults.{IsTheFault}
+use Rattle.merge_rules.proofs.FaultLemmas.{fault_as, fault_stopped, pages_from_alike}
 use Rattle.selective_merge.proofs.places.fill.Goals as goal
 
 pub returns-in_err-begin_unit-clause-fills : goal.returns-in_err-begin_unit-clause-fills
@@ -155,3 +158,32 @@ returns-clause-costs g c =
     (g.C.Chip.told c.write_logs.new.chip)
     (spends_once_then p 240 1 0 4 true old mid late c.in_ok-begin_unit.ensures.costs
     c.in_ok-pieces.ensures.costs) c.in_ok-write_logs.ensures.costs
+
+pub returns-in_err-begin_unit-clause-fault : goal.returns-in_err-begin_unit-clause-fault
+returns-in_err-begin_unit-clause-fault g c = λ x told.
+    let e = err_from_is_err_and c.from_residual.result c.from_residual.ensures.1 in
+    rw e.1 (fault_stopped _ e.0 (e.2 ∙ c.in_err-begin_unit.ensures.accounts.cause.0))
+
+pub returns-in_err-pieces-clause-fault : goal.returns-in_err-pieces-clause-fault
+returns-in_err-pieces-clause-fault g c = λ x told.
+    let from = from_home c.args.home.now c.args.status.now.numbers c.args.log.now in
+    let (y, told_y, same) = c.in_ok-begin_unit.ensures.spares x told in
+    let e = err_from_is_err_and c.from_residual-in_err-pieces.result
+    c.from_residual-in_err-pieces.ensures.1 in
+    rw e.1 (fault_as _ e.0 c.in_err-pieces.field-0.0 e.2
+    (subst (λ (o : Option ChipFault). IsTheFault o c.in_err-pieces.field-0.0)
+    (pages_from_alike x y from c.args.place c.requires.another same)
+    (c.in_err-pieces.ensures.fault y told_y)))
+
+pub returns-in_err-write_logs-clause-fault : goal.returns-in_err-write_logs-clause-fault
+returns-in_err-write_logs-clause-fault g c = λ x told.
+    let e = err_from_is_err_and c.from_residual-in_err-write_logs.result
+    c.from_residual-in_err-write_logs.ensures.1 in
+    rw e.1 (fault_stopped _ e.0 (e.2 ∙ c.in_err-write_logs.ensures.accounts.cause.0))
+
+pub returns-clause-fault : goal.returns-clause-fault
+returns-clause-fault g c = λ x told.
+    let from = from_home c.args.home.now c.args.status.now.numbers c.args.log.now in
+    let (y, told_y, same) = c.in_ok-begin_unit.ensures.spares x told in
+    sym (pages_from_alike x y from c.args.place c.requires.another same)
+    ∙ c.in_ok-pieces.ensures.fault y told_y

@@ -6,6 +6,8 @@ use Rattle.unit_io.proofs.CostLemmas.{spends_once_at_most, spends_once_then}
 use Rattle.selective_merge.specs.Homes.{from_home}
 use Rattle.selective_merge.specs.Writing.{SealsUnit}
 use Rattle.selective_merge.proofs.SealLemmas.{unit_written, written_told, fill_failed}
+use Rattle.merge_rules.specs.Faults.{pages_fault}
+use Rattle.merge_rules.proofs.FaultLemmas.{fault_as, tells_written}
 use Rattle.selective_merge.proofs.places.write_unit.Goals as goal
 
 pub returns-in_err-pieces-clause-writes : goal.returns-in_err-pieces-clause-writes
@@ -59,3 +61,15 @@ returns-clause-costs g c =
     spends_once_then c.args.place 1 1 2 1 (is_ok c.seal_unit.result) (g.C.Chip.told c.args.chip.now)
     (g.C.Chip.told c.fill.new.chip) (g.C.Chip.told c.seal_unit.new.chip)
     c.in_ok-pieces.ensures.costs c.seal_unit.ensures.costs
+
+pub returns-in_err-pieces-clause-fault : goal.returns-in_err-pieces-clause-fault
+returns-in_err-pieces-clause-fault g c = λ x told.
+    let e = err_from_is_err_and c.from_residual.result c.from_residual.ensures.1 in
+    rw e.1 (fault_as _ e.0 c.in_err-pieces.field-0.0 e.2 (c.in_err-pieces.ensures.fault x told))
+
+pub returns-clause-fault : goal.returns-clause-fault
+returns-clause-fault g c = λ x told.
+    let from = from_home c.args.home.now c.args.status.now.numbers c.args.log.now in
+    tells_written (pages_fault x from) (g.C.Chip.told c.fill.new.chip)
+    (g.C.Chip.told c.seal_unit.new.chip) c.seal_unit.result (c.in_ok-pieces.ensures.fault x told)
+    c.seal_unit.ensures.accounts.cause

@@ -4,6 +4,7 @@ use Rattle.selective_merge.specs.Placing.{IsElsewhere}
 use Rattle.selective_merge.proofs.PlacingLemmas.{new_spot, elsewhere_clean, elsewhere_opened, elsewhere_merged}
 use Rattle.selective_merge.proofs.SpendLemmas.{frees_none}
 use Rattle.selective_merge.proofs.RoomLemmas.{if_ok, makes_none, told_none, makes_by_merge, told_by_merge, makes_by_opening, told_by_opening}
+use Rattle.merge_rules.proofs.FaultLemmas.{written_alone}
 use Rattle.selective_merge.proofs.placing.elsewhere.Goals as goal
 
 pub returns-in-Clean-clause-steps : goal.returns-in-Clean-clause-steps
@@ -82,3 +83,11 @@ returns-in-Nothing-clause-tells g c =
 pub returns-in-Clean-clause-costs : goal.returns-in-Clean-clause-costs
 returns-in-Clean-clause-costs g c =
     frees_none (tables_of c.args.parts.now).places (g.C.Chip.told c.args.chip.now)
+
+pub returns-in-NewPlace-clause-fault : goal.returns-in-NewPlace-clause-fault
+returns-in-NewPlace-clause-fault g c = λ x told it mirrors.
+    written_alone _ (g.C.Chip.told c.args.chip.now) (g.C.Chip.told c.open_overflow.new.chip)
+    c.open_overflow.result c.open_overflow.ensures.accounts.cause
+
+pub returns-in-Nothing-clause-fault : goal.returns-in-Nothing-clause-fault
+returns-in-Nothing-clause-fault g c = c.merged_spot.ensures.fault

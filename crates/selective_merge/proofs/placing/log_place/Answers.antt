@@ -1,4 +1,4 @@
-use Rattle.std.proofs.Common.{slice_index, ◌<◌, ◌≤◌, ℕ, refl, subst, arith}
+use Rattle.std.proofs.Common.{slice_index, ◌<◌, ◌≤◌, ◌∙◌, ℕ, refl, subst, arith}
 use Rattle.std.proofs.lemmas.Result.{err_from_is_err_and}
 use Rattle.overflow.specs.Lists.{spots_in}
 use Rattle.unit_log.specs.Looks.{IsLogRead}
@@ -11,6 +11,8 @@ use Rattle.selective_merge.proofs.PlacingLemmas.{placed_home, placed_few, placed
 use Rattle.selective_merge.proofs.RoomLemmas.{Merged, if_ok, makes_none, told_none, makes_by_merge, told_by_merge, makes_unread, placed_behind, placed_told}
 use Rattle.selective_merge.proofs.SpendLemmas.{erases_free_behind, frees_none, frees_read}
 use Rattle.selective_merge.proofs.WholeLemmas.{told_unread}
+use Rattle.merge_rules.proofs.FaultLemmas.{fault_unread}
+use Rattle.selective_merge.proofs.CompleteLemmas.{fails_behind, fails_complete}
 use Rattle.selective_merge.proofs.placing.log_place.Goals as goal
 
 pub returns-in-Some-clause-steps : goal.returns-in-Some-clause-steps
@@ -171,3 +173,42 @@ returns-clause-costs g c =
     (tables_of c.args.parts.now).places (g.C.Chip.told c.args.chip.now)
     (g.C.Chip.told c.count_carried.new.chip) (g.C.Chip.told c.elsewhere.new.chip)
     c.in_ok-carried.ensures.looks.reads c.elsewhere.ensures.costs
+
+pub returns-in_err-carried-clause-fault : goal.returns-in_err-carried-clause-fault
+returns-in_err-carried-clause-fault g c = λ x told it mirrors.
+    let e = err_from_is_err_and c.from_residual.result c.from_residual.ensures.1 in
+    rw e.1 (fault_unread _ e.0 (e.2 ∙ c.in_err-carried.ensures.exact x told it
+    (tables_of c.args.parts.now)
+    (record { mirrors = mirrors; directory_is = refl; overflow_is = refl })))
+
+pub returns-then-carried-le-THRESHOLD-clause-fault : goal.returns-then-carried-le-THRESHOLD-clause-fault
+returns-then-carried-le-THRESHOLD-clause-fault g c =
+    let reads = c.in_ok-carried.ensures.looks.reads in
+    fails_behind (tables_of c.args.parts.now) c.args.unit (g.C.Chip.told c.args.chip.now)
+    (g.C.Chip.told c.count_carried.new.chip) c.merged_spot.result reads.counts.places
+    reads.contents c.merged_spot.ensures.fault
+
+pub returns-clause-fault : goal.returns-clause-fault
+returns-clause-fault g c =
+    let reads = c.in_ok-carried.ensures.looks.reads in
+    fails_behind (tables_of c.args.parts.now) c.args.unit (g.C.Chip.told c.args.chip.now)
+    (g.C.Chip.told c.count_carried.new.chip) c.elsewhere.result reads.counts.places
+    reads.contents c.elsewhere.ensures.fault
+
+pub returns-in_err-carried-clause-complete : goal.returns-in_err-carried-clause-complete
+returns-in_err-carried-clause-complete g c =
+    let old = g.C.Chip.told c.args.chip.now in
+    fails_complete old.places (tables_of c.args.parts.now) c.args.unit c.from_residual.result old
+    (returns-in_err-carried-clause-fault g c)
+
+pub returns-then-carried-le-THRESHOLD-clause-complete : goal.returns-then-carried-le-THRESHOLD-clause-complete
+returns-then-carried-le-THRESHOLD-clause-complete g c =
+    let old = g.C.Chip.told c.args.chip.now in
+    fails_complete old.places (tables_of c.args.parts.now) c.args.unit c.merged_spot.result old
+    (returns-then-carried-le-THRESHOLD-clause-fault g c)
+
+pub returns-clause-complete : goal.returns-clause-complete
+returns-clause-complete g c =
+    let old = g.C.Chip.told c.args.chip.now in
+    fails_complete old.places (tables_of c.args.parts.now) c.args.unit c.elsewhere.result old
+    (returns-clause-fault g c)

@@ -2,6 +2,7 @@ use Rattle.std.proofs.Common.{false, ◌∙◌}
 use Rattle.std.proofs.lemmas.Result.{err_from_is_err_and}
 use Rattle.selective_merge.specs.Moving.{tables_of}
 use Rattle.selective_merge.proofs.SpendLemmas.{frees_for}
+use Rattle.merge_rules.proofs.FaultLemmas.{fault_as}
 use Rattle.selective_merge.proofs.placing.merged_spot.Goals as goal
 
 pub returns-in_err-merge-clause-steps : goal.returns-in_err-merge-clause-steps
@@ -18,3 +19,9 @@ pub returns-in_err-merge-clause-costs : goal.returns-in_err-merge-clause-costs
 returns-in_err-merge-clause-costs g c =
     frees_for (tables_of c.args.parts.now).places _ false (g.C.Chip.told c.args.chip.now)
     (g.C.Chip.told c.merge.new.chip) c.in_err-merge.ensures.costs
+
+pub returns-in_err-merge-clause-fault : goal.returns-in_err-merge-clause-fault
+returns-in_err-merge-clause-fault g c = λ x told it mirrors.
+    let e = err_from_is_err_and c.from_residual.result c.from_residual.ensures.1 in
+    rw e.1 (fault_as _ e.0 c.in_err-merge.field-0.0 e.2
+    (c.in_err-merge.ensures.fault x told it mirrors))

@@ -113,3 +113,12 @@ returns-clause-costs g c =
     (g.C.Chip.told c.args.chip.now) (g.C.Chip.told c.loop-unit.chip)
     (omega (arith, c.loop-unit.auto.unit-end, c.units-unit-end.ensures))
     c.loop-unit.invariant.costs
+
+pub returns-in_err-take_unit-clause-complete : goal.returns-in_err-take_unit-clause-complete
+returns-in_err-take_unit-clause-complete g c = λ x told it mirrors all.
+    let so_far = c.loop-unit.invariant in
+    let old = g.C.Chip.told c.args.chip.now in
+    let e = err_from_is_err_and c.from_residual.result c.from_residual.ensures.1 in
+    rw (e.1 ∙ ap Err e.2) (c.in_err-take_unit.ensures.complete old.places (chart_of x) it
+    (tables_of c.args.parts.now) so_far.counts.places so_far.holds
+    (so_far.passes old.places x it refl told mirrors) all)

@@ -1,4 +1,4 @@
-use Rattle.std.proofs.Common.{◌≡◌, ◌<◌, ◌+◌, ◌-◌, ◌∙◌, ℕ, List, Ok, Err, length, refl, sym, ap, subst, arith}
+use Rattle.std.proofs.Common.{◌≡◌, ◌<◌, ◌+◌, ◌-◌, ◌∙◌, ℕ, List, Ok, Err, length, inl, refl, sym, ap, subst, arith}
 use Rattle.std.proofs.lemmas.Result.{err_from_is_err_and}
 use Rattle.ipl_meaning.specs.Chart.{chart_of}
 use Rattle.ipl_meaning.specs.Layout.{records_of}
@@ -18,6 +18,7 @@ use Rattle.status_renewal.proofs.JoinLemmas.{too_many}
 use Rattle.status_renewal.proofs.PassLemmas.{passed_read, passed_joined, merge_ends, stopped_from}
 use Rattle.status_renewal.proofs.UnitLemmas.{records_are_logged}
 use Rattle.status_renewal.proofs.PreserveLemmas.{reads_preserve, steps_preserve, read_then}
+use Rattle.status_renewal.proofs.CompleteLemmas.{merge_is_complete}
 use Rattle.status_renewal.proofs.passing.take_unit.Goals as goal
 
 pub returns-in_err-read_live-clause-passes : goal.returns-in_err-read_live-clause-passes
@@ -158,3 +159,22 @@ returns-clause-costs g c =
     let new = g.C.Chip.told c.merge.new.chip in
     reads_then_erase _ 1 old mid new c.read_live.ensures.looks.reads
     (merge_erases _ _ _ mid new c.merge.ensures.costs)
+
+pub returns-in_err-read_live-clause-complete : goal.returns-in_err-read_live-clause-complete
+returns-in_err-read_live-clause-complete g c = λ places chart it t same holds was all.
+    let parts = tables_of c.args.parts.now in
+    let e = err_from_is_err_and c.from_residual.result c.from_residual.ensures.1 in
+    rw (e.1 ∙ ap Err e.2) (inl (c.in_err-read_live.ensures.exact was.contents was.told was.now parts
+    (record {
+      mirrors = subst (λ n. Mirrors n (chart_of was.contents) was.now parts) (sym same) was.mirrors;
+      directory_is = refl;
+      overflow_is = refl;
+    })))
+
+pub returns-clause-complete : goal.returns-clause-complete
+returns-clause-complete g c = λ places chart it t same holds was all.
+    let reads = c.read_live.ensures.looks.reads in
+    merge_is_complete places c.args.unit chart it t c.args.kept.now
+    (g.C.Chip.told c.args.chip.now) (g.C.Chip.told c.read_live.new.chip)
+    (tables_of c.args.parts.now) c.merge.result (omega (arith, c.requires.unit, same)) holds.active
+    (reads.counts.places ∙ same) reads.contents was all c.merge.ensures.complete

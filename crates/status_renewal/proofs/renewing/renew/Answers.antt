@@ -12,6 +12,7 @@ use Rattle.status_renewal.specs.Renewed.{with_tables, Renews, RenewsInSteps}
 use Rattle.status_renewal.proofs.CostLemmas.{erases_more, erases_then, place_erases}
 use Rattle.status_renewal.proofs.PreserveLemmas.{passed_then, steps_preserve}
 use Rattle.status_renewal.proofs.RenewLemmas.{may_renew, renew_ends, status_ends}
+use Rattle.status_renewal.proofs.CompleteLemmas.{written_alone}
 use Rattle.status_renewal.proofs.renewing.renew.Goals as goal
 
 pub returns-in_err-pass-clause-tells : goal.returns-in_err-pass-clause-tells
@@ -124,3 +125,18 @@ returns-clause-costs g c =
     (omega (arith, c.requires.known.suits.units))
     (erases_then (old.places - 4) 1 old mid new c.pass.ensures.costs
     (place_erases one.0 _ mid new one.2))
+
+pub returns-in_err-pass-clause-complete : goal.returns-in_err-pass-clause-complete
+returns-in_err-pass-clause-complete g c = λ x told it mirrors all.
+    let e = err_from_is_err_and c.from_residual.result c.from_residual.ensures.1 in
+    rw (e.1 ∙ ap Err e.2) (c.in_err-pass.ensures.complete x told it mirrors all)
+
+pub returns-clause-complete : goal.returns-clause-complete
+returns-clause-complete g c = λ x told it mirrors all.
+    written_alone (g.C.Chip.told c.pass.new.chip) (g.C.Chip.told c.renew_place.new.chip)
+    c.renew_place.result c.renew_place.ensures.accounts.cause
+
+pub renew_place-requires-clause-placed : goal.renew_place-requires-clause-placed
+renew_place-requires-clause-placed g c =
+    let known = c.in_ok-pass.ensures.holds.known in
+    omega (arith, known.status_placed, c.pass.ensures.accounts.counts.places)

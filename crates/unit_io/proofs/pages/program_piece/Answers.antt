@@ -12,3 +12,6 @@ returns-clause-aside g c = λ m h steady rests bare clean.
 
 pub returns-clause-costs : goal.returns-clause-costs
 returns-clause-costs g c = c.program_aside.ensures.costs _ c.encode.ensures.said
+
+pub returns-clause-spares : goal.returns-clause-spares
+returns-clause-spares g c = c.program_aside.ensures.spares

@@ -1,10 +1,11 @@
-use Rattle.std.proofs.Common.{◌≡◌, ◌<◌, ◌≤◌, ◌+◌, ℕ, Ok, Err, subst, arith}
+use Rattle.std.proofs.Common.{◌≡◌, ◌<◌, ◌≤◌, ◌+◌, ℕ, Ok, Err, refl, subst, arith}
 use Rattle.std.proofs.lemmas.Result.{err_from_is_err_and}
 use Rattle.unit_io.proofs.PageLemmas.{piled_none, piled_more, piled_fails, piled_all, charts_none, charts_more, IsOpenFor, PieceSays, Piled}
 use Rattle.chip_trait.proofs.CountsLemmas.{counts_none, counts_then}
 use Rattle.unit_io.proofs.PlainLemmas.{plain_none, plain_then}
 use Rattle.unit_io.specs.Costs.{ProgramsAt}
 use Rattle.unit_io.proofs.CostLemmas.{spends_none, spends_weaker, nothing_at, programs_at_most, one_piece_more}
+use Rattle.unit_io.proofs.SparesLemmas.{spares_none, spares_then}
 use Rattle.unit_io.proofs.pages.program_pieces.Goals as goal
 
 pub loop-piece-init : goal.loop-piece-init
@@ -12,6 +13,7 @@ loop-piece-init g c = record {
   keeps = λ m h steady ready. piled_none _ c.args.place c.args.head.now.unit c.args.head.now.generation c.args.page c.args.text.now m h (g.C.Chip.told c.args.chip.now) steady ready;
   tells = charts_none c.args.place c.args.head.now.unit c.args.head.now.generation c.args.page c.args.text.now (g.C.Chip.told c.args.chip.now);
   plain = plain_none (g.C.Chip.told c.args.chip.now);
+  spares = spares_none c.args.place (g.C.Chip.told c.args.chip.now) (g.C.Chip.told c.args.chip.now) refl;
   costs = spends_none (ProgramsAt c.args.place 0 0 4) (g.C.Chip.told c.args.chip.now) (nothing_at c.args.place 0 0 4);
   counts = counts_none (g.C.Chip.told c.args.chip.now);
 }
@@ -26,6 +28,7 @@ loop-piece-preserved g c =
           so_far.counts.places c.in_ok-program_piece.ensures.aside);
       tells = charts_more c.args.place c.args.head.now.unit c.args.head.now.generation c.args.page c.args.text.now c.loop-piece.piece (g.C.Chip.told c.args.chip.now) (g.C.Chip.told c.loop-piece.chip) (g.C.Chip.told c.program_piece.new.chip) so_far.tells c.in_ok-program_piece.ensures.tells;
       plain = plain_then (g.C.Chip.told c.args.chip.now) (g.C.Chip.told c.loop-piece.chip) (g.C.Chip.told c.program_piece.new.chip) so_far.plain c.in_ok-program_piece.ensures.plain;
+      spares = spares_then c.args.place (g.C.Chip.told c.args.chip.now) (g.C.Chip.told c.loop-piece.chip) (g.C.Chip.told c.program_piece.new.chip) so_far.spares c.in_ok-program_piece.ensures.spares;
       costs = one_piece_more c.args.place c.loop-piece.piece (g.C.Chip.told c.args.chip.now) (g.C.Chip.told c.loop-piece.chip) (g.C.Chip.told c.program_piece.new.chip) so_far.costs c.in_ok-program_piece.ensures.costs;
       counts = counts_then (g.C.Chip.told c.args.chip.now) (g.C.Chip.told c.loop-piece.chip) (g.C.Chip.told c.program_piece.new.chip) so_far.counts c.in_ok-program_piece.ensures.accounts.counts;
     }
@@ -67,3 +70,6 @@ returns-clause-costs g c =
     let few : c.loop-piece.piece ≤ 16 = omega (arith, c.piece_count-count.ensures.few) in
     spends_weaker (ProgramsAt c.args.place c.loop-piece.piece 0 4) (ProgramsAt c.args.place 16 0 4) _ _
     (λ added. programs_at_most c.args.place c.loop-piece.piece 16 0 0 4 added few (omega arith)) c.loop-piece.invariant.costs
+
+pub returns-clause-spares : goal.returns-clause-spares
+returns-clause-spares g c = c.loop-piece.invariant.spares

@@ -2,7 +2,7 @@ use Rattle.std.proofs.Common.{ℕ, List}
 use Rattle.chip_trait.specs.Told.{Told, History, Counts}
 use Rattle.ipl_rules.specs.State.{Map}
 use Rattle.unit_io.specs.Leads.{IsSteady}
-use Rattle.unit_io.specs.Charts.{Charts, HasPieces}
+use Rattle.unit_io.specs.Charts.{Charts, Spares, HasPieces}
 use Rattle.unit_io.specs.Plain.{AddsPlain}
 use Rattle.unit_io.specs.Costs.{ProgramsAt, Spends}
 use Rattle.unit_io.proofs.PageLemmas.{IsOpenFor, Piled}
@@ -13,6 +13,7 @@ pub record IsPiled (first t : Told) (place unit generation page : ℕ) (text : L
   pub keeps : (m : Map) (h : History) → IsSteady h first → IsOpenFor first.places place page m h → Piled first.places place unit generation page text m h n t
   pub tells : Charts (HasPieces place unit generation page text n) first t
   pub plain : AddsPlain first t
+  pub spares : Spares place first t
   pub costs : Spends (ProgramsAt place n 0 4) first t
   pub counts : Counts first t
 

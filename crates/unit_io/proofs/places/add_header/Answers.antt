@@ -3,6 +3,7 @@ use Rattle.unit_io.proofs.SealLemmas.{added_leads, added_fails}
 use Rattle.unit_io.proofs.PlainLemmas.{plain_then, plain_did, plain_waited}
 use Rattle.std.proofs.Common.{Ok, Err, arith}
 use Rattle.unit_io.proofs.CostLemmas.{spends_at_most, spends_at_then, spends_programmed, spends_barred}
+use Rattle.unit_io.proofs.SparesLemmas.{spares_behind, spares_programmed, spares_waited}
 use Rattle.unit_io.proofs.places.add_header.Goals as goal
 
 pub returns-in_err-program-clause-leads : goal.returns-in_err-program-clause-leads
@@ -33,3 +34,12 @@ returns-clause-costs g c = λ said says.
     spends_at_then c.args.place 1 0 0 1 said.kind _ (g.C.Chip.told c.program.new.chip) _
     (spends_programmed c.args.place 0 _ said _ _ (Ok tt) says c.in_ok-program.ensures.did)
     (spends_barred c.args.place said.kind _ _ _ c.barrier.ensures.did)
+
+pub returns-clause-spares : goal.returns-clause-spares
+returns-clause-spares g c =
+    let old = g.C.Chip.told c.args.chip.now in
+    let mid = g.C.Chip.told c.program.new.chip in
+    let new = g.C.Chip.told c.barrier.new.chip in
+    spares_behind c.args.place old mid new c.barrier.result
+    (spares_programmed c.args.place 0 c.args.bytes.now old mid (Ok tt) c.in_ok-program.ensures.did)
+    (spares_waited c.args.place mid new c.barrier.result c.barrier.ensures.did)

@@ -4,6 +4,7 @@ use Rattle.unit_io.proofs.PlainLemmas.{plain_then, plain_did, plain_waited}
 use Rattle.std.proofs.Common.{Ok, Err, false, arith}
 use Rattle.std.specs.Prelude.{is_ok}
 use Rattle.unit_io.proofs.CostLemmas.{spends_once_at_most, spends_once_then, spends_erased, spends_barred}
+use Rattle.unit_io.proofs.SparesLemmas.{spares_behind, spares_erased, spares_waited}
 use Rattle.unit_io.proofs.places.begin_unit.Goals as goal
 
 pub returns-in_err-erase-clause-keeps : goal.returns-in_err-erase-clause-keeps
@@ -37,3 +38,12 @@ returns-clause-costs g c =
     spends_once_then c.args.place 0 0 1 0 (is_ok c.barrier.result) _ (g.C.Chip.told c.erase.new.chip) _
     (spends_erased c.args.place (g.C.Chip.told c.args.chip.now) (g.C.Chip.told c.erase.new.chip) (Ok tt) c.in_ok-erase.ensures.did)
     (spends_barred c.args.place 0 _ _ _ c.barrier.ensures.did)
+
+pub returns-clause-spares : goal.returns-clause-spares
+returns-clause-spares g c =
+    let old = g.C.Chip.told c.args.chip.now in
+    let mid = g.C.Chip.told c.erase.new.chip in
+    let new = g.C.Chip.told c.barrier.new.chip in
+    spares_behind c.args.place old mid new c.barrier.result
+    (spares_erased c.args.place old mid (Ok tt) c.in_ok-erase.ensures.did)
+    (spares_waited c.args.place mid new c.barrier.result c.barrier.ensures.did)

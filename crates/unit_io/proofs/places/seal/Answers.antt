@@ -5,6 +5,7 @@ use Rattle.unit_io.proofs.SealLemmas.{seal_leads, seal_fails, settled_rests, ste
 use Rattle.unit_io.proofs.PlainLemmas.{plain_then, plain_waited, plain_said}
 use Rattle.std.proofs.Common.{Ok, Err, arith}
 use Rattle.unit_io.proofs.CostLemmas.{spends_at_most, spends_at_then, spends_barred}
+use Rattle.unit_io.proofs.SparesLemmas.{spares_behind, spares_waited}
 use Rattle.unit_io.proofs.places.seal.Goals as goal
 
 pub returns-in_err-barrier-clause-leads : goal.returns-in_err-barrier-clause-leads
@@ -38,3 +39,11 @@ returns-clause-costs g c =
     spends_at_then c.args.place 0 1 1 1 c.args.head.now.kind _ (g.C.Chip.told c.barrier.new.chip) _
     (spends_barred c.args.place c.args.head.now.kind _ _ (Ok tt) c.in_ok-barrier.ensures.did)
     (c.add_header.ensures.costs _ c.encode.ensures.said)
+
+pub returns-clause-spares : goal.returns-clause-spares
+returns-clause-spares g c =
+    let old = g.C.Chip.told c.args.chip.now in
+    let mid = g.C.Chip.told c.barrier.new.chip in
+    spares_behind c.args.place old mid (g.C.Chip.told c.add_header.new.chip) c.add_header.result
+    (spares_waited c.args.place old mid (Ok tt) c.in_ok-barrier.ensures.did)
+    c.add_header.ensures.spares

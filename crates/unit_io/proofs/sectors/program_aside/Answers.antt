@@ -1,6 +1,7 @@
 use Rattle.unit_io.proofs.SectorLemmas.{aside_leads}
 use Rattle.unit_io.proofs.PlainLemmas.{plain_did}
 use Rattle.unit_io.proofs.CostLemmas.{spends_programmed}
+use Rattle.unit_io.proofs.SparesLemmas.{spares_programmed}
 use Rattle.unit_io.proofs.sectors.program_aside.Goals as goal
 
 pub returns-clause-aside : goal.returns-clause-aside
@@ -12,3 +13,8 @@ returns-clause-plain g c = λ plain. plain_did _ (g.C.Chip.told c.args.chip.now)
 
 pub returns-clause-costs : goal.returns-clause-costs
 returns-clause-costs g c = λ said says. spends_programmed c.args.place c.args.sector _ said _ _ _ says c.program.ensures.did
+
+pub returns-clause-spares : goal.returns-clause-spares
+returns-clause-spares g c =
+    spares_programmed c.args.place c.args.sector c.args.bytes.now (g.C.Chip.told c.args.chip.now)
+    (g.C.Chip.told c.program.new.chip) c.program.result c.program.ensures.did

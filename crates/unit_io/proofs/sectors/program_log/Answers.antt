@@ -1,5 +1,6 @@
 use Rattle.unit_io.proofs.SectorLemmas.{aside_leads, log_leads}
 use Rattle.unit_io.proofs.CostLemmas.{spends_of_kind, spends_programmed}
+use Rattle.unit_io.proofs.SparesLemmas.{spares_programmed}
 use Rattle.unit_io.proofs.sectors.program_log.Goals as goal
 
 pub returns-clause-keeps : goal.returns-clause-keeps
@@ -14,3 +15,8 @@ pub returns-clause-costs : goal.returns-clause-costs
 returns-clause-costs g c =
     spends_of_kind c.args.spot.place 1 0 _ 5 _ _ c.requires.kind
     (spends_programmed c.args.spot.place c.args.spot.sector _ _ _ _ _ c.encode.ensures.said c.program.ensures.did)
+
+pub returns-clause-spares : goal.returns-clause-spares
+returns-clause-spares g c =
+    spares_programmed c.args.spot.place c.args.spot.sector _ (g.C.Chip.told c.args.chip.now)
+    (g.C.Chip.told c.program.new.chip) c.program.result c.program.ensures.did

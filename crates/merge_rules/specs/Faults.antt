@@ -1,0 +1,54 @@
+-- What is wrong with a unit that is to be merged, and why a merge fails.
+use Rattle.std.specs.Prelude.{ℕ, ◌≡◌, ◌≢◌, ◌⊎◌, ◌<◌, ◌≤◌, nat_le, slice_index, Option, Some, None, Result, MatchResult, IfErr, if◌then◌else◌}
+use Rattle.chip_trait.specs.Story.{Contents}
+use Rattle.ipl_base.specs.First.{first_below}
+use Rattle.ipl_base.specs.declared.fault.ChipFault.{ChipFault}
+use Rattle.ipl_base.specs.declared.fault.ChipFault.TheVariants.{ReadFault, Stopped, Malformed}
+use Rattle.ipl_format.specs.Page.{Slots}
+use Rattle.ipl_meaning.specs.Chart.{Chart}
+use Rattle.ipl_meaning.specs.Last.{carried_count}
+use Rattle.ipl_meaning.specs.Layout.{Shape, ReadsWell}
+use Rattle.ipl_meaning.specs.Tables.{Tables}
+use Rattle.unit_io.specs.Faults.{page_fault}
+use Rattle.merge_rules.specs.Merged.{source_of}
+use Rattle.merge_rules.specs.Moved.{Source}
+use Rattle.merge_rules.specs.Packs.{among}
+
+-- ---- a unit
+
+-- what is wrong with a page where it is moved from
+abbrev pub page_fault_from : Contents → Source → ℕ → Option ChipFault
+page_fault_from x from page =
+    page_fault x from.place from.unit from.generation page (slice_index from.pieces page)
+
+-- what is wrong with the first such page
+abbrev pub pages_fault : Contents → Source → Option ChipFault
+pages_fault x from = first_below (page_fault_from x from) 15
+
+-- what is wrong where so many log sectors would be carried: more than 12, or a page
+abbrev pub fault_with : Contents → Source → ℕ → Option ChipFault
+fault_with x from carried =
+    if nat_le carried 12 then pages_fault x from else Some (Malformed from.place 0)
+
+-- what is wrong with a unit that is laid out so, where these tables are
+abbrev pub merge_fault : Contents → Tables → Shape → ℕ → Option ChipFault
+merge_fault x t it u = fault_with x (source_of t it u) (carried_count (among t.active) it.log)
+
+-- its pages read well, and at most 12 log sectors would be carried
+pub record IsMergeable (c : Chart) (t : Tables) (it : Shape) (u : ℕ) : Type 0 where
+  pub pages : (page : ℕ) → page < 15 → (slots : Slots) × ReadsWell c u it page slots
+  pub few : carried_count (among t.active) it.log ≤ 12
+
+-- ---- an answer
+
+-- the one fault is the other, unless a call of the chip failed
+abbrev pub IsTheFault : Option ChipFault → ChipFault → Type 0
+IsTheFault fault e = e ≢ ReadFault → e ≢ Stopped → fault ≡ Some e
+
+-- it tells this fault, or that there is none; unless a call of the chip failed
+abbrev pub TellsTheFault : {T : Type 0} → Option ChipFault → Result T ChipFault → Type 0
+TellsTheFault fault result = MatchResult result (λ _. fault ≡ None) (IsTheFault fault)
+
+-- it fails only where a call of the chip failed
+abbrev pub FailsByChipAlone : {T : Type 0} → Result T ChipFault → Type 0
+FailsByChipAlone result = IfErr result (λ e. (e ≡ ReadFault) ⊎ (e ≡ Stopped))

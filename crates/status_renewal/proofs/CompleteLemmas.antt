@@ -1,0 +1,100 @@
+-- A renewal and an opening of what reads well fail only where a call of the chip failed.
+use Rattle.std.proofs.Common.{◌≡◌, ◌⊎◌, ℕ, ◌<◌, ◌≤◌, ◌+◌, ◌-◌, Bool, true, false, List, [], ◌∷◌, Some, None, Result, Ok, Err, IfErr, inl, inr, refl, sym, ◌∙◌, ap, subst, arith}
+use Rattle.std.proofs.lemmas.Bool.{cases_Bool}
+use Rattle.chip_trait.specs.Story.{Contents}
+use Rattle.chip_trait.specs.Told.{Told}
+use Rattle.ipl_base.specs.declared.fault.ChipFault.{ChipFault}
+use Rattle.ipl_base.specs.declared.fault.ChipFault.TheVariants.{ReadFault, Stopped}
+use Rattle.ipl_base.specs.declared.fault.ImageFault.{ImageFault}
+use Rattle.ipl_base.specs.declared.fault.ImageFault.TheVariants.{Chip}
+use Rattle.ipl_format.specs.Page.{Slots, value_in}
+use Rattle.ipl_format.specs.Record.{Record}
+use Rattle.ipl_rules.specs.State.{Map}
+use Rattle.ipl_meaning.specs.Chart.{Chart, chart_of}
+use Rattle.ipl_meaning.specs.Last.{carried, carried_count}
+use Rattle.ipl_meaning.specs.Layout.{Shape, Layout, ReadsWell, records_of}
+use Rattle.ipl_meaning.specs.Mirrors.{Mirrors}
+use Rattle.ipl_meaning.specs.Stands.{Says, Shows}
+use Rattle.ipl_meaning.specs.Tables.{Tables}
+use Rattle.ipl_meaning.specs.Values.{after_records}
+use Rattle.merge_rules.specs.Faults.{IsMergeable, FailsByChipAlone}
+use Rattle.merge_rules.specs.Packs.{among}
+use Rattle.merge_rules.proofs.FaultLemmas.{said_units_are_mergeable}
+use Rattle.opening_rules.specs.Faults.{first_fault, is_image}
+use Rattle.opening_rules.specs.LaidOut.{layout_in}
+use Rattle.restart.specs.Looks.{HasCause}
+use Rattle.selective_merge.specs.Merging.{CompletesMerge}
+use Rattle.unit_io.specs.Leads.{IsStopped}
+use Rattle.status_renewal.specs.Passes.{HasPassed, AreMergeable}
+use Rattle.status_renewal.specs.Recovers.{FailsByCallAlone}
+
+-- ---- units
+
+-- a page that reads well shows something
+shows_of : (c : Chart) (committed : ℕ → Bool) (u : ℕ) (it : Shape) (page : ℕ) (slots : Slots)
+    → ReadsWell c u it page slots
+    → Shows c committed u it page
+    (λ slot. after_records committed page slot (records_of it.log) (value_in slots slot))
+shows_of c committed u it page slots reads =
+    record { base = slots; reads = reads; says = λ slot low. refl }
+
+-- a unit that the pass hasn't come to may be merged still
+pub mergeable_then : (places n : ℕ) (c : Chart) (it : Layout) (t : Tables) (kept : List ℕ)
+    (old : Told) (mid : Tables) (was : HasPassed places n c it t kept old mid) → n < places - 4
+    → mid.active ≡ t.active → AreMergeable places c it t
+    → IsMergeable (chart_of was.contents) mid (was.now.units n) n
+mergeable_then places n c it t kept old mid was low active all =
+    let may = all n low in
+    let same : was.now.units n ≡ it.units n = was.passed.same n low (inl (omega arith)) in record {
+      pages = λ page below.
+          let (slots, reads) = may.pages page below in
+          let shows = was.pages n page _ low below
+          (shows_of c it.committed n (it.units n) page slots reads) in (shows.base, shows.reads);
+      few = subst (λ (a : List ℕ). carried_count (among a) (was.now.units n).log ≤ 12) (sym active)
+          (subst (λ (s : Shape). carried_count (among t.active) s.log ≤ 12) (sym same) may.few);
+    }
+
+-- so its merge is complete
+pub merge_is_complete : (places n : ℕ) (c : Chart) (it : Layout) (t : Tables) (kept : List ℕ)
+    (old mid : Told) (between : Tables) (result : Result (Unit {0}) ChipFault)
+    → n < places - 4 → between.active ≡ t.active → mid.places ≡ places
+    → mid.contents ≡ old.contents → HasPassed places n c it t kept old between
+    → AreMergeable places c it t → CompletesMerge mid.places between n result mid
+    → FailsByChipAlone result
+merge_is_complete places n c it t kept old mid between result low active sized same was all says =
+    subst (λ (q : ℕ). CompletesMerge q between n result mid) sized says was.contents
+    (same ∙ was.told) was.now was.mirrors
+    (mergeable_then places n c it t kept old between was low active all)
+
+-- a call that only writes
+pub written_alone : {T : Type 0} (old new : Told) (result : Result T ChipFault)
+    → IfErr result (λ fault. IsStopped fault old new) → FailsByChipAlone result
+written_alone old new (Ok v) stopped = tt
+written_alone old new (Err e) stopped = inr stopped.0
+
+-- ---- an opening
+
+-- where no session is open nothing is carried
+carried_none : (records : List Record) → carried (among []) records ≡ []
+carried_none [] = refl
+carried_none (r ∷ records) = carried_none records
+
+pub all_mergeable : (places : ℕ) (c : Chart) (it : Layout) (m : Map) (t : Tables)
+    → Says places c it m → t.active ≡ [] → AreMergeable places c it t
+all_mergeable places c it m t says none u low =
+    said_units_are_mergeable places c it m t u says low
+    (subst (λ (a : List ℕ). carried_count (among a) (it.units u).log ≤ 12) (sym none)
+    (rw (carried_none (records_of (it.units u).log)) (omega arith)))
+
+pub call_failed : (fault : ChipFault) → (fault ≡ ReadFault) ⊎ (fault ≡ Stopped)
+    → FailsByCallAlone (Chip fault)
+call_failed fault (inl read) = inl (ap Chip read)
+call_failed fault (inr stopped) = inr (ap Chip stopped)
+
+pub reading_failed : (places : ℕ) (c : Chart) (e : ImageFault) (old new : Told)
+    → (is_image e ≡ true → first_fault c places ≡ Some e) → HasCause e old new
+    → first_fault c places ≡ None → FailsByCallAlone e
+reading_failed places c e old new tells cause none = elim (cases_Bool (is_image e)) [
+  | inl image ↦ let clash = sym none ∙ tells image in cc clash
+  | inr other ↦ inl (cause other).fault
+]
