@@ -1,5 +1,5 @@
 -- Calls that keep each state.
-use Rattle.std.proofs.Common.{◌≡◌, ℕ, ◌-◌, ◌<◌, [], Result, Ok, Err, Some, None, refl, sym, subst}
+use Rattle.std.proofs.Common.{◌≡◌, ℕ, ◌-◌, ◌<◌, [], Result, Ok, Err, is_ok, Some, None, refl, sym, subst}
 use Rattle.chip_trait.specs.Told.{Told, Counts, IsConsistent}
 use Rattle.ipl_base.specs.declared.fault.ChipFault.{ChipFault}
 use Rattle.ipl_rules.specs.State.{Map, State}
@@ -23,8 +23,8 @@ use Rattle.pending_writes.proofs.RenewLemmas.{renewals_keep_pending}
 use Rattle.pending_writes.proofs.SameLemmas.{placed, frames_still}
 use Rattle.pending_writes.proofs.MemoryFitLemmas.{loads_fit, evictions_fit}
 use Rattle.store_steps.specs.Advances.{Memory, memory_of, MemoryFits, ShowsNext, KeepsTablesOn, state_then, KeepsMapOf, KeepsState}
-use Rattle.store_steps.specs.Laws.{Anywhere, NothingKeepsStates, KeepersAreJoined, FailedKeepersKeep, ReadsKeepStates, LoadsKeepStates, EvictionsKeepStates, LogSectorsKeepStates, TableCallsKeepStates}
-use Rattle.store_steps.proofs.AdvanceLemmas.{reads_advance, calls_advance, failures_advance}
+use Rattle.store_steps.specs.Laws.{Anywhere, NothingKeepsStates, KeepersAreJoined, FailedKeepersKeep, LookUpsAreAlike, ReadsKeepStates, LoadsKeepStates, EvictionsKeepStates, LogSectorsKeepStates, TableCallsKeepStates}
+use Rattle.store_steps.proofs.AdvanceLemmas.{reads_advance, calls_advance, failures_advance, answers_advance}
 
 -- whatever is answered
 still_fits : {T E : Type 0} (result : Result T E) (memory : Memory) (places : ℕ) (c : Chart)
@@ -86,6 +86,18 @@ keepers_fail t after frames later e f old new did slots =
 
 pub failed_keepers_keep : FailedKeepersKeep
 failed_keepers_keep = keepers_fail
+
+-- another answer, where the call was done as well
+pub keepers_answer : {T U E F : Type 0} (t after : Tables) (frames later : Frames)
+    (result : Result T E) (answer : Result U F) (old new : Told) → is_ok result ≡ is_ok answer
+    → KeepsState t frames old result after later new
+    → KeepsState t frames old answer after later new
+keepers_answer t after frames later result answer old new same did slots =
+    answers_advance KeepsMapOf (λ state. state) (memory_of t frames slots)
+    (memory_of after later slots) result answer old new same (did slots)
+
+pub look_ups_are_alike : LookUpsAreAlike
+look_ups_are_alike = keepers_answer
 
 pub reads_keep_states : {T E : Type 0} (At : ℕ → ℕ → Type 0) (t : Tables) (frames : Frames)
     (result : Result T E) (old new : Told) → ReadsAt At old new

@@ -1,17 +1,24 @@
 -- What is known of a state that a store keeps which isn't down.
-use Rattle.std.proofs.Common.{◌≡◌, ℕ, ◌+◌, false, Some, Ok, sym, ◌∙◌, ap, arith}
+use Rattle.std.proofs.Common.{◌≡◌, ℕ, ◌+◌, false, [], ◌∷◌, List, Option, Some, None, Ok, sym, ◌∙◌, ap, arith}
 use Rattle.std.specs.FinMap.{get}
 use Rattle.chip_trait.specs.Told.{Told}
 use Rattle.ipl_base.specs.Places.{home_of}
+use Rattle.ipl_rules.specs.Refusals.{refuses_get, refuses_share}
 use Rattle.ipl_rules.specs.State.{Limits, State, see}
+use Rattle.ipl_model.specs.declared.command.Command.TheVariants as command
+use Rattle.ipl_model.specs.Step.{Stepped, found_reply, step}
+use Rattle.record_locks.specs.Held.{Slots, number_of}
+use Rattle.record_locks.specs.Standing.{state_of}
 use Rattle.ipl_meaning.specs.Chart.{chart_of}
 use Rattle.ipl_meaning.specs.Tables.{Tables}
 use Rattle.unit_io.specs.Reads.{OfContents}
+use Rattle.page_ops.specs.Pending.{seen_by}
 use Rattle.pending_writes.specs.Pending.{name_at}
 use Rattle.pending_writes.specs.Frames.{Frame, Frames}
 use Rattle.pending_writes.specs.Fits.{AreSessionsOf}
 use Rattle.store_steps.specs.Advances.{KeepsState}
 use Rattle.store_steps.specs.Keeps.{View, limits_of, ShowsState, KeepsStore, TellsName, KeptFramesTell}
+use Rattle.store_steps.proofs.RefusalLemmas.{accepted_are_done}
 use Rattle.store_steps.proofs.ViewLemmas.{frames_tell_state}
 
 -- ---- what it has
@@ -31,6 +38,10 @@ pub kept_shown : (limits : Limits) (store : View) (t : Told) (state : State)
 kept_shown limits store t state up keeps = (keeps.up up).contents
 
 -- ---- what frames tell of it
+
+-- what a session of this number sees in the frame of a name's page
+abbrev pub seen_in : Frame → ℕ → ℕ → Option (List ℕ)
+seen_in f n tid = seen_by tid (f.values (home_of n).slot) (f.pending (home_of n).slot)
 
 name_of_home : (n : ℕ) → name_at (home_of n).unit (home_of n).page (home_of n).slot ≡ n
 name_of_home n = omega arith
@@ -60,3 +71,23 @@ kept_frames_tell_on v n store t later f state old new suits up keeper there keep
 
 pub kept_frames_tell : KeptFramesTell
 kept_frames_tell = kept_frames_tell_on tt
+
+-- ---- replies
+
+-- a get that isn't refused answers what the frame has for the session
+pub gets_answer : (limits : Limits) (slots : Slots) (state : State) (s n tid : ℕ) (f : Frame)
+    → AreSessionsOf slots state → refuses_get limits (state_of slots) s n ≡ None
+    → number_of slots s ≡ Some tid → TellsName slots state n f
+    → (step limits state (command.Get s n)).1 ≡ found_reply (seen_in f n tid) ∷ []
+gets_answer limits slots state s n tid f are none mine tells =
+    ap (λ (x : Stepped). x.1) (accepted_are_done limits slots state (command.Get s n) are none)
+    ∙ ap (λ o. found_reply o ∷ []) (sym (tells.seen s tid mine))
+
+-- and so does a share
+pub shares_answer : (limits : Limits) (slots : Slots) (state : State) (s n tid : ℕ) (f : Frame)
+    → AreSessionsOf slots state → refuses_share limits (state_of slots) s n ≡ None
+    → number_of slots s ≡ Some tid → TellsName slots state n f
+    → (step limits state (command.Share s n)).1 ≡ found_reply (seen_in f n tid) ∷ []
+shares_answer limits slots state s n tid f are none mine tells =
+    ap (λ (x : Stepped). x.1) (accepted_are_done limits slots state (command.Share s n) are none)
+    ∙ ap (λ o. found_reply o ∷ []) (sym (tells.seen s tid mine))

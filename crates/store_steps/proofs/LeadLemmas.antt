@@ -11,7 +11,7 @@ use Rattle.unit_io.proofs.ReadsAtLemmas.{at_none}
 use Rattle.pending_writes.specs.Frames.{Frames}
 use Rattle.pending_writes.proofs.MemoryFitLemmas.{openings_fit}
 use Rattle.store_steps.specs.Advances.{Memory, memory_of, KeepsMapOf, TurnsMapOf, KeepsState, LeadsTo}
-use Rattle.store_steps.specs.Laws.{MemoryLeads, KeepersThenLead, FailedKeepersLead, NextStatesAreAlike, AnswersAreAlike, RestartsLead}
+use Rattle.store_steps.specs.Laws.{KeepersLead, MemoryLeads, KeepersThenLead, FailedKeepersLead, NextStatesAreAlike, AnswersAreAlike, RestartsLead}
 use Rattle.store_steps.proofs.AdvanceLemmas.{reads_advance, calls_advance, failures_advance, next_states_advance, answers_advance}
 use Rattle.store_steps.proofs.KeeperLemmas.{Nowhere, kept_shows}
 use Rattle.store_steps.proofs.StepLemmas.{steps_weaker}
@@ -31,6 +31,24 @@ memory_leads next before after old fits map clean =
       map = map;
       clean = clean;
     })
+
+-- a call that keeps each state, whatever it answers
+pub keepers_lead_still : {T E : Type 0} (before : Memory) (after : Tables) (later : Frames)
+    (result : Result T E) (old new : Told)
+    → KeepsState before.tables before.frames old result after later new
+    → LeadsTo (λ state. state) before old result (memory_of after later before.slots) new
+keepers_lead_still before after later result old new did = record {
+  fits = (did before.slots).fits;
+  steps = λ places h it state same steady story.
+      let Rests = StoryRests places state.map in
+      steps_weaker (KeepsMapOf places state) (TurnsMapOf (λ state. state) places state)
+      before.tables after (λ v k. Rests k) (λ v k. Rests k) Rests Rests h result old new
+      (either_map (λ state. state) places state) (λ v k is. is) (λ k is. is)
+      ((did before.slots).steps places h it state same steady story);
+}
+
+pub keepers_lead : KeepersLead
+keepers_lead = keepers_lead_still
 
 -- a call that keeps each state and was done, and then one that leads to the next, whatever they
 -- answer

@@ -1,5 +1,5 @@
 -- How what calls of a store leave is joined.
-use Rattle.std.specs.Prelude.{ℕ, ◌≡◌, ◌<◌, ◌-◌, [], List, length, Some, None, Result, Ok, Err, All, is_ok}
+use Rattle.std.specs.Prelude.{ℕ, ◌≡◌, ◌<◌, ◌-◌, [], List, length, Option, Some, None, Result, Ok, Err, All, is_ok}
 use Rattle.chip_trait.specs.Told.{History, Told, Counts, IsConsistent}
 use Rattle.ipl_base.specs.declared.fault.ChipFault.{ChipFault}
 use Rattle.ipl_rules.specs.State.{Map, State, at_rest}
@@ -111,7 +111,21 @@ TableCallsKeepStates = (t after : Tables) (frames : Frames) (result : Result (Un
     → StoryRests places m h → Agrees places h it t → Preserves places m t after h result old new)
     → KeepsState t frames old result after frames new
 
+-- the answer of a store that looked a record up, where the work on the chip was done as well
+abbrev pub LookUpsAreAlike : Type 0
+LookUpsAreAlike = (t after : Tables) (frames later : Frames) (result : Result (Unit {0}) ChipFault)
+    (answer : Result (Option (List ℕ)) Fault) (old new : Told) → is_ok result ≡ is_ok answer
+    → KeepsState t frames old result after later new
+    → KeepsState t frames old answer after later new
+
 -- ---- calls that lead to a next state
+
+-- a call that keeps each state leads to the same one
+abbrev pub KeepersLead : Type 0
+KeepersLead = (before : Memory) (after : Tables) (later : Frames)
+    (result : Result (Unit {0}) ChipFault) (old new : Told)
+    → KeepsState before.tables before.frames old result after later new
+    → LeadsTo (λ state. state) before old result (memory_of after later before.slots) new
 
 -- calls in memory: the same map, and no more sectors that are counted as clean
 abbrev pub MemoryLeads : Type 0

@@ -4,11 +4,13 @@ ghost use Rattle.store_steps.specs.Laws.{
   NothingKeepsStates,
   KeepersAreJoined,
   FailedKeepersKeep,
+  LookUpsAreAlike,
   ReadsKeepStates,
   LoadsKeepStates,
   EvictionsKeepStates,
   LogSectorsKeepStates,
   TableCallsKeepStates,
+  KeepersLead,
   MemoryLeads,
   KeepersThenLead,
   FailedKeepersLead,
@@ -59,13 +61,14 @@ ghost use Rattle.store_steps.specs.Refusals.{
   PassedMerges,
 };
 
-/// Calls that keep each state: none, one after another, one that failed, reads, a page read into a
-/// frame, a page that left its frame or was written to a log sector, and calls that turn the tables
-/// alone.
+/// Calls that keep each state: none, one after another, one that failed, one with another answer,
+/// reads, a page read into a frame, a page that left its frame or was written to a log sector, and
+/// calls that turn the tables alone.
 pub fn keeper_laws()
     ensures none { NothingKeepsStates }
     ensures joined { KeepersAreJoined }
     ensures failed { FailedKeepersKeep }
+    ensures answers { LookUpsAreAlike }
     ensures reads { ReadsKeepStates }
     ensures loads { LoadsKeepStates }
     ensures evictions { EvictionsKeepStates }
@@ -73,9 +76,10 @@ pub fn keeper_laws()
     ensures tables { TableCallsKeepStates }
 {}
 
-/// Calls that lead to a next state: calls in memory, a call that keeps each state and then one that
-/// leads on, a restart, and the end of a commit.
+/// Calls that lead to a next state: one that keeps each state, calls in memory, one that keeps each
+/// state and then one that leads on, a restart, and the end of a commit.
 pub fn leading_laws()
+    ensures keepers { KeepersLead }
     ensures memory { MemoryLeads }
     ensures joined { KeepersThenLead }
     ensures failed { FailedKeepersLead }
