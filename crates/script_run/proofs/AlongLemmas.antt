@@ -1,11 +1,12 @@
 -- What goes along with the parts of a run, over one part after another.
 use Rattle.std.proofs.Common.{◌≡◌, ◌≤◌, ◌+◌, ℕ, Result, Ok, Err, arith}
-use Rattle.std.specs.Prelude.{IsErrAnd, IsErrOf}
+use Rattle.std.specs.Prelude.{IsErrAnd, IsErrOf, max}
+use Rattle.std.proofs.lemmas.Result.{on_ok_weaker}
 use Rattle.chip_trait.specs.Told.{Told, Counts, Rose}
 use Rattle.store_trait.specs.declared.fault.Fault.{Fault}
 use Rattle.store_trait.specs.declared.fault.Fault.TheVariants.{Spent}
 use Rattle.store_trait.specs.Onward.{Onward, Further}
-use Rattle.store_trait.specs.Keeping.{Keeping, Draws}
+use Rattle.store_trait.specs.Keeping.{Keeping, FOUND_NUMBER, SCRIPT_DRAWS, Draws}
 use Rattle.store_trait.proofs.OnwardLemmas.{onward_none, onward_then, onward_counts, further_onward, further_then}
 use Rattle.script_run.specs.declared.fault.Stop.{Stop}
 use Rattle.script_run.specs.declared.fault.Stop.TheVariants as stop
@@ -22,17 +23,17 @@ module _ {S : Type 0} {k : Keeping S} where
   along_none {n} {store} {t} = record { draws = record { most = omega arith; spent = λ is. cc }; suited = λ places suits. suits; beside = onward_none t; cause = tt; never = λ is. cc }
 
   -- the store did its work
-  pub along_work : {n : ℕ} {before then : S} {old new : Told} → k.counter then ≤ k.counter before + n → ((places : ℕ) → k.suits before places → k.suits then places) → Counts old new
+  pub along_work : {n : ℕ} {before then : S} {old new : Told} → k.counter then ≤ max (k.counter before) FOUND_NUMBER + n → ((places : ℕ) → k.suits before places → k.suits then places) → Counts old new
       → Along k {T = Unit {0}} Onward n before old (Ok tt) then new
   along_work {n} {before} {then} {old} {new} most suited counts =
       record { draws = record { most = most; spent = λ is. cc }; suited = suited; beside = onward_counts old new counts; cause = tt; never = λ is. cc }
 
   -- or it failed
   pub along_fault : {X : Type 0} {n : ℕ} {before then : S} {old new : Told} {fault : Fault} (result : Result (Unit {0}) Stop) → IsErrAnd result (λ s. s ≡ stop.Store fault) → Draws k n before (IsErrOf {T = X} (Err fault) Spent) then
-      → ((places : ℕ) → k.suits before places → k.suits then places) → Counts old new → k.cause fault old new → Along k Onward n before old result then new
-  along_fault (Ok u) is draws suited counts cause = absurd is
-  along_fault {X} {n} {before} {then} {old} {new} {fault} (Err s) is draws suited counts cause =
-      rw is (record { draws = record { most = draws.most; spent = λ e. draws.spent cc }; suited = suited; beside = onward_counts old new counts; cause = cause; never = λ e. cc })
+      → Counts old new → k.cause fault old new → Along k Onward n before old result then new
+  along_fault (Ok u) is draws counts cause = absurd is
+  along_fault {X} {n} {before} {then} {old} {new} {fault} (Err s) is draws counts cause =
+      rw is (record { draws = record { most = draws.most; spent = λ e. draws.spent cc }; suited = tt; beside = onward_counts old new counts; cause = cause; never = λ e. cc })
 
   -- then its reply was said
   pub along_said : {n m : ℕ} {before then : S} {old mid new : Told} → Along k {T = Unit {0}} Onward n before old (Ok tt) then mid → Onward mid new → n ≤ m → Along k {T = Unit {0}} Onward m before old (Ok tt) then new
@@ -44,7 +45,7 @@ module _ {S : Type 0} {k : Keeping S} where
       → Along k {T = Unit {0}} Onward m before old (Err stop.Output) then new
   along_unsaid {n} {m} {before} {then} {old} {mid} {new} first on rose le = record {
     draws = record { most = omega (arith, first.draws.most, le); spent = λ is. cc };
-    suited = first.suited;
+    suited = tt;
     beside = onward_then old mid new first.beside on;
     cause = omega (arith, first.beside.says, rose);
     never = λ is. cc;
@@ -58,13 +59,13 @@ module _ {S : Type 0} {k : Keeping S} where
   -- what a `?` hands on
   pub along_stop : {T U : Type 0} {R : Told → Told → Type 0} {n : ℕ} {before then : S} {old new : Told} {s : Stop} (result : Result U Stop) → IsErrAnd result (λ e. e ≡ s) → Along k {T = T} R n before old (Err s) then new → Along k R n before old result then new
   along_stop (Ok u) is along = absurd is
-  along_stop (Err e) is along = rw is (record { draws = record { most = along.draws.most; spent = λ f. along.draws.spent cc }; suited = along.suited; beside = along.beside; cause = along.cause; never = λ f. along.never cc })
+  along_stop (Err e) is along = rw is (record { draws = record { most = along.draws.most; spent = λ f. along.draws.spent cc }; suited = tt; beside = along.beside; cause = along.cause; never = λ f. along.never cc })
 
   -- one part after another
   pub along_then : {T : Type 0} {n m : ℕ} {before between then : S} {old mid new : Told} {result : Result T Stop} → Along k {T = Unit {0}} Onward n before old (Ok tt) between mid → Along k Onward m between mid result then new → Along k Onward (n + m) before old result then new
   along_then {T} {n} {m} {before} {between} {then} {old} {mid} {new} {result} first next = record {
     draws = record { most = omega (arith, first.draws.most, next.draws.most); spent = λ is. let low = next.draws.spent is in omega (arith, first.draws.most, low) };
-    suited = λ places suits. next.suited places (first.suited places suits);
+    suited = on_ok_weaker result (λ next_suited places suits. next_suited places (first.suited places suits)) next.suited;
     beside = onward_then old mid new first.beside next.beside;
     cause = causes_earlier k old mid new result (further_onward old mid first.beside) next.cause;
     never = next.never;
@@ -86,4 +87,8 @@ module _ {S : Type 0} {k : Keeping S} where
 
   -- or the script couldn't be read
   pub along_unread : {T : Type 0} (n : ℕ) (store : S) (old new : Told) → Further old new → Rose old.beside.script_faults new.beside.script_faults → Along k {T = T} Further n store old (Err stop.Script) store new
-  along_unread n store old new further rose = record { draws = record { most = omega arith; spent = λ is. cc }; suited = λ places suits. suits; beside = further; cause = rose; never = λ is. cc }
+  along_unread n store old new further rose = record { draws = record { most = omega arith; spent = λ is. cc }; suited = tt; beside = further; cause = rose; never = λ is. cc }
+
+  -- the numbers last for a script, where the counter is at most what an opening finds
+  pub numbers_last : {before then : S} {IsSpent : Type 0} → Draws k SCRIPT_DRAWS before IsSpent then → k.counter before ≤ FOUND_NUMBER → ¬ IsSpent
+  numbers_last draws low is = let past = draws.spent is in omega (arith, past, low)

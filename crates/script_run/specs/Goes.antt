@@ -1,5 +1,5 @@
 -- How a run goes on as the bytes of its script come.
-use Rattle.std.specs.Prelude.{◌≡◌, ℕ, ◌≤◌, ◌+◌, ◌-◌, ◌^◌, min, true, false, take, drop, length, List, [], ◌++◌, Option, Some, Result, MatchResult, IfErr, IsErrOf, map}
+use Rattle.std.specs.Prelude.{◌≡◌, ℕ, ◌≤◌, ◌+◌, ◌-◌, ◌^◌, min, true, false, take, drop, length, List, [], ◌++◌, Option, Some, Result, MatchResult, IfErr, OnOk, IsErrOf, map}
 use Rattle.ipl_rules.specs.State.{Map, State, Limits}
 use Rattle.ipl_rules.specs.Operations.{row_of, rows_from}
 use Rattle.ipl_model.specs.declared.command.Command.{Command}
@@ -38,11 +38,12 @@ module _ {S : Type 0} (k : Keeping S) where
   StopCause old new stop.TooLong = min (old.beside.script_bytes + 4294967295) (2 ^ 64 - 1) ≤ new.beside.script_bytes
 
   -- What goes along with each part of a run, whatever it does: at most n numbers were drawn, the store suits as many places as
-  -- before, beside the chip no more happened than R tells, and a stop has its cause. A part never finds the script too long.
+  -- before where the part was done, beside the chip no more happened than R tells, and a stop has its cause. A part never finds
+  -- the script too long.
   pub record Along {T : Type 0} (R : Told → Told → Type 0) (n : ℕ) (before : S) (old : Told)
       (result : Result T Stop) (then : S) (new : Told) : Type 0 where
     pub draws : Draws k n before (IsErrOf result (stop.Store Spent)) then
-    pub suited : (places : ℕ) → k.suits before places → k.suits then places
+    pub suited : OnOk result ((places : ℕ) → k.suits before places → k.suits then places)
     pub beside : R old new
     pub cause : IfErr result (λ s. StopCause old new s)
     pub never : IsErrOf result stop.TooLong → ⊥

@@ -1,8 +1,8 @@
 //! A script to its end, in whatever pieces its bytes come.
-ghost use Rattle.std.specs.Prelude.{◌≡◌, ◌≤◌, ◌+◌, ◌-◌, ◌*◌, ◌^◌, ◌∷◌, ◌<◌, [], ℕ, List, length, IfOk, IfErr, IsErrOf};
+ghost use Rattle.std.specs.Prelude.{◌≡◌, ◌≤◌, ◌+◌, ◌-◌, ◌*◌, ◌^◌, ◌∷◌, ◌<◌, max, [], ℕ, List, length, IfOk, IfErr, IsErrOf};
 ghost use Rattle.chip_trait.specs.Told.{Told, Grew};
 ghost use Rattle.store_trait.specs.Onward.{Onward, Further};
-ghost use Rattle.store_trait.specs.Keeping.{Draws, COMMAND_DRAWS, SCRIPT_DRAWS};
+ghost use Rattle.store_trait.specs.Keeping.{Draws, FOUND_NUMBER, COMMAND_DRAWS, SCRIPT_DRAWS};
 ghost use Rattle.script_run.specs.Goes.{Along, HasRead, StopCause, TakesBytes, TakesNext, RunsScript};
 
 use crate::Stop;
@@ -71,7 +71,8 @@ fn take_next<S: Store, D: Desk>(
         (D.told desk.new) }
     ensures along { Along S.keeping Further (COMMAND_DRAWS * length piece.old) store.old
         (D.told desk.old) result store.new (D.told desk.new) }
-    ensures drew { IfOk result (λ n. S.keeping.counter store.new ≤ S.keeping.counter store.old + COMMAND_DRAWS * n) }
+    ensures drew { IfOk result (λ n. S.keeping.counter store.new
+        ≤ max (S.keeping.counter store.old) FOUND_NUMBER + COMMAND_DRAWS * n) }
     ensures bytes { IfOk result
         (λ n. Grew (D.told desk.old).beside.script_bytes n (D.told desk.new).beside.script_bytes) }
     ensures read { IfOk result (λ n. HasRead n (D.told desk.old) (D.told desk.new)) }

@@ -194,13 +194,18 @@ keeps_each limits store t state h keeps told =
 
 -- ---- the seam
 
+-- the store is made for a chip of so many places, and isn't down
+pub record IsUpFor (store : View) (places : ℕ) : Type 0 where
+  pub places_are : store.units + 4 ≡ places
+  pub up : store.down ≡ false
+
 -- such a store, as a run knows it
 abbrev pub store_keeping : Keeping View
 store_keeping = record {
   checks = says sector_in;
   stands = λ limits x m. Stands (limits.units + 4) (chart_of x) m;
   holds = KeepsStore;
-  suits = λ store places. store.units + 4 ≡ places;
+  suits = IsUpFor;
   clean = λ store p s. IsCountedClean store.memory.tables p s;
   counter = λ store. store.memory.tables.next;
   does = λ e. Unit {0};

@@ -1,5 +1,5 @@
 -- How a store keeps a state on a chip, and what one command's work leaves.
-use Rattle.std.specs.Prelude.{◌≡◌, ◌⊎◌, ◌<◌, ◌≤◌, ◌+◌, ◌-◌, ◌^◌, ℕ, Bool, true, List, [], ◌∷◌, Option, Some, Result, MatchResult, is_ok}
+use Rattle.std.specs.Prelude.{◌≡◌, ◌⊎◌, ◌<◌, ◌≤◌, ◌+◌, ◌-◌, ◌^◌, max, ℕ, Bool, true, List, [], ◌∷◌, Option, Some, Result, MatchResult, is_ok}
 use Rattle.std.specs.FinMap.{get}
 use Rattle.ipl_rules.specs.State.{Map, State, Limits}
 use Rattle.ipl_model.specs.declared.command.Command.{Command}
@@ -27,7 +27,7 @@ pub record Keeping (S : Type 0) : Type 1 where
   pub stands : Limits → Contents → Map → Type 0
   -- under these limits the store, over a chip that tells this, keeps the state
   pub holds : Limits → S → Told → State → Type 0
-  -- the store is made for a chip of so many places
+  -- the store is made for a chip of so many places, and may go on
   pub suits : S → ℕ → Type 0
   -- the store counts this sector of this place as clean
   pub clean : S → ℕ → ℕ → Type 0
@@ -50,6 +50,10 @@ pub record Keeping (S : Type 0) : Type 1 where
 -- a store answers that its numbers are used up only above this
 abbrev pub LAST_NUMBER : ℕ
 LAST_NUMBER = 2 ^ 64 - 2 ^ 20
+
+-- what an opening of a chip sets the counter to at most
+abbrev pub FOUND_NUMBER : ℕ
+FOUND_NUMBER = 2 ^ 63 + 2 ^ 14
 
 -- the most numbers that the work of one command draws, that looking one record up draws, and that answering one command does
 abbrev pub WORK_DRAWS : ℕ
@@ -94,10 +98,11 @@ module _ {S : Type 0} (k : Keeping S) where
     pub lawful : IsLawfulAfter (k.clean before) added
     pub clean : done ≡ true → LeavesClean (k.clean before) (k.clean then) added
 
-  -- At most n numbers were drawn; and where this says that the numbers are used up, the counter would have come near its end.
+  -- At most n numbers were drawn, from the counter before on or from what an opening found; and where this says that the
+  -- numbers are used up, the counter would have come near its end.
   pub record Draws (n : ℕ) (before : S) (IsSpent : Type 0) (then : S) : Type 0 where
-    pub most : k.counter then ≤ k.counter before + n
-    pub spent : IsSpent → LAST_NUMBER < k.counter before + n
+    pub most : k.counter then ≤ max (k.counter before) FOUND_NUMBER + n
+    pub spent : IsSpent → LAST_NUMBER < max (k.counter before) FOUND_NUMBER + n
 
   -- the store still keeps the state, unless a write failed
   abbrev pub Stays : Limits → S → Told → Told → State → Type 0

@@ -1,5 +1,5 @@
 //! What keeps records on a chip and does the work of commands.
-ghost use Rattle.std.specs.Prelude.{◌≡◌, ◌<◌, ◌≤◌, ℕ, IfErr, IsErrOf};
+ghost use Rattle.std.specs.Prelude.{◌≡◌, ◌<◌, ◌≤◌, ℕ, IfErr, OnOk, IsErrOf};
 ghost use Rattle.chip_trait.specs.Told.{Told, Counts};
 
 use crate::Fault;
@@ -27,7 +27,7 @@ pub trait Store {
         requires suits { keeping.suits self.old (C.told chip.old).places }
         ensures draws { Draws keeping WORK_DRAWS self.old (IsErrOf result Fault.Spent) self.new }
         ensures works { Works keeping command.now self.old (C.told chip.old) result self.new (C.told chip.new) }
-        ensures suited { (places : ℕ) → keeping.suits self.old places → keeping.suits self.new places }
+        ensures suited { OnOk result ((places : ℕ) → keeping.suits self.old places → keeping.suits self.new places) }
         ensures counts { Counts (C.told chip.old) (C.told chip.new) }
         ensures cause { IfErr result (λ fault. keeping.cause fault (C.told chip.old) (C.told chip.new)) };
 
@@ -36,7 +36,7 @@ pub trait Store {
         requires { keeping.suits self.old (C.told chip.old).places }
         ensures draws { Draws keeping LOOK_UP_DRAWS self.old (IsErrOf result Fault.Spent) self.new }
         ensures looks_up { LooksUp keeping n self.old (C.told chip.old) result self.new (C.told chip.new) }
-        ensures suited { (places : ℕ) → keeping.suits self.old places → keeping.suits self.new places }
+        ensures suited { OnOk result ((places : ℕ) → keeping.suits self.old places → keeping.suits self.new places) }
         ensures counts { Counts (C.told chip.old) (C.told chip.new) }
         ensures cause { IfErr result (λ fault. keeping.cause fault (C.told chip.old) (C.told chip.new)) };
 }

@@ -28,7 +28,7 @@ returns-in-None-clause-says g c = λ limits named state h holds told.
 pub returns-in_err-value-clause-along : goal.returns-in_err-value-clause-along
 returns-in_err-value-clause-along g c =
     let w = c.in_err-value.ensures in
-    along_fault c.from_residual.result c.from_residual.ensures.1 w.draws w.suited w.counts w.cause
+    along_fault c.from_residual.result c.from_residual.ensures.1 w.draws w.counts w.cause
 
 pub returns-in-Ok-clause-along : goal.returns-in-Ok-clause-along
 returns-in-Ok-clause-along g c =

@@ -34,7 +34,7 @@ loop-total-preserved g c =
     let k = g.S.Store.keeping in record {
       running = λ limits state h holds told source left.
           running_more k limits state source c.args.store.now c.loop-total.store t.new.store h c.loop-total.line t.new.line (at c.loop-total.desk) (at t.new.desk) c.in_ok-count.count (was.running limits state h holds told source left) (λ s g' now is. o.takes limits s g' now is);
-      suited = λ places suits. t.ensures.along.suited places (was.suited places suits);
+      suited = λ places suits. o.along.suited places (was.suited places suits);
       further = further_then (at c.args.desk.now) (at c.loop-total.desk) (at t.new.desk) was.further t.ensures.along.beside;
       bytes = grew_then (at c.args.desk.now).beside.script_bytes (at c.loop-total.desk).beside.script_bytes (at t.new.desk).beside.script_bytes c.loop-total.total c.in_ok-count.count was.bytes o.bytes;
       read = read_then (at c.args.desk.now) (at c.loop-total.desk) (at t.new.desk) c.loop-total.total c.in_ok-count.count was.read o.read;

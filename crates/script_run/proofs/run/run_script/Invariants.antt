@@ -1,7 +1,7 @@
-use Rattle.std.proofs.Common.{◌≡◌, ◌≤◌, ◌-◌, ◌+◌, ◌*◌, List, ℕ, Some}
+use Rattle.std.proofs.Common.{◌≡◌, ◌≤◌, ◌-◌, ◌+◌, ◌*◌, max, List, ℕ, Some}
 use Rattle.ipl_rules.specs.State.{State, Limits}
 use Rattle.chip_trait.specs.Told.{History, Grew}
-use Rattle.store_trait.specs.Keeping.{COMMAND_DRAWS}
+use Rattle.store_trait.specs.Keeping.{FOUND_NUMBER, COMMAND_DRAWS}
 use Rattle.store_trait.specs.Onward.{Further}
 use Rattle.script_run.specs.Goes.{HasRead}
 use Rattle.script_run.proofs.GoesLemmas.{Running}
@@ -18,7 +18,7 @@ invariant-loop-total g l =
       further : Further (told l.fn.desk) (told l.desk);
       bytes : Grew (told l.fn.desk).beside.script_bytes l.total (told l.desk).beside.script_bytes;
       read : HasRead l.total (told l.fn.desk) (told l.desk);
-      drew : k.counter l.store ≤ k.counter l.fn.store + COMMAND_DRAWS * l.total;
+      drew : k.counter l.store ≤ max (k.counter l.fn.store) FOUND_NUMBER + COMMAND_DRAWS * l.total;
       few : l.total ≤ 4294967295;
     }
 
