@@ -5,3 +5,4 @@ mod AnswerLemmas
 mod GoesLemmas
 pub mod CauseLemmas
 mod AlongLemmas
+mod CompleteLemmas

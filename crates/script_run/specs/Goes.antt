@@ -11,7 +11,8 @@ use Rattle.chip_trait.specs.Told.{History, Told, Rose}
 use Rattle.script_run.specs.declared.fault.Stop.{Stop}
 use Rattle.script_run.specs.declared.fault.Stop.TheVariants as stop
 use Rattle.script_run.specs.Lines.{commands_from}
-use Rattle.store_trait.specs.Keeping.{Keeping, Stays, Draws}
+use Rattle.store_trait.specs.Keeping.{Keeping, Stays, Draws, Excuses}
+use Rattle.store_trait.specs.declared.fault.Fault.{Fault}
 use Rattle.store_trait.specs.declared.fault.Fault.TheVariants.{Spent}
 use Rattle.script_run.specs.Run.{RunLeaves, SayingLeaves, SaysLines}
 
@@ -47,6 +48,26 @@ module _ {S : Type 0} (k : Keeping S) where
     pub beside : R old new
     pub cause : IfErr result (λ s. StopCause old new s)
     pub never : IsErrOf result stop.TooLong → ⊥
+
+  -- the store keeps a state under these limits, over a history that is told
+  pub record KeepsSome (limits : Limits) (store : S) (t : Told) : Type 0 where
+    pub state : State
+    pub history : History
+    pub holds : k.holds limits store t state
+    pub told : t.history ≡ Some history
+
+  -- What a part of a run does with a store that keeps a state: it draws at most n numbers; it stops with a fault of the store
+  -- only where the chip failed, as long as numbers are left; and where it is done, the store keeps a state again.
+  pub record Completes {T : Type 0} (limits : Limits) (n : ℕ) (before : S) (old : Told) (result : Result T Stop)
+      (then : S) (new : Told) : Type 0 where
+    pub drawn : k.counter then ≤ k.counter before + n
+    pub excuse : (fault : Fault) → IsErrOf result (stop.Store fault) → Excuses k n before old new
+    pub again : OnOk result (KeepsSome limits then new)
+
+  -- wherever it keeps a state
+  abbrev pub CompletesOver : {T : Type 0} → ℕ → S → Told → Result T Stop → S → Told → Type 0
+  CompletesOver n before old result then new =
+      (limits : Limits) → KeepsSome limits before old → Completes limits n before old result then new
 
   -- these lines were said, chip calls between them, and the store keeps the same state; or a part of them was
   pub record SaysSome (limits : Limits) (state : State) (lines : List (List ℕ)) (before : S) (h : History)

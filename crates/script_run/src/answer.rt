@@ -9,7 +9,7 @@ ghost use Rattle.ipl_model.specs.Grammar.{line_of, commands_in};
 ghost use Rattle.ipl_model.specs.declared.command.Command.TheVariants as command;
 ghost use Rattle.store_trait.specs.Onward.{Onward};
 ghost use Rattle.store_trait.specs.Keeping.{IsSingle, WORK_DRAWS, LOOK_UP_DRAWS, COMMAND_DRAWS};
-ghost use Rattle.script_run.specs.Goes.{Along, Answers, SaysUnder, row_lines, rows_lines};
+ghost use Rattle.script_run.specs.Goes.{Along, CompletesOver, KeepsSome, Completes, Answers, SaysUnder, row_lines, rows_lines};
 
 use crate::Stop;
 use chip_trait::{Desk, Failed};
@@ -39,6 +39,8 @@ fn answer_one<S: Store, D: Desk>(store: &mut S, desk: &mut D, command: &Command)
     ensures answers { Answers S.keeping (command.now ∷ []) store.old (D.told desk.old) result store.new
         (D.told desk.new) }
     ensures along { Along S.keeping Onward WORK_DRAWS store.old (D.told desk.old) result store.new (D.told desk.new) }
+    ensures completes { CompletesOver S.keeping WORK_DRAWS store.old (D.told desk.old) result store.new
+        (D.told desk.new) }
 {
     let reply = store.work(desk, command)?;
     match say_reply(desk, &reply) {
@@ -54,6 +56,10 @@ fn say_row<S: Store, D: Desk>(store: &mut S, desk: &mut D, n: u32) -> Result<(),
         → SaysUnder S.keeping limits (λ state. row_lines n (get state.map n)) store.old
         (D.told desk.old) result store.new (D.told desk.new) }
     ensures along { Along S.keeping Onward LOOK_UP_DRAWS store.old (D.told desk.old) result store.new
+        (D.told desk.new) }
+    ensures completes { (limits : Limits) → n < limits.names
+        → KeepsSome S.keeping limits store.old (D.told desk.old)
+        → Completes S.keeping limits LOOK_UP_DRAWS store.old (D.told desk.old) result store.new
         (D.told desk.new) }
 {
     match store.look_up(desk, n)? {
@@ -78,6 +84,10 @@ fn say_rows<S: Store, D: Desk>(
         (D.told desk.old) result store.new (D.told desk.new) }
     ensures along { Along S.keeping Onward (LOOK_UP_DRAWS * (end - first)) store.old
         (D.told desk.old) result store.new (D.told desk.new) }
+    ensures completes { (limits : Limits) → end ≤ limits.names
+        → KeepsSome S.keeping limits store.old (D.told desk.old)
+        → Completes S.keeping limits (LOOK_UP_DRAWS * (end - first)) store.old (D.told desk.old)
+        result store.new (D.told desk.new) }
 {
     for n in first..end {
         say_row(store, desk, n)?;
@@ -91,6 +101,8 @@ fn list<S: Store, D: Desk>(store: &mut S, desk: &mut D, first: u32, last: u32) -
     ensures answers { Answers S.keeping (command.List first last ∷ []) store.old (D.told desk.old) result store.new
         (D.told desk.new) }
     ensures along { Along S.keeping Onward COMMAND_DRAWS store.old (D.told desk.old) result store.new
+        (D.told desk.new) }
+    ensures completes { CompletesOver S.keeping COMMAND_DRAWS store.old (D.told desk.old) result store.new
         (D.told desk.new) }
 {
     let names = store.names();
@@ -114,6 +126,8 @@ fn answer<S: Store, D: Desk>(store: &mut S, desk: &mut D, command: &Command) -> 
         (D.told desk.new) }
     ensures along { Along S.keeping Onward COMMAND_DRAWS store.old (D.told desk.old) result store.new
         (D.told desk.new) }
+    ensures completes { CompletesOver S.keeping COMMAND_DRAWS store.old (D.told desk.old) result store.new
+        (D.told desk.new) }
 {
     match command {
         Command::List(first, last) => list(store, desk, *first, *last),
@@ -127,6 +141,8 @@ pub fn answer_line<S: Store, D: Desk>(store: &mut S, desk: &mut D, line: &[u8]) 
     ensures answers { Answers S.keeping (commands_in (line_of line.now)) store.old
         (D.told desk.old) result store.new (D.told desk.new) }
     ensures along { Along S.keeping Onward COMMAND_DRAWS store.old (D.told desk.old) result store.new
+        (D.told desk.new) }
+    ensures completes { CompletesOver S.keeping COMMAND_DRAWS store.old (D.told desk.old) result store.new
         (D.told desk.new) }
 {
     match parse(line) {

@@ -3,7 +3,7 @@ ghost use Rattle.std.specs.Prelude.{◌≡◌, ◌≤◌, ◌+◌, ◌-◌, ◌*
 ghost use Rattle.chip_trait.specs.Told.{Told, Grew};
 ghost use Rattle.store_trait.specs.Onward.{Onward, Further};
 ghost use Rattle.store_trait.specs.Keeping.{Draws, FOUND_NUMBER, COMMAND_DRAWS, SCRIPT_DRAWS};
-ghost use Rattle.script_run.specs.Goes.{Along, HasRead, StopCause, TakesBytes, TakesNext, RunsScript};
+ghost use Rattle.script_run.specs.Goes.{Along, CompletesOver, HasRead, StopCause, TakesBytes, TakesNext, RunsScript};
 
 use crate::Stop;
 use crate::answer::answer_line;
@@ -29,6 +29,8 @@ fn take_byte<S: Store, D: Desk>(
         (D.told desk.new) }
     ensures along { Along S.keeping Onward COMMAND_DRAWS store.old (D.told desk.old) result store.new
         (D.told desk.new) }
+    ensures completes { CompletesOver S.keeping COMMAND_DRAWS store.old (D.told desk.old) result store.new
+        (D.told desk.new) }
 {
     if byte == b'\n' {
         let answered = answer_line(store, desk, line.bytes());
@@ -51,6 +53,8 @@ fn take_piece<S: Store, D: Desk>(
         (D.told desk.new) }
     ensures along { Along S.keeping Onward (COMMAND_DRAWS * length piece.now) store.old
         (D.told desk.old) result store.new (D.told desk.new) }
+    ensures completes { CompletesOver S.keeping (COMMAND_DRAWS * length piece.now) store.old
+        (D.told desk.old) result store.new (D.told desk.new) }
 {
     for byte in piece {
         take_byte(store, desk, line, *byte)?;
@@ -71,8 +75,12 @@ fn take_next<S: Store, D: Desk>(
         (D.told desk.new) }
     ensures along { Along S.keeping Further (COMMAND_DRAWS * length piece.old) store.old
         (D.told desk.old) result store.new (D.told desk.new) }
+    ensures completes { CompletesOver S.keeping (COMMAND_DRAWS * length piece.old) store.old
+        (D.told desk.old) result store.new (D.told desk.new) }
     ensures drew { IfOk result (λ n. S.keeping.counter store.new
         ≤ max (S.keeping.counter store.old) FOUND_NUMBER + COMMAND_DRAWS * n) }
+    ensures completed { IfOk result (λ n. CompletesOver S.keeping (COMMAND_DRAWS * n) store.old
+        (D.told desk.old) result store.new (D.told desk.new)) }
     ensures bytes { IfOk result
         (λ n. Grew (D.told desk.old).beside.script_bytes n (D.told desk.new).beside.script_bytes) }
     ensures read { IfOk result (λ n. HasRead n (D.told desk.old) (D.told desk.new)) }
@@ -93,6 +101,8 @@ pub fn run_script<S: Store, D: Desk>(store: &mut S, desk: &mut D) -> Result<(), 
     requires { S.keeping.suits store.old (D.told desk.old).places }
     ensures run { RunsScript S.keeping store.old (D.told desk.old) result store.new (D.told desk.new) }
     ensures draws { Draws S.keeping SCRIPT_DRAWS store.old (IsErrOf result (Stop.Store Fault.Spent)) store.new }
+    ensures completes { CompletesOver S.keeping SCRIPT_DRAWS store.old (D.told desk.old) result store.new
+        (D.told desk.new) }
     ensures further { Further (D.told desk.old) (D.told desk.new) }
     ensures cause { IfErr result (λ stop. StopCause S.keeping (D.told desk.old) (D.told desk.new) stop) }
     ensures exact { IsErrOf result Stop.TooLong

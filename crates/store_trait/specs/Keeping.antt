@@ -1,5 +1,5 @@
 -- How a store keeps a state on a chip, and what one command's work leaves.
-use Rattle.std.specs.Prelude.{◌≡◌, ◌⊎◌, ◌<◌, ◌≤◌, ◌+◌, ◌-◌, ◌^◌, max, ℕ, Bool, true, List, [], ◌∷◌, Option, Some, Result, MatchResult, is_ok}
+use Rattle.std.specs.Prelude.{OnErr, ◌≡◌, ◌⊎◌, ◌<◌, ◌≤◌, ◌+◌, ◌-◌, ◌^◌, max, ℕ, Bool, true, List, [], ◌∷◌, Option, Some, Result, MatchResult, is_ok}
 use Rattle.std.specs.FinMap.{get}
 use Rattle.ipl_rules.specs.State.{Map, State, Limits}
 use Rattle.ipl_model.specs.declared.command.Command.{Command}
@@ -10,7 +10,7 @@ use Rattle.chip_trait.specs.declared.event.Event.{Event}
 use Rattle.chip_trait.specs.Story.{Story, Contents, pieces}
 use Rattle.chip_trait.specs.Moment.{AtEachMoment, Leaves}
 use Rattle.chip_trait.specs.Lawful.{IsLawfulAfter, LeavesClean}
-use Rattle.chip_trait.specs.Told.{History, Told, adds_all, Unrisen}
+use Rattle.chip_trait.specs.Told.{History, Told, adds_all, Rose, Unrisen}
 use Rattle.store_trait.specs.declared.fault.Fault.{Fault}
 use Rattle.store_trait.specs.Onward.{Further, Still}
 
@@ -69,6 +69,10 @@ COMMAND_DRAWS = 2 ^ 24
 abbrev pub SCRIPT_DRAWS : ℕ
 SCRIPT_DRAWS = 2 ^ 56
 
+-- a read or a write of the chip failed
+abbrev pub ChipRose : Told → Told → Type 0
+ChipRose old new = Rose old.read_faults new.read_faults ⊎ Rose old.write_faults new.write_faults
+
 -- every command but a list has one line as its reply
 abbrev pub IsSingle : Command → Type 0
 IsSingle (command.Begin s) = Unit {0}
@@ -108,9 +112,13 @@ module _ {S : Type 0} (k : Keeping S) where
   abbrev pub Stays : Limits → S → Told → Told → State → Type 0
   Stays limits store old new state = Unrisen old new → k.holds limits store new state
 
+  -- as long as n numbers are left below those that an opening takes, the chip failed
+  abbrev pub Excuses : ℕ → S → Told → Told → Type 0
+  Excuses n before old new = k.counter before + n < 2 ^ 63 → ChipRose old new
+
   -- The work for one command: wherever the power is cut, the chip stands for the records before the command or after it.
   -- Done, the store keeps the model's next state, and the reply is the model's. After a fault it keeps the state, unless a
-  -- write failed.
+  -- write failed. Few numbers are drawn, and a fault has its excuse.
   pub record WorksFor (limits : Limits) (state : State) (c : Command) (before : S) (h : History)
       (result : Result Reply Fault) (then : S) (old new : Told) : Type 0 where
     pub leaves : WorkLeaves
@@ -119,6 +127,8 @@ module _ {S : Type 0} (k : Keeping S) where
     pub ends : MatchResult result
         (λ reply. k.holds limits then new (step limits state c).0 × ((step limits state c).1 ≡ reply ∷ []))
         (λ fault. Stays limits then old new state)
+    pub drawn : k.counter then ≤ k.counter before + WORK_DRAWS
+    pub excuse : OnErr result (Excuses WORK_DRAWS before old new)
 
   abbrev pub Works : Command → S → Told → Result Reply Fault → S → Told → Type 0
   Works c before old result then new = (limits : Limits) (state : State) (h : History)
@@ -131,6 +141,8 @@ module _ {S : Type 0} (k : Keeping S) where
     pub leaves : WorkLeaves (λ x. k.stands limits x state.map) before h then new (is_ok result)
     pub ends : MatchResult result (λ found. k.holds limits then new state × (found ≡ get state.map n))
         (λ fault. Stays limits then old new state)
+    pub drawn : k.counter then ≤ k.counter before + LOOK_UP_DRAWS
+    pub excuse : OnErr result (Excuses LOOK_UP_DRAWS before old new)
 
   abbrev pub LooksUp : ℕ → S → Told → Result (Option (List ℕ)) Fault → S → Told → Type 0
   LooksUp n before old result then new = (limits : Limits) (state : State) (h : History)

@@ -5,6 +5,7 @@ use Rattle.ipl_model.specs.Grammar.{commands_in}
 use Rattle.script_run.specs.Run.{RunLeaves}
 use Rattle.script_run.proofs.AlongLemmas.{along_none}
 use Rattle.script_run.proofs.RunLemmas.{run_none}
+use Rattle.script_run.proofs.CompleteLemmas.{completes_none}
 use Rattle.script_run.proofs.answer.answer_line.Goals as goal
 
 pub returns-in-Skip-clause-answers : goal.returns-in-Skip-clause-answers
@@ -17,3 +18,6 @@ returns-in-Skip-clause-answers g c = λ limits state h holds told.
 
 pub returns-in-Skip-clause-along : goal.returns-in-Skip-clause-along
 returns-in-Skip-clause-along g c = along_none
+
+pub returns-in-Skip-clause-completes : goal.returns-in-Skip-clause-completes
+returns-in-Skip-clause-completes g c = λ limits keeps. completes_none keeps

@@ -2,6 +2,7 @@ use Rattle.std.proofs.Common.{arith}
 use Rattle.std.proofs.lemmas.Result.{err_from_is_err_and}
 use Rattle.script_run.proofs.AlongLemmas.{along_work, along_fault, along_said, along_unsaid}
 use Rattle.script_run.proofs.AnswerLemmas.{answered, unsaid, failed}
+use Rattle.script_run.proofs.CompleteLemmas.{completes_work, completes_fault, completes_said, completes_unsaid}
 use Rattle.script_run.proofs.answer.answer_one.Goals as goal
 
 pub returns-in_err-reply-clause-answers : goal.returns-in_err-reply-clause-answers
@@ -31,3 +32,15 @@ pub returns-in-Err-clause-along : goal.returns-in-Err-clause-along
 returns-in-Err-clause-along g c =
     let w = c.in_ok-reply.ensures in
     along_unsaid (along_work w.draws.most w.suited w.counts) c.in-Err.ensures.onward c.in-Err.ensures.cause (omega arith)
+
+pub returns-in_err-reply-clause-completes : goal.returns-in_err-reply-clause-completes
+returns-in_err-reply-clause-completes g c = λ limits keeps.
+    completes_fault c.from_residual.result c.from_residual.ensures.1 (c.in_err-reply.ensures.works limits keeps.state keeps.history keeps.holds keeps.told)
+
+pub returns-in-Ok-clause-completes : goal.returns-in-Ok-clause-completes
+returns-in-Ok-clause-completes g c = λ limits keeps.
+    completes_said (completes_work (c.in_ok-reply.ensures.works limits keeps.state keeps.history keeps.holds keeps.told)) c.in-Ok.ensures.says (omega arith)
+
+pub returns-in-Err-clause-completes : goal.returns-in-Err-clause-completes
+returns-in-Err-clause-completes g c = λ limits keeps.
+    completes_unsaid (completes_work (c.in_ok-reply.ensures.works limits keeps.state keeps.history keeps.holds keeps.told)) (omega arith)

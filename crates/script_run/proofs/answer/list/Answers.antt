@@ -3,6 +3,7 @@ use Rattle.std.proofs.Common.{arith}
 use Rattle.ipl_model.specs.declared.command.Command.TheVariants as command
 use Rattle.script_run.proofs.AlongLemmas.{along_none, along_more, along_said, along_unsaid, along_stop}
 use Rattle.script_run.proofs.AnswerLemmas.{answered, unsaid, works_refused, past_names, list_done, list_unsaid, list_failed}
+use Rattle.script_run.proofs.CompleteLemmas.{completes_none, completes_said, completes_unsaid, completes_more, completes_stop}
 use Rattle.script_run.proofs.answer.list.Goals as goal
 
 pub returns-in-Ok-clause-answers : goal.returns-in-Ok-clause-answers
@@ -53,3 +54,24 @@ returns-in-Ok-say_reply-clause-along g c =
 pub returns-in-Err-say_reply-clause-along : goal.returns-in-Err-say_reply-clause-along
 returns-in-Err-say_reply-clause-along g c =
     along_unsaid c.in_ok-say_rows.ensures.along c.in-Err-say_reply.ensures.onward c.in-Err-say_reply.ensures.cause (omega (arith, c.names-names.ensures.most, c.if-last-names.false))
+
+pub returns-in-Ok-clause-completes : goal.returns-in-Ok-clause-completes
+returns-in-Ok-clause-completes g c = λ limits keeps. completes_said (completes_none {n = 0} keeps) c.in-Ok.ensures.says (omega arith)
+
+pub returns-in-Err-clause-completes : goal.returns-in-Err-clause-completes
+returns-in-Err-clause-completes g c = λ limits keeps. completes_unsaid (completes_none {n = 0} keeps) (omega arith)
+
+pub returns-in_err-say_rows-clause-completes : goal.returns-in_err-say_rows-clause-completes
+returns-in_err-say_rows-clause-completes g c = λ limits keeps.
+    let named = c.names-names.ensures.limit limits (g.D.Chip.told c.args.desk.now) keeps.state keeps.holds in
+    completes_more (completes_stop c.from_residual.result c.from_residual.ensures.1 (c.in_err-say_rows.ensures.completes limits (omega (arith, named, c.if-last-names.false)) keeps)) (omega (arith, c.names-names.ensures.most, c.if-last-names.false))
+
+pub returns-in-Ok-say_reply-clause-completes : goal.returns-in-Ok-say_reply-clause-completes
+returns-in-Ok-say_reply-clause-completes g c = λ limits keeps.
+    let named = c.names-names.ensures.limit limits (g.D.Chip.told c.args.desk.now) keeps.state keeps.holds in
+    completes_said (c.in_ok-say_rows.ensures.completes limits (omega (arith, named, c.if-last-names.false)) keeps) c.in-Ok-say_reply.ensures.says (omega (arith, c.names-names.ensures.most, c.if-last-names.false))
+
+pub returns-in-Err-say_reply-clause-completes : goal.returns-in-Err-say_reply-clause-completes
+returns-in-Err-say_reply-clause-completes g c = λ limits keeps.
+    let named = c.names-names.ensures.limit limits (g.D.Chip.told c.args.desk.now) keeps.state keeps.holds in
+    completes_unsaid (c.in_ok-say_rows.ensures.completes limits (omega (arith, named, c.if-last-names.false)) keeps) (omega (arith, c.names-names.ensures.most, c.if-last-names.false))

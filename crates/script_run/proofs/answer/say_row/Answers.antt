@@ -3,6 +3,7 @@ use Rattle.std.proofs.lemmas.Result.{err_from_is_err_and}
 use Rattle.store_trait.specs.Keeping.{LooksUpFor}
 use Rattle.script_run.proofs.AlongLemmas.{along_work, along_fault, along_said, along_unsaid}
 use Rattle.script_run.proofs.AnswerLemmas.{row_said, row_absent, row_unsaid, row_failed}
+use Rattle.script_run.proofs.CompleteLemmas.{completes_look, completes_lost, completes_said, completes_unsaid}
 use Rattle.script_run.proofs.answer.say_row.Goals as goal
 
 pub returns-in_err-value-clause-says : goal.returns-in_err-value-clause-says
@@ -44,3 +45,19 @@ pub returns-in-None-clause-along : goal.returns-in-None-clause-along
 returns-in-None-clause-along g c =
     let w = c.in_ok-value.ensures in
     along_work w.draws.most w.suited w.counts
+
+pub returns-in_err-value-clause-completes : goal.returns-in_err-value-clause-completes
+returns-in_err-value-clause-completes g c = λ limits named keeps.
+    completes_lost c.from_residual.result c.from_residual.ensures.1 (c.in_err-value.ensures.looks_up limits keeps.state keeps.history keeps.holds keeps.told named)
+
+pub returns-in-Ok-clause-completes : goal.returns-in-Ok-clause-completes
+returns-in-Ok-clause-completes g c = λ limits named keeps.
+    completes_said (completes_look (c.in_ok-value.ensures.looks_up limits keeps.state keeps.history keeps.holds keeps.told named)) c.in-Ok.ensures.says (omega arith)
+
+pub returns-in-Err-clause-completes : goal.returns-in-Err-clause-completes
+returns-in-Err-clause-completes g c = λ limits named keeps.
+    completes_unsaid (completes_look (c.in_ok-value.ensures.looks_up limits keeps.state keeps.history keeps.holds keeps.told named)) (omega arith)
+
+pub returns-in-None-clause-completes : goal.returns-in-None-clause-completes
+returns-in-None-clause-completes g c = λ limits named keeps.
+    completes_look (c.in_ok-value.ensures.looks_up limits keeps.state keeps.history keeps.holds keeps.told named)

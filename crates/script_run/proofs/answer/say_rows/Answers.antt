@@ -1,16 +1,19 @@
 use Rattle.std.proofs.Common.{◌≡◌, ◌-◌, ℕ, true, refl, subst, arith}
 use Rattle.std.proofs.lemmas.Result.{err_from_is_err_and}
 use Rattle.chip_trait.specs.Told.{adds_all}
+use Rattle.store_trait.proofs.OnwardLemmas.{further_onward}
 use Rattle.script_run.specs.Run.{SayingLeaves}
 use Rattle.script_run.specs.Goes.{rows_lines}
 use Rattle.script_run.proofs.AlongLemmas.{along_none, along_more, along_then, along_stop}
 use Rattle.script_run.proofs.AnswerLemmas.{rows_none, rows_then, rows_stop}
+use Rattle.script_run.proofs.CompleteLemmas.{completes_none, completes_more, completes_then, completes_stop}
 use Rattle.script_run.proofs.answer.say_rows.Goals as goal
 
 pub loop-n-init : goal.loop-n-init
 loop-n-init g c = record {
   says = λ limits named state h holds told. (rows_none g.S.Store.keeping limits state c.args.first c.args.store.now h _ holds told, holds);
   along = along_none;
+  completes = λ limits named keeps. completes_none keeps;
   none = λ lt. refl;
 }
 
@@ -28,6 +31,9 @@ loop-n-preserved g c = record {
       let row = c.in_ok-say_row.ensures.says limits (omega arith) state (adds_all so_far.0.added h) so_far.1 so_far.0.history in
       (rows_then g.S.Store.keeping limits state c.args.first c.loop-n.n c.args.store.now c.loop-n.store c.say_row.new.store h _ _ (omega arith) so_far.0 row.0, row.1);
   along = along_more (along_then c.loop-n.invariant.along c.in_ok-say_row.ensures.along) (omega arith);
+  completes = λ limits named keeps.
+      completes_more (completes_then (c.loop-n.invariant.completes limits named keeps) (further_onward _ _ c.loop-n.invariant.along.beside)
+      (λ now. c.in_ok-say_row.ensures.completes limits (omega arith) now)) (omega arith);
   none = λ lt. absurd (omega arith);
 }
 
@@ -43,3 +49,11 @@ returns-in_err-say_row-clause-along g c =
 
 pub returns-clause-along : goal.returns-clause-along
 returns-clause-along g c = along_more c.loop-n.invariant.along (grind (arith, c.loop-n.invariant.none))
+
+pub returns-in_err-say_row-clause-completes : goal.returns-in_err-say_row-clause-completes
+returns-in_err-say_row-clause-completes g c = λ limits named keeps.
+    completes_more (completes_then (c.loop-n.invariant.completes limits named keeps) (further_onward _ _ c.loop-n.invariant.along.beside)
+    (λ now. completes_stop c.from_residual.result c.from_residual.ensures.1 (c.in_err-say_row.ensures.completes limits (omega arith) now))) (omega arith)
+
+pub returns-clause-completes : goal.returns-clause-completes
+returns-clause-completes g c = λ limits named keeps. completes_more (c.loop-n.invariant.completes limits named keeps) (grind (arith, c.loop-n.invariant.none))

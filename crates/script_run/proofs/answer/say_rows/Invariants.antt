@@ -3,8 +3,9 @@ use Rattle.ipl_rules.specs.State.{State, Limits}
 use Rattle.chip_trait.specs.Told.{History}
 use Rattle.store_trait.specs.Keeping.{LOOK_UP_DRAWS}
 use Rattle.script_run.specs.Run.{SayingLeaves}
-use Rattle.script_run.specs.Goes.{rows_lines}
+use Rattle.script_run.specs.Goes.{KeepsSome, rows_lines}
 use Rattle.script_run.proofs.AlongLemmas.{SoFar}
+use Rattle.script_run.proofs.CompleteLemmas.{CompletesSoFar}
 use Rattle.script_run.proofs.answer.say_rows.Given as goal
 
 abbrev pub invariant-loop-n : goal.invariant-loop-n
@@ -15,5 +16,6 @@ invariant-loop-n g l =
       says : (limits : Limits) → l.end ≤ limits.names → (state : State) (h : History) → k.holds limits l.fn.store (told l.fn.desk) state → (told l.fn.desk).history ≡ Some h
           → SayingLeaves k limits state.map (rows_lines state.map l.first (l.n - l.first)) l.fn.store h l.store (told l.desk) true × k.holds limits l.store (told l.desk) state;
       along : SoFar k (LOOK_UP_DRAWS * (l.n - l.first)) l.fn.store (told l.fn.desk) l.store (told l.desk);
+      completes : (limits : Limits) → l.end ≤ limits.names → KeepsSome k limits l.fn.store (told l.fn.desk) → CompletesSoFar k limits (LOOK_UP_DRAWS * (l.n - l.first)) l.fn.store (told l.fn.desk) l.store (told l.desk);
       none : l.end < l.first → l.n ≡ l.first;
     }

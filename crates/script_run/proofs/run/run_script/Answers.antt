@@ -9,6 +9,7 @@ use Rattle.store_trait.proofs.OnwardLemmas.{further_none, further_then}
 use Rattle.script_run.proofs.ReadLemmas.{grew_none, grew_then, read_none, read_then}
 use Rattle.script_run.proofs.CauseLemmas.{cause_earlier}
 use Rattle.script_run.proofs.GoesLemmas.{Running, running_none, running_more, running_stopped, running_failed, running_last, stays_later, stops_weaker, ends_later}
+use Rattle.script_run.proofs.CompleteLemmas.{completes_none, completes_more, completes_then, completes_stop, completes_ok, completes_long}
 use Rattle.script_run.proofs.run.run_script.Goals as goal
 
 pub loop-total-init : goal.loop-total-init
@@ -22,6 +23,7 @@ loop-total-init g c =
       bytes = grew_none t.beside.script_bytes;
       read = read_none t;
       drew = omega arith;
+      completes = λ limits keeps. completes_none keeps;
       few = omega arith;
     }
 
@@ -39,6 +41,8 @@ loop-total-preserved g c =
       bytes = grew_then (at c.args.desk.now).beside.script_bytes (at c.loop-total.desk).beside.script_bytes (at t.new.desk).beside.script_bytes c.loop-total.total c.in_ok-count.count was.bytes o.bytes;
       read = read_then (at c.args.desk.now) (at c.loop-total.desk) (at t.new.desk) c.loop-total.total c.in_ok-count.count was.read o.read;
       drew = let d = o.drew in omega (arith, was.drew, d);
+      completes = λ limits keeps.
+          completes_more (completes_then (was.completes limits keeps) was.further (λ now. completes_ok tt (o.completed limits now))) (omega arith);
       few = let count = o.few in omega (arith, count, length-take c.min-most.result c.loop-total.piece, c.loop-total-test.true);
     }
 
@@ -80,3 +84,18 @@ pub returns-clause-long : goal.returns-clause-long
 returns-clause-long g c = λ x.
     let total : c.loop-total.total ≡ 4294967295 = omega (arith, c.loop-total.invariant.few, c.loop-total-test.false) in
     subst (λ (n : ℕ). HasRead n (g.D.Chip.told c.args.desk.now) (g.D.Chip.told c.loop-total.desk)) total c.loop-total.invariant.read
+
+pub returns-clause-completes : goal.returns-clause-completes
+returns-clause-completes g c = λ limits keeps. completes_long (c.loop-total.invariant.completes limits keeps) (omega (arith, c.loop-total.invariant.few))
+
+pub returns-in_err-count-clause-completes : goal.returns-in_err-count-clause-completes
+returns-in_err-count-clause-completes g c = λ limits keeps.
+    completes_more (completes_then (c.loop-total.invariant.completes limits keeps) c.loop-total.invariant.further
+    (λ now. completes_stop c.from_residual.result c.from_residual.ensures.1 (c.in_err-count.ensures.completes limits now)))
+    (omega (arith, c.loop-total.invariant.few, length-take c.min-most.result c.loop-total.piece, c.loop-total-test.true))
+
+pub returns-then-count-eq0-clause-completes : goal.returns-then-count-eq0-clause-completes
+returns-then-count-eq0-clause-completes g c = λ limits keeps.
+    let a = c.in_ok-count.ensures in
+    completes_more (completes_then (completes_then (c.loop-total.invariant.completes limits keeps) c.loop-total.invariant.further (λ now. completes_ok tt (a.completed limits now)))
+    (further_then _ _ _ c.loop-total.invariant.further a.along.beside) (λ now. c.answer_line.ensures.completes limits now)) (omega (arith, c.loop-total-test.true, c.if-count-eq0.true))

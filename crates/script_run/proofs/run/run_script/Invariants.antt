@@ -3,8 +3,9 @@ use Rattle.ipl_rules.specs.State.{State, Limits}
 use Rattle.chip_trait.specs.Told.{History, Grew}
 use Rattle.store_trait.specs.Keeping.{FOUND_NUMBER, COMMAND_DRAWS}
 use Rattle.store_trait.specs.Onward.{Further}
-use Rattle.script_run.specs.Goes.{HasRead}
+use Rattle.script_run.specs.Goes.{KeepsSome, HasRead}
 use Rattle.script_run.proofs.GoesLemmas.{Running}
+use Rattle.script_run.proofs.CompleteLemmas.{CompletesSoFar}
 use Rattle.script_run.proofs.run.run_script.Given as goal
 
 abbrev pub invariant-loop-total : goal.invariant-loop-total
@@ -19,6 +20,7 @@ invariant-loop-total g l =
       bytes : Grew (told l.fn.desk).beside.script_bytes l.total (told l.desk).beside.script_bytes;
       read : HasRead l.total (told l.fn.desk) (told l.desk);
       drew : k.counter l.store ≤ max (k.counter l.fn.store) FOUND_NUMBER + COMMAND_DRAWS * l.total;
+      completes : (limits : Limits) → KeepsSome k limits l.fn.store (told l.fn.desk) → CompletesSoFar k limits (COMMAND_DRAWS * l.total) l.fn.store (told l.fn.desk) l.store (told l.desk);
       few : l.total ≤ 4294967295;
     }
 

@@ -3,6 +3,7 @@ use Rattle.std.proofs.lemmas.Bool.{ne_eqb}
 use Rattle.script_run.specs.Goes.{Goes}
 use Rattle.script_run.proofs.AlongLemmas.{along_none}
 use Rattle.script_run.proofs.GoesLemmas.{takes_line, goes_byte}
+use Rattle.script_run.proofs.CompleteLemmas.{completes_none}
 use Rattle.script_run.proofs.run.take_byte.Goals as goal
 
 pub returns-then-byte-eq10-clause-takes : goal.returns-then-byte-eq10-clause-takes
@@ -17,3 +18,6 @@ returns-clause-takes g c = λ limits state h holds told.
 
 pub returns-clause-along : goal.returns-clause-along
 returns-clause-along g c = along_none
+
+pub returns-clause-completes : goal.returns-clause-completes
+returns-clause-completes g c = λ limits keeps. completes_none keeps

@@ -6,6 +6,7 @@ use Rattle.script_run.proofs.GoesLemmas.{holds_beside, took, stopped, stopped_at
 use Rattle.script_run.proofs.RunLemmas.{run_weaker}
 use Rattle.script_run.proofs.ReadLemmas.{further_read, further_failed, read_once}
 use Rattle.script_run.proofs.AlongLemmas.{along_more, along_later, along_stop, along_ok, along_unread}
+use Rattle.script_run.proofs.CompleteLemmas.{completes_more, completes_stop, completes_ok, completes_later, completes_unread}
 use Rattle.script_run.proofs.run.take_next.Goals as goal
 
 pub returns-in_err-take_piece-in-Ok-clause-takes : goal.returns-in_err-take_piece-in-Ok-clause-takes
@@ -64,3 +65,21 @@ returns-in_ok-take_piece-in-Ok-clause-read g c =
     let at = g.D.Chip.told in
     let r = c.in-Ok.ensures in
     read_once (at c.args.desk.now) (at c.read_script.new.self) (at c.take_piece.new.desk) c.in-Ok.count c.read_script.new.buf r.bytes.0 r.bytes.2 c.take_piece.ensures.along.beside
+
+pub returns-in_err-take_piece-in-Ok-clause-completes : goal.returns-in_err-take_piece-in-Ok-clause-completes
+returns-in_err-take_piece-in-Ok-clause-completes g c = λ limits keeps.
+    completes_stop c.from_residual.result c.from_residual.ensures.1
+    (completes_more (completes_later c.in-Ok.ensures.chip keeps (λ now. c.in_err-take_piece-in-Ok.ensures.completes limits now)) (omega (arith, length-take c.in-Ok.count c.read_script.new.buf)))
+
+pub returns-in_ok-take_piece-in-Ok-clause-completes : goal.returns-in_ok-take_piece-in-Ok-clause-completes
+returns-in_ok-take_piece-in-Ok-clause-completes g c = λ limits keeps.
+    completes_ok c.in-Ok.count
+    (completes_more (completes_later c.in-Ok.ensures.chip keeps (λ now. c.in_ok-take_piece-in-Ok.ensures.completes limits now)) (omega (arith, length-take c.in-Ok.count c.read_script.new.buf)))
+
+pub returns-in_ok-take_piece-in-Ok-clause-completed : goal.returns-in_ok-take_piece-in-Ok-clause-completed
+returns-in_ok-take_piece-in-Ok-clause-completed g c = λ limits keeps.
+    completes_ok c.in-Ok.count
+    (completes_more (completes_later c.in-Ok.ensures.chip keeps (λ now. c.in_ok-take_piece-in-Ok.ensures.completes limits now)) (omega (arith, length-take c.in-Ok.count c.read_script.new.buf)))
+
+pub returns-in-Err-clause-completes : goal.returns-in-Err-clause-completes
+returns-in-Err-clause-completes g c = λ limits keeps. completes_unread

@@ -2,16 +2,19 @@ use Rattle.std.proofs.Common.{ℕ, [], ◌∷◌, false, List, take, get_or, sym
 use Rattle.std.proofs.lemmas.List.{take_more, take_all}
 use Rattle.std.proofs.lemmas.Result.{err_from_is_err_and}
 use Rattle.store_trait.specs.Keeping.{Stays}
+use Rattle.store_trait.proofs.OnwardLemmas.{further_onward}
 use Rattle.script_run.specs.Goes.{Goes}
 use Rattle.script_run.proofs.AlongLemmas.{along_none, along_more, along_then, along_stop}
 use Rattle.script_run.proofs.GoesLemmas.{goes_none, goes_then, stops_in_piece, stays_later}
 use Rattle.script_run.proofs.RunLemmas.{run_weaker}
+use Rattle.script_run.proofs.CompleteLemmas.{completes_none, completes_more, completes_then, completes_stop}
 use Rattle.script_run.proofs.run.take_piece.Goals as goal
 
 pub loop-byte-init : goal.loop-byte-init
 loop-byte-init g c = record {
   goes = λ limits state h holds told. goes_none g.S.Store.keeping limits state c.args.line.now c.args.store.now h (g.D.Chip.told c.args.desk.now) holds told;
   along = along_none;
+  completes = λ limits keeps. completes_none keeps;
 }
 
 pub take_byte-requires : goal.take_byte-requires
@@ -29,6 +32,8 @@ loop-byte-preserved g c =
           (goes_then g.S.Store.keeping limits state c.args.line.now (take c.loop-byte.byte-index c.args.piece.now) (get_or c.args.piece.now c.loop-byte.byte-index 0 ∷ []) c.args.store.now c.loop-byte.store t.new.store h
           c.loop-byte.line t.new.line (told_of c.loop-byte.desk) (told_of t.new.desk) (was.goes limits state h holds told) (λ s g' now is. c.in_ok-take_byte.ensures.takes limits s g' now is));
       along = along_more (along_then was.along c.in_ok-take_byte.ensures.along) (omega arith);
+      completes = λ limits keeps.
+          completes_more (completes_then (was.completes limits keeps) (further_onward _ _ was.along.beside) (λ now. c.in_ok-take_byte.ensures.completes limits now)) (omega arith);
     }
 
 pub returns-in_err-take_byte-clause-takes : goal.returns-in_err-take_byte-clause-takes
@@ -53,3 +58,11 @@ returns-in_err-take_byte-clause-along g c =
 
 pub returns-clause-along : goal.returns-clause-along
 returns-clause-along g c = along_more c.loop-byte.invariant.along (omega arith)
+
+pub returns-in_err-take_byte-clause-completes : goal.returns-in_err-take_byte-clause-completes
+returns-in_err-take_byte-clause-completes g c = λ limits keeps.
+    completes_more (completes_then (c.loop-byte.invariant.completes limits keeps) (further_onward _ _ c.loop-byte.invariant.along.beside)
+    (λ now. completes_stop c.from_residual.result c.from_residual.ensures.1 (c.in_err-take_byte.ensures.completes limits now))) (omega arith)
+
+pub returns-clause-completes : goal.returns-clause-completes
+returns-clause-completes g c = λ limits keeps. completes_more (c.loop-byte.invariant.completes limits keeps) (omega arith)

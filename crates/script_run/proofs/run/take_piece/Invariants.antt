@@ -2,8 +2,9 @@ use Rattle.std.proofs.Common.{◌≡◌, ◌*◌, take, Some}
 use Rattle.ipl_rules.specs.State.{State, Limits}
 use Rattle.chip_trait.specs.Told.{History}
 use Rattle.store_trait.specs.Keeping.{COMMAND_DRAWS}
-use Rattle.script_run.specs.Goes.{Goes}
+use Rattle.script_run.specs.Goes.{Goes, KeepsSome}
 use Rattle.script_run.proofs.AlongLemmas.{SoFar}
+use Rattle.script_run.proofs.CompleteLemmas.{CompletesSoFar}
 use Rattle.script_run.proofs.run.take_piece.Given as goal
 
 abbrev pub invariant-loop-byte : goal.invariant-loop-byte
@@ -14,4 +15,5 @@ invariant-loop-byte g l =
       goes : (limits : Limits) (state : State) (h : History) → k.holds limits l.fn.store (told l.fn.desk) state → (told l.fn.desk).history ≡ Some h
           → Goes k limits state l.fn.line (take l.byte-index l.piece) l.fn.store h l.store l.line (told l.desk);
       along : SoFar k (COMMAND_DRAWS * l.byte-index) l.fn.store (told l.fn.desk) l.store (told l.desk);
+      completes : (limits : Limits) → KeepsSome k limits l.fn.store (told l.fn.desk) → CompletesSoFar k limits (COMMAND_DRAWS * l.byte-index) l.fn.store (told l.fn.desk) l.store (told l.desk);
     }
