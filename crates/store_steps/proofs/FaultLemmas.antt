@@ -1,8 +1,8 @@
 -- A store whose chip was opened, and faults, as a run over a script asks for them.
-use Rattle.std.proofs.Common.{◌≡◌, ℕ, ◌+◌, true, false, [], Some, Err, inl, refl, sym, ◌∙◌, ap, subst}
+use Rattle.std.proofs.Common.{◌≡◌, ℕ, ◌+◌, arith, true, false, [], Some, Err, inl, refl, sym, ◌∙◌, ap, subst}
 use Rattle.chip_trait.specs.Moment.{Leaves}
 use Rattle.chip_trait.specs.Chart.{says}
-use Rattle.chip_trait.specs.Story.{Contents}
+use Rattle.chip_trait.specs.Story.{Contents, held}
 use Rattle.chip_trait.specs.Told.{History, Told, adds_all}
 use Rattle.chip_trait.proofs.MomentLemmas.{at_start}
 use Rattle.ipl_rules.specs.State.{Limits}
@@ -54,21 +54,25 @@ nothing_leaves P store h told is each = record {
 }
 
 pub idle_faults_are_work : IdleFaultsAreWork
-idle_faults_are_work c store fault told limits state h keeps is = record {
+idle_faults_are_work c store told late limits state h keeps is = record {
   leaves = nothing_leaves _ store h told is
       (λ x image. inl (keeps_each limits store told state h keeps is x image));
   ends = λ unrisen. keeps;
+  drawn = omega arith;
+  excuse = λ few. absurd (omega (arith, late, few));
 }
 
 pub idle_faults_look_up : IdleFaultsLookUp
-idle_faults_look_up n store fault told limits state h keeps is low = record {
+idle_faults_look_up n store told late limits state h keeps is low = record {
   leaves = nothing_leaves _ store h told is (keeps_each limits store told state h keeps is);
   ends = λ unrisen. keeps;
+  drawn = omega arith;
+  excuse = λ few. absurd (omega (arith, late, few));
 }
 
 pub faults_that_leave_down : FaultsThatLeaveDown
-faults_that_leave_down c before after fault old new consistent suits units up down preserves limits
-    state h keeps told =
+faults_that_leave_down c before after fault old new consistent suits units up down preserves drawn
+    excused limits state h keeps told =
     subst (λ (l : Limits). WorksFor store_keeping l state c before h (Err fault) after old new)
     (sym keeps.limits_are) (record {
       leaves = work_leaves {T = Reply} {E = Fault} (KeepsMapOf (before.units + 4) state)
@@ -85,6 +89,8 @@ faults_that_leave_down c before after fault old new consistent suits units up do
             });
         up = λ runs. absurd (let clash : true ≡ false = sym down ∙ runs in cc clash);
       };
+      drawn = drawn;
+      excuse = excused state (at_limits limits before old state keeps) (held h.start h.story) here.there;
     })
   where
     here : IsAt before old state h

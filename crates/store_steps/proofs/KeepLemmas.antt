@@ -1,6 +1,7 @@
 -- What calls of a store leave, as a run over a script asks for it.
 use Rattle.std.specs.FinMap.{get}
 use Rattle.std.proofs.Common.{◌≡◌, ℕ, ◌+◌, ◌<◌, ◌*◌, true, false, [], ◌∷◌, Some, Option, List, Result, MatchResult, IfOk, Ok, Err, is_ok, sym, ◌∙◌, ap, subst}
+use Rattle.std.proofs.lemmas.Result.{on_err_weaker}
 use Rattle.chip_trait.specs.Moment.{AtEachMoment, Leaves}
 use Rattle.chip_trait.specs.Chart.{says}
 use Rattle.chip_trait.specs.Story.{Story, Contents, held}
@@ -169,8 +170,8 @@ abbrev stepped : View → Command → State → State
 stepped store c state = (step (limits_of store.units) state c).0
 
 pub leads_are_work : LeadsAreWork
-leads_are_work c before after result old new consistent suits units up leads replies limits state h
-    keeps told =
+leads_are_work c before after result old new consistent suits units up leads replies drawn excused
+    limits state h keeps told =
     subst (λ (l : Limits). WorksFor store_keeping l state c before h result after old new)
     (sym keeps.limits_are) (record {
       leaves = work_leaves (TurnsMapOf (stepped before c) (before.units + 4) state)
@@ -181,6 +182,9 @@ leads_are_work c before after result old new consistent suits units up leads rep
           (keeps_then (TurnsMapOf (stepped before c)) (stepped before c) before after result old new
           state h here suits units
           leads);
+      drawn = drawn;
+      excuse = on_err_weaker result (λ excuse. excuse state own (held h.start h.story) here.there)
+          excused;
     })
   where
     own : KeepsStore (limits_of before.units) before old state
@@ -210,8 +214,8 @@ leads_are_work c before after result old new consistent suits units up leads rep
     by_end (Err fault) answers kept = kept
 
 pub keepers_look_up : KeepersLookUp
-keepers_look_up n before after result old new consistent suits units up slots keeper finds limits
-    state h keeps told low =
+keepers_look_up n before after result old new consistent suits units up slots keeper finds drawn
+    excused limits state h keeps told low =
     subst (λ (l : Limits). LooksUpFor store_keeping l state n before h result after old new)
     (sym keeps.limits_are) (record {
       leaves = work_leaves (KeepsMapOf (before.units + 4) state)
@@ -221,6 +225,9 @@ keepers_look_up n before after result old new consistent suits units up slots ke
       ends = by_end result finds
           (keeps_then KeepsMapOf (λ state. state) before after result old new state h here suits
           units whole);
+      drawn = drawn;
+      excuse = on_err_weaker result (λ excuse. excuse state own (held h.start h.story) here.there)
+          excused;
     })
   where
     own : KeepsStore (limits_of before.units) before old state

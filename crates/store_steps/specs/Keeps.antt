@@ -1,5 +1,5 @@
 -- How a store keeps a state on a chip, as a run over a script asks for it.
-use Rattle.std.specs.Prelude.{ℕ, ◌≡◌, ◌≢◌, ◌<◌, ◌≤◌, ◌+◌, ◌*◌, Bool, true, false, [], ◌∷◌, ◌++◌, List, Option, Some, None, refl, Result, Ok, Err, IfOk}
+use Rattle.std.specs.Prelude.{ℕ, ◌≡◌, ◌≢◌, ◌<◌, ◌≤◌, ◌+◌, ◌*◌, Bool, true, false, [], ◌∷◌, ◌++◌, List, Option, Some, None, refl, Result, Ok, Err, IfOk, OnErr}
 use Rattle.std.specs.Option.{option_map}
 use Rattle.std.specs.FinMap.{get}
 use Rattle.std.proofs.Common.{sym, ◌∙◌, subst, arith}
@@ -35,7 +35,7 @@ use Rattle.pending_writes.specs.Fits.{AreSessionsOf}
 use Rattle.store_trait.specs.declared.fault.Fault.{Fault}
 use Rattle.store_trait.specs.declared.fault.Fault.TheVariants.{Chip, Image, Spent}
 use Rattle.store_trait.specs.Onward.{Still, Further, sayings}
-use Rattle.store_trait.specs.Keeping.{Keeping, Works, LooksUp}
+use Rattle.store_trait.specs.Keeping.{Keeping, LAST_NUMBER, WORK_DRAWS, LOOK_UP_DRAWS, Excuses, Works, LooksUp}
 use Rattle.store_steps.specs.Advances.{Memory, memory_of, MemoryFits, MemoryFitsStory, KeepsState, LeadsTo}
 
 -- ---- what a store keeps
@@ -226,8 +226,14 @@ OpenedStoresKeep = (units : ℕ) (t : Tables) (slots : Slots) (told : Told) (m :
     → RestsOnMap (opened_with units t slots) told m h × IsTidy h.story t)
     → KeepsStore (limits_of units) (opened_with units t slots) told (at_rest m)
 
+-- A fault of a call has its excuse, where the store keeps a state and the chip tells what it holds.
+abbrev pub IsExcused : ℕ → View → Told → Told → Type 0
+IsExcused n store old new = (state : State) → KeepsStore (limits_of store.units) store old state
+    → OfContents old (λ x. Excuses store_keeping n store old new)
+
 -- What a call leaves that leads to the model's next state, and answers the model's reply where the
--- chip tells what it holds, is the work of the command.
+-- chip tells what it holds, is the work of the command, where few numbers were drawn and a fault has
+-- its excuse.
 abbrev pub LeadsAreWork : Type 0
 LeadsAreWork = (c : Command) (before after : View) (result : Result Reply Fault) (old new : Told)
     → IsConsistent old → before.units + 4 ≡ old.places → after.units ≡ before.units
@@ -236,6 +242,8 @@ LeadsAreWork = (c : Command) (before after : View) (result : Result Reply Fault)
     after.memory new
     → IfOk result (λ reply. (state : State) → KeepsStore (limits_of before.units) before old state
     → OfContents old (λ x. (step (limits_of before.units) state c).1 ≡ reply ∷ []))
+    → after.memory.tables.next ≤ before.memory.tables.next + WORK_DRAWS
+    → OnErr result (IsExcused WORK_DRAWS before old new)
     → Works store_keeping c before old result after new
 
 -- what the frame of its page tells of a name: the record, and what each session sees
@@ -255,7 +263,7 @@ KeptFramesTell = (n : ℕ) (store : View) (t : Tables) (later : Frames) (f : Fra
     → OfContents old (λ x. TellsName store.memory.slots state n f)
 
 -- What a call leaves that keeps each state, and answers a record of its map where the chip tells
--- what it holds, looks the record up.
+-- what it holds, looks the record up, likewise.
 abbrev pub KeepersLookUp : Type 0
 KeepersLookUp = (n : ℕ) (before after : View) (result : Result (Option (List ℕ)) Fault)
     (old new : Told)
@@ -265,20 +273,24 @@ KeepersLookUp = (n : ℕ) (before after : View) (result : Result (Option (List �
     after.memory.frames new
     → IfOk result (λ found. (state : State) → KeepsStore (limits_of before.units) before old state
     → n < 960 * before.units → OfContents old (λ x. found ≡ get state.map n))
+    → after.memory.tables.next ≤ before.memory.tables.next + LOOK_UP_DRAWS
+    → OnErr result (IsExcused LOOK_UP_DRAWS before old new)
     → LooksUp store_keeping n before old result after new
 
 -- ---- faults
 
--- a fault before anything was done: the numbers are used up, or the store is down
+-- a fault before anything was done: the numbers are used up
 abbrev pub IdleFaultsAreWork : Type 0
-IdleFaultsAreWork = (c : Command) (store : View) (fault : Fault) (told : Told)
-    → Works store_keeping c store told (Err fault) store told
+IdleFaultsAreWork = (c : Command) (store : View) (told : Told)
+    → LAST_NUMBER < store.memory.tables.next → Works store_keeping c store told (Err Spent) store told
 
 abbrev pub IdleFaultsLookUp : Type 0
-IdleFaultsLookUp = (n : ℕ) (store : View) (fault : Fault) (told : Told)
-    → LooksUp store_keeping n store told (Err fault) store told
+IdleFaultsLookUp = (n : ℕ) (store : View) (told : Told)
+    → LAST_NUMBER < store.memory.tables.next
+    → LooksUp store_keeping n store told (Err Spent) store told
 
--- a fault that leaves the store down, where the call kept the map on which the story rested
+-- a fault that leaves the store down, where the call kept the map on which the story rested, drew
+-- few numbers and has its excuse
 abbrev pub FaultsThatLeaveDown : Type 0
 FaultsThatLeaveDown = (c : Command) (before after : View) (fault : Fault) (old new : Told)
     → IsConsistent old → before.units + 4 ≡ old.places → after.units ≡ before.units
@@ -287,4 +299,6 @@ FaultsThatLeaveDown = (c : Command) (before after : View) (fault : Fault) (old n
     → MemoryFitsStory (before.units + 4) h it before.memory state
     → Preserves {T = Reply} (before.units + 4) state.map before.memory.tables after.memory.tables h
     (Err fault) old new)
+    → after.memory.tables.next ≤ before.memory.tables.next + WORK_DRAWS
+    → IsExcused WORK_DRAWS before old new
     → Works store_keeping c before old (Err fault) after new
