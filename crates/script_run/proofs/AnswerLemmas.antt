@@ -1,5 +1,5 @@
 -- One command answered: its work, and then what is said.
-use Rattle.std.proofs.Common.{◌≡◌, ◌⊎◌, inl, inr, ℕ, zero, suc, ◌+◌, ◌-◌, ◌≤◌, ◌<◌, Bool, true, false, cond, ◌||◌, nat_le, List, [], ◌∷◌, ◌++◌, map, Option, Some, None, Ok, Err, refl, sym, ◌∙◌, ap, subst, arith, append_assoc}
+use Rattle.std.proofs.Common.{◌≡◌, ◌⊎◌, inl, inr, ℕ, zero, suc, ◌+◌, ◌-◌, ◌≤◌, ◌<◌, Bool, true, false, cond, ◌||◌, nat_le, List, [], ◌∷◌, ◌++◌, map, Option, Some, None, Result, Ok, Err, is_ok, refl, sym, ◌∙◌, ap, subst, arith, append_assoc}
 use Rattle.std.proofs.lemmas.Bool.{or_left, or_right}
 use Rattle.std.proofs.lemmas.Bool.Decides.{nat_tests}
 use Rattle.std.proofs.lemmas.List.{append-nil, map-append}
@@ -22,9 +22,12 @@ use Rattle.chip_trait.proofs.LawfulLemmas.{lawful_none, clean_none}
 use Rattle.chip_trait.proofs.MomentLemmas.{at_start}
 use Rattle.store_trait.specs.declared.fault.Fault.{Fault}
 use Rattle.store_trait.specs.Keeping.{Keeping, Stays, WorkLeaves, WorksFor, LooksUpFor}
-use Rattle.script_run.specs.Run.{SaysLines, RunLeaves, SayingLeaves}
-use Rattle.script_run.specs.Goes.{SaysSome, row_lines, rows_lines}
+use Rattle.script_run.specs.declared.fault.Stop.{Stop}
+use Rattle.script_run.specs.declared.fault.Stop.TheVariants as stop
+use Rattle.script_run.specs.Run.{SaysLines, IsUnsaid, EndsAt, RunLeaves, SayingLeaves}
+use Rattle.script_run.specs.Goes.{SaysPart, SaysSome, row_lines, rows_lines}
 use Rattle.store_trait.proofs.OnwardLemmas.{still_said, still_cut, unrisen_later}
+use Rattle.script_run.proofs.EndLemmas.{unsaid_line, unsaid_behind, part_longer, part_behind, unsaid_of, ends_in}
 use Rattle.script_run.proofs.RunLemmas.{says_none, says_all, says_cut, says_behind, says_longer, saying_none, saying_work, saying_said, saying_cut, saying_then, run_command, run_failed}
 
 -- ---- the rows of a list
@@ -64,29 +67,31 @@ module _ {S : Type 0} (k : Keeping S) (limits : Limits) (state : State) where
   one_line c r is = sym (ap (map reply_text) is)
 
   pub answered : (c : Command) (before then : S) (h : History) (old mid new : Told) (r : Reply) → WorksFor k limits state c before h (Ok r) then old mid → Appends (Said (reply_text r)) mid new
-      → RunLeaves k limits state (c ∷ []) before h (k.holds limits then new) then new true × k.holds limits then new (Next c)
+      → RunLeaves k limits state (c ∷ []) before h (k.holds limits then new) then new (Ok tt) × k.holds limits then new (Next c)
   answered c before then h old mid new r w did =
       let holds = k.still limits then mid new (Next c) (still_said mid new (reply_text r) did) w.ends.0 in
       let line = one_line c r w.ends.1 in (
-        run_command k limits state c before then then h (k.holds limits then new) mid new (reply_text r ∷ []) true w.leaves
+        run_command k limits state c before then then h (k.holds limits then new) mid new (reply_text r ∷ []) (Ok tt) w.leaves
             (saying_said k limits (Next c) then (adds_all w.leaves.added h) mid new (reply_text r) w.ends.0 w.leaves.history did)
-            (subst (λ (l : List (List ℕ)). SaysLines l (reply_text r ∷ [])) line (says_all (reply_text r ∷ []))) (λ e. line) holds,
+            (subst (λ (l : List (List ℕ)). SaysLines l (reply_text r ∷ [])) line (says_all (reply_text r ∷ []))) (λ e. line) holds holds,
         holds,
       )
 
   -- the reply couldn't be said
   pub unsaid : (c : Command) (before then : S) (h : History) (old mid new : Told) (r : Reply) → WorksFor k limits state c before h (Ok r) then old mid → FailsToSay (reply_text r) mid new
-      → RunLeaves k limits state (c ∷ []) before h (Stays k limits then old new) then new false
+      → RunLeaves k limits state (c ∷ []) before h (Stays k limits then old new) then new (Err stop.Output)
   unsaid c before then h old mid new r w did =
       let cut = saying_cut k limits (Next c) then (adds_all w.leaves.added h) mid new (reply_text r) [] w.ends.0 w.leaves.history did in
-      run_command k limits state c before then then h (Stays k limits then old new) mid new cut.0 false w.leaves cut.2
-      (subst (λ (l : List (List ℕ)). SaysLines l cut.0) (one_line c r w.ends.1) (says_cut (reply_text r) [] cut.0 cut.1)) (λ e. cc)
-      (λ quiet. k.still limits then mid new (Next c) (still_cut mid new (reply_text r) did) w.ends.0)
+      let line = one_line c r w.ends.1 in
+      let stays : Stays k limits then old new (Next c) = λ quiet. k.still limits then mid new (Next c) (still_cut mid new (reply_text r) did) w.ends.0 in
+      run_command k limits state c before then then h (Stays k limits then old new) mid new cut.0 (Err stop.Output) w.leaves cut.2
+      (subst (λ (l : List (List ℕ)). SaysLines l cut.0) line (says_cut (reply_text r) [] cut.0 cut.1)) (λ e. cc) stays
+      (unsaid_of limits state c cut.0 (Stays k limits then old new) (subst (λ (l : List (List ℕ)). IsUnsaid l cut.0) line (unsaid_line (reply_text r) [] cut.0 cut.1)) stays)
 
   -- the work failed
   pub failed : (c : Command) (before then : S) (h : History) (old new : Told) (fault : Fault) → WorksFor k limits state c before h (Err fault) then old new
-      → RunLeaves k limits state (c ∷ []) before h (Stays k limits then old new) then new false
-  failed c before then h old new fault w = run_failed k limits state c before then h (Stays k limits then old new) new w.leaves w.ends
+      → RunLeaves k limits state (c ∷ []) before h (Stays k limits then old new) then new (Err (stop.Store fault))
+  failed c before then h old new fault w = run_failed k limits state c before then h (Stays k limits then old new) new fault w.leaves w.ends
 
   -- ---- a row of a list
 
@@ -104,19 +109,20 @@ module _ {S : Type 0} (k : Keeping S) (limits : Limits) (state : State) where
   row_absent n before then h old new w = (subst (λ (found : Option (List ℕ)). SayingLeaves k limits state.map (row_lines n found) before h then new true) w.ends.1 (saying_work k limits state.map before then h new true w.leaves), w.ends.0)
 
   pub row_unsaid : (n : ℕ) (before then : S) (h : History) (old mid new : Told) (value : List ℕ) → LooksUpFor k limits state n before h (Ok (Some value)) then old mid → FailsToSay (reply_text (reply.Row n value)) mid new
-      → SaysSome k limits state (row_lines n (get state.map n)) before h then old new
+      → SaysSome k limits state (row_lines n (get state.map n)) before h then old new stop.Output
   row_unsaid n before then h old mid new value w did =
       let line = reply_text (reply.Row n value) in
       let cut = saying_cut k limits state then (adds_all w.leaves.added h) mid new line [] w.ends.0 w.leaves.history did in record {
         said = cut.0;
         part = subst (λ (found : Option (List ℕ)). SaysLines (row_lines n found) cut.0) w.ends.1 (says_cut line [] cut.0 cut.1);
+        ends = subst (λ (found : Option (List ℕ)). IsUnsaid (row_lines n found) cut.0) w.ends.1 (unsaid_line line [] cut.0 cut.1);
         leaves = saying_then k limits state.map [] cut.0 before then then h mid new false (saying_work k limits state.map before then h mid true w.leaves) cut.2;
         stays = λ quiet. k.still limits then mid new state (still_cut mid new line did) w.ends.0;
       }
 
-  pub row_failed : (n : ℕ) (before then : S) (h : History) (old new : Told) (fault : Fault) → LooksUpFor k limits state n before h (Err fault) then old new → SaysSome k limits state (row_lines n (get state.map n)) before h then old new
+  pub row_failed : (n : ℕ) (before then : S) (h : History) (old new : Told) (fault : Fault) → LooksUpFor k limits state n before h (Err fault) then old new → SaysSome k limits state (row_lines n (get state.map n)) before h then old new (stop.Store fault)
   row_failed n before then h old new fault w =
-      record { said = []; part = says_none (row_lines n (get state.map n)); leaves = saying_work k limits state.map before then h new false w.leaves; stays = w.ends }
+      record { said = []; part = says_none (row_lines n (get state.map n)); ends = (row_lines n (get state.map n), refl); leaves = saying_work k limits state.map before then h new false w.leaves; stays = w.ends }
 
   -- ---- rows, one after another
 
@@ -141,10 +147,10 @@ module _ {S : Type 0} (k : Keeping S) (limits : Limits) (state : State) where
       )
 
   -- it stopped in a row
-  pub rows_stop : (first n end : ℕ) (before mid then : S) (h : History) (old between new : Told) → first ≤ n → n < end → old.write_faults ≤ between.write_faults
-      → (so_far : SayingLeaves k limits state.map (rows_lines state.map first (n - first)) before h mid between true) → SaysSome k limits state (row_lines n (get state.map n)) mid (adds_all so_far.added h) then between new
-      → SaysSome k limits state (rows_lines state.map first (end - first)) before h then old new
-  rows_stop first n end before mid then h old between new le lt counted so_far some =
+  pub rows_stop : (first n end : ℕ) (before mid then : S) (h : History) (old between new : Told) (s : Stop) → first ≤ n → n < end → old.write_faults ≤ between.write_faults
+      → (so_far : SayingLeaves k limits state.map (rows_lines state.map first (n - first)) before h mid between true) → SaysSome k limits state (row_lines n (get state.map n)) mid (adds_all so_far.added h) then between new s
+      → SaysSome k limits state (rows_lines state.map first (end - first)) before h then old new s
+  rows_stop first n end before mid then h old between new s le lt counted so_far some =
       let rest = rows_begin first (n + 1 - first) (end - (n + 1)) in
       let all : n + 1 - first + (end - (n + 1)) ≡ end - first = omega arith in
       let are : rows_lines state.map first (end - first) ≡ (rows_lines state.map first (n - first) ++ row_lines n (get state.map n)) ++ rest.0 =
@@ -153,6 +159,9 @@ module _ {S : Type 0} (k : Keeping S) (limits : Limits) (state : State) where
         part = subst (λ (l : List (List ℕ)). SaysLines l (rows_lines state.map first (n - first) ++ some.said)) (sym are)
             (says_longer (rows_lines state.map first (n - first) ++ row_lines n (get state.map n)) rest.0 (rows_lines state.map first (n - first) ++ some.said)
             (says_behind (rows_lines state.map first (n - first)) (row_lines n (get state.map n)) some.said some.part));
+        ends = subst (λ (l : List (List ℕ)). SaysPart s l (rows_lines state.map first (n - first) ++ some.said)) (sym are)
+            (part_longer s (rows_lines state.map first (n - first) ++ row_lines n (get state.map n)) rest.0 (rows_lines state.map first (n - first) ++ some.said)
+            (part_behind s (rows_lines state.map first (n - first)) (row_lines n (get state.map n)) some.said some.ends));
         leaves = saying_then k limits state.map (rows_lines state.map first (n - first)) some.said before mid then h between new false so_far some.leaves;
         stays = λ quiet. some.stays (unrisen_later old between new counted quiet);
       }
@@ -172,12 +181,13 @@ module _ {S : Type 0} (k : Keeping S) (limits : Limits) (state : State) where
   }
 
   -- what is said of a command that changes nothing
-  pub run_saying : (c : Command) (before then : S) (h : History) (R : State → Type 0) (old new : Told) (part : List (List ℕ)) (done : Bool) → k.holds limits before old state → old.history ≡ Some h → Next c ≡ state
-      → SayingLeaves k limits state.map part before h then new done → SaysLines (reply_lines limits state c) part → (done ≡ true → part ≡ reply_lines limits state c) → R state → RunLeaves k limits state (c ∷ []) before h R then new done
+  pub run_saying : (c : Command) (before then : S) (h : History) (R : State → Type 0) (old new : Told) (part : List (List ℕ)) (result : Result (Unit {0}) Stop) → k.holds limits before old state → old.history ≡ Some h → Next c ≡ state
+      → SayingLeaves k limits state.map part before h then new (is_ok result) → SaysLines (reply_lines limits state c) part → (is_ok result ≡ true → part ≡ reply_lines limits state c) → R state → EndsAt result limits state (c ∷ []) part R
+      → RunLeaves k limits state (c ∷ []) before h R then new result
   unfolding work_none
-  run_saying c before then h R old new part done holds told same more front all r =
-      run_command k limits state c before before then h R old new part done (work_none c before h old holds told)
-      (subst (λ (s : State). SayingLeaves k limits s.map part before h then new done) (sym same) more) front all (subst R (sym same) r)
+  run_saying c before then h R old new part result holds told same more front all r ends =
+      run_command k limits state c before before then h R old new part result (work_none c before h old holds told)
+      (subst (λ (s : State). SayingLeaves k limits s.map part before h then new (is_ok result)) (sym same) more) front all (subst R (sym same) r) ends
 
   -- no row yet
   pub rows_none : (first : ℕ) (store : S) (h : History) (t : Told) → k.holds limits store t state → t.history ≡ Some h → SayingLeaves k limits state.map (rows_lines state.map first (first - first)) store h store t true
@@ -200,38 +210,43 @@ module _ {S : Type 0} (k : Keeping S) (limits : Limits) (state : State) where
     -- all rows were said, and the end
     pub list_done : (before then : S) (h : History) (old mid new : Told) → a < names → b < names → k.holds limits before old state → old.history ≡ Some h
         → (said : SayingLeaves k limits state.map (rows_lines state.map a (b + 1 - a)) before h then mid true) → k.holds limits then mid state → Appends (Said (reply_text reply.End)) mid new
-        → RunLeaves k limits state (command.List a b ∷ []) before h (k.holds limits then new) then new true × k.holds limits then new (Next (command.List a b))
+        → RunLeaves k limits state (command.List a b ∷ []) before h (k.holds limits then new) then new (Ok tt) × k.holds limits then new (Next (command.List a b))
     list_done before then h old mid new a_in b_in holds told said then_holds did =
         let lines = rows_lines state.map a (b + 1 - a) in
         let all = list_lines a_in b_in in
         let end = reply_text reply.End in
         let now = k.still limits then mid new state (still_said mid new end did) then_holds in (
-          run_saying (command.List a b) before then h (k.holds limits then new) old new (lines ++ end ∷ []) true holds told (list_stays a_in b_in)
+          run_saying (command.List a b) before then h (k.holds limits then new) old new (lines ++ end ∷ []) (Ok tt) holds told (list_stays a_in b_in)
               (saying_then k limits state.map lines (end ∷ []) before then then h mid new true said (saying_said k limits state then (adds_all said.added h) mid new end then_holds said.history did))
-              (subst (λ (l : List (List ℕ)). SaysLines l (lines ++ end ∷ [])) all (says_all (lines ++ end ∷ []))) (λ e. all) now,
+              (subst (λ (l : List (List ℕ)). SaysLines l (lines ++ end ∷ [])) all (says_all (lines ++ end ∷ []))) (λ e. all) now (subst (k.holds limits then new) (sym (list_stays a_in b_in)) now),
           subst (k.holds limits then new) (sym (list_stays a_in b_in)) now,
         )
 
     -- the end couldn't be said
     pub list_unsaid : (before then : S) (h : History) (old mid new : Told) → a < names → b < names → k.holds limits before old state → old.history ≡ Some h
         → (said : SayingLeaves k limits state.map (rows_lines state.map a (b + 1 - a)) before h then mid true) → k.holds limits then mid state → FailsToSay (reply_text reply.End) mid new
-        → RunLeaves k limits state (command.List a b ∷ []) before h (Stays k limits then old new) then new false
+        → RunLeaves k limits state (command.List a b ∷ []) before h (Stays k limits then old new) then new (Err stop.Output)
     list_unsaid before then h old mid new a_in b_in holds told said then_holds did =
         let lines = rows_lines state.map a (b + 1 - a) in
         let end = reply_text reply.End in
         let cut = saying_cut k limits state then (adds_all said.added h) mid new end [] then_holds said.history did in
-        run_saying (command.List a b) before then h (Stays k limits then old new) old new (lines ++ cut.0) false holds told (list_stays a_in b_in)
+        let stays : Stays k limits then old new state = λ quiet. k.still limits then mid new state (still_cut mid new end did) then_holds in
+        run_saying (command.List a b) before then h (Stays k limits then old new) old new (lines ++ cut.0) (Err stop.Output) holds told (list_stays a_in b_in)
         (saying_then k limits state.map lines cut.0 before then then h mid new false said cut.2)
         (subst (λ (l : List (List ℕ)). SaysLines l (lines ++ cut.0)) (list_lines a_in b_in) (says_behind lines (end ∷ []) cut.0 (says_cut end [] cut.0 cut.1))) (λ e. cc)
-        (λ quiet. k.still limits then mid new state (still_cut mid new end did) then_holds)
+        stays
+        (unsaid_of limits state (command.List a b) (lines ++ cut.0) (Stays k limits then old new)
+        (subst (λ (l : List (List ℕ)). IsUnsaid l (lines ++ cut.0)) (list_lines a_in b_in) (unsaid_behind lines (end ∷ []) cut.0 (unsaid_line end [] cut.0 cut.1))) (subst (Stays k limits then old new) (sym (list_stays a_in b_in)) stays))
 
     -- it stopped in the rows
-    pub list_failed : (before then : S) (h : History) (old new : Told) → a < names → b < names → k.holds limits before old state → old.history ≡ Some h
-        → SaysSome k limits state (rows_lines state.map a (b + 1 - a)) before h then old new
-        → RunLeaves k limits state (command.List a b ∷ []) before h (Stays k limits then old new) then new false
-    list_failed before then h old new a_in b_in holds told some =
-        run_saying (command.List a b) before then h (Stays k limits then old new) old new some.said false holds told (list_stays a_in b_in) some.leaves
+    pub list_failed : (before then : S) (h : History) (old new : Told) (s : Stop) → a < names → b < names → k.holds limits before old state → old.history ≡ Some h
+        → SaysSome k limits state (rows_lines state.map a (b + 1 - a)) before h then old new s
+        → RunLeaves k limits state (command.List a b ∷ []) before h (Stays k limits then old new) then new (Err s)
+    list_failed before then h old new s a_in b_in holds told some =
+        run_saying (command.List a b) before then h (Stays k limits then old new) old new some.said (Err s) holds told (list_stays a_in b_in) some.leaves
         (subst (λ (l : List (List ℕ)). SaysLines l some.said) (list_lines a_in b_in) (says_longer (rows_lines state.map a (b + 1 - a)) (reply_text reply.End ∷ []) some.said some.part)) (λ e. cc) some.stays
+        (ends_in limits state s (command.List a b) (rows_lines state.map a (b + 1 - a)) some.said (reply_text reply.End) (Stays k limits then old new) (list_lines a_in b_in) some.ends some.stays
+        (subst (Stays k limits then old new) (sym (list_stays a_in b_in)) some.stays))
 
     pub works_refused : (store : S) (h : History) (t : Told) → (names ≤ a) ⊎ (names ≤ b) → k.holds limits store t state → t.history ≡ Some h
         → WorksFor k limits state (command.List a b) store h (Ok (reply.Refused BadName)) store t t

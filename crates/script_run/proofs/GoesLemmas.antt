@@ -9,6 +9,7 @@ use Rattle.ipl_model.specs.Grammar.{line_of, commands_in, commands_of}
 use Rattle.ipl_model.proofs.RunLemmas.{after_all-append}
 use Rattle.chip_trait.specs.Told.{History, Told, Beside, IsBeside, IsNext, adds_all}
 use Rattle.script_run.specs.declared.fault.Stop.{Stop}
+use Rattle.script_run.specs.declared.fault.Stop.TheVariants as stop
 use Rattle.store_trait.specs.Onward.{Onward}
 use Rattle.store_trait.specs.Keeping.{Keeping, Stays}
 use Rattle.script_run.specs.Lines.{commands_from, kept}
@@ -17,6 +18,7 @@ use Rattle.script_run.specs.Goes.{Answers, Goes, TakesBytes, Took, Stopped, Ende
 use Rattle.script_run.proofs.LineLemmas.{keeping, from_start}
 use Rattle.store_trait.proofs.OnwardLemmas.{still_beside, unrisen_later}
 use Rattle.script_run.proofs.ReadLemmas.{left_then}
+use Rattle.script_run.proofs.EndLemmas.{between_none}
 use Rattle.script_run.proofs.RunLemmas.{run_none, run_more, run_longer, run_weaker}
 
 module _ {S : Type 0} (k : Keeping S) (limits : Limits) where
@@ -26,27 +28,27 @@ module _ {S : Type 0} (k : Keeping S) (limits : Limits) where
 
   -- no byte more was taken
   pub goes_none : (state : State) (line : List ℕ) (store : S) (h : History) (t : Told) → k.holds limits store t state → t.history ≡ Some h → Goes k limits state line [] store h store line t
-  goes_none state line store h t holds told = record { done = []; goes_on = λ tail. refl; leaves = run_none k limits state store h (k.holds limits store t) t true holds told holds; holds = holds }
+  goes_none state line store h t holds told = record { done = []; goes_on = λ tail. refl; leaves = run_none k limits state store h (k.holds limits store t) t (Ok tt) holds told holds holds; holds = holds }
 
   -- a byte that ends a line
-  pub goes_line : (state : State) (line : List ℕ) (before then : S) (h : History) (new : Told) → RunLeaves k limits state (commands_in (line_of line)) before h (k.holds limits then new) then new true
+  pub goes_line : (state : State) (line : List ℕ) (before then : S) (h : History) (new : Told) → RunLeaves k limits state (commands_in (line_of line)) before h (k.holds limits then new) then new (Ok tt)
       → k.holds limits then new (after_all limits state (commands_in (line_of line))) → Goes k limits state line (10 ∷ []) before h then [] new
   goes_line state line before then h new leaves holds = record { done = commands_in (line_of line); goes_on = λ tail. refl; leaves = leaves; holds = holds }
 
   -- a byte that is kept
   pub goes_byte : (state : State) (line : List ℕ) (b : ℕ) (store : S) (h : History) (t : Told) → (b == 10) ≡ false → k.holds limits store t state → t.history ≡ Some h → Goes k limits state line (b ∷ []) store h store (kept line b) t
-  goes_byte state line b store h t no_end holds told = record { done = []; goes_on = λ tail. keeping line b tail no_end; leaves = run_none k limits state store h (k.holds limits store t) t true holds told holds; holds = holds }
+  goes_byte state line b store h t no_end holds told = record { done = []; goes_on = λ tail. keeping line b tail no_end; leaves = run_none k limits state store h (k.holds limits store t) t (Ok tt) holds told holds holds; holds = holds }
 
   -- the line that a byte ends was answered, or it stopped in it
   pub line_takes : (line : List ℕ) (before then : S) (old new : Told) (result : Result (Unit {0}) Stop) (state : State) (h : History)
       → MatchResult result
-      (λ _. RunLeaves k limits state (commands_in (line_of line)) before h (k.holds limits then new) then new true × k.holds limits then new (after_all limits state (commands_in (line_of line))))
-      (λ _. RunLeaves k limits state (commands_in (line_of line)) before h (Stays k limits then old new) then new false)
+      (λ _. RunLeaves k limits state (commands_in (line_of line)) before h (k.holds limits then new) then new (Ok tt) × k.holds limits then new (after_all limits state (commands_in (line_of line))))
+      (λ s. RunLeaves k limits state (commands_in (line_of line)) before h (Stays k limits then old new) then new (Err s))
       → MatchResult result
       (λ _. Goes k limits state line (10 ∷ []) before h then [] new)
-      (λ _. (tail : List ℕ) → RunLeaves k limits state (commands_from line ((10 ∷ []) ++ tail)) before h (Stays k limits then old new) then new false)
+      (λ s. (tail : List ℕ) → RunLeaves k limits state (commands_from line ((10 ∷ []) ++ tail)) before h (Stays k limits then old new) then new (Err s))
   line_takes line before then old new (Ok u) state h answered = goes_line state line before then h new answered.0 answered.1
-  line_takes line before then old new (Err e) state h answered = λ tail. run_longer k limits state (commands_in (line_of line)) (commands_from [] tail) before then h (Stays k limits then old new) new answered
+  line_takes line before then old new (Err e) state h answered = λ tail. run_longer k limits state (commands_in (line_of line)) (commands_from [] tail) before then h (Stays k limits then old new) new e answered
 
   -- more bytes were taken
   pub goes_then : (state : State) (line a b : List ℕ) (before mid_store then : S) (h : History) (mid later : List ℕ) (between new : Told)
@@ -58,27 +60,27 @@ module _ {S : Type 0} (k : Keeping S) (limits : Limits) where
         goes_on = λ tail.
             ap (commands_from line) (append_assoc a b tail) ∙ g.goes_on (b ++ tail) ∙ ap (λ (cs : List Command). g.done ++ cs) (n.goes_on tail)
             ∙ sym (append_assoc g.done n.done (commands_from later tail));
-        leaves = run_more k limits state g.done n.done before mid_store then h (k.holds limits mid_store between) (k.holds limits then new) between new true g.leaves n.leaves;
+        leaves = run_more k limits state g.done n.done before mid_store then h (k.holds limits mid_store between) (k.holds limits then new) between new (Ok tt) g.leaves n.leaves;
         holds = subst (k.holds limits then new) (sym (after_all-append limits state g.done n.done)) n.holds;
       }
 
   -- it stopped in what came after
-  pub stops_then : (state : State) (line a rest : List ℕ) (before mid_store then : S) (h : History) (R : State → Type 0) (mid : List ℕ) (between new : Told) (g : Goes k limits state line a before h mid_store mid between)
-      → RunLeaves k limits (after_all limits state g.done) (commands_from mid rest) mid_store (adds_all g.leaves.added h) R then new false → RunLeaves k limits state (commands_from line (a ++ rest)) before h R then new false
-  stops_then state line a rest before mid_store then h R mid between new g next =
-      subst (λ (cs : List Command). RunLeaves k limits state cs before h R then new false) (sym (g.goes_on rest))
-      (run_more k limits state g.done (commands_from mid rest) before mid_store then h (k.holds limits mid_store between) R between new false g.leaves next)
+  pub stops_then : (state : State) (line a rest : List ℕ) (before mid_store then : S) (h : History) (R : State → Type 0) (mid : List ℕ) (between new : Told) (e : Stop) (g : Goes k limits state line a before h mid_store mid between)
+      → RunLeaves k limits (after_all limits state g.done) (commands_from mid rest) mid_store (adds_all g.leaves.added h) R then new (Err e) → RunLeaves k limits state (commands_from line (a ++ rest)) before h R then new (Err e)
+  stops_then state line a rest before mid_store then h R mid between new e g next =
+      subst (λ (cs : List Command). RunLeaves k limits state cs before h R then new (Err e)) (sym (g.goes_on rest))
+      (run_more k limits state g.done (commands_from mid rest) before mid_store then h (k.holds limits mid_store between) R between new (Err e) g.leaves next)
 
   -- in a byte of a piece
-  pub stops_in_piece : (state : State) (line piece : List ℕ) (i : ℕ) (before mid_store then : S) (h : History) (R : State → Type 0) (mid : List ℕ) (between new : Told) → i < length piece
+  pub stops_in_piece : (state : State) (line piece : List ℕ) (i : ℕ) (before mid_store then : S) (h : History) (R : State → Type 0) (mid : List ℕ) (between new : Told) (e : Stop) → i < length piece
       → Goes k limits state line (take i piece) before h mid_store mid between
-      → ((s : State) (g : History) → k.holds limits mid_store between s → between.history ≡ Some g → (tail : List ℕ) → RunLeaves k limits s (commands_from mid ((get_or piece i 0 ∷ []) ++ tail)) mid_store g R then new false)
-      → (tail : List ℕ) → RunLeaves k limits state (commands_from line (piece ++ tail)) before h R then new false
-  stops_in_piece state line piece i before mid_store then h R mid between new lt g next tail =
-      subst (λ (bytes : List ℕ). RunLeaves k limits state (commands_from line bytes) before h R then new false)
+      → ((s : State) (g : History) → k.holds limits mid_store between s → between.history ≡ Some g → (tail : List ℕ) → RunLeaves k limits s (commands_from mid ((get_or piece i 0 ∷ []) ++ tail)) mid_store g R then new (Err e))
+      → (tail : List ℕ) → RunLeaves k limits state (commands_from line (piece ++ tail)) before h R then new (Err e)
+  stops_in_piece state line piece i before mid_store then h R mid between new e lt g next tail =
+      subst (λ (bytes : List ℕ). RunLeaves k limits state (commands_from line bytes) before h R then new (Err e))
       (sym (append_assoc (take i piece) (get_or piece i 0 ∷ drop (i + 1) piece) tail) ∙ ap (λ (l : List ℕ). l ++ tail)
       (sym (append_assoc (take i piece) (get_or piece i 0 ∷ []) (drop (i + 1) piece)) ∙ ap (λ (l : List ℕ). l ++ drop (i + 1) piece) (sym (take_more piece i 0 lt)) ∙ take-append-drop (i + 1) piece))
-      (stops_then state line (take i piece) (get_or piece i 0 ∷ drop (i + 1) piece ++ tail) before mid_store then h R mid between new g
+      (stops_then state line (take i piece) (get_or piece i 0 ∷ drop (i + 1) piece ++ tail) before mid_store then h R mid between new e g
       (next (after_all limits state g.done) (adds_all g.leaves.added h) g.holds g.leaves.history (drop (i + 1) piece ++ tail)))
 
   -- a read of the script changes nothing of what the store keeps
@@ -97,28 +99,28 @@ module _ {S : Type 0} (k : Keeping S) (limits : Limits) where
     goes = subst (λ (l : List ℕ). Goes k limits state line l before h then later new) (bytes_are ∙ next.bytes) goes;
   }
 
-  pub stopped : (state : State) (line source bytes buffer : List ℕ) (n : ℕ) (R : State → Type 0) (old mid new : Told) (before then : S) (h : History)
+  pub stopped : (state : State) (line source bytes buffer : List ℕ) (n : ℕ) (R : State → Type 0) (old mid new : Told) (before then : S) (h : History) (e : Stop)
       → mid.beside ≡ record old.beside { left = option_map (λ l. drop n l) old.beside.left; script_bytes = mid.beside.script_bytes; script_faults = mid.beside.script_faults }
       → Onward mid new → old.beside.left ≡ Some source → IsNext source buffer n → bytes ≡ take n buffer
-      → ((tail : List ℕ) → RunLeaves k limits state (commands_from line (bytes ++ tail)) before h R then new false) → Stopped k limits state (commands_from line source) source before h R then new
-  stopped state line source bytes buffer n R old mid new before then h read onward told next bytes_are leaves = record {
+      → ((tail : List ℕ) → RunLeaves k limits state (commands_from line (bytes ++ tail)) before h R then new (Err e)) → Stopped k limits state (commands_from line source) source before h R then new e
+  stopped state line source bytes buffer n R old mid new before then h e read onward told next bytes_are leaves = record {
     read = take n source;
     rest = drop n source;
     left_is = left_then old mid new n source read onward told;
     source_is = sym (take-append-drop n source);
-    leaves = subst (λ (l : List ℕ). RunLeaves k limits state (commands_from line l) before h R then new false) (ap (λ (l : List ℕ). l ++ drop n source) (bytes_are ∙ next.bytes) ∙ take-append-drop n source) (leaves (drop n source));
+    leaves = subst (λ (l : List ℕ). RunLeaves k limits state (commands_from line l) before h R then new (Err e)) (ap (λ (l : List ℕ). l ++ drop n source) (bytes_are ∙ next.bytes) ∙ take-append-drop n source) (leaves (drop n source));
   }
 
   -- the script failed
   pub stopped_at_once : (state : State) (line source : List ℕ) (R : State → Type 0) (old new : Told) (store : S) (h : History) → k.holds limits store old state → old.history ≡ Some h → R state → IsBeside old new
-      → new.beside ≡ record old.beside { script_faults = new.beside.script_faults } → old.beside.left ≡ Some source → Stopped k limits state (commands_from line source) source store h R store new
+      → new.beside ≡ record old.beside { script_faults = new.beside.script_faults } → old.beside.left ≡ Some source → Stopped k limits state (commands_from line source) source store h R store new stop.Script
   stopped_at_once state line source R old new store h holds told r chip is left = record {
     read = [];
     rest = source;
     left_is = ap (λ (d : Beside). d.left) is ∙ left;
     source_is = refl;
-    leaves = run_longer k limits state [] (commands_from line source) store store h R new
-        (run_none k limits state store h R new false (holds_beside store old new state chip holds) (chip.history ∙ told) r);
+    leaves = run_longer k limits state [] (commands_from line source) store store h R new stop.Script
+        (run_none k limits state store h R new (Err stop.Script) (holds_beside store old new state chip holds) (chip.history ∙ told) r (between_none limits state [] R r));
   }
 
   -- a run of the script, from its start with these bytes as its source
@@ -149,22 +151,22 @@ module _ {S : Type 0} (k : Keeping S) (limits : Limits) where
   all_of state source before store h line t r = ap (commands_from []) (sym r.source_is) ∙ from_start source
 
   -- it stopped in the next bytes
-  pub running_failed : (state : State) (source : List ℕ) (before store then : S) (h : History) (R : State → Type 0) (line : List ℕ) (mid new : Told) → Running state source before h store line mid
-      → ((s : State) (g : History) → k.holds limits store mid s → mid.history ≡ Some g → (rest : List ℕ) → mid.beside.left ≡ Some rest → Stopped k limits s (commands_from line rest) rest store g R then new)
-      → Stopped k limits state (commands_of source) source before h R then new
-  running_failed state source before store then h R line mid new r next =
+  pub running_failed : (state : State) (source : List ℕ) (before store then : S) (h : History) (R : State → Type 0) (line : List ℕ) (mid new : Told) (e : Stop) → Running state source before h store line mid
+      → ((s : State) (g : History) → k.holds limits store mid s → mid.history ≡ Some g → (rest : List ℕ) → mid.beside.left ≡ Some rest → Stopped k limits s (commands_from line rest) rest store g R then new e)
+      → Stopped k limits state (commands_of source) source before h R then new e
+  running_failed state source before store then h R line mid new e r next =
       let n = next (after_all limits state r.goes.done) (adds_all r.goes.leaves.added h) r.goes.holds r.goes.leaves.history r.rest r.left_is in record {
         read = r.read ++ n.read;
         rest = n.rest;
         left_is = n.left_is;
         source_is = r.source_is ∙ ap (λ (l : List ℕ). r.read ++ l) n.source_is ∙ sym (append_assoc r.read n.read n.rest);
-        leaves = subst (λ (cs : List Command). RunLeaves k limits state cs before h R then new false) (all_of state source before store h line mid r)
-            (stops_then state [] r.read r.rest before store then h R line mid new r.goes n.leaves);
+        leaves = subst (λ (cs : List Command). RunLeaves k limits state cs before h R then new (Err e)) (all_of state source before store h line mid r)
+            (stops_then state [] r.read r.rest before store then h R line mid new e r.goes n.leaves);
       }
 
   -- it stopped where it stood
   pub running_stopped : (state : State) (source : List ℕ) (before store : S) (h : History) (line : List ℕ) (t : Told) → Running state source before h store line t
-      → Stopped k limits state (commands_of source) source before h (k.holds limits store t) store t
+      → Stopped k limits state (commands_of source) source before h (k.holds limits store t) store t stop.TooLong
   running_stopped state source before store h line t r =
       let now = after_all limits state r.goes.done in
       let g = adds_all r.goes.leaves.added h in record {
@@ -172,15 +174,16 @@ module _ {S : Type 0} (k : Keeping S) (limits : Limits) where
         rest = r.rest;
         left_is = r.left_is;
         source_is = r.source_is;
-        leaves = subst (λ (cs : List Command). RunLeaves k limits state cs before h (k.holds limits store t) store t false) (all_of state source before store h line t r)
-            (stops_then state [] r.read r.rest before store store h (k.holds limits store t) line t t r.goes
-            (run_longer k limits now [] (commands_from line r.rest) store store g (k.holds limits store t) t (run_none k limits now store g (k.holds limits store t) t false r.goes.holds r.goes.leaves.history r.goes.holds)));
+        leaves = subst (λ (cs : List Command). RunLeaves k limits state cs before h (k.holds limits store t) store t (Err stop.TooLong)) (all_of state source before store h line t r)
+            (stops_then state [] r.read r.rest before store store h (k.holds limits store t) line t t stop.TooLong r.goes
+            (run_longer k limits now [] (commands_from line r.rest) store store g (k.holds limits store t) t stop.TooLong
+            (run_none k limits now store g (k.holds limits store t) t (Err stop.TooLong) r.goes.holds r.goes.leaves.history r.goes.holds (between_none limits now [] (k.holds limits store t) r.goes.holds))));
       }
 
   -- it reached the end, and the last line was answered, or it stopped there
   pub running_ends : (state : State) (source : List ℕ) (before store then : S) (h : History) (line : List ℕ) (mid new : Told) (result : Result (Unit {0}) Stop) → (r : Running state source before h store line mid)
       → r.rest ≡ [] → Onward mid new → Answers k (commands_in (line_of line)) store mid result then new
-      → MatchResult result (λ _. Ended k limits state source before h then new) (λ _. Stopped k limits state (commands_of source) source before h (Stays k limits then mid new) then new)
+      → MatchResult result (λ _. Ended k limits state source before h then new) (λ s. Stopped k limits state (commands_of source) source before h (Stays k limits then mid new) then new s)
   running_ends state source before store then h line mid new result r at_end onward answers = by_result result (answers limits now g r.goes.holds r.goes.leaves.history)
     where
       now : State
@@ -196,13 +199,13 @@ module _ {S : Type 0} (k : Keeping S) (limits : Limits) where
       left_now = ap (λ (d : Beside). d.left) onward.keeps ∙ r.left_is
 
       by_result : (d : Result (Unit {0}) Stop)
-          → MatchResult d (λ _. RunLeaves k limits now (commands_in (line_of line)) store g (k.holds limits then new) then new true × k.holds limits then new (after_all limits now (commands_in (line_of line))))
-          (λ _. RunLeaves k limits now (commands_in (line_of line)) store g (Stays k limits then mid new) then new false)
-          → MatchResult d (λ _. Ended k limits state source before h then new) (λ _. Stopped k limits state (commands_of source) source before h (Stays k limits then mid new) then new)
+          → MatchResult d (λ _. RunLeaves k limits now (commands_in (line_of line)) store g (k.holds limits then new) then new (Ok tt) × k.holds limits then new (after_all limits now (commands_in (line_of line))))
+          (λ s. RunLeaves k limits now (commands_in (line_of line)) store g (Stays k limits then mid new) then new (Err s))
+          → MatchResult d (λ _. Ended k limits state source before h then new) (λ s. Stopped k limits state (commands_of source) source before h (Stays k limits then mid new) then new s)
       by_result (Ok u) answered = record {
         left_is = left_now ∙ ap Some at_end;
-        leaves = subst (λ (cs : List Command). RunLeaves k limits state cs before h (k.holds limits then new) then new true) all
-            (run_more k limits state r.goes.done (commands_in (line_of line)) before store then h (k.holds limits store mid) (k.holds limits then new) mid new true r.goes.leaves answered.0);
+        leaves = subst (λ (cs : List Command). RunLeaves k limits state cs before h (k.holds limits then new) then new (Ok tt)) all
+            (run_more k limits state r.goes.done (commands_in (line_of line)) before store then h (k.holds limits store mid) (k.holds limits then new) mid new (Ok tt) r.goes.leaves answered.0);
         holds = subst (k.holds limits then new) (sym (after_all-append limits state r.goes.done (commands_in (line_of line))) ∙ ap (after_all limits state) all) answered.1;
       }
       by_result (Err e) part = record {
@@ -210,29 +213,29 @@ module _ {S : Type 0} (k : Keeping S) (limits : Limits) where
         rest = r.rest;
         left_is = left_now;
         source_is = r.source_is;
-        leaves = subst (λ (cs : List Command). RunLeaves k limits state cs before h (Stays k limits then mid new) then new false) all
-            (run_more k limits state r.goes.done (commands_in (line_of line)) before store then h (k.holds limits store mid) (Stays k limits then mid new) mid new false r.goes.leaves part);
+        leaves = subst (λ (cs : List Command). RunLeaves k limits state cs before h (Stays k limits then mid new) then new (Err e)) all
+            (run_more k limits state r.goes.done (commands_in (line_of line)) before store then h (k.holds limits store mid) (Stays k limits then mid new) mid new (Err e) r.goes.leaves part);
       }
 
   pub running_last : (state : State) (source : List ℕ) (before store mid_store then : S) (h : History) (line later : List ℕ) (old mid new : Told) (n : ℕ) (result : Result (Unit {0}) Stop) → Running state source before h store line old
       → ((s : State) (g : History) → k.holds limits store old s → old.history ≡ Some g → (rest : List ℕ) → old.beside.left ≡ Some rest → Took k limits s line rest store g n mid_store later mid)
       → n ≡ 0 → Answers k (commands_in (line_of later)) mid_store mid result then new → Onward mid new
-      → MatchResult result (λ _. Ended k limits state source before h then new) (λ _. Stopped k limits state (commands_of source) source before h (Stays k limits then mid new) then new)
+      → MatchResult result (λ _. Ended k limits state source before h then new) (λ s. Stopped k limits state (commands_of source) source before h (Stays k limits then mid new) then new s)
   unfolding running_more
   running_last state source before store mid_store then h line later old mid new n result r next zero answers onward =
       running_ends state source before mid_store then h later mid new result (running_more state source before store mid_store h line later old mid n r next)
       (ap (drop n) ((next (after_all limits state r.goes.done) (adds_all r.goes.leaves.added h) r.goes.holds r.goes.leaves.history r.rest r.left_is).ends zero) ∙ drop_all n [] (omega arith)) onward answers
 
-  pub stops_weaker : (state : State) (cs : List Command) (source : List ℕ) (before then : S) (h : History) (Q R : State → Type 0) (new : Told) → ((s : State) → Q s → R s)
-      → Stopped k limits state cs source before h Q then new → Stopped k limits state cs source before h R then new
-  stops_weaker state cs source before then h Q R new f s =
-      record { read = s.read; rest = s.rest; left_is = s.left_is; source_is = s.source_is; leaves = run_weaker k limits state cs before then h Q R new false f s.leaves }
+  pub stops_weaker : (state : State) (cs : List Command) (source : List ℕ) (before then : S) (h : History) (Q R : State → Type 0) (new : Told) (e : Stop) → ((s : State) → Q s → R s)
+      → Stopped k limits state cs source before h Q then new e → Stopped k limits state cs source before h R then new e
+  stops_weaker state cs source before then h Q R new e f s =
+      record { read = s.read; rest = s.rest; left_is = s.left_is; source_is = s.source_is; leaves = run_weaker k limits state cs before then h Q R new (Err e) f s.leaves }
 
   pub ends_later : (state : State) (source : List ℕ) (before then : S) (h : History) (result : Result (Unit {0}) Stop) (old mid new : Told) → old.write_faults ≤ mid.write_faults
-      → MatchResult result (λ _. Ended k limits state source before h then new) (λ _. Stopped k limits state (commands_of source) source before h (Stays k limits then mid new) then new)
-      → MatchResult result (λ _. Ended k limits state source before h then new) (λ _. Stopped k limits state (commands_of source) source before h (Stays k limits then old new) then new)
+      → MatchResult result (λ _. Ended k limits state source before h then new) (λ s. Stopped k limits state (commands_of source) source before h (Stays k limits then mid new) then new s)
+      → MatchResult result (λ _. Ended k limits state source before h then new) (λ s. Stopped k limits state (commands_of source) source before h (Stays k limits then old new) then new s)
   ends_later state source before then h (Ok u) old mid new le ended = ended
-  ends_later state source before then h (Err e) old mid new le s = stops_weaker state (commands_of source) source before then h (Stays k limits then mid new) (Stays k limits then old new) new (λ n. stays_later then old mid new n le) s
+  ends_later state source before then h (Err e) old mid new le s = stops_weaker state (commands_of source) source before then h (Stays k limits then mid new) (Stays k limits then old new) new e (λ n. stays_later then old mid new n le) s
 
 -- the line that a byte ends was answered, or it stopped in it
 pub takes_line : {S : Type 0} (k : Keeping S) (line bytes later : List ℕ) (b : ℕ) (before then : S) (old new : Told) (result : Result (Unit {0}) Stop) → bytes ≡ line → b ≡ 10 → later ≡ []

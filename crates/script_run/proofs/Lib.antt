@@ -6,3 +6,4 @@ mod GoesLemmas
 pub mod CauseLemmas
 mod AlongLemmas
 mod CompleteLemmas
+mod EndLemmas

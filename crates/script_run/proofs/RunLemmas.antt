@@ -1,5 +1,5 @@
 -- What a run leaves, in one part after another.
-use Rattle.std.proofs.Common.{◌≡◌, ◌⊎◌, inl, inr, ⊎_elim, ℕ, Bool, true, false, List, [], ◌∷◌, ◌++◌, Some, refl, sym, ◌∙◌, ap, subst, append_assoc}
+use Rattle.std.proofs.Common.{◌≡◌, ◌⊎◌, inl, inr, ⊎_elim, ℕ, Bool, true, false, List, [], ◌∷◌, ◌++◌, Some, Result, Ok, Err, is_ok, refl, sym, ◌∙◌, ap, subst, append_assoc}
 use Rattle.std.specs.Option.{option_map}
 use Rattle.std.proofs.lemmas.List.{append-nil}
 use Rattle.ipl_rules.specs.State.{Map, State, Limits}
@@ -17,7 +17,11 @@ use Rattle.chip_trait.proofs.LawfulLemmas.{lawful_none, clean_none, lawful_then,
 use Rattle.chip_trait.proofs.MomentLemmas.{at_start, at_next, at_both}
 use Rattle.chip_trait.proofs.SaidLemmas.{joined-append, pieces-append, said-append, silent-part}
 use Rattle.store_trait.specs.Keeping.{Keeping, AllOf, WorkLeaves}
-use Rattle.script_run.specs.Run.{IsCut, SaysLines, IsSaidOr, StandsNear, RunLeaves, SayingLeaves}
+use Rattle.script_run.specs.declared.fault.Stop.{Stop}
+use Rattle.script_run.specs.declared.fault.Stop.TheVariants.{Store}
+use Rattle.store_trait.specs.declared.fault.Fault.{Fault}
+use Rattle.script_run.specs.Run.{IsCut, SaysLines, IsSaidOr, StandsNear, EndsAt, RunLeaves, SayingLeaves}
+use Rattle.script_run.proofs.EndLemmas.{between_none, ends_behind, ends_longer, ends_weaker}
 
 -- ---- lines
 
@@ -185,8 +189,8 @@ module _ {S : Type 0} (k : Keeping S) where
   Moment limits state cs h e = Leaves k.checks (StandsNear k limits state cs (said e)) h e
 
   -- before any command
-  pub run_none : (limits : Limits) (state : State) (store : S) (h : History) (R : State → Type 0) (t : Told) (done : Bool) → k.holds limits store t state → t.history ≡ Some h → R state → RunLeaves k limits state [] store h R store t done
-  run_none limits state store h R t done holds told r = record {
+  pub run_none : (limits : Limits) (state : State) (store : S) (h : History) (R : State → Type 0) (t : Told) (result : Result (Unit {0}) Stop) → k.holds limits store t state → t.history ≡ Some h → R state → EndsAt result limits state [] [] R → RunLeaves k limits state [] store h R store t result
+  run_none limits state store h R t result holds told r ends = record {
     added = [];
     history = told;
     each_moment = at_start (Moment limits state [] h) (λ x is. inl (k.each limits store t state h holds told x is));
@@ -196,14 +200,15 @@ module _ {S : Type 0} (k : Keeping S) where
     lawful = lawful_none (k.clean store);
     clean = λ e. clean_none (k.clean store);
     rests = inl r;
+    ends = ends;
   }
 
   -- the work of one command, and what is said after it
-  pub run_command : (limits : Limits) (state : State) (c : Command) (before mid then : S) (h : History) (R : State → Type 0) (between new : Told) (part : List (List ℕ)) (done : Bool)
+  pub run_command : (limits : Limits) (state : State) (c : Command) (before mid then : S) (h : History) (R : State → Type 0) (between new : Told) (part : List (List ℕ)) (result : Result (Unit {0}) Stop)
       → (did : WorkLeaves k (λ x. k.stands limits x state.map ⊎ k.stands limits x (step limits state c).0.map) before h mid between true)
-      → SayingLeaves k limits (step limits state c).0.map part mid (adds_all did.added h) then new done
-      → SaysLines (reply_lines limits state c) part → (done ≡ true → part ≡ reply_lines limits state c) → R (step limits state c).0 → RunLeaves k limits state (c ∷ []) before h R then new done
-  run_command limits state c before mid then h R between new part done did more front all r = record {
+      → SayingLeaves k limits (step limits state c).0.map part mid (adds_all did.added h) then new (is_ok result)
+      → SaysLines (reply_lines limits state c) part → (is_ok result ≡ true → part ≡ reply_lines limits state c) → R (step limits state c).0 → EndsAt result limits state (c ∷ []) part R → RunLeaves k limits state (c ∷ []) before h R then new result
+  run_command limits state c before mid then h R between new part result did more front all r ends = record {
     added = more.added ++ did.added;
     history = more.history ∙ ap Some (twice_added more.added did.added h);
     each_moment = at_both (Moment limits state (c ∷ []) h) more.added did.added
@@ -215,15 +220,16 @@ module _ {S : Type 0} (k : Keeping S) where
     lawful = lawful_then (k.clean before) (k.clean mid) more.added did.added did.lawful (did.clean refl) more.lawful;
     clean = λ e. clean_then (k.clean before) (k.clean mid) (k.clean then) more.added did.added did.lawful (did.clean refl) (more.clean e);
     rests = found_said limits state c (said (more.added ++ did.added)) R r;
+    ends = subst (λ (l : List (List ℕ)). EndsAt result limits state (c ∷ []) l R) (sym all_said) ends;
   }
     where
       all_said : pieces (more.added ++ did.added) ≡ part
       all_said = pieces-append more.added did.added ∙ ap (λ (l : List (List ℕ)). l ++ pieces more.added) did.silent ∙ more.says
 
   -- the work failed, and nothing was said
-  pub run_failed : (limits : Limits) (state : State) (c : Command) (before then : S) (h : History) (R : State → Type 0) (new : Told)
-      → WorkLeaves k (λ x. k.stands limits x state.map ⊎ k.stands limits x (step limits state c).0.map) before h then new false → R state → RunLeaves k limits state (c ∷ []) before h R then new false
-  run_failed limits state c before then h R new did r = record {
+  pub run_failed : (limits : Limits) (state : State) (c : Command) (before then : S) (h : History) (R : State → Type 0) (new : Told) (fault : Fault)
+      → WorkLeaves k (λ x. k.stands limits x state.map ⊎ k.stands limits x (step limits state c).0.map) before h then new false → R state → RunLeaves k limits state (c ∷ []) before h R then new (Err (Store fault))
+  run_failed limits state c before then h R new fault did r = record {
     added = did.added;
     history = did.history;
     each_moment = λ later e split x is. found_silent limits state c (said e) (λ s. k.stands limits x s.map) (ap joined (silent-part later e (ap pieces split ∙ did.silent))) (did.each_moment later e split x is);
@@ -233,23 +239,24 @@ module _ {S : Type 0} (k : Keeping S) where
     lawful = did.lawful;
     clean = λ e. cc;
     rests = found_silent limits state c (said did.added) R (ap joined did.silent) (inl r);
+    ends = subst (λ (l : List (List ℕ)). EndsAt (Err (Store fault)) limits state (c ∷ []) l R) (sym did.silent) (between_none limits state (c ∷ []) R r);
   }
 
   -- what was said of the commands by an earlier moment
-  said_so_far : (limits : Limits) (state : State) (cs : List Command) (before then : S) (h : History) (R : State → Type 0) (new : Told) (done : Bool) (r : RunLeaves k limits state cs before h R then new done)
+  said_so_far : (limits : Limits) (state : State) (cs : List Command) (before then : S) (h : History) (R : State → Type 0) (new : Told) (result : Result (Unit {0}) Stop) (r : RunLeaves k limits state cs before h R then new result)
       (later e : Story) → later ++ e ≡ r.added → IsPrefix (said e) (text limits state cs)
-  said_so_far limits state cs before then h R new done r later e split =
+  said_so_far limits state cs before then h R new result r later e split =
       prefix_of_said later e (text limits state cs) (subst (λ (l : Story). IsPrefix (said l) (text limits state cs)) (sym split) (says_prefix (lines limits state cs) (pieces r.added) r.replies))
 
   -- then more commands
-  pub run_more : (limits : Limits) (state : State) (cs ds : List Command) (before mid then : S) (h : History) (Q R : State → Type 0) (between new : Told) (done : Bool)
-      → (first : RunLeaves k limits state cs before h Q mid between true) → RunLeaves k limits (after_all limits state cs) ds mid (adds_all first.added h) R then new done
-      → RunLeaves k limits state (cs ++ ds) before h R then new done
-  run_more limits state cs ds before mid then h Q R between new done first two = record {
+  pub run_more : (limits : Limits) (state : State) (cs ds : List Command) (before mid then : S) (h : History) (Q R : State → Type 0) (between new : Told) (result : Result (Unit {0}) Stop)
+      → (first : RunLeaves k limits state cs before h Q mid between (Ok tt)) → RunLeaves k limits (after_all limits state cs) ds mid (adds_all first.added h) R then new result
+      → RunLeaves k limits state (cs ++ ds) before h R then new result
+  run_more limits state cs ds before mid then h Q R between new result first two = record {
     added = two.added ++ first.added;
     history = two.history ∙ ap Some (twice_added two.added first.added h);
     each_moment = at_both (Moment limits state (cs ++ ds) h) two.added first.added
-        (λ later e split x is. found_longer limits state cs ds (said e) (λ s. k.stands limits x s.map) (said_so_far limits state cs before mid h Q between true first later e split) (first.each_moment later e split x is))
+        (λ later e split x is. found_longer limits state cs ds (said e) (λ s. k.stands limits x s.map) (said_so_far limits state cs before mid h Q between (Ok tt) first later e split) (first.each_moment later e split x is))
         (λ later f split x is. subst (λ (bytes : List ℕ). StandsNear k limits state (cs ++ ds) bytes x) (sym (both_said f))
         (found_after limits state cs ds (said f) (λ s. k.stands limits x s.map) (two.each_moment later f split x (regrouped k.checks h f first.added x is))));
     replies = subst (λ (l : List (List ℕ)). SaysLines l (pieces (two.added ++ first.added))) (sym (lines-append limits state cs ds))
@@ -259,6 +266,7 @@ module _ {S : Type 0} (k : Keeping S) where
     lawful = lawful_then (k.clean before) (k.clean mid) two.added first.added first.lawful (first.clean refl) two.lawful;
     clean = λ e. clean_then (k.clean before) (k.clean mid) (k.clean then) two.added first.added first.lawful (first.clean refl) (two.clean e);
     rests = subst (λ (bytes : List ℕ). IsNear R limits state (cs ++ ds) bytes) (sym (both_said two.added)) (found_after limits state cs ds (said two.added) R two.rests);
+    ends = subst (λ (l : List (List ℕ)). EndsAt result limits state (cs ++ ds) l R) (sym both_pieces) (ends_behind limits state result cs ds (pieces two.added) R two.ends);
   }
     where
       both_pieces : pieces (two.added ++ first.added) ≡ lines limits state cs ++ pieces two.added
@@ -268,24 +276,25 @@ module _ {S : Type 0} (k : Keeping S) where
       both_said f = said-append f first.added ∙ ap (λ (l : List (List ℕ)). joined l ++ said f) (first.all refl)
 
   -- and where the run ends, the commands that were not begun
-  pub run_longer : (limits : Limits) (state : State) (cs ds : List Command) (before then : S) (h : History) (R : State → Type 0) (new : Told)
-      → RunLeaves k limits state cs before h R then new false → RunLeaves k limits state (cs ++ ds) before h R then new false
-  run_longer limits state cs ds before then h R new first = record {
+  pub run_longer : (limits : Limits) (state : State) (cs ds : List Command) (before then : S) (h : History) (R : State → Type 0) (new : Told) (s : Stop)
+      → RunLeaves k limits state cs before h R then new (Err s) → RunLeaves k limits state (cs ++ ds) before h R then new (Err s)
+  run_longer limits state cs ds before then h R new s first = record {
     added = first.added;
     history = first.history;
-    each_moment = λ later e split x is. found_longer limits state cs ds (said e) (λ s. k.stands limits x s.map) (said_so_far limits state cs before then h R new false first later e split) (first.each_moment later e split x is);
+    each_moment = λ later e split x is. found_longer limits state cs ds (said e) (λ s. k.stands limits x s.map) (said_so_far limits state cs before then h R new (Err s) first later e split) (first.each_moment later e split x is);
     replies = subst (λ (l : List (List ℕ)). SaysLines l (pieces first.added)) (sym (lines-append limits state cs ds)) (says_longer (lines limits state cs) (lines limits (after_all limits state cs) ds) (pieces first.added) first.replies);
     all = λ e. cc;
     only = first.only;
     lawful = first.lawful;
     clean = λ e. cc;
     rests = found_longer limits state cs ds (said first.added) R (says_prefix (lines limits state cs) (pieces first.added) first.replies) first.rests;
+    ends = ends_longer limits state s cs ds (pieces first.added) R first.ends;
   }
 
   -- less said of how the state is kept at the end
-  pub run_weaker : (limits : Limits) (state : State) (cs : List Command) (before then : S) (h : History) (Q R : State → Type 0) (new : Told) (done : Bool) → ((s : State) → Q s → R s)
-      → RunLeaves k limits state cs before h Q then new done → RunLeaves k limits state cs before h R then new done
-  run_weaker limits state cs before then h Q R new done f r = record {
+  pub run_weaker : (limits : Limits) (state : State) (cs : List Command) (before then : S) (h : History) (Q R : State → Type 0) (new : Told) (result : Result (Unit {0}) Stop) → ((s : State) → Q s → R s)
+      → RunLeaves k limits state cs before h Q then new result → RunLeaves k limits state cs before h R then new result
+  run_weaker limits state cs before then h Q R new result f r = record {
     added = r.added;
     history = r.history;
     each_moment = r.each_moment;
@@ -295,19 +304,5 @@ module _ {S : Type 0} (k : Keeping S) where
     lawful = r.lawful;
     clean = r.clean;
     rests = ⊎_elim (λ q. inl (f _ q)) (λ q. inr (f _ q)) r.rests;
-  }
-
-  -- what is done may be said less of
-  pub run_less : (limits : Limits) (state : State) (cs : List Command) (before then : S) (h : History) (R : State → Type 0) (new : Told)
-      → RunLeaves k limits state cs before h R then new true → RunLeaves k limits state cs before h R then new false
-  run_less limits state cs before then h R new r = record {
-    added = r.added;
-    history = r.history;
-    each_moment = r.each_moment;
-    replies = r.replies;
-    all = λ e. cc;
-    only = r.only;
-    lawful = r.lawful;
-    clean = λ e. cc;
-    rests = r.rests;
+    ends = ends_weaker limits state result cs (pieces r.added) Q R f r.ends;
   }

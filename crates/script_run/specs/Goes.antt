@@ -1,5 +1,5 @@
 -- How a run goes on as the bytes of its script come.
-use Rattle.std.specs.Prelude.{◌≡◌, ℕ, ◌≤◌, ◌+◌, ◌-◌, ◌^◌, min, true, false, take, drop, length, List, [], ◌++◌, Option, Some, Result, MatchResult, IfErr, OnOk, IsErrOf, map}
+use Rattle.std.specs.Prelude.{◌≡◌, ℕ, ◌≤◌, ◌+◌, ◌-◌, ◌^◌, min, true, false, take, drop, length, List, [], ◌++◌, Option, Some, Result, Ok, Err, MatchResult, IfErr, OnOk, IsErrOf, map}
 use Rattle.ipl_rules.specs.State.{Map, State, Limits}
 use Rattle.ipl_rules.specs.Operations.{row_of, rows_from}
 use Rattle.ipl_model.specs.declared.command.Command.{Command}
@@ -7,14 +7,14 @@ use Rattle.ipl_model.specs.Step.{row_reply}
 use Rattle.ipl_model.specs.Text.{reply_text}
 use Rattle.ipl_model.specs.Run.{after_all}
 use Rattle.ipl_model.specs.Grammar.{commands_of}
-use Rattle.chip_trait.specs.Told.{History, Told, Rose}
+use Rattle.chip_trait.specs.Told.{History, Told, Rose, IsPrefix}
 use Rattle.script_run.specs.declared.fault.Stop.{Stop}
 use Rattle.script_run.specs.declared.fault.Stop.TheVariants as stop
 use Rattle.script_run.specs.Lines.{commands_from}
 use Rattle.store_trait.specs.Keeping.{Keeping, Stays, Draws, Excuses}
 use Rattle.store_trait.specs.declared.fault.Fault.{Fault}
 use Rattle.store_trait.specs.declared.fault.Fault.TheVariants.{Spent}
-use Rattle.script_run.specs.Run.{RunLeaves, SayingLeaves, SaysLines}
+use Rattle.script_run.specs.Run.{IsUnsaid, RunLeaves, SayingLeaves, SaysLines}
 
 -- the line of a record, where there is one
 abbrev pub row_lines : ℕ → Option (List ℕ) → List (List ℕ)
@@ -28,6 +28,13 @@ rows_lines m first k = map reply_text (map row_reply (rows_from m first k))
 abbrev pub HasRead : ℕ → Told → Told → Type 0
 HasRead n old new = (source : List ℕ) → old.beside.left ≡ Some source
     → (new.beside.left ≡ Some (drop n source)) × (n ≤ length source)
+
+-- how far lines were said where a run stopped in them: a line couldn't be said, or all that was said are whole lines
+abbrev pub SaysPart : Stop → List (List ℕ) → List (List ℕ) → Type 0
+SaysPart (stop.Store fault) lines said = IsPrefix said lines
+SaysPart stop.Script lines said = IsPrefix said lines
+SaysPart stop.Output lines said = IsUnsaid lines said
+SaysPart stop.TooLong lines said = IsPrefix said lines
 
 -- over stores of one kind
 module _ {S : Type 0} (k : Keeping S) where
@@ -71,9 +78,10 @@ module _ {S : Type 0} (k : Keeping S) where
 
   -- these lines were said, chip calls between them, and the store keeps the same state; or a part of them was
   pub record SaysSome (limits : Limits) (state : State) (lines : List (List ℕ)) (before : S) (h : History)
-      (then : S) (old new : Told) : Type 0 where
+      (then : S) (old new : Told) (s : Stop) : Type 0 where
     pub said : List (List ℕ)
     pub part : SaysLines lines said
+    pub ends : SaysPart s lines said
     pub leaves : SayingLeaves k limits state.map said before h then new false
     pub stays : Stays k limits then old new state
 
@@ -82,16 +90,16 @@ module _ {S : Type 0} (k : Keeping S) where
       → k.holds limits before old state → old.history ≡ Some h →
       MatchResult result
       (λ _. SayingLeaves k limits state.map (lines state) before h then new true × k.holds limits then new state)
-      (λ _. SaysSome limits state (lines state) before h then old new)
+      (λ s. SaysSome limits state (lines state) before h then old new s)
 
   -- commands were answered, or it stopped in them
   abbrev pub Answers : List Command → S → Told → Result (Unit {0}) Stop → S → Told → Type 0
   Answers commands before old result then new = (limits : Limits) (state : State) (h : History)
       → k.holds limits before old state → old.history ≡ Some h →
       MatchResult result
-      (λ _. RunLeaves k limits state commands before h (k.holds limits then new) then new true
+      (λ _. RunLeaves k limits state commands before h (k.holds limits then new) then new (Ok tt)
       × k.holds limits then new (after_all limits state commands))
-      (λ _. RunLeaves k limits state commands before h (Stays k limits then old new) then new false)
+      (λ s. RunLeaves k limits state commands before h (Stays k limits then old new) then new (Err s))
 
   -- From one moment of a run to a later one, while some bytes were taken: commands were answered, and with those still to come
   -- they are those that were to come before.
@@ -99,7 +107,7 @@ module _ {S : Type 0} (k : Keeping S) where
       (later : List ℕ) (new : Told) : Type 0 where
     pub done : List Command
     pub goes_on : (tail : List ℕ) → commands_from line (bytes ++ tail) ≡ done ++ commands_from later tail
-    pub leaves : RunLeaves k limits state done before h (k.holds limits then new) then new true
+    pub leaves : RunLeaves k limits state done before h (k.holds limits then new) then new (Ok tt)
     pub holds : k.holds limits then new (after_all limits state done)
 
   -- bytes of the script were taken, or it stopped in them, whatever bytes would have come
@@ -108,8 +116,8 @@ module _ {S : Type 0} (k : Keeping S) where
       → k.holds limits before old state → old.history ≡ Some h →
       MatchResult result
       (λ _. Goes limits state line bytes before h then later new)
-      (λ _. (tail : List ℕ) → RunLeaves k limits state (commands_from line (bytes ++ tail)) before h
-      (Stays k limits then old new) then new false)
+      (λ s. (tail : List ℕ) → RunLeaves k limits state (commands_from line (bytes ++ tail)) before h
+      (Stays k limits then old new) then new (Err s))
 
   -- the next n bytes of the source
   pub record Took (limits : Limits) (state : State) (line source : List ℕ) (before : S) (h : History) (n : ℕ)
@@ -119,14 +127,14 @@ module _ {S : Type 0} (k : Keeping S) where
     pub ends : n ≡ 0 → source ≡ []
     pub goes : Goes limits state line (take n source) before h then later new
 
-  -- The run stopped: a rest of the script is left, and the commands leave what they leave where they stop anywhere.
+  -- The run stopped so: a rest of the script is left, and the commands leave what they leave where they stop anywhere.
   pub record Stopped (limits : Limits) (state : State) (commands : List Command) (source : List ℕ) (before : S)
-      (h : History) (R : State → Type 0) (then : S) (new : Told) : Type 0 where
+      (h : History) (R : State → Type 0) (then : S) (new : Told) (s : Stop) : Type 0 where
     pub read : List ℕ
     pub rest : List ℕ
     pub left_is : new.beside.left ≡ Some rest
     pub source_is : source ≡ read ++ rest
-    pub leaves : RunLeaves k limits state commands before h R then new false
+    pub leaves : RunLeaves k limits state commands before h R then new (Err s)
 
   -- the next bytes of the source were taken, or it stopped in them
   abbrev pub TakesNext : S → List ℕ → Told → Result ℕ Stop → S → List ℕ → Told → Type 0
@@ -135,13 +143,13 @@ module _ {S : Type 0} (k : Keeping S) where
       (source : List ℕ) → old.beside.left ≡ Some source →
       MatchResult result
       (λ n. Took limits state line source before h n then later new)
-      (λ _. Stopped limits state (commands_from line source) source before h (Stays k limits then old new) then new)
+      (λ s. Stopped limits state (commands_from line source) source before h (Stays k limits then old new) then new s)
 
   -- At the end of the script all of it was read, and all its commands are answered.
   pub record Ended (limits : Limits) (state : State) (source : List ℕ) (before : S) (h : History) (then : S)
       (new : Told) : Type 0 where
     pub left_is : new.beside.left ≡ Some []
-    pub leaves : RunLeaves k limits state (commands_of source) before h (k.holds limits then new) then new true
+    pub leaves : RunLeaves k limits state (commands_of source) before h (k.holds limits then new) then new (Ok tt)
     pub holds : k.holds limits then new (after_all limits state (commands_of source))
 
   -- a run of the rest of the script, to its end or to where it stopped
@@ -151,4 +159,4 @@ module _ {S : Type 0} (k : Keeping S) where
       (source : List ℕ) → old.beside.left ≡ Some source →
       MatchResult result
       (λ _. Ended limits state source before h then new)
-      (λ _. Stopped limits state (commands_of source) source before h (Stays k limits then old new) then new)
+      (λ s. Stopped limits state (commands_of source) source before h (Stays k limits then old new) then new s)

@@ -1,4 +1,4 @@
-use Rattle.std.proofs.Common.{List, true, ap, subst}
+use Rattle.std.proofs.Common.{List, Ok, ap, subst}
 use Rattle.ipl_model.specs.declared.command.Command.{Command}
 use Rattle.ipl_model.specs.Run.{after_all}
 use Rattle.ipl_model.specs.Grammar.{commands_in}
@@ -13,8 +13,8 @@ returns-in-Skip-clause-answers g c = λ limits state h holds told.
     let k = g.S.Store.keeping in
     let store = c.args.store.now in
     let t = g.D.Chip.told c.args.desk.now in
-    subst (λ (cs : List Command). RunLeaves k limits state cs store h (k.holds limits store t) store t true × k.holds limits store t (after_all limits state cs)) (ap commands_in c.in-Skip.ensures)
-    (run_none k limits state store h (k.holds limits store t) t true holds told holds, holds)
+    subst (λ (cs : List Command). RunLeaves k limits state cs store h (k.holds limits store t) store t (Ok tt) × k.holds limits store t (after_all limits state cs)) (ap commands_in c.in-Skip.ensures)
+    (run_none k limits state store h (k.holds limits store t) t (Ok tt) holds told holds holds, holds)
 
 pub returns-in-Skip-clause-along : goal.returns-in-Skip-clause-along
 returns-in-Skip-clause-along g c = along_none

@@ -8,7 +8,7 @@ use Rattle.script_run.proofs.answer.answer_one.Goals as goal
 pub returns-in_err-reply-clause-answers : goal.returns-in_err-reply-clause-answers
 returns-in_err-reply-clause-answers g c = λ limits state h holds told.
     let stop = err_from_is_err_and c.from_residual.result c.from_residual.ensures.1 in
-    rw stop.1 (failed g.S.Store.keeping limits state c.args.command.now c.args.store.now c.work.new.self h _ _ _ (c.in_err-reply.ensures.works limits state h holds told))
+    rw stop.1 (rw stop.2 (failed g.S.Store.keeping limits state c.args.command.now c.args.store.now c.work.new.self h _ _ _ (c.in_err-reply.ensures.works limits state h holds told)))
 
 pub returns-in-Ok-clause-answers : goal.returns-in-Ok-clause-answers
 returns-in-Ok-clause-answers g c = λ limits state h holds told.

@@ -22,8 +22,8 @@ pub returns-in_err-say_rows-clause-answers : goal.returns-in_err-say_rows-clause
 returns-in_err-say_rows-clause-answers g c = λ limits state h holds told.
     let stop = err_from_is_err_and c.from_residual.result c.from_residual.ensures.1 in
     let named = c.names-names.ensures.limit limits (g.D.Chip.told c.args.desk.now) state holds in
-    rw stop.1 (list_failed g.S.Store.keeping limits state c.args.first c.args.last c.names-names.result named c.args.store.now c.say_rows.new.store h _ _ c.if-first-names.false c.if-last-names.false holds told
-    (c.in_err-say_rows.ensures.says limits (omega (arith, named, c.if-last-names.false)) state h holds told))
+    rw stop.1 (rw stop.2 (list_failed g.S.Store.keeping limits state c.args.first c.args.last c.names-names.result named c.args.store.now c.say_rows.new.store h _ _ _ c.if-first-names.false c.if-last-names.false holds told
+    (c.in_err-say_rows.ensures.says limits (omega (arith, named, c.if-last-names.false)) state h holds told)))
 
 pub returns-in-Ok-say_reply-clause-answers : goal.returns-in-Ok-say_reply-clause-answers
 returns-in-Ok-say_reply-clause-answers g c = λ limits state h holds told.

@@ -9,7 +9,7 @@ use Rattle.script_run.proofs.answer.say_row.Goals as goal
 pub returns-in_err-value-clause-says : goal.returns-in_err-value-clause-says
 returns-in_err-value-clause-says g c = λ limits named state h holds told.
     let stop = err_from_is_err_and c.from_residual.result c.from_residual.ensures.1 in
-    rw stop.1 (row_failed g.S.Store.keeping limits state c.args.n c.args.store.now c.look_up.new.self h _ _ _ (c.in_err-value.ensures.looks_up limits state h holds told named))
+    rw stop.1 (rw stop.2 (row_failed g.S.Store.keeping limits state c.args.n c.args.store.now c.look_up.new.self h _ _ _ (c.in_err-value.ensures.looks_up limits state h holds told named)))
 
 pub returns-in-Ok-clause-says : goal.returns-in-Ok-clause-says
 returns-in-Ok-clause-says g c = λ limits named state h holds told.

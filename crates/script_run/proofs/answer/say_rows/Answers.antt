@@ -21,8 +21,8 @@ pub returns-in_err-say_row-clause-says : goal.returns-in_err-say_row-clause-says
 returns-in_err-say_row-clause-says g c = λ limits named state h holds told.
     let stop = err_from_is_err_and c.from_residual.result c.from_residual.ensures.1 in
     let so_far = c.loop-n.invariant.says limits named state h holds told in
-    rw stop.1 (rows_stop g.S.Store.keeping limits state c.args.first c.loop-n.n c.args.end c.args.store.now c.loop-n.store c.say_row.new.store h _ _ _ (omega arith) (omega arith) c.loop-n.invariant.along.beside.writes so_far.0
-    (c.in_err-say_row.ensures.says limits (omega arith) state (adds_all so_far.0.added h) so_far.1 so_far.0.history))
+    rw stop.1 (rw stop.2 (rows_stop g.S.Store.keeping limits state c.args.first c.loop-n.n c.args.end c.args.store.now c.loop-n.store c.say_row.new.store h _ _ _ _ (omega arith) (omega arith) c.loop-n.invariant.along.beside.writes so_far.0
+    (c.in_err-say_row.ensures.says limits (omega arith) state (adds_all so_far.0.added h) so_far.1 so_far.0.history)))
 
 pub loop-n-preserved : goal.loop-n-preserved
 loop-n-preserved g c = record {

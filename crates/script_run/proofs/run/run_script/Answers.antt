@@ -48,7 +48,7 @@ loop-total-preserved g c =
 
 pub returns-clause-run : goal.returns-clause-run
 returns-clause-run g c = λ limits state h holds told source left.
-    stops_weaker g.S.Store.keeping limits state _ source c.args.store.now c.loop-total.store h _ _ _ (λ s kept quiet. kept)
+    stops_weaker g.S.Store.keeping limits state _ source c.args.store.now c.loop-total.store h _ _ _ _ (λ s kept quiet. kept)
     (running_stopped g.S.Store.keeping limits state source c.args.store.now c.loop-total.store h c.loop-total.line (g.D.Chip.told c.loop-total.desk) (c.loop-total.invariant.running limits state h holds told source left))
 
 pub returns-in_err-count-clause-run : goal.returns-in_err-count-clause-run
@@ -57,10 +57,10 @@ returns-in_err-count-clause-run g c = λ limits state h holds told source left.
     let at = g.D.Chip.told in
     let t = c.take_next in
     let stop = err_from_is_err_and c.from_residual.result c.from_residual.ensures.1 in
-    rw stop.1 (running_failed k limits state source c.args.store.now c.loop-total.store t.new.store h (Stays k limits t.new.store (at c.args.desk.now) (at t.new.desk)) c.loop-total.line (at c.loop-total.desk) (at t.new.desk)
+    rw stop.1 (rw stop.2 (running_failed k limits state source c.args.store.now c.loop-total.store t.new.store h (Stays k limits t.new.store (at c.args.desk.now) (at t.new.desk)) c.loop-total.line (at c.loop-total.desk) (at t.new.desk) _
     (c.loop-total.invariant.running limits state h holds told source left)
-    (λ s g' now is rest more. stops_weaker k limits s _ rest c.loop-total.store t.new.store g' _ _ (at t.new.desk)
-    (λ n. stays_later k limits t.new.store (at c.args.desk.now) (at c.loop-total.desk) (at t.new.desk) n c.loop-total.invariant.further.writes) (c.in_err-count.ensures.takes limits s g' now is rest more)))
+    (λ s g' now is rest more. stops_weaker k limits s _ rest c.loop-total.store t.new.store g' _ _ (at t.new.desk) _
+    (λ n. stays_later k limits t.new.store (at c.args.desk.now) (at c.loop-total.desk) (at t.new.desk) n c.loop-total.invariant.further.writes) (c.in_err-count.ensures.takes limits s g' now is rest more))))
 
 pub returns-in_err-count-clause-cause : goal.returns-in_err-count-clause-cause
 returns-in_err-count-clause-cause g c =

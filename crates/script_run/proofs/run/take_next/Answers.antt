@@ -19,10 +19,10 @@ returns-in_err-take_piece-in-Ok-clause-takes g c = λ limits state h holds told 
     let mid = at c.read_script.new.self in
     let new = at t.new.desk in
     let stop = err_from_is_err_and c.from_residual.result c.from_residual.ensures.1 in
-    rw stop.1 (stopped k limits state c.args.line.now source (take c.in-Ok.count c.read_script.new.buf) c.read_script.new.buf c.in-Ok.count (Stays k limits t.new.store old new) old mid new c.args.store.now t.new.store h
+    rw stop.1 (rw stop.2 (stopped k limits state c.args.line.now source (take c.in-Ok.count c.read_script.new.buf) c.read_script.new.buf c.in-Ok.count (Stays k limits t.new.store old new) old mid new c.args.store.now t.new.store h _
     r.bytes.0 t.ensures.along.beside left (r.bytes.2 source left) refl
-    (λ tail. run_weaker k limits state _ c.args.store.now t.new.store h _ _ new false (λ s. stays_later k limits t.new.store old mid new s r.chip.writes)
-    (c.in_err-take_piece-in-Ok.ensures.takes limits state h (holds_beside k limits c.args.store.now old mid state r.chip holds) (r.chip.history ∙ told) tail)))
+    (λ tail. run_weaker k limits state _ c.args.store.now t.new.store h _ _ new _ (λ s. stays_later k limits t.new.store old mid new s r.chip.writes)
+    (c.in_err-take_piece-in-Ok.ensures.takes limits state h (holds_beside k limits c.args.store.now old mid state r.chip holds) (r.chip.history ∙ told) tail))))
 
 pub returns-in_ok-take_piece-in-Ok-clause-takes : goal.returns-in_ok-take_piece-in-Ok-clause-takes
 returns-in_ok-take_piece-in-Ok-clause-takes g c = λ limits state h holds told source left.

@@ -42,10 +42,10 @@ returns-in_err-take_byte-clause-takes g c = λ limits state h holds told.
     let k = g.S.Store.keeping in
     let t = c.take_byte in
     let stop = err_from_is_err_and c.from_residual.result c.from_residual.ensures.1 in
-    rw stop.1 (stops_in_piece k limits state c.args.line.now c.args.piece.now c.loop-byte.byte-index c.args.store.now c.loop-byte.store t.new.store h (Stays k limits t.new.store (told_of c.args.desk.now) (told_of t.new.desk))
-    c.loop-byte.line (told_of c.loop-byte.desk) (told_of t.new.desk) c.loop-byte-test.true (c.loop-byte.invariant.goes limits state h holds told)
-    (λ s g' now is tail. run_weaker k limits s _ c.loop-byte.store t.new.store g' _ _ (told_of t.new.desk) false
-    (λ n. stays_later k limits t.new.store (told_of c.args.desk.now) (told_of c.loop-byte.desk) (told_of t.new.desk) n c.loop-byte.invariant.along.beside.writes) (c.in_err-take_byte.ensures.takes limits s g' now is tail)))
+    rw stop.1 (rw stop.2 (stops_in_piece k limits state c.args.line.now c.args.piece.now c.loop-byte.byte-index c.args.store.now c.loop-byte.store t.new.store h (Stays k limits t.new.store (told_of c.args.desk.now) (told_of t.new.desk))
+    c.loop-byte.line (told_of c.loop-byte.desk) (told_of t.new.desk) _ c.loop-byte-test.true (c.loop-byte.invariant.goes limits state h holds told)
+    (λ s g' now is tail. run_weaker k limits s _ c.loop-byte.store t.new.store g' _ _ (told_of t.new.desk) _
+    (λ n. stays_later k limits t.new.store (told_of c.args.desk.now) (told_of c.loop-byte.desk) (told_of t.new.desk) n c.loop-byte.invariant.along.beside.writes) (c.in_err-take_byte.ensures.takes limits s g' now is tail))))
 
 pub returns-clause-takes : goal.returns-clause-takes
 returns-clause-takes g c = λ limits state h holds told.
