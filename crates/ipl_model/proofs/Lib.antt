@@ -1,5 +1,6 @@
 pub mod RunLemmas
 mod GreatestLemmas
+mod RecordLemmas
 mod SlotLemmas
 mod LogLemmas
 mod ChangeLemmas

@@ -1,11 +1,12 @@
 -- Laws of runs.
-use Rattle.std.specs.Prelude.{◌≡◌, ℕ, ◌≤◌, List, [], ◌∷◌, ◌++◌, take, length, Some}
+use Rattle.std.specs.Prelude.{◌≡◌, ◌⊎◌, ℕ, suc, ◌≤◌, List, [], ◌∷◌, ◌++◌, take, drop, length, Some, None}
 use Rattle.ipl_base.specs.declared.fault.Refusal.{Refusal}
 use Rattle.ipl_rules.specs.State.{State, Limits}
 use Rattle.ipl_model.specs.declared.command.Command.{Command}
+use Rattle.ipl_model.specs.declared.command.Command.TheVariants.{Commit}
 use Rattle.ipl_model.specs.declared.reply.Reply.TheVariants as reply
 use Rattle.ipl_model.specs.Step.{step, refusal_of}
-use Rattle.ipl_model.specs.Run.{text, answered}
+use Rattle.ipl_model.specs.Run.{text, after, answered}
 
 -- the first is a beginning of the second
 abbrev pub Begins : List ℕ → List ℕ → Type 0
@@ -25,3 +26,15 @@ AnsweredIsGreatest = (limits : Limits) (state : State) (commands : List Command)
 abbrev pub RefusalsChangeNothing : Type 0
 RefusalsChangeNothing = (limits : Limits) (state : State) (c : Command) (refusal : Refusal) → refusal_of limits state c ≡ Some refusal
     → step limits state c ≡ (state, reply.Refused refusal ∷ [])
+
+-- a step changes the records only where it is a commit that isn't refused
+abbrev pub OnlyCommitsChangeRecords : Type 0
+OnlyCommitsChangeRecords = (limits : Limits) (state : State) (c : Command) → ((step limits state c).0.map ≡ state.map)
+    ⊎ ((s : ℕ) × (c ≡ Commit s) × (refusal_of limits state c ≡ None))
+
+-- so the records after r + 1 commands are those after r, but where the next command is such a commit
+abbrev pub RecordsChangeByCommits : Type 0
+RecordsChangeByCommits = (limits : Limits) (state : State) (commands : List Command) (r : ℕ)
+    → ((after limits state commands (suc r)).map ≡ (after limits state commands r).map)
+    ⊎ ((s : ℕ) × (later : List Command) × (drop r commands ≡ Commit s ∷ later)
+    × (refusal_of limits (after limits state commands r) (Commit s) ≡ None))
