@@ -6,7 +6,7 @@ use Rattle.chip_trait.specs.Told.{Told, Counts, Rose}
 use Rattle.store_trait.specs.declared.fault.Fault.{Fault}
 use Rattle.store_trait.specs.declared.fault.Fault.TheVariants.{Spent}
 use Rattle.store_trait.specs.Onward.{Onward, Further}
-use Rattle.store_trait.specs.Keeping.{Keeping, FOUND_NUMBER, SCRIPT_DRAWS, Draws}
+use Rattle.store_trait.specs.Keeping.{Keeping, FOUND_NUMBER, Draws}
 use Rattle.store_trait.proofs.OnwardLemmas.{onward_none, onward_then, onward_counts, further_onward, further_then}
 use Rattle.script_run.specs.declared.fault.Stop.{Stop}
 use Rattle.script_run.specs.declared.fault.Stop.TheVariants as stop
@@ -88,7 +88,3 @@ module _ {S : Type 0} {k : Keeping S} where
   -- or the script couldn't be read
   pub along_unread : {T : Type 0} (n : ℕ) (store : S) (old new : Told) → Further old new → Rose old.beside.script_faults new.beside.script_faults → Along k {T = T} Further n store old (Err stop.Script) store new
   along_unread n store old new further rose = record { draws = record { most = omega arith; spent = λ is. cc }; suited = tt; beside = further; cause = rose; never = λ is. cc }
-
-  -- the numbers last for a script, where the counter is at most what an opening finds
-  pub numbers_last : {before then : S} {IsSpent : Type 0} → Draws k SCRIPT_DRAWS before IsSpent then → k.counter before ≤ FOUND_NUMBER → ¬ IsSpent
-  numbers_last draws low is = let past = draws.spent is in omega (arith, past, low)

@@ -29,7 +29,8 @@ abbrev pub HasRead : ℕ → Told → Told → Type 0
 HasRead n old new = (source : List ℕ) → old.beside.left ≡ Some source
     → (new.beside.left ≡ Some (drop n source)) × (n ≤ length source)
 
--- how far lines were said where a run stopped in them: a line couldn't be said, or all that was said are whole lines
+-- how far lines were said where a run stopped in them: a line couldn't be said, or all that was
+-- said are whole lines
 abbrev pub SaysPart : Stop → List (List ℕ) → List (List ℕ) → Type 0
 SaysPart (stop.Store fault) lines said = IsPrefix said lines
 SaysPart stop.Script lines said = IsPrefix said lines
@@ -63,8 +64,9 @@ module _ {S : Type 0} (k : Keeping S) where
     pub holds : k.holds limits store t state
     pub told : t.history ≡ Some history
 
-  -- What a part of a run does with a store that keeps a state: it draws at most n numbers; it stops with a fault of the store
-  -- only where the chip failed, as long as numbers are left; and where it is done, the store keeps a state again.
+  -- What a part of a run does with a store that keeps a state: it draws at most n numbers; it stops
+  -- with a fault of the store only where the chip failed, as long as numbers are left; and where it
+  -- is done, the store keeps a state again.
   pub record Completes {T : Type 0} (limits : Limits) (n : ℕ) (before : S) (old : Told) (result : Result T Stop)
       (then : S) (new : Told) : Type 0 where
     pub drawn : k.counter then ≤ k.counter before + n

@@ -30,7 +30,8 @@ pub record SaysLines (lines : List (List ℕ)) (said : List (List ℕ)) : Type 0
   pub said_is : said ≡ whole ++ cut
   pub is_cut : IsCut cut rest
 
--- The first of the lines were said whole. The next one couldn't be said: a beginning of it was, or nothing.
+-- The first of the lines were said whole. The next one couldn't be said: a beginning of it was, or
+-- nothing.
 pub record IsUnsaid (lines : List (List ℕ)) (said : List (List ℕ)) : Type 0 where
   pub whole : List (List ℕ)
   pub line : List ℕ
@@ -51,8 +52,8 @@ abbrev pub IsNextUnended : Limits → State → List Command → List (List ℕ)
 IsNextUnended limits state [] said = said ≡ []
 IsNextUnended limits state (c ∷ commands) said = IsUnended (reply_lines limits state c) said
 
--- The first of the commands are answered, all their lines said whole; of the next reply a list's first rows may be, each whole.
--- R is so of the state after the commands that are answered.
+-- The first of the commands are answered, all their lines said whole; of the next reply a list's
+-- first rows may be said, each whole. R is so of the state after the commands that are answered.
 pub record EndsBetween (limits : Limits) (state : State) (commands : List Command) (said : List (List ℕ))
     (R : State → Type 0) : Type 0 where
   pub answered : List Command
@@ -63,8 +64,8 @@ pub record EndsBetween (limits : Limits) (state : State) (commands : List Comman
   pub next : IsNextUnended limits (after_all limits state answered) later part
   pub rests : R (after_all limits state answered)
 
--- The first of the commands are answered, all their lines said whole; the next is done, and a line of its reply couldn't be
--- said. R is so of the state after it.
+-- The first of the commands are answered, all their lines said whole; the next is done, and a line
+-- of its reply couldn't be said. R is so of the state after it.
 pub record EndsUnsaid (limits : Limits) (state : State) (commands : List Command) (said : List (List ℕ))
     (R : State → Type 0) : Type 0 where
   pub answered : List Command
@@ -77,7 +78,8 @@ pub record EndsUnsaid (limits : Limits) (state : State) (commands : List Command
   pub rests : R (step limits (after_all limits state answered) command).0
 
 -- How a run ends: with all commands answered, or where it stops. R is so of the state then.
-abbrev pub EndsAt : Result (Unit {0}) Stop → Limits → State → List Command → List (List ℕ) → (State → Type 0) → Type 0
+abbrev pub EndsAt : Result (Unit {0}) Stop → Limits → State → List Command → List (List ℕ)
+    → (State → Type 0) → Type 0
 EndsAt (Ok u) limits state commands said R = R (after_all limits state commands)
 EndsAt (Err (stop.Store fault)) limits state commands said R = EndsBetween limits state commands said R
 EndsAt (Err stop.Script) limits state commands said R = EndsBetween limits state commands said R

@@ -1,1 +1,2 @@
 pub mod OnwardLemmas
+pub mod DrawLemmas

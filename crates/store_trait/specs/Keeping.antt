@@ -112,7 +112,7 @@ module _ {S : Type 0} (k : Keeping S) where
   abbrev pub Stays : Limits → S → Told → Told → State → Type 0
   Stays limits store old new state = Unrisen old new → k.holds limits store new state
 
-  -- as long as n numbers are left below those that an opening takes, the chip failed
+  -- as long as n numbers are left below 2^63, the chip failed
   abbrev pub Excuses : ℕ → S → Told → Told → Type 0
   Excuses n before old new = k.counter before + n < 2 ^ 63 → ChipRose old new
 
