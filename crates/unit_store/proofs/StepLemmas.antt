@@ -1,12 +1,12 @@
 -- One step of the model, as the store makes it.
-use Rattle.std.proofs.Common.{◌≡◌, ◌⊎◌, ◌<◌, ◌≤◌, ◌+◌, ℕ, Bool, true, false, cond, List, [], ◌∷◌, Option, Some, None, Result, Ok, Err, inl, refl, sym, ◌∙◌, ap, subst, arith, nat_lt}
+use Rattle.std.proofs.Common.{◌≡◌, ◌⊎◌, ◌<◌, ◌≤◌, ◌+◌, ℕ, Bool, true, false, cond, List, [], ◌∷◌, Option, Some, None, Result, Ok, Err, inl, inr, refl, sym, ◌∙◌, ap, subst, arith, nat_lt}
 use Rattle.std.proofs.lemmas.Bool.{and_parts}
 use Rattle.std.proofs.lemmas.Bool.Decides.{nat_tests}
 use Rattle.std.specs.FinMap.{get, insert}
 use Rattle.std.specs.Option.{option_map_or}
 use Rattle.chip_trait.specs.Story.{Story}
 use Rattle.chip_trait.specs.Moment.{Leaves}
-use Rattle.chip_trait.specs.Told.{History, Told, adds_all, Unrisen}
+use Rattle.chip_trait.specs.Told.{History, Told, Rose, adds_all, Unrisen}
 use Rattle.chip_trait.proofs.LawfulLemmas.{lawful_none, clean_none}
 use Rattle.chip_trait.proofs.MomentLemmas.{at_start}
 use Rattle.ipl_base.specs.declared.fault.Refusal.{Refusal}
@@ -26,7 +26,7 @@ use Rattle.memory_store.specs.Fits.{Fits, is_writing}
 use Rattle.memory_store.proofs.StandingLemmas.{commit_below, commit_above, quiet_commit}
 use Rattle.store_trait.specs.declared.fault.Fault.{Fault}
 use Rattle.store_trait.specs.declared.fault.Fault.TheVariants.{Chip, Image, Spent}
-use Rattle.store_trait.specs.Keeping.{AllOf, IsSingle, WorkLeaves, WorksFor, Works, LooksUpFor, LooksUp}
+use Rattle.store_trait.specs.Keeping.{LAST_NUMBER, AllOf, IsSingle, WorkLeaves, WorksFor, Works, LooksUpFor, LooksUp}
 use Rattle.unit_io.specs.Plain.{IsPlainEvent, ArePlain}
 use Rattle.unit_io.specs.Leads.{Leads}
 use Rattle.unit_store.specs.declared.store.UnitStore.{UnitStore}
@@ -148,33 +148,39 @@ plain_of command.Syntax single other = tt
 
 -- a command that is answered in memory, while at most numbers are drawn
 pub plain_works : (c : Command) (before then : UnitStore) (t : Told) (reply : Reply) → IsInMemory c → AnswersInMemory before.units before.memory then.memory c reply → then.units ≡ before.units → then.directory ≡ before.directory
-    → ((places : ℕ) (m : Map) (h : History) → OnChip places before.directory before.counter m h → OnChip places before.directory then.counter m h) → Works unit_keeping c before t (Ok reply) then t
-plain_works c before then t reply plain answers same directory drawn limits state h keeps told =
+    → ((places : ℕ) (m : Map) (h : History) → OnChip places before.directory before.counter m h → OnChip places before.directory then.counter m h) → then.counter ≤ before.counter + 1 → Works unit_keeping c before t (Ok reply) then t
+plain_works c before then t reply plain answers same directory drawn few limits state h keeps told =
     under_limits (λ l. WorksFor unit_keeping l state c before h (Ok reply) then t t) limits before t state keeps
     (let own : KeepsUnit (limits_of before.units) before t state = subst (λ l. KeepsUnit l before t state) keeps.limits_are keeps in
     let answered = answers state keeps.memory in record {
       leaves = quiet_leaves before.units (step (limits_of before.units) state c).0.map before then t state h true own told;
       ends = (kept_on before.units before then t state (step (limits_of before.units) state c).0 own same directory drawn answered.1 (plain_map (limits_of before.units) state c plain), answered.0);
+      drawn = omega (arith, few);
+      excuse = tt;
     })
 
 -- a commit that makes no record of a write
 pub nothing_works : (s : ℕ) (before then : UnitStore) (t : Told) (reply : Reply) → is_writing before.memory s ≡ false → AnswersInMemory before.units before.memory then.memory (command.Commit s) reply → then.units ≡ before.units → then.directory ≡ before.directory
-    → ((places : ℕ) (m : Map) (h : History) → OnChip places before.directory before.counter m h → OnChip places before.directory then.counter m h) → Works unit_keeping (command.Commit s) before t (Ok reply) then t
-nothing_works s before then t reply idle answers same directory drawn limits state h keeps told =
+    → ((places : ℕ) (m : Map) (h : History) → OnChip places before.directory before.counter m h → OnChip places before.directory then.counter m h) → then.counter ≤ before.counter + 1 → Works unit_keeping (command.Commit s) before t (Ok reply) then t
+nothing_works s before then t reply idle answers same directory drawn few limits state h keeps told =
     under_limits (λ l. WorksFor unit_keeping l state (command.Commit s) before h (Ok reply) then t t) limits before t state keeps
     (let own : KeepsUnit (limits_of before.units) before t state = subst (λ l. KeepsUnit l before t state) keeps.limits_are keeps in
     let answered = answers state keeps.memory in record {
       leaves = quiet_leaves before.units (step (limits_of before.units) state (command.Commit s)).0.map before then t state h true own told;
       ends = (kept_on before.units before then t state (step (limits_of before.units) state (command.Commit s)).0 own same directory drawn answered.1 (quiet_commit _ _ _ _ state keeps.memory s idle), answered.0);
+      drawn = omega (arith, few);
+      excuse = tt;
     })
 
 -- numbers that are used up
-pub spent_works : (c : Command) (before : UnitStore) (t : Told) → Works unit_keeping c before t (Err Spent) before t
-spent_works c before t limits state h keeps told =
+pub spent_works : (c : Command) (before : UnitStore) (t : Told) → LAST_NUMBER < before.counter → Works unit_keeping c before t (Err Spent) before t
+spent_works c before t late limits state h keeps told =
     under_limits (λ l. WorksFor unit_keeping l state c before h (Err Spent) before t t) limits before t state keeps
     (let own : KeepsUnit (limits_of before.units) before t state = subst (λ l. KeepsUnit l before t state) keeps.limits_are keeps in record {
       leaves = quiet_leaves before.units (step (limits_of before.units) state c).0.map before before t state h false own told;
       ends = λ quiet. own;
+      drawn = omega arith;
+      excuse = λ few. absurd (omega (arith, late, few));
     })
 
 -- a fault of the chip, and no count of it: that can't be
@@ -185,6 +191,15 @@ no_fault (Chip (Damaged p s stored computed)) old new cause other quiet = cause
 no_fault (Chip (Malformed p s)) old new cause other quiet = cause
 no_fault (Image e) old new cause other quiet = cause
 no_fault Spent old new cause other quiet = other refl
+
+-- it is a failed write
+failed_write : (fault : Fault) (old new : Told) → FaultCause fault old new → (fault ≡ Spent → ⊥) → Rose old.write_faults new.write_faults
+failed_write (Chip ReadFault) old new cause other = absurd cause
+failed_write (Chip Stopped) old new cause other = cause
+failed_write (Chip (Damaged p s stored computed)) old new cause other = absurd cause
+failed_write (Chip (Malformed p s)) old new cause other = absurd cause
+failed_write (Image e) old new cause other = absurd cause
+failed_write Spent old new cause other = absurd (other refl)
 
 -- what the writing of a commit says
 abbrev pub CommitWrites : (before then : UnitStore) (old : Told) (result : Result (Unit {0}) Fault) (new : Told) → Type 0
@@ -210,8 +225,8 @@ written_leaves before then old new state n h result done did = record {
 
 -- a commit that is written
 pub commit_works : (s : ℕ) (before mid then : UnitStore) (old new : Told) (reply : Reply) → is_writing before.memory s ≡ true → CommitWrites before mid old (Ok tt) new → mid.memory ≡ before.memory → mid.units ≡ before.units
-    → AnswersInMemory before.units mid.memory then.memory (command.Commit s) reply → then.units ≡ mid.units → then.directory ≡ mid.directory → then.counter ≡ mid.counter → Works unit_keeping (command.Commit s) before old (Ok reply) then new
-commit_works s before mid then old new reply writing writes memory units answers same directory counter limits state h keeps told =
+    → AnswersInMemory before.units mid.memory then.memory (command.Commit s) reply → then.units ≡ mid.units → then.directory ≡ mid.directory → then.counter ≡ mid.counter → then.counter ≤ before.counter + 1 → Works unit_keeping (command.Commit s) before old (Ok reply) then new
+commit_works s before mid then old new reply writing writes memory units answers same directory counter few limits state h keeps told =
     under_limits (λ l. WorksFor unit_keeping l state (command.Commit s) before h (Ok reply) then old new) limits before old state keeps
     (let n : Map = (step (limits_of before.units) state (command.Commit s)).0.map in
     let did = writes state n h told (keeps.chip h told) (renamed_by before.memory state before.units s keeps.memory writing) in
@@ -230,20 +245,24 @@ commit_works s before mid then old new reply writing writes memory units answers
         },
         answered.0,
       );
+      drawn = omega (arith, few);
+      excuse = tt;
     })
   where
     some_one : {X : Type 0} {a b : X} → Some a ≡ Some b → a ≡ b
     some_one e = cc
 
 -- a commit whose writing failed
-pub commit_fails : (s : ℕ) (before then : UnitStore) (old new : Told) (fault : Fault) → is_writing before.memory s ≡ true → CommitWrites before then old (Err fault) new → FaultCause fault old new → (fault ≡ Spent → ⊥)
+pub commit_fails : (s : ℕ) (before then : UnitStore) (old new : Told) (fault : Fault) → is_writing before.memory s ≡ true → CommitWrites before then old (Err fault) new → FaultCause fault old new → (fault ≡ Spent → ⊥) → then.counter ≤ before.counter + 1
     → Works unit_keeping (command.Commit s) before old (Err fault) then new
-commit_fails s before then old new fault writing writes cause other limits state h keeps told =
+commit_fails s before then old new fault writing writes cause other few limits state h keeps told =
     under_limits (λ l. WorksFor unit_keeping l state (command.Commit s) before h (Err fault) then old new) limits before old state keeps
     (let n : Map = (step (limits_of before.units) state (command.Commit s)).0.map in
     let did = writes state n h told (keeps.chip h told) (renamed_by before.memory state before.units s keeps.memory writing) in record {
       leaves = written_leaves before then old new state n h (Err fault) false did;
       ends = λ quiet. absurd (no_fault fault old new cause other quiet);
+      drawn = omega (arith, few);
+      excuse = λ left. inr (failed_write fault old new cause other);
     })
 
 -- ---- a record looked up
@@ -254,15 +273,19 @@ looked_up before t n found named is limits state h keeps told within =
     (let own : KeepsUnit (limits_of before.units) before t state = subst (λ l. KeepsUnit l before t state) keeps.limits_are keeps in record {
       leaves = still_leaves before.units before t state h true own told;
       ends = (own, is ∙ sym (keeps.memory.map n named));
+      drawn = omega arith;
+      excuse = tt;
     })
 
 pub past_names : (before : UnitStore) (t : Told) (n : ℕ) (result : Result (Option (List ℕ)) Fault) → 960 ≤ n → LooksUp unit_keeping n before t result before t
 past_names before t n result past limits state h keeps told within = absurd (omega (arith, past, subst (λ (l : Limits). n < l.names) keeps.limits_are within))
 
-pub spent_look_up : (before : UnitStore) (t : Told) (n : ℕ) → LooksUp unit_keeping n before t (Err Spent) before t
-spent_look_up before t n limits state h keeps told within =
+pub spent_look_up : (before : UnitStore) (t : Told) (n : ℕ) → LAST_NUMBER < before.counter → LooksUp unit_keeping n before t (Err Spent) before t
+spent_look_up before t n late limits state h keeps told within =
     under_limits (λ l. LooksUpFor unit_keeping l state n before h (Err Spent) before t t) limits before t state keeps
     (let own : KeepsUnit (limits_of before.units) before t state = subst (λ l. KeepsUnit l before t state) keeps.limits_are keeps in record {
       leaves = still_leaves before.units before t state h false own told;
       ends = λ quiet. own;
+      drawn = omega arith;
+      excuse = λ few. absurd (omega (arith, late, few));
     })
