@@ -1,16 +1,15 @@
 -- Only commits change the records.
-use Rattle.std.proofs.Common.{◌≡◌, ◌⊎◌, inl, inr, ℕ, zero, suc, Bool, true, false, cond, List, [], ◌∷◌, drop, Option, Some, None, refl, sym, ◌∙◌, ap, subst}
+use Rattle.std.proofs.Common.{◌≡◌, ◌⊎◌, inl, inr, ℕ, zero, suc, Bool, true, false, cond, [], ◌∷◌, Option, Some, None, refl, ap, subst}
 use Rattle.std.specs.Option.{option_map_or}
 use Rattle.std.specs.FinMap.{get, insert}
 use Rattle.ipl_base.specs.declared.fault.Refusal.{Refusal}
-use Rattle.ipl_rules.specs.State.{Map, Write, Session, State, Limits}
+use Rattle.ipl_rules.specs.State.{Write, Session, State}
 use Rattle.ipl_rules.specs.Refusals.{is_new_share}
 use Rattle.ipl_rules.specs.Operations.{after_share, after_write}
 use Rattle.ipl_model.specs.declared.command.Command.{Command}
 use Rattle.ipl_model.specs.declared.command.Command.TheVariants as command
 use Rattle.ipl_model.specs.declared.reply.Reply.TheVariants as reply
 use Rattle.ipl_model.specs.Step.{step, refusal_of, accepted}
-use Rattle.ipl_model.specs.Run.{after}
 use Rattle.ipl_model.specs.Laws.{OnlyCommitsChangeRecords, RecordsChangeByCommits}
 
 -- a session that is changed, where it is open

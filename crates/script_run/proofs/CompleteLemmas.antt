@@ -1,7 +1,7 @@
 -- What a run does with a store that keeps a state, in one part after another.
-use Rattle.std.proofs.Common.{◌≡◌, ◌⊎◌, inl, inr, ◌≤◌, ◌+◌, ℕ, List, Option, Some, Result, Ok, Err, arith, ◌∙◌, ap}
+use Rattle.std.proofs.Common.{◌≡◌, inl, inr, ◌≤◌, ◌+◌, ℕ, List, Option, Result, Ok, Err, arith, ◌∙◌, ap}
 use Rattle.std.specs.Option.{option_map}
-use Rattle.std.specs.Prelude.{IsErrAnd, IsErrOf}
+use Rattle.std.specs.Prelude.{IsErrAnd}
 use Rattle.ipl_rules.specs.State.{State, Limits}
 use Rattle.ipl_model.specs.declared.command.Command.{Command}
 use Rattle.ipl_model.specs.declared.reply.Reply.{Reply}
@@ -9,7 +9,7 @@ use Rattle.ipl_model.specs.Step.{step}
 use Rattle.chip_trait.specs.declared.event.Event.TheVariants.{Said}
 use Rattle.chip_trait.specs.Told.{History, Told, IsBeside, Appends, adds, adds_all}
 use Rattle.store_trait.specs.declared.fault.Fault.{Fault}
-use Rattle.store_trait.specs.Onward.{Onward, Further}
+use Rattle.store_trait.specs.Onward.{Further}
 use Rattle.store_trait.specs.Keeping.{Keeping, WORK_DRAWS, LOOK_UP_DRAWS, ChipRose, WorksFor, LooksUpFor}
 use Rattle.store_trait.proofs.OnwardLemmas.{still_said, still_beside}
 use Rattle.script_run.specs.declared.fault.Stop.{Stop}

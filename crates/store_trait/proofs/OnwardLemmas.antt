@@ -3,7 +3,7 @@ use Rattle.std.proofs.Common.{◌≡◌, inl, inr, ℕ, ◌≤◌, List, [], ◌
 use Rattle.std.specs.Option.{option_map}
 use Rattle.chip_trait.specs.declared.event.Event.TheVariants.{Said}
 use Rattle.chip_trait.specs.Story.{Contents}
-use Rattle.chip_trait.specs.Told.{History, Told, Beside, Counts, SayCounts, IsBeside, Appends, FailsToSay, adds_all, Unrisen}
+use Rattle.chip_trait.specs.Told.{Told, Beside, Counts, SayCounts, IsBeside, Appends, FailsToSay, Unrisen}
 use Rattle.chip_trait.proofs.HistoryLemmas.{same_history}
 use Rattle.store_trait.specs.Onward.{Onward, Further, Still}
 

@@ -1,4 +1,4 @@
-use Rattle.std.proofs.Common.{arith, false, take, refl, ◌∙◌}
+use Rattle.std.proofs.Common.{arith, take, refl, ◌∙◌}
 use Rattle.std.proofs.lemmas.List.{length-take}
 use Rattle.std.proofs.lemmas.Result.{err_from_is_err_and}
 use Rattle.store_trait.specs.Keeping.{Stays}

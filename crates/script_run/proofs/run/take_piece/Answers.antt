@@ -1,4 +1,4 @@
-use Rattle.std.proofs.Common.{ℕ, [], ◌∷◌, false, List, take, get_or, sym, subst, arith}
+use Rattle.std.proofs.Common.{ℕ, [], ◌∷◌, List, take, get_or, sym, subst, arith}
 use Rattle.std.proofs.lemmas.List.{take_more, take_all}
 use Rattle.std.proofs.lemmas.Result.{err_from_is_err_and}
 use Rattle.store_trait.specs.Keeping.{Stays}
