@@ -1,5 +1,5 @@
 -- How the program starts, runs and ends.
-use Rattle.std.proofs.Common.{◌≡◌, ◌⊎◌, ◌≤◌, ◌-◌, ◌+◌, ℕ, Bool, true, false, [], ◌∷◌, List, ◌++◌, Option, Some, Ok, Err, inl, inr, refl, sym, ◌∙◌, ap, subst, arith, append_assoc}
+use Rattle.std.proofs.Common.{◌≡◌, ◌⊎◌, ◌≤◌, ◌-◌, ◌+◌, ℕ, Bool, true, false, [], ◌∷◌, List, ◌++◌, Option, Some, Result, Ok, Err, is_ok, inl, inr, refl, sym, ◌∙◌, ap, subst, arith, append_assoc}
 use Rattle.std.proofs.lemmas.List.{append-nil}
 use Rattle.std.specs.Option.{option_map}
 use Rattle.std.specs.FinMap.{empty}
@@ -167,10 +167,10 @@ module _ (old mid new : Told) (places : ℕ) (m : Map) (script : List ℕ) (h : 
     | inr so ↦ inr (kept_rests _ k (stays _ so (unrisen_later old mid new later unrisen)) told)
   ]
 
-  runs_by : (R : State → Type 0) (done : Bool) → ((s : State) → R s → Stays unit_keeping limits then mid new s)
-      → RunLeaves unit_keeping limits (at_rest m) (commands_of script) before (adds_all first h) R then new done
-      → (read unread : List ℕ) → script ≡ read ++ unread → new.beside.left ≡ Some unread → (done ≡ true → unread ≡ []) → Runs places m script h first old new done
-  runs_by R done stays leaves read unread script_is left_is ends = record {
+  runs_by : (R : State → Type 0) (result : Result (Unit {0}) Stop) → ((s : State) → R s → Stays unit_keeping limits then mid new s)
+      → RunLeaves unit_keeping limits (at_rest m) (commands_of script) before (adds_all first h) R then new result
+      → (read unread : List ℕ) → script ≡ read ++ unread → new.beside.left ≡ Some unread → (is_ok result ≡ true → unread ≡ []) → Runs places m script h first old new (is_ok result)
+  runs_by R result stays leaves read unread script_is left_is ends = record {
     added = leaves.added;
     history = leaves.history;
     each_moment = subst (λ (q : ℕ). AtEachMoment (λ e. Leaves (says sector_in) (λ x. IsAbout (λ s. Stands q (chart_of x) s.map) places m script (said e)) (adds_all first h) e) leaves.added) (omega (arith, least)) leaves.each_moment;
@@ -188,10 +188,10 @@ module _ (old mid new : Told) (places : ℕ) (m : Map) (script : List ℕ) (h : 
   }
 
   pub runs_ended : Ended unit_keeping limits (at_rest m) script before (adds_all first h) then new → Runs places m script h first old new true
-  runs_ended e = runs_by (unit_keeping.holds limits then new) true (λ s held unrisen. held) e.leaves script [] (sym (append-nil script)) e.left_is (λ is. refl)
+  runs_ended e = runs_by (unit_keeping.holds limits then new) (Ok tt) (λ s held unrisen. held) e.leaves script [] (sym (append-nil script)) e.left_is (λ is. refl)
 
-  pub runs_stopped : Stopped unit_keeping limits (at_rest m) (commands_of script) script before (adds_all first h) (Stays unit_keeping limits then mid new) then new → Runs places m script h first old new false
-  runs_stopped s = runs_by (Stays unit_keeping limits then mid new) false (λ s stays. stays) s.leaves s.read s.rest s.source_is s.left_is (λ is. absurd cc)
+  pub runs_stopped : (stop : Stop) → Stopped unit_keeping limits (at_rest m) (commands_of script) script before (adds_all first h) (Stays unit_keeping limits then mid new) then new stop → Runs places m script h first old new false
+  runs_stopped stop s = runs_by (Stays unit_keeping limits then mid new) (Err stop) (λ s stays. stays) s.leaves s.read s.rest s.source_is s.left_is (λ is. absurd cc)
 
 -- ---- over a chip that was formatted
 
@@ -203,7 +203,7 @@ module _ (old mid new : Told) (store then : UnitStore) (s : StartsFormatted old 
 
   pub formatted_stops : (stop : Stop) → RunsScript unit_keeping store mid (Err stop) then new → RunsFormatted old new false
   formatted_stops stop run = λ h script settled told left.
-      runs_stopped old mid new old.places empty script h (format_events old.places) store then s.fits.0 counts.writes (s.lawful h told)
+      runs_stopped old mid new old.places empty script h (format_events old.places) store then s.fits.0 counts.writes (s.lawful h told) stop
       (run (limits_of (old.places - 4)) (at_rest empty) (adds_all (format_events old.places) h) (s.keeps h told settled) (s.history h told) script (left_counts old mid counts ∙ left))
 
 -- ---- over a chip that was opened
@@ -295,7 +295,7 @@ module _ (old mid new : Told) (store then : UnitStore) (s : StartsOpened old sto
   pub opened_stops : (stop : Stop) → RunsScript unit_keeping store mid (Err stop) then new → RunsOpened old new false
   opened_stops stop run = λ h script settled told left m rests none.
       with_reads old.places m script h s.reads.added s.reads.reads rests none old new false
-      (runs_stopped old mid new old.places m script h s.reads.added store then s.fits.0 counts.writes (λ base good. reads_lawful s.reads.added base s.reads.reads good)
+      (runs_stopped old mid new old.places m script h s.reads.added store then s.fits.0 counts.writes (λ base good. reads_lawful s.reads.added base s.reads.reads good) stop
       (run (limits_of (old.places - 4)) (at_rest m) (adds_all s.reads.added h) (s.keeps m h settled told rests none) (reads_told old mid s.reads h told) script (left_counts old mid counts ∙ left)))
 
 -- an opening that fails leaves the chip as it was
