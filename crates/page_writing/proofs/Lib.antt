@@ -1,9 +1,9 @@
 mod SpotLemmas
 mod LogLemmas
-mod RoomLemmas
+pub mod RoomLemmas
 mod FoundLemmas
 mod RoomStepLemmas
 mod OutLemmas
 mod KeepLemmas
 mod CauseLemmas
-mod SpendLemmas
+pub mod SpendLemmas

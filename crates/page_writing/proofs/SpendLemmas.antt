@@ -23,12 +23,12 @@ none_erased p (Erase q ∷ older) none = absurd (omega (arith, none))
 none_erased p (Barrier ∷ older) none = none_erased p older none
 none_erased p (Said piece ∷ older) none = none_erased p older none
 
-nothing_free : (before : Places) (added : Story) → erases added ≤ 0 → (p : ℕ)
+pub nothing_free : (before : Places) (added : Story) → erases added ≤ 0 → (p : ℕ)
     → is_erased added p ≡ true → IsFree before p
 nothing_free before added none p is =
     absurd (false≢true (sym (none_erased p added none) ∙ is))
 
-both_free : (before : Places) (later earlier : Story)
+pub both_free : (before : Places) (later earlier : Story)
     → ((p : ℕ) → is_erased later p ≡ true → IsFree before p)
     → ((p : ℕ) → is_erased earlier p ≡ true → IsFree before p)
     → (p : ℕ) → is_erased (later ++ earlier) p ≡ true → IsFree before p
@@ -71,7 +71,7 @@ frees_then_reads At before old mid new spent did = spends_then (ErasesFree befor
 -- ---- the log sector
 
 -- no kind is listed
-no_kind : (kind : ℕ) → Contains [] kind
+pub no_kind : (kind : ℕ) → Contains [] kind
     → Contains (5 ∷ []) kind
 no_kind kind has = absurd (omega (arith, has.1))
 

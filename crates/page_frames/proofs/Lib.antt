@@ -1,0 +1,4 @@
+pub mod UpholdLemmas
+pub mod FrameLemmas
+pub mod SpendLemmas
+pub mod TableLemmas

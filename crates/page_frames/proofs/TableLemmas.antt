@@ -1,0 +1,114 @@
+-- Calls that know the tables alone keep each state, whatever frames there are.
+use Rattle.std.proofs.Common.{◌≡◌, ◌≢◌, ◌≤◌, ◌+◌, ℕ, List, Result, Ok, Err, refl, sym, ◌∙◌, ap, subst, arith}
+use Rattle.chip_trait.specs.Told.{History, Told}
+use Rattle.ipl_base.specs.declared.fault.ChipFault.{ChipFault}
+use Rattle.ipl_base.specs.declared.fault.ChipFault.TheVariants.{Stopped}
+use Rattle.ipl_rules.specs.State.{Map}
+use Rattle.ipl_meaning.specs.Chart.{chart_of}
+use Rattle.ipl_meaning.specs.Layout.{Layout}
+use Rattle.ipl_meaning.specs.Rests.{now, EachStands, StoryRests}
+use Rattle.ipl_meaning.specs.Tables.{Tables}
+use Rattle.unit_io.specs.Accounts.{Accounts}
+use Rattle.unit_io.specs.Charts.{Charts}
+use Rattle.steps.specs.Steps.{Settled, RestsAgreeing}
+use Rattle.selective_merge.specs.Homes.{MergeCause}
+use Rattle.selective_merge.specs.Merging.{Merges, StaysMirrored, MergesInSteps, RestsMerged}
+use Rattle.selective_merge.specs.Moving.{Holds}
+use Rattle.selective_merge.specs.Throughout.{ChartsThroughout}
+use Rattle.pending_writes.specs.Frames.{Frames}
+use Rattle.store_steps.specs.Advances.{TurnsTables, KeepsState}
+use Rattle.store_steps.proofs.KeeperLemmas.{table_calls_keep_states}
+use Rattle.store_steps.proofs.StepLemmas.{steps_weaker}
+use Rattle.page_writing.proofs.RoomLemmas.{turned_same, turned_merged}
+use Rattle.merge_rules.specs.Known.{KnowsPlaces}
+use Rattle.buffer_pool.specs.Pools.{PoolView}
+use Rattle.buffer_pool.specs.Holding.{IsAtRest, KeepsPins}
+use Rattle.buffer_pool.proofs.HoldingLemmas.{nothing_keeps}
+use Rattle.status_renewal.proofs.CauseLemmas.{merge_accounts}
+use Rattle.frame_changes.specs.Views.{frames_of}
+use Rattle.page_frames.specs.declared.pages.Pages.{Pages}
+use Rattle.page_frames.specs.Pages.{tables_in, frames_in, IsReady, Upholds, PageCause}
+
+-- a merge that failed and left the write count as it was wasn't stopped
+unstopped : (place : ℕ) (spots : List (ℕ × ℕ)) (e : ChipFault) (old new : Told)
+    → MergeCause place spots e old new → Settled {T = Unit {0}} (Err e) old new → e ≢ Stopped
+unstopped place spots e old new cause unrisen is =
+    let rose = subst (λ (f : ChipFault). MergeCause place spots f old new) is cause in
+    omega (arith, rose, unrisen)
+
+-- what a merge makes of the tables
+merge_turns : (places u place : ℕ) (spots : List (ℕ × ℕ)) (t after : Tables)
+    (result : Result (Unit {0}) ChipFault) (old new : Told) → Holds places t after
+    → ChartsThroughout (λ done. Merges places u t after) (StaysMirrored places t after) result old new
+    → Accounts (MergeCause place spots) result old new → Settled result old new
+    → Charts (TurnsTables places t after) old new
+merge_turns places u place spots t after (Ok v) old new holds tells accounts settled x told =
+    let (y, there, did) = tells x told in
+    (y, there, λ it mirrors none. turned_merged places (chart_of x) (chart_of y) it t u after
+    (did it mirrors) holds.known.none_lost holds.active)
+merge_turns places u place spots t after (Err e) old new holds tells accounts settled x told =
+    let (y, there, stays) = tells (unstopped place spots e old new accounts.cause settled) x told in
+    (y, there, λ it mirrors none.
+    let still = stays it mirrors in
+    turned_same places (chart_of x) (chart_of y) it t after still.0 still.1 holds.known.none_lost
+    holds.active)
+
+-- so it keeps each state
+pub merge_keeps : (u place : ℕ) (spots : List (ℕ × ℕ)) (t after : Tables) (frames : Frames)
+    (result : Result (Unit {0}) ChipFault) (old new : Told) → Holds old.places t after
+    → ChartsThroughout (λ done. Merges old.places u t after) (StaysMirrored old.places t after) result
+    old new
+    → MergesInSteps old.places u t after old result new
+    → Accounts (MergeCause place spots) result old new
+    → KeepsState t frames old result after frames new
+merge_keeps u place spots t after frames result old new holds tells steps accounts =
+    table_calls_keep_states t after frames result old new
+    (λ places same settled. subst (λ (n : ℕ). Charts (TurnsTables n t after) old new) same
+    (merge_turns old.places u place spots t after result old new holds tells accounts settled))
+    (λ places m it h same steady rests agrees.
+    let merging = subst (λ (n : ℕ). MergesInSteps n u t after old result new) same steps in
+    steps_weaker (EachStands places m) (EachStands places m) t after
+    (λ done k. RestsMerged places m (now h) it t u after k) (λ done k. StoryRests places m k)
+    (λ k. RestsAgreeing places m it after k) (λ k. StoryRests places m k) h result old new
+    (λ k is. is) (λ v k is. is.rests) (λ k is. is.rests) (merging m it h steady rests agrees))
+
+-- ---- the pages
+
+-- they are ready still, in the same frames
+pub tables_uphold : (most : ℕ) (old new : Pages) (result : Result (Unit {0}) ChipFault)
+    (before after : Told) → IsReady before.places old → new.pool ≡ old.pool
+    → KnowsPlaces before.places (tables_in new) → new.parts.active ≡ old.parts.active
+    → KeepsState (tables_in old) (frames_in old) before result (tables_in new) (frames_in old) after
+    → (old.parts.counter ≤ new.parts.counter) × (new.parts.counter ≤ old.parts.counter + most)
+    → Accounts PageCause result before after → Upholds most old before result new after
+tables_uphold most old new result before after ready same known active keeps draws accounts = record {
+  keeps = subst (λ (f : Frames). KeepsState (tables_in old) (frames_in old) before result
+      (tables_in new) f after) (ap frames_of (sym same)) keeps;
+  ready = record {
+    known = known;
+    within = λ u page f there.
+        ready.within u page f (ap (λ (p : PoolView). frames_of p u page) (sym same) ∙ there);
+    rest = subst IsAtRest (sym same) ready.rest;
+  };
+  active = active;
+  pins = subst (KeepsPins old.pool) (sym same) (nothing_keeps old.pool);
+  least = draws.0;
+  drawn = draws.1;
+  accounts = accounts;
+}
+
+-- a merge
+pub merge_upholds : (u : ℕ) (old new : Pages) (result : Result (Unit {0}) ChipFault)
+    (before after : Told) → IsReady before.places old → new.pool ≡ old.pool
+    → Holds before.places (tables_in old) (tables_in new)
+    → ChartsThroughout (λ done. Merges before.places u (tables_in old) (tables_in new))
+    (StaysMirrored before.places (tables_in old) (tables_in new)) result before after
+    → MergesInSteps before.places u (tables_in old) (tables_in new) before result after
+    → (old.parts.counter ≤ new.parts.counter) × (new.parts.counter ≤ old.parts.counter + 13)
+    → (place : ℕ) (spots : List (ℕ × ℕ)) → Accounts (MergeCause place spots) result before after
+    → Upholds 13 old before result new after
+merge_upholds u old new result before after ready same holds tells steps draws place spots accounts =
+    tables_uphold 13 old new result before after ready same holds.known holds.active
+    (merge_keeps u place spots (tables_in old) (tables_in new) (frames_in old) result before after
+    holds tells steps accounts) draws
+    (merge_accounts place spots before after result accounts)

@@ -1,0 +1,53 @@
+-- Calls that keep each state: nothing done, one after another, and causes.
+use Rattle.std.proofs.Common.{◌≡◌, ◌≤◌, ◌+◌, ℕ, Result, Ok, Err, IfErr, refl, sym, ◌∙◌, subst, arith}
+use Rattle.chip_trait.specs.Told.{Told, IsConsistent}
+use Rattle.chip_trait.proofs.CountsLemmas.{counts_none}
+use Rattle.ipl_base.specs.declared.fault.ChipFault.{ChipFault}
+use Rattle.buffer_pool.proofs.HoldingLemmas.{nothing_keeps, both_keep}
+use Rattle.status_renewal.proofs.CauseLemmas.{accounts_then}
+use Rattle.store_steps.proofs.KeeperLemmas.{nothing_keeps_states, keepers_are_joined}
+use Rattle.page_frames.specs.declared.pages.Pages.{Pages}
+use Rattle.page_frames.specs.Pages.{tables_in, frames_in, IsReady, Upholds}
+
+pub upholds_none : (most : ℕ) (pages : Pages) (t : Told) → IsReady t.places pages
+    → Upholds most pages t (Ok (tt {0})) pages t
+upholds_none most pages t ready = record {
+  keeps = nothing_keeps_states (tables_in pages) (frames_in pages) t;
+  ready = ready;
+  active = refl;
+  pins = nothing_keeps pages.pool;
+  least = omega arith;
+  drawn = omega arith;
+  accounts = record { counts = counts_none t; cause = tt };
+}
+
+-- one call that was done, and then another
+pub upholds_then : (n m : ℕ) (first between last : Pages) (result : Result (Unit {0}) ChipFault)
+    (old mid new : Told) → IsConsistent old → IsConsistent mid
+    → Upholds n first old (Ok (tt {0})) between mid → Upholds m between mid result last new
+    → Upholds (n + m) first old result last new
+upholds_then n m first between last result old mid new consistent then_consistent one two = record {
+  keeps = keepers_are_joined (tables_in first) (tables_in between) (tables_in last)
+      (frames_in first) (frames_in between) (frames_in last) result old mid new consistent
+      then_consistent one.accounts.counts one.keeps two.keeps;
+  ready = subst (λ (k : ℕ). IsReady k last) one.accounts.counts.places two.ready;
+  active = two.active ∙ one.active;
+  pins = both_keep first.pool between.pool last.pool one.pins two.pins;
+  least = omega (arith, one.least, two.least);
+  drawn = omega (arith, one.drawn, two.drawn);
+  accounts = accounts_then old mid new result one.accounts.counts two.accounts;
+}
+
+-- fewer numbers were drawn
+pub upholds_weaker : (n m : ℕ) (first last : Pages) (result : Result (Unit {0}) ChipFault)
+    (old new : Told) → n ≤ m → Upholds n first old result last new
+    → Upholds m first old result last new
+upholds_weaker n m first last result old new fewer did = record {
+  keeps = did.keeps;
+  ready = did.ready;
+  active = did.active;
+  pins = did.pins;
+  least = did.least;
+  drawn = omega (arith, did.drawn, fewer);
+  accounts = did.accounts;
+}

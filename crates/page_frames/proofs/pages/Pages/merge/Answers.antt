@@ -1,0 +1,13 @@
+use Rattle.std.proofs.Common.{slice_index, refl}
+use Rattle.overflow.specs.Lists.{spots_in}
+use Rattle.page_frames.proofs.TableLemmas.{merge_upholds}
+use Rattle.page_frames.proofs.pages.Pages.merge.Goals as goal
+
+pub returns-clause-upholds : goal.returns-clause-upholds
+returns-clause-upholds g c =
+    let is = c.merge.ensures in
+    merge_upholds c.args.unit c.args.self.now
+    (record { parts = c.merge.new.parts; pool = c.args.self.now.pool }) c.merge.result
+    (g.C.Chip.told c.args.chip.now) (g.C.Chip.told c.merge.new.chip) c.requires.ready refl is.holds
+    is.tells is.steps is.draws (slice_index c.args.self.now.parts.directory.current c.args.unit)
+    (spots_in c.args.self.now.parts.overflow c.args.unit) is.accounts

@@ -1,0 +1,97 @@
+-- Pages in frames over the tables of a chip, as contracts see them, and what their calls leave.
+use Rattle.std.specs.Prelude.{ℕ, ◌≡◌, ◌≤◌, ◌<◌, ◌+◌, [], IsSome, Option, Some, None, Result, Ok, Err}
+use Rattle.std.specs.Option.{option_map}
+use Rattle.chip_trait.specs.Told.{Told}
+use Rattle.ipl_base.specs.declared.fault.ChipFault.{ChipFault}
+use Rattle.ipl_meaning.specs.Tables.{Tables}
+use Rattle.slab.specs.Slab.{get, slab_len}
+use Rattle.buffer_pool.specs.declared.pool.Buffer.{Buffer}
+use Rattle.buffer_pool.specs.Holding.{IsAtRest, KeepsPins}
+use Rattle.merge_rules.specs.Known.{KnowsPlaces}
+use Rattle.selective_merge.specs.Moving.{tables_of}
+use Rattle.status_renewal.specs.Passes.{RenewCause}
+use Rattle.unit_io.specs.Accounts.{Accounts}
+use Rattle.store_steps.specs.Advances.{KeepsState}
+use Rattle.pending_writes.specs.Frames.{Frame, Frames, with_frame_at, with_frame_log}
+use Rattle.frame_changes.specs.Views.{frames_of}
+use Rattle.page_frames.specs.declared.pages.Pages.{Pages}
+
+-- ---- what is seen
+
+abbrev pub tables_in : Pages → Tables
+tables_in pages = tables_of pages.parts
+
+abbrev pub frames_in : Pages → Frames
+frames_in pages = frames_of pages.pool
+
+-- the page is in a frame
+abbrev pub IsFramed : Pages → ℕ → ℕ → Type 0
+IsFramed pages u page = IsSome (frames_in pages u page)
+
+-- a frame is free
+abbrev pub HasFreeFrame : Pages → Type 0
+HasFreeFrame pages = slab_len pages.pool.buffers < pages.pool.limit
+
+-- the page is in a frame, with no records in memory
+abbrev pub IsFresh : Pages → ℕ → ℕ → Type 0
+IsFresh pages u page = (f : Frame) × (frames_in pages u page ≡ Some f) × (f.log ≡ [])
+
+-- the page is in a frame, and no hold keeps it there
+pub record IsUnheld (pages : Pages) (u page : ℕ) : Type 0 where
+  pub key : ℕ
+  pub buffer : Buffer
+  pub stored : get pages.pool.buffers key ≡ Some buffer
+  pub unit_is : buffer.unit ≡ u
+  pub page_is : buffer.page ≡ page
+  pub unpinned : buffer.pins ≡ 0
+
+-- ---- what always holds between calls
+
+-- The tables know each place, pages in frames are of the chip's units, and fewer pages are held than
+-- there are frames.
+pub record IsReady (places : ℕ) (pages : Pages) : Type 0 where
+  pub known : KnowsPlaces places (tables_in pages)
+  pub within : (u page : ℕ) (f : Frame) → frames_in pages u page ≡ Some f → u + 4 < places
+  pub rest : IsAtRest pages.pool
+
+-- ---- causes
+
+-- why a call fails, whatever the chip tells: a read or a write failed, and its count rose; or a
+-- sector isn't what it must be, and where it is damaged it is a base sector whose sums differ
+abbrev pub PageCause : ChipFault → Told → Told → Type 0
+PageCause = RenewCause
+
+-- ---- what each call keeps
+
+-- A call that keeps each state for which tables and frames stand, however it ends. Whatever the chip
+-- tells: the same sessions are open, the same pages are held, at most so many numbers were drawn, and
+-- a fault has its cause.
+pub record Upholds {T : Type 0} (most : ℕ) (old : Pages) (before : Told) (result : Result T ChipFault)
+    (new : Pages) (after : Told) : Type 0 where
+  pub keeps : KeepsState (tables_in old) (frames_in old) before result
+      (tables_in new) (frames_in new) after
+  pub ready : IsReady before.places new
+  pub active : new.parts.active ≡ old.parts.active
+  pub pins : KeepsPins old.pool new.pool
+  pub least : old.parts.counter ≤ new.parts.counter
+  pub drawn : new.parts.counter ≤ old.parts.counter + most
+  pub accounts : Accounts PageCause result before after
+
+-- ---- frames after a call
+
+-- the records of the page that were in memory are written out
+abbrev pub emptied : Frames → ℕ → ℕ → Frames
+emptied frames u page =
+    with_frame_at frames u page (option_map (λ f. with_frame_log f []) (frames u page))
+
+-- and where the call failed the frames are as they were
+abbrev pub frames_after : {T E : Type 0} → Result T E → Frames → ℕ → ℕ → Frames
+frames_after (Ok v) frames u page = emptied frames u page
+frames_after (Err e) frames u page = frames
+
+-- the page is in a frame that was free, with no records in memory; or the frames are as they were
+-- where the call failed
+abbrev pub BringsPage : {T E : Type 0} → Result T E → ℕ → ℕ → Frames → Frames → Type 0
+BringsPage (Ok v) u page old new =
+    (f : Frame) × (f.log ≡ []) × (new ≡ with_frame_at old u page (Some f))
+BringsPage (Err e) u page old new = new ≡ old

@@ -1,0 +1,14 @@
+//! Pages of a store in frames, over its tables of the chip: a page is brought into a frame, for which
+//! another page may have to leave, and its records in memory are written out where a frame, a log
+//! sector in memory or a commit asks for it. It stands on `buffer_pool` for the frames, on
+//! `page_rebuild` for what a page is on the chip, and on `page_writing` for its records on their way
+//! there. A contract sees the tables (`tables_in`) and the frames by unit and page (`frames_in`), and
+//! that each call keeps whatever state they stand for (`KeepsState`).
+#![tactic(auto)]
+
+mod frames;
+mod pages;
+mod tables;
+
+pub use frames::{has_records, is_framed};
+pub use pages::Pages;

@@ -1,0 +1,43 @@
+//! The frames and the tables of a store.
+ghost use Rattle.std.specs.Prelude.{◌≡◌, ◌≤◌, ◌+◌, [], length, IfOk};
+ghost use Rattle.buffer_pool.specs.Pools.{PoolView};
+
+use buffer_pool::Pool;
+use ipl_base::{Counter, Geometry, OutOfMemory};
+use overflow::Overflow;
+use selective_merge::{Active, MergeScratch, Parts};
+use std::alloc::Global;
+use txn_status::Status;
+use unit_directory::Directory;
+
+/// Pages in frames, and the tables of the chip that they are read from and whose log sectors their
+/// records go to. Memory is taken by `new` alone.
+#[derive(Drop)]
+pub struct Pages {
+    pub parts: Parts,
+    pub pool: Pool,
+}
+
+impl Pages {
+    /// No page in any of so many frames, at most 64, and empty tables for a chip of this geometry.
+    pub fn new(alloc: Global, geometry: Geometry, frames: u32) -> Result<Pages, OutOfMemory>
+        requires { frames ≤ 64 }
+        ensures directory { IfOk result (λ pages. length pages.parts.directory.in_use ≡ geometry) }
+        ensures overflow { IfOk result (λ pages.
+            length pages.parts.overflow.spots + 4 ≡ geometry) }
+        ensures active { IfOk result (λ pages. pages.parts.active ≡ []) }
+        ensures empty { IfOk result (λ pages. pages.pool.buffers.slots ≡ []) }
+        ensures limit { IfOk result (λ pages. pages.pool.limit ≡ frames) }
+    {
+        let parts = Parts {
+            directory: Directory::new(alloc, geometry)?,
+            overflow: Overflow::new(alloc, geometry)?,
+            status: Status::new(alloc, geometry)?,
+            counter: Counter::at(0),
+            active: Active::none(),
+            scratch: MergeScratch::new(alloc)?,
+        };
+        let pool = Pool::new(alloc, frames)?;
+        Ok(Pages { parts, pool })
+    }
+}

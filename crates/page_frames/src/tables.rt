@@ -1,0 +1,34 @@
+//! Work on the tables that leaves the frames as they are: a clean sector for the next commit, and a
+//! merge.
+ghost use Rattle.std.specs.Prelude.{◌≡◌, ◌<◌, ◌≤◌, ◌+◌, ◌-◌, ◌^◌, slice_index, is_ok, OnOk};
+ghost use Rattle.unit_io.specs.Costs.{Spends};
+ghost use Rattle.selective_merge.specs.Merging.{Merges, StaysMirrored};
+ghost use Rattle.selective_merge.specs.Spending.{ErasesFor};
+ghost use Rattle.selective_merge.specs.Throughout.{ChartsThroughout};
+ghost use Rattle.page_frames.specs.Pages.{tables_in, IsReady, Upholds};
+
+use crate::Pages;
+use chip_trait::Chip;
+use ipl_base::ChipFault;
+use selective_merge::merge;
+
+impl Pages {
+    /// Merges a unit, whatever is carried.
+    pub fn merge<C: Chip>(&mut self, chip: &mut C, unit: u32) -> Result<(), ChipFault>
+        requires ready { IsReady (C.told chip.old).places self.old }
+        requires unit { unit + 4 < (C.told chip.old).places }
+        requires left { self.old.parts.counter + 13 < 2 ^ 64 }
+        ensures upholds { Upholds 13 self.old (C.told chip.old) result self.new (C.told chip.new) }
+        ensures tells { ChartsThroughout
+            (λ done. Merges (C.told chip.old).places unit (tables_in self.old) (tables_in self.new))
+            (StaysMirrored (C.told chip.old).places (tables_in self.old) (tables_in self.new))
+            result (C.told chip.old) (C.told chip.new) }
+        ensures room { OnOk result (slice_index self.new.parts.directory.written unit ≤ 12) }
+        ensures frames { self.new.pool ≡ self.old.pool }
+        ensures costs { Spends (ErasesFor self.old.parts.directory
+            (slice_index self.new.parts.directory.current unit) (is_ok result))
+            (C.told chip.old) (C.told chip.new) }
+    {
+        merge(chip, &mut self.parts, unit)
+    }
+}
