@@ -83,7 +83,8 @@ module _ (places : ℕ) (c : Chart) (it : Layout) (memory : Memory) (state : Sta
       let is = records_are_writes (places - 4) it (logs_of memory.frames) (number_of memory.slots)
       state s u page r fits.pending number low page_is valid there in
       named_here r.slot valid.slot
-      (listed_among (written_of memory.slots s) n (wrote_is memory.slots state fits.sessions s n is))
+      (listed_among (written_of memory.slots s) n
+      (wrote_is memory.slots state fits.sessions s n is))
 
   -- the page changed, or the last change of a slot is another's
   whose_slot : (slot : ℕ)
@@ -109,8 +110,8 @@ module _ (places : ℕ) (c : Chart) (it : Layout) (memory : Memory) (state : Sta
   others_log dropped = all_listed (HasOtherNumber tid) a.log (λ r there same.
       let log : logs_of memory.frames u page ≡ a.log = ap log_in here in
       let in_memory = subst (λ (l : List Record). Contains l r) (sym log) there in
-      let is = All-contains (IsPending (number_of memory.slots) page) (logs_of memory.frames u page) r
-      (fits.pending.in_memory u page) in_memory in
+      let is = All-contains (IsPending (number_of memory.slots) page)
+      (logs_of memory.frames u page) r (fits.pending.in_memory u page) in_memory in
       let listed = Contains-append_right (records_of (it.units u).log)
       (logs_of memory.frames u page) r in_memory in
       let kept = dropped (its_page r listed is.page_is same) in

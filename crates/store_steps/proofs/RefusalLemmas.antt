@@ -76,8 +76,8 @@ accepted_are_done limits slots state c are is =
 
 pub refusals_lead : RefusalsLead
 refusals_lead units c r before old is =
-    next_states_are_alike (λ state. state) (λ state. (step (limits_of units) state c).0) before before
-    (Ok (reply.Refused r)) old old
+    next_states_are_alike (λ state. state) (λ state. (step (limits_of units) state c).0) before
+    before (Ok (reply.Refused r)) old old
     (λ places y it state fits. sym (ap (λ (x : Stepped). x.0)
     (refusals_answer (limits_of units) before.slots state c r fits.sessions is)))
     (answers_are_alike (λ state. state) before before (Ok tt) (Ok (reply.Refused r)) old old refl

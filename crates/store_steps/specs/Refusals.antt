@@ -18,6 +18,7 @@ use Rattle.store_steps.specs.Keeps.{limits_of}
 
 -- ---- the sessions refuse as the state does
 
+-- each command, whatever was put
 abbrev pub SessionsRefuse : Type 0
 SessionsRefuse = (limits : Limits) (slots : Slots) (state : State) (c : Command)
     → AreSessionsOf slots state → refusal_of limits (state_of slots) c ≡ refusal_of limits state c
@@ -50,7 +51,7 @@ AcceptedLead = (units : ℕ) (c : Command) (before after : Memory) (result : Res
 
 -- ---- what isn't refused
 
--- the session is one of the 32, and open under a number
+-- the session is one of the 32, open under a number, and may be ended
 pub record IsOpenSession (slots : Slots) (s : ℕ) : Type 0 where
   pub low : s < 32
   pub number : ℕ
@@ -67,25 +68,30 @@ pub record MayWriteName (units : ℕ) (slots : Slots) (s n : ℕ) : Type 0 where
   pub reaches : ReachesName units slots s n
   pub may : locks.refuses_write slots s n ≡ None
 
+-- a begin: the session is one of the 32, and closed
 abbrev pub PassedBegins : Type 0
 PassedBegins = (units : ℕ) (slots : Slots) (s : ℕ)
     → refuses_begin (limits_of units) (state_of slots) s ≡ None
     → (s < 32) × (number_of slots s ≡ None) × (locks.refuses_begin slots s ≡ None)
 
+-- a get
 abbrev pub PassedGets : Type 0
 PassedGets = (units : ℕ) (slots : Slots) (s n : ℕ)
     → refuses_get (limits_of units) (state_of slots) s n ≡ None → ReachesName units slots s n
 
+-- a share: the locks let the name be shared
 abbrev pub PassedShares : Type 0
 PassedShares = (units : ℕ) (slots : Slots) (s n : ℕ)
     → refuses_share (limits_of units) (state_of slots) s n ≡ None
     → ReachesName units slots s n × (locks.refuses_share slots s n ≡ None)
 
+-- a put: the value has at most 108 bytes
 abbrev pub PassedPuts : Type 0
 PassedPuts = (units : ℕ) (slots : Slots) (s n : ℕ) (bytes : List ℕ)
     → refuses_put (limits_of units) (state_of slots) s n bytes ≡ None
     → MayWriteName units slots s n × (length bytes ≤ 108)
 
+-- a delete
 abbrev pub PassedDels : Type 0
 PassedDels = (units : ℕ) (slots : Slots) (s n : ℕ)
     → refuses_del (limits_of units) (state_of slots) s n ≡ None → MayWriteName units slots s n
@@ -95,9 +101,11 @@ abbrev pub PassedEnds : Type 0
 PassedEnds = (units : ℕ) (slots : Slots) (s : ℕ)
     → refuses_end (limits_of units) (state_of slots) s ≡ None → IsOpenSession slots s
 
+-- a list: both names are the units'
 abbrev pub PassedLists : Type 0
 PassedLists = (units a b : ℕ) → refuses_list (limits_of units) a b ≡ None
     → (a < 960 * units) × (b < 960 * units)
 
+-- a merge: the unit is one of the chip's
 abbrev pub PassedMerges : Type 0
 PassedMerges = (units u : ℕ) → refuses_merge (limits_of units) u ≡ None → u < units

@@ -1,8 +1,8 @@
 //! What each call of a store keeps of the state that its memory and its chip stand for, as two
 //! relations: a call that keeps each state, and one that leads to the next. Laws join what calls
-//! leave, and hand it to a run over a script. It stands on the condition of a store
-//! (`pending_writes`) and on what calls leave (`steps`). The one call here adds the number of a
-//! session that is committed.
+//! leave, and hand it to a run over a script; others say what the sessions refuse. It stands on
+//! the condition of a store (`pending_writes`) and on what calls leave (`steps`). The one call here
+//! adds the number of a session that is committed.
 #![tactic(auto)]
 
 mod laws;
