@@ -2,6 +2,7 @@ pub mod StepLemmas
 pub mod AdvanceLemmas
 pub mod KeeperLemmas
 pub mod LeadLemmas
+pub mod ChangeLemmas
 pub mod NamedLemmas
 pub mod SessionLemmas
 pub mod ShowLemmas
