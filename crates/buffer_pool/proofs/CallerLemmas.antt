@@ -1,15 +1,17 @@
 -- What a caller knows of its pins and pages after the calls.
-use Rattle.std.proofs.Common.{◌≡◌, ◌≢◌, ℕ, ◌<◌, List, [], Some, None, refl, sym, ◌∙◌, ap, inl, inr, arith}
+use Rattle.std.proofs.Common.{◌≡◌, ◌≢◌, ℕ, ◌<◌, ◌+◌, List, [], Some, None, refl, sym, ◌∙◌, ap, inl, inr, arith}
 use Rattle.std.proofs.lemmas.Bool.{cases_eq}
 use Rattle.ipl_format.specs.Record.{Record}
 use Rattle.slab.specs.Slab.{Slab, get, Updates}
 use Rattle.page_ops.specs.Frames.{FrameView}
 use Rattle.buffer_pool.specs.declared.pool.Buffer.{Buffer}
 use Rattle.buffer_pool.specs.declared.pool.Pin.{Pin}
-use Rattle.buffer_pool.specs.Pools.{AreOnce, IsPinned, Changes, MayLeave, MayPin, new_buffer, without_pin}
+use Rattle.buffer_pool.specs.Pools.{PoolView, AreOnce, IsPinned, Changes, MayLeave, MayPin, new_buffer, without_pin}
 use Rattle.buffer_pool.specs.Lending.{changed_at, with_frame, with_log}
 use Rattle.buffer_pool.specs.Laws.{SamePage}
+use Rattle.buffer_pool.specs.Holding.{pinned_count, IsAtRest, KeepsPins}
 use Rattle.buffer_pool.proofs.IndexLemmas.{some_is, no_some}
+use Rattle.buffer_pool.proofs.HoldingLemmas.{empty_rests, as_many, rest_stays}
 use Rattle.buffer_pool.proofs.LentLemmas.{changed_is}
 
 -- ---- pins
@@ -108,3 +110,13 @@ may_pin buffers unit page key b once there unit_is page_is few = λ other c stor
     (record { buffer = b; stored = there; unit_is = unit_is; page_is = page_is }) in
     let one : c ≡ b = some_is c b (sym stored ∙ ap (get buffers) same ∙ there) in
     omega (arith, few, ap (λ (x : Buffer). x.pins) one)
+
+-- ---- a pool at rest
+
+-- a new pool of two frames, once pages were brought in and their pins given back
+pub rests_then : (p q : PoolView) → p.buffers.slots ≡ [] → p.limit ≡ 2 → KeepsPins p q
+    → (pinned_count q.buffers + 1 < q.limit) × IsAtRest q
+rests_then p q empty two keeps =
+    let (none, rest) = empty_rests p empty (omega (arith, two)) in
+    let limit = keeps.limit in
+    (omega (arith, none, two, limit, as_many p q keeps), rest_stays p q keeps rest)

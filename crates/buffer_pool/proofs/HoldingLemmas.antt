@@ -10,7 +10,7 @@ use Rattle.buffer_pool.specs.Pools.{PoolView, HasPage, IsThere, AreOnce, Changes
 use Rattle.buffer_pool.specs.Lending.{changed_at}
 use Rattle.buffer_pool.specs.Laws.{SamePage}
 use Rattle.buffer_pool.specs.Holding.{is_pinned, pinned_count, IsHeld, IsAtRest, HasPins, KeepsPins, IsPage, HoldsPage, ReleasesPage}
-use Rattle.buffer_pool.specs.HoldingLaws.{NothingKeepsPins, BothKeepPins, KeptPinsAreAsMany, KeptPinsRest, PinsGivenBackAreKept, PagesBroughtKeepPins, EvictionsKeepPins, ChangesKeepPins, LoansKeepPins, PagesAtRestMayBePinned, ARestingPoolHasRoom}
+use Rattle.buffer_pool.specs.HoldingLaws.{NothingKeepsPins, BothKeepPins, KeptPinsAreAsMany, KeptPinsRest, PinsGivenBackAreKept, PagesBroughtKeepPins, EvictionsKeepPins, ChangesKeepPins, LoansKeepPins, EmptyPoolsRest, PagesAtRestMayBePinned, ARestingPoolHasRoom}
 use Rattle.buffer_pool.proofs.IndexLemmas.{some_is, no_some}
 use Rattle.buffer_pool.proofs.LentLemmas.{changed_is}
 
@@ -371,6 +371,17 @@ brings_keep old brought later new unit page key empty limit did keeps last undid
     absurd (omega (arith, more, pins, ap (λ (e : Buffer). e.pins) one)))
 
 -- ---- a pool at rest
+
+pub empty_rests : EmptyPoolsRest
+empty_rests p none some =
+    let zero : pinned_count p.buffers ≡ 0 = ap (count_by is_pinned) none in (
+      zero,
+      record {
+        one = λ key b stored.
+            absurd (no_some b (sym (ap (λ (l : List (Option Buffer)). get_or l key None) none) ∙ stored));
+        few = omega (arith, zero, some);
+      },
+    )
 
 pub may_pin_at_rest : PagesAtRestMayBePinned
 may_pin_at_rest p unit page rest key b stored u q =

@@ -1,5 +1,5 @@
 -- What calls keep of pins, and that a pool at rest has a frame without one.
-use Rattle.std.specs.Prelude.{ℕ, ◌≡◌, IsSome, Some, None}
+use Rattle.std.specs.Prelude.{ℕ, ◌≡◌, ◌<◌, [], IsSome, Some, None}
 use Rattle.slab.specs.Slab.{Slab, get, Updates}
 use Rattle.buffer_pool.specs.declared.pool.Buffer.{Buffer}
 use Rattle.buffer_pool.specs.declared.room.Room.TheVariants.{AllPinned}
@@ -61,6 +61,11 @@ abbrev pub LoansKeepPins : Type 0
 LoansKeepPins = (p : PoolView) (key : ℕ) (change : Buffer → Buffer) → IsSome (get p.buffers key)
     → ((b : Buffer) → SamePage (change b) b × ((change b).pins ≡ b.pins))
     → KeepsPins p (with_buffers p (changed_at p.buffers key change))
+
+-- with no pages in frames none is pinned, and it is at rest
+abbrev pub EmptyPoolsRest : Type 0
+EmptyPoolsRest = (p : PoolView) → p.buffers.slots ≡ [] → 0 < p.limit
+    → (pinned_count p.buffers ≡ 0) × IsAtRest p
 
 -- at rest a page may be pinned
 abbrev pub PagesAtRestMayBePinned : Type 0

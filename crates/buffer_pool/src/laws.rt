@@ -1,6 +1,6 @@
 //! Laws of the pool, proved: a body that does nothing, and a contract that is the law.
 ghost use Rattle.buffer_pool.specs.Laws.{BuffersAreTold, PinnedStay, BringsAddABuffer, EvictsTakeABuffer, PinsChangeABuffer, LoansChangeABuffer};
-ghost use Rattle.buffer_pool.specs.HoldingLaws.{NothingKeepsPins, BothKeepPins, KeptPinsAreAsMany, KeptPinsRest, PinsGivenBackAreKept, PagesBroughtKeepPins, EvictionsKeepPins, ChangesKeepPins, LoansKeepPins, PagesAtRestMayBePinned, ARestingPoolHasRoom};
+ghost use Rattle.buffer_pool.specs.HoldingLaws.{NothingKeepsPins, BothKeepPins, KeptPinsAreAsMany, KeptPinsRest, PinsGivenBackAreKept, PagesBroughtKeepPins, EvictionsKeepPins, ChangesKeepPins, LoansKeepPins, EmptyPoolsRest, PagesAtRestMayBePinned, ARestingPoolHasRoom};
 
 /// A page has one buffer at most, so the buffers are a function of unit and page, and each call changes
 /// it at one page. And a pinned page stays in its frame.
@@ -25,6 +25,7 @@ pub fn holding_laws()
     ensures evicts { EvictionsKeepPins }
     ensures changes { ChangesKeepPins }
     ensures loans { LoansKeepPins }
+    ensures empty { EmptyPoolsRest }
     ensures may_pin { PagesAtRestMayBePinned }
     ensures room { ARestingPoolHasRoom }
 {}

@@ -1,8 +1,9 @@
-//! A page that is held while another passes through, and what is written through a pin, in pools of
-//! two frames.
-ghost use Rattle.std.specs.Prelude.{◌≡◌, ◌<◌, Some, None, IfSome};
+//! A page that is held while another passes through, what is written through a pin, and a hold that
+//! lasts between calls, in pools of two frames.
+ghost use Rattle.std.specs.Prelude.{◌≡◌, ◌<◌, ◌+◌, Some, None, IfSome};
 ghost use Rattle.slab.specs.Slab.{get, Updates};
 ghost use Rattle.buffer_pool.specs.Pools.{new_buffer, IsPinned};
+ghost use Rattle.buffer_pool.specs.Holding.{pinned_count, IsAtRest, KeepsPins};
 
 use crate::{Pin, Pool, Room};
 use log_records::{Change, Record};
@@ -79,4 +80,73 @@ fn what_is_written_through_a_pin_is_its_own_page(rt: HostRuntime) {
     assert!(rt; writes_to_its_own(&mut pool, &own, &other));
     pool.unpin(other);
     pool.unpin(own);
+}
+
+// Brings a page in and gives its pin back, where a frame is free and the page is in none.
+fn entered(pool: &mut Pool, unit: u32, page: u32) -> bool
+    requires { page < 15 }
+    ensures { KeepsPins pool.old pool.new }
+{
+    match pool.room() {
+        Room::Free => match pool.find(unit, page) {
+            Some(_) => false,
+            None => {
+                let pin = pool.bring(unit, page);
+                pool.unpin(pin);
+                true
+            }
+        },
+        _ => false,
+    }
+}
+
+// Holds a page that is in a frame and isn't held.
+fn held_now(pool: &mut Pool, unit: u32, page: u32) -> bool
+    requires page { page < 15 }
+    requires few { pinned_count pool.old.buffers + 1 < pool.old.limit }
+    requires rest { IsAtRest pool.old }
+    ensures { IsAtRest pool.new }
+{
+    if pool.is_held(unit, page) || pool.find(unit, page).is_none() {
+        return false;
+    }
+    pool.hold(unit, page);
+    true
+}
+
+fn released(pool: &mut Pool, unit: u32, page: u32) -> bool
+    requires page { page < 15 }
+    requires rest { IsAtRest pool.old }
+{
+    if !pool.is_held(unit, page) {
+        return false;
+    }
+    pool.release(unit, page);
+    true
+}
+
+fn first(pool: &Pool) -> Option<(u32, u32)> {
+    if pool.len() == 0 {
+        return None;
+    }
+    Some(pool.page_at(0))
+}
+
+#[test]
+fn a_held_page_is_no_victim(rt: HostRuntime) {
+    let mut pool = Pool::new(rt.alloc(), 2).expect(&rt, "memory for two frames");
+    assert!(rt; entered(&mut pool, 7, 3));
+    assert!(rt; entered(&mut pool, 7, 2));
+    assert!(rt; first(&pool) == Some((7, 2)));
+    assert!(rt; pool.room() == Room::Victim(7, 3));
+
+    assert!(rt; held_now(&mut pool, 7, 3));
+    assert!(rt; pool.is_held(7, 3) && !pool.is_held(7, 2));
+    assert_eq!(rt; pool.held(), 1);
+    assert!(rt; pool.room() == Room::Victim(7, 2));
+    assert!(rt; pool.look(7, 2).is_some() && pool.look(7, 4).is_none());
+    assert!(rt; pool.records(7, 2).is_some_and(|log| log.is_empty()));
+
+    assert!(rt; released(&mut pool, 7, 3));
+    assert_eq!(rt; pool.held(), 0);
 }
