@@ -7,6 +7,8 @@
 
 mod ends;
 mod laws;
+#[cfg(test)]
+mod tests;
 mod values;
 mod writes;
 
