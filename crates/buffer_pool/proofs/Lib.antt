@@ -5,4 +5,6 @@ pub mod RoomLemmas
 pub mod LentLemmas
 pub mod BufferLemmas
 pub mod CallerLemmas
+pub mod CountLemmas
 pub mod HoldingLemmas
+pub mod HeldLemmas

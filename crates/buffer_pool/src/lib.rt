@@ -5,6 +5,7 @@
 mod holding;
 mod index;
 mod laws;
+mod looking;
 mod pool;
 mod room;
 #[cfg(test)]

@@ -1,13 +1,11 @@
 //! A pool of frames.
-ghost use Rattle.std.specs.Prelude.{◌≡◌, ◌≢◌, ◌<◌, ◌≤◌, ◌+◌, ℕ, Some, None, IfOk, IfSome, IfNone, IsSome, [], length, option_map, slice_index_or};
+ghost use Rattle.std.specs.Prelude.{◌≡◌, ◌≢◌, ◌<◌, ◌≤◌, ◌+◌, ℕ, Some, None, IfOk, IfSome, IfNone, IsSome, []};
 ghost use Rattle.std.specs.Borrow.{sem};
 ghost use Rattle.slab.specs.Slab.{get, slab_len, Updates};
 ghost use Rattle.buffer_pool.specs.declared.pool.Buffer.{Buffer as BufferFields};
 ghost use Rattle.buffer_pool.specs.Pools.{HasPage, IsThere, IsAbsent, MayLeave, MayPin, Changes, CountsUse, IsPinned, IsSoundPool, new_buffer, with_pin, without_pin};
 ghost use Rattle.buffer_pool.specs.Rooms.{IsRoom, IsOldest, AreAllPinned};
 ghost use Rattle.buffer_pool.specs.Lending.{LendsFrame, LendsLog};
-ghost use Rattle.buffer_pool.specs.Index.{page_number};
-ghost use Rattle.buffer_pool.specs.Laws.{buffer_of};
 
 use crate::index::{PageIndex, page_number};
 use crate::room::{Oldest, Room, older};
@@ -42,7 +40,7 @@ pub struct Pin {
 pub struct Pool {
     pub(crate) buffers: Slab<Buffer>,
     // The page of each buffer, with the buffer's key, so that a page is found without a look at each.
-    index: PageIndex,
+    pub(crate) index: PageIndex,
     limit: usize,
     // How many uses there were: a use is a page brought in or pinned.
     clock: u64,
@@ -93,24 +91,6 @@ impl Pool {
         ensures { IsSoundPool self.now }
     {
         self.index.facts();
-    }
-
-    /// How many pages are in frames.
-    pub fn len(&self) -> usize
-        ensures { result ≡ length self.now.order }
-    {
-        self.buffers.len()
-    }
-
-    /// The unit and the page at a place of the order.
-    pub fn page_at(&self, i: usize) -> (u32, u32)
-        requires { i < length self.now.order }
-        ensures number { page_number result.0 result.1 ≡ slice_index_or self.now.order i 0 }
-        ensures page { result.1 < 15 }
-        ensures there { IsThere self.now.buffers result.0 result.1 }
-    {
-        let buffer = &self.buffers[self.index.key_at(i)];
-        (buffer.unit, buffer.page)
     }
 
     /// The key of the frame that has a page (0 to 14 of a unit), by a search that halves what is left.
@@ -257,30 +237,6 @@ impl Pool {
 }
 
 impl Pool {
-    /// The frame of a page (0 to 14 of a unit), where it is in one.
-    pub fn look(&self, unit: u32, page: u32) -> Option<&Frame>
-        requires { page < 15 }
-        ensures { option_map (λ f. f.now) result
-            ≡ option_map (λ b. b.frame) (buffer_of self.now.buffers unit page) }
-    {
-        match self.find(unit, page) {
-            Some(key) => Some(&self.buffers[key].frame),
-            None => None,
-        }
-    }
-
-    /// The records of a page that aren't on the chip yet, where it is in a frame.
-    pub fn records(&self, unit: u32, page: u32) -> Option<&MemLog>
-        requires { page < 15 }
-        ensures { option_map (λ m. m.now) result
-            ≡ option_map (λ b. b.log) (buffer_of self.now.buffers unit page) }
-    {
-        match self.find(unit, page) {
-            Some(key) => Some(&self.buffers[key].log),
-            None => None,
-        }
-    }
-
     /// The frame under a key, for writing. No other frame changes, and no records.
     pub fn frame_under(&mut self, key: usize) -> &mut Frame
         requires { IsSome (get self.old.buffers key) }

@@ -3,7 +3,7 @@ use Rattle.slab.specs.Slab.{slab_len}
 use Rattle.buffer_pool.specs.declared.pool.Buffer.{Buffer}
 use Rattle.buffer_pool.specs.Pools.{PoolView}
 use Rattle.buffer_pool.specs.Holding.{is_pinned, pinned_count}
-use Rattle.buffer_pool.proofs.HoldingLemmas.{pinned_few, entries_pinned, counted}
+use Rattle.buffer_pool.proofs.CountLemmas.{pinned_few, entries_pinned, counted}
 use Rattle.buffer_pool.proofs.pool.Pool.held.Goals as goal
 
 pub loop-key-init : goal.loop-key-init

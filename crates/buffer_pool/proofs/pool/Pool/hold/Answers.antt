@@ -1,4 +1,4 @@
-use Rattle.buffer_pool.proofs.HoldingLemmas.{holds_page, hold_rests}
+use Rattle.buffer_pool.proofs.HeldLemmas.{holds_page, hold_rests}
 use Rattle.buffer_pool.proofs.pool.Pool.hold.Goals as goal
 
 pub returns-clause-holds : goal.returns-clause-holds

@@ -2,7 +2,7 @@ use Rattle.std.proofs.Common.{sym, ◌∙◌, ap}
 use Rattle.slab.specs.Slab.{get}
 use Rattle.buffer_pool.specs.Pools.{PoolView}
 use Rattle.buffer_pool.proofs.SoundLemmas.{once_pool}
-use Rattle.buffer_pool.proofs.HoldingLemmas.{held_if, not_held_if}
+use Rattle.buffer_pool.proofs.HeldLemmas.{held_if, not_held_if}
 use Rattle.buffer_pool.proofs.pool.Pool.is_held.Goals as goal
 
 pub returns-in-Some : goal.returns-in-Some
