@@ -1,18 +1,11 @@
 -- How many pages have pins.
-use Rattle.std.proofs.Common.{◌≡◌, ◌≢◌, ◌≤◌, ◌<◌, ◌+◌, ◌⊎◌, ◌↔◌, ℕ, zero, suc, Bool, true, false, not, cond, ltb, eqb, List, [], ◌∷◌, get_or, count_by, Option, Some, None, is_some, IsSome, IsTrue, refl, sym, ◌∙◌, ap, subst, inl, inr, arith}
-use Rattle.std.proofs.lemmas.Bool.{cases_Bool, cases_eq, ltb-true, lt-ltb, ne_eqb, false≢true}
+use Rattle.std.proofs.Common.{◌≡◌, ◌≤◌, ◌<◌, ◌+◌, ℕ, suc, Bool, true, false, cond, ltb, List, [], ◌∷◌, get_or, count_by, Option, Some, None, is_some, IsSome, refl, sym, ◌∙◌, ap, subst, inl, inr, arith}
+use Rattle.std.proofs.lemmas.Bool.{cases_eq, ltb-true, lt-ltb, false≢true}
 use Rattle.std.proofs.lemmas.List.Sums.{sum_by-cons, sum_by-set}
 use Rattle.slab.specs.Slab.{Slab, get, slab_len, with_value, Updates, entries_from}
 use Rattle.slab.proofs.SlabLemmas.{ContainsKey-within, Updates-with_value}
 use Rattle.buffer_pool.specs.declared.pool.Buffer.{Buffer}
-use Rattle.buffer_pool.specs.declared.room.Room.TheVariants.{AllPinned}
-use Rattle.buffer_pool.specs.Pools.{PoolView, HasPage, IsThere, AreOnce, Changes, MayLeave, MayPin, new_buffer, with_buffers, with_pin, without_pin}
-use Rattle.buffer_pool.specs.Lending.{changed_at}
-use Rattle.buffer_pool.specs.Laws.{SamePage}
-use Rattle.buffer_pool.specs.Holding.{is_pinned, pinned_count, IsHeld, IsAtRest, HasPins, KeepsPins, IsPage, HoldsPage, ReleasesPage}
-use Rattle.buffer_pool.specs.HoldingLaws.{NothingKeepsPins, BothKeepPins, KeptPinsAreAsMany, KeptPinsRest, PinsGivenBackAreKept, PagesBroughtKeepPins, EvictionsKeepPins, ChangesKeepPins, LoansKeepPins, EmptyPoolsRest, PagesAtRestMayBePinned, ARestingPoolHasRoom}
-use Rattle.buffer_pool.proofs.IndexLemmas.{some_is, no_some}
-use Rattle.buffer_pool.proofs.LentLemmas.{changed_is}
+use Rattle.buffer_pool.specs.Holding.{is_pinned, pinned_count, HasPins}
 
 -- ---- how many
 

@@ -1,6 +1,6 @@
 -- What calls keep of pins, and that a pool at rest has a frame without one.
 use Rattle.std.specs.Prelude.{ℕ, ◌≡◌, ◌<◌, [], IsSome, Some, None}
-use Rattle.slab.specs.Slab.{Slab, get, Updates}
+use Rattle.slab.specs.Slab.{get, Updates}
 use Rattle.buffer_pool.specs.declared.pool.Buffer.{Buffer}
 use Rattle.buffer_pool.specs.declared.room.Room.TheVariants.{AllPinned}
 use Rattle.buffer_pool.specs.Pools.{PoolView, HasPage, Changes, MayLeave, MayPin, new_buffer, with_buffers, with_pin, without_pin}

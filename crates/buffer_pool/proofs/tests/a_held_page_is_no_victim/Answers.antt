@@ -1,7 +1,6 @@
-use Rattle.std.proofs.Common.{◌≡◌, ◌+◌, ◌<◌, [], Result, IfOk, subst}
+use Rattle.std.proofs.Common.{◌≡◌, [], Result, IfOk, subst}
 use Rattle.ipl_base.specs.declared.fault.OutOfMemory.{OutOfMemory}
 use Rattle.buffer_pool.specs.Pools.{PoolView}
-use Rattle.buffer_pool.specs.Holding.{pinned_count, IsAtRest}
 use Rattle.buffer_pool.proofs.HoldingLemmas.{both_keep}
 use Rattle.buffer_pool.proofs.CallerLemmas.{rests_then}
 use Rattle.buffer_pool.proofs.tests.a_held_page_is_no_victim.Goals as goal

@@ -1,5 +1,5 @@
-use Rattle.std.proofs.Common.{IsSome, refl, sym, ap, subst, ◌∙◌}
-use Rattle.buffer_pool.specs.Index.{number_at, key_of}
+use Rattle.std.proofs.Common.{IsSome, refl, sym, subst}
+use Rattle.buffer_pool.specs.Index.{number_at}
 use Rattle.buffer_pool.proofs.SoundLemmas.{within_index, number_stands, page_stands}
 use Rattle.buffer_pool.proofs.pool.Pool.page_at.Goals as goal
 

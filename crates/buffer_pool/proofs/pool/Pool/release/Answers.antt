@@ -1,6 +1,6 @@
 use Rattle.std.proofs.Common.{refl, ◌∙◌, arith, ap}
 use Rattle.slab.specs.Slab.{get}
-use Rattle.buffer_pool.specs.Pools.{PoolView, HasPage, view_of, without_pin}
+use Rattle.buffer_pool.specs.Pools.{PoolView, view_of, without_pin}
 use Rattle.buffer_pool.proofs.SoundLemmas.{has_inside, once_pool, sound_changed, changes_seen}
 use Rattle.buffer_pool.proofs.HeldLemmas.{one_pin, releases_page, release_rests}
 use Rattle.buffer_pool.proofs.pool.Pool.release.Goals as goal
