@@ -1,13 +1,12 @@
 -- The frames of a pool, after its calls.
-use Rattle.std.proofs.Common.{◌≡◌, ◌≢◌, ℕ, Bool, true, false, ◌&&◌, eqb, Option, Some, None, inl, inr, refl, sym, ◌∙◌, ap, ap₂, subst}
+use Rattle.std.proofs.Common.{◌≡◌, ℕ, true, ◌&&◌, eqb, Option, Some, None, inl, inr, refl, sym, ◌∙◌, ap, ap₂}
 use Rattle.std.specs.Option.{option_map}
-use Rattle.std.proofs.lemmas.Bool.{cases_Bool, and_parts, eqb-true, eq-eqb, false≢true}
+use Rattle.std.proofs.lemmas.Bool.{cases_Bool, and_parts, eqb-true, eq-eqb}
 use Rattle.std.proofs.Math.Path.{fun_ext}
-use Rattle.slab.specs.Slab.{Slab, get, Updates}
 use Rattle.buffer_pool.specs.declared.pool.Buffer.{Buffer}
 use Rattle.buffer_pool.specs.Pools.{PoolView, HasPage, AreOnce, new_buffer, with_buffers}
 use Rattle.buffer_pool.specs.Lending.{changed_at}
-use Rattle.buffer_pool.specs.Laws.{SamePage, buffer_of, with_buffer}
+use Rattle.buffer_pool.specs.Laws.{buffer_of, with_buffer}
 use Rattle.buffer_pool.proofs.BufferLemmas.{buffer_found, brings_add_a_buffer, evicts_take_a_buffer, pins_change_a_buffer, loans_change_a_buffer}
 use Rattle.pending_writes.specs.Frames.{Frame, Frames, with_frame_at}
 use Rattle.frame_changes.specs.Views.{frame_in, frames_of}

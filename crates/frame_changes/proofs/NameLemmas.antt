@@ -1,6 +1,6 @@
 -- Frames of the pages of names, one name after the other.
-use Rattle.std.proofs.Common.{◌≡◌, ◌⊎◌, ◌<◌, ◌≤◌, ◌+◌, ◌&&◌, not, ℕ, zero, suc, Bool, true, false, eqb, List, [], ◌∷◌, ◌++◌, filter, map, take, get_or, length, Contains, Option, Some, None, inl, inr, refl, sym, ◌∙◌, ap, ap₂, subst, arith}
-use Rattle.std.proofs.lemmas.Bool.{cases_Bool, cases_eq, eqb-true, false≢true}
+use Rattle.std.proofs.Common.{◌≡◌, ◌<◌, ◌≤◌, ◌+◌, ℕ, eqb, List, [], ◌∷◌, ◌++◌, filter, map, take, get_or, length, Option, Some, None, inl, inr, refl, sym, ◌∙◌, ap, ap₂, subst, arith}
+use Rattle.std.proofs.lemmas.Bool.{cases_Bool, cases_eq}
 use Rattle.std.proofs.lemmas.List.{map_more, take_all}
 use Rattle.std.proofs.lemmas.List.Elements.{Contains-append_cases}
 use Rattle.slab.proofs.SlabLemmas.{Contains-cons_cases}
@@ -10,8 +10,8 @@ use Rattle.ipl_base.specs.declared.spot.Home.{Home}
 use Rattle.ipl_format.specs.Record.{Record}
 use Rattle.page_ops.specs.Pending.{Pending, seen_by, without_pending}
 use Rattle.pending_writes.specs.Pending.{is_other}
-use Rattle.pending_writes.specs.Frames.{Frame, Frames, with_frame_at, IsCommittedFrame, IsAbortedFrame, ChangesSo}
-use Rattle.frame_changes.specs.Changes.{FrameChanges, IsHome, HomeChanges, OnlyPageChanges, IsSameOr, EachNamedFrame}
+use Rattle.pending_writes.specs.Frames.{Frame, Frames, IsCommittedFrame, IsAbortedFrame, ChangesSo}
+use Rattle.frame_changes.specs.Changes.{FrameChanges, HomeChanges, OnlyPageChanges, IsSameOr, EachNamedFrame}
 use Rattle.frame_changes.proofs.FrameLemmas.{frame_here, frame_elsewhere}
 
 -- ---- one name

@@ -1,11 +1,11 @@
 -- What is written through loans of one page's frame and records.
-use Rattle.std.proofs.Common.{◌≡◌, ◌≤◌, ◌<◌, ◌+◌, ◌++◌, ◌∷◌, [], ℕ, List, Bool, true, false, IsTrue, ◌↔◌, Option, Some, None, IsSome, arith, refl, sym, ◌∙◌, ap, subst}
+use Rattle.std.proofs.Common.{◌≡◌, ◌≤◌, ◌+◌, ◌++◌, ◌∷◌, [], ℕ, List, Bool, false, IsTrue, ◌↔◌, Option, Some, None, IsSome, arith, refl, sym, ◌∙◌, ap, subst}
 use Rattle.std.specs.Bool.{OnTrue}
 use Rattle.std.specs.Option.{option_map, option_map_or}
 use Rattle.std.proofs.lemmas.Bool.{false≢true}
 use Rattle.mem_log_sector.proofs.MemLemmas.{done_as_it_fits}
 use Rattle.buffer_pool.proofs.IndexLemmas.{some_is, no_some}
-use Rattle.slab.specs.Slab.{Slab, get, Updates}
+use Rattle.slab.specs.Slab.{get}
 use Rattle.ipl_format.specs.Record.{Record}
 use Rattle.ipl_meaning.specs.Last.{size_of, size_of_all}
 use Rattle.page_ops.specs.Frames.{FrameView, pending_in, IsSettled, IsDropped}

@@ -1,4 +1,4 @@
-use Rattle.std.proofs.Common.{◌≡◌, ◌≤◌, take, map, length}
+use Rattle.std.proofs.Common.{◌≡◌, take, map}
 use Rattle.buffer_pool.specs.Holding.{KeepsPins}
 use Rattle.pending_writes.specs.Frames.{IsAbortedFrame}
 use Rattle.frame_changes.specs.Views.{frames_of}

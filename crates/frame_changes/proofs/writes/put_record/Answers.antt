@@ -1,8 +1,7 @@
-use Rattle.page_ops.specs.Frames.{FrameView}
 use Rattle.log_records.specs.View.{record_of}
 use Rattle.buffer_pool.specs.Lending.{with_frame}
 use Rattle.pending_writes.specs.Frames.{IsWrittenFrame}
-use Rattle.frame_changes.proofs.PutLemmas.{not_absent, both_change, both_pins, some_then, stored_then, written}
+use Rattle.frame_changes.proofs.PutLemmas.{not_absent, both_change, both_pins, stored_then, written}
 use Rattle.frame_changes.proofs.writes.put_record.Goals as goal
 
 pub unreachable-requires : goal.unreachable-requires
