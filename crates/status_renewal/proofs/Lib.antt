@@ -7,6 +7,7 @@ pub mod UnitLemmas
 pub mod PassLemmas
 pub mod PreserveLemmas
 pub mod KnownLemmas
+pub mod TellingLemmas
 pub mod RenewLemmas
 pub mod CauseLemmas
 pub mod RestLemmas

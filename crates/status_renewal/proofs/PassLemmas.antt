@@ -73,7 +73,7 @@ module _ (places : ℕ) (c : Chart) (it : Layout) (t : Tables) where
   }
 
   pub stopped_from : (n : ℕ) (kept : List ℕ) (new : Told) (after : Tables)
-      → HasPassed places n c it t kept new after → TellsChart (HasStopped places it t after) new
+      → HasPassed places n c it t kept new after → TellsChart (HasStopped places c it t after) new
   stopped_from n kept new after was = (
     was.contents,
     was.told,
@@ -81,6 +81,7 @@ module _ (places : ℕ) (c : Chart) (it : Layout) (t : Tables) where
       units = n;
       now = was.now;
       mirrors = was.mirrors;
+      pages = was.pages;
       passed = was.passed;
       committed = was.committed;
     },
@@ -221,7 +222,7 @@ module _ (places : ℕ) (c : Chart) (it : Layout) (t : Tables) where
     -- it wasn't
     pub stopped_there : (new : Told) (after : Tables)
         → Charts (StaysMirrored places mid after) old new
-        → TellsChart (HasStopped places it t after) new
+        → TellsChart (HasStopped places c it t after) new
     stopped_there new after stays =
         let (y, told_y, still) = stays was.contents was.told in (
           y,
@@ -230,6 +231,8 @@ module _ (places : ℕ) (c : Chart) (it : Layout) (t : Tables) where
             units = n;
             now = was.now;
             mirrors = (still was.now was.mirrors).0;
+            pages = λ u page values low few shows. (still was.now was.mirrors).1 u page values low
+                few (was.pages u page values low few shows);
             passed = was.passed;
             committed = was.committed;
           },
@@ -243,7 +246,7 @@ module _ (places : ℕ) (c : Chart) (it : Layout) (t : Tables) where
         (λ v. Charts (λ d y. (l : Layout) → Mirrors places d l mid
         → IsMergedUnit places d y l mid n after) old new)
         (λ fault. fault ≢ Stopped → Charts (StaysMirrored places mid after) old new)
-        → PassEnds places it t result new after
+        → PassEnds places c it t result new after
         (HasPassed places (n + 1) c it t kept new after)
     merge_ends (Ok v) new after status active many merges =
         passed_merged new after status active many merges

@@ -60,7 +60,7 @@ module _ (places : ℕ) (c : Chart) (it : Layout) (t : Tables) (kept : List ℕ)
         → OnOk result (Charts (Renews places between.places between.status between.next kept
         directory status drawn) mid new)
         → IfErr result (λ fault. IsStopped fault mid new)
-        → PassEnds places it t result new (with_tables between directory status drawn)
+        → PassEnds places c it t result new (with_tables between directory status drawn)
         (TellsChart (HasRenewed places c it t (with_tables between directory status drawn)) new)
     renew_ends (Ok v) renews stopped = renewed renews
     renew_ends (Err e) renews stopped = λ soft. absurd (soft stopped.0)

@@ -55,7 +55,7 @@ of_held F k told law steady (y, is, has) =
     (same_told y (held k.start k.story) (sym is ∙ held_told k told law steady)) has
 
 -- where no write failed, the fault is another one
-soft_end : (fault : ChipFault) (old new : Told) → RenewCause fault old new → Unrisen old new
+pub soft_end : (fault : ChipFault) (old new : Told) → RenewCause fault old new → Unrisen old new
     → fault ≢ Stopped
 soft_end fault old new cause unrisen is =
     let rose : RenewCause Stopped old new =
@@ -67,7 +67,7 @@ renewals_rest places m it h t after old new (Ok v) law_old law_new steady rests 
     let did = keeps m it h steady rests agrees in
     let k = adds_all did.added h in
     let there : IsSteady k new = record { told = did.history; settled = did.settled tt } in
-    let renewed = tells (held h.start h.story) it (held_told h old law_old steady) agrees.mirrors in
+    let (y, told, renews) = tells (held h.start h.story) (held_told h old law_old steady) in
     record {
       added = did.added;
       history = did.history;
@@ -76,7 +76,8 @@ renewals_rest places m it h t after old new (Ok v) law_old law_new steady rests 
       settled = did.settled;
       ends = λ _. record {
         rests = did.ends tt;
-        renewed = of_held (HasRenewed places (now h) it t after) k new law_new there renewed;
+        renewed = of_held (HasRenewed places (now h) it t after) k new law_new there
+            (y, told, renews it agrees.mirrors);
         tidy = did.does.clean tt h.story agrees.tidy;
       };
     }
@@ -84,18 +85,19 @@ renewals_rest places m it h t after old new (Err e) law_old law_new steady rests
     accounts =
     let did = keeps m it h steady rests agrees in
     let k = adds_all did.added h in
-    let stopped = tells (held h.start h.story) it (held_told h old law_old steady) agrees.mirrors in
     record {
       added = did.added;
       history = did.history;
       each_moment = did.each_moment;
       does = did.does;
       settled = did.settled;
-      ends = λ unrisen. record {
-        rests = did.ends unrisen;
-        stopped = of_held (HasStopped places it t after) k new law_new
-            (record { told = did.history; settled = did.settled unrisen })
-            (stopped (soft_end e old new accounts.cause unrisen));
-        tidy = did.does.clean unrisen h.story agrees.tidy;
-      };
+      ends = λ unrisen.
+          let (y, told, stops) = tells (soft_end e old new accounts.cause unrisen)
+          (held h.start h.story) (held_told h old law_old steady) in record {
+            rests = did.ends unrisen;
+            stopped = of_held (HasStopped places (now h) it t after) k new law_new
+                (record { told = did.history; settled = did.settled unrisen })
+                (y, told, stops it agrees.mirrors);
+            tidy = did.does.clean unrisen h.story agrees.tidy;
+          };
     }

@@ -16,6 +16,7 @@ use Rattle.merge_rules.specs.Faults.{IsMergeable, FailsByChipAlone}
 use Rattle.merge_rules.specs.Known.{KnowsPlaces}
 use Rattle.merge_rules.specs.Pages.{IsBaseSpotBelow}
 use Rattle.merge_rules.specs.Packs.{among, packs_of, entries_from}
+use Rattle.selective_merge.specs.Throughout.{ChartsThroughout}
 use Rattle.steps.specs.Laws.{Preserves}
 use Rattle.txn_status.specs.Status.{room_of}
 use Rattle.unit_io.specs.Costs.{Costs}
@@ -76,11 +77,13 @@ pub record HasPassed (places n : ℕ) (c : Chart) (it : Layout) (t : Tables) (ke
   pub keeps : KeepsBelow n now kept
 
 -- It ended before all units were passed: some of the first ones were merged. The tables mirror the
--- chart, and the same numbers are committed.
-pub record HasStopped (places : ℕ) (it : Layout) (t after : Tables) (y : Chart) : Type 0 where
+-- chart, all pages show what they showed, and the same numbers are committed.
+pub record HasStopped (places : ℕ) (c : Chart) (it : Layout) (t after : Tables)
+    (y : Chart) : Type 0 where
   pub units : ℕ
   pub now : Layout
   pub mirrors : Mirrors places y now after
+  pub pages : KeepsPages places c it y now
   pub passed : ArePassed places units t.active t.status.numbers it now
   pub committed : now.committed ≡ it.committed
 
@@ -90,10 +93,15 @@ TellsChart F new = (y : Contents) × (new.contents ≡ Some y) × F (chart_of y)
 
 -- over contents that are told: done, or it ended before; and where a write failed nothing is
 -- promised
-abbrev pub PassEnds : ℕ → Layout → Tables → Result (Unit {0}) ChipFault → Told → Tables
+abbrev pub PassEnds : ℕ → Chart → Layout → Tables → Result (Unit {0}) ChipFault → Told → Tables
     → Type 0 → Type 0
-PassEnds places it t result new after Done = MatchResult result
-    (λ _. Done) (λ fault. fault ≢ Stopped → TellsChart (HasStopped places it t after) new)
+PassEnds places c it t result new after Done = MatchResult result
+    (λ _. Done) (λ fault. fault ≢ Stopped → TellsChart (HasStopped places c it t after) new)
+
+-- a chip that tells its contents goes on telling them, whatever the tables are, unless a write failed
+abbrev pub GoesOnTelling : Result (Unit {0}) ChipFault → Told → Told → Type 0
+GoesOnTelling result old new =
+    ChartsThroughout (λ done c y. Unit {0}) (λ c y. Unit {0}) result old new
 
 -- ---- the renewal
 
@@ -110,12 +118,21 @@ pub record HasRenewed (places : ℕ) (c : Chart) (it : Layout) (t after : Tables
   pub exact : (tid : ℕ) → IsTrue (now.committed tid)
       ↔ (IsTrue (it.committed tid) × IsLoggedBelow (places - 4) now tid)
 
--- over contents that are told and that the tables mirror: renewed, or it ended before that
+-- whatever layout the tables mirrored, the status was renewed
+abbrev pub RenewsAny : ℕ → Tables → Tables → Chart → Chart → Type 0
+RenewsAny places t after c y = (it : Layout) → Mirrors places c it t
+    → HasRenewed places c it t after y
+
+-- whatever layout the tables mirrored, it ended before that
+abbrev pub StopsAny : ℕ → Tables → Tables → Chart → Chart → Type 0
+StopsAny places t after c y = (it : Layout) → Mirrors places c it t
+    → HasStopped places c it t after y
+
+-- a chip that tells its contents goes on telling them, unless a write failed: renewed, or it ended
+-- before that
 abbrev pub RenewsTold : ℕ → Tables → Tables → Told → Result (Unit {0}) ChipFault → Told → Type 0
-RenewsTold places t after old result new = (x : Contents) (it : Layout)
-    → old.contents ≡ Some x → Mirrors places (chart_of x) it t
-    → PassEnds places it t result new after
-    (TellsChart (HasRenewed places (chart_of x) it t after) new)
+RenewsTold places t after old result new =
+    ChartsThroughout (λ done. RenewsAny places t after) (StopsAny places t after) result old new
 
 -- over a story that rests on a map and with which the tables agree: it keeps the map, however it
 -- ends

@@ -26,10 +26,10 @@ pub record RestsRenewed (places : ℕ) (m : Map) (c : Chart) (it : Layout) (t af
   pub tidy : IsTidy k.story after
 
 -- it rests on the map, some units were merged, and the tables agree
-pub record RestsStopped (places : ℕ) (m : Map) (it : Layout) (t after : Tables)
+pub record RestsStopped (places : ℕ) (m : Map) (c : Chart) (it : Layout) (t after : Tables)
     (k : History) : Type 0 where
   pub rests : StoryRests places m k
-  pub stopped : HasStopped places it t after (now k)
+  pub stopped : HasStopped places c it t after (now k)
   pub tidy : IsTidy k.story after
 
 -- ---- laws
@@ -61,4 +61,4 @@ RenewalsRest =
     → Accounts RenewCause result old new
     → Steps (EachStands places m) t after
     (λ done k. RestsRenewed places m (now h) it t after k)
-    (λ k. RestsStopped places m it t after k) h result old new
+    (λ k. RestsStopped places m (now h) it t after k) h result old new

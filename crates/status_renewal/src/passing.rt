@@ -10,7 +10,7 @@ ghost use Rattle.merge_rules.specs.Known.{KnowsPlaces};
 ghost use Rattle.selective_merge.specs.Moving.{tables_of, Holds};
 ghost use Rattle.unit_io.specs.Accounts.{Accounts};
 ghost use Rattle.unit_io.specs.Costs.{Spends};
-ghost use Rattle.status_renewal.specs.Passes.{HasPassed, PassEnds, KeepsInSteps, AreMergeable, CompletesRenewal, ErasesAtMost, RenewCause};
+ghost use Rattle.status_renewal.specs.Passes.{HasPassed, PassEnds, GoesOnTelling, KeepsInSteps, AreMergeable, CompletesRenewal, ErasesAtMost, RenewCause};
 
 use crate::kept::KeptNumbers;
 use chip_trait::Chip;
@@ -32,8 +32,9 @@ fn take_unit<C: Chip>(
     ensures passes { (places : ℕ) (c : Chart) (it : Layout) (t : Tables)
         → (C.told chip.old).places ≡ places → Holds places t (tables_of parts.old)
         → HasPassed places unit c it t kept.old (C.told chip.old) (tables_of parts.old)
-        → PassEnds places it t result (C.told chip.new) (tables_of parts.new)
+        → PassEnds places c it t result (C.told chip.new) (tables_of parts.new)
         (HasPassed places (unit + 1) c it t kept.new (C.told chip.new) (tables_of parts.new)) }
+    ensures goes_on { GoesOnTelling result (C.told chip.old) (C.told chip.new) }
     ensures complete { (places : ℕ) (c : Chart) (it : Layout) (t : Tables)
         → (C.told chip.old).places ≡ places → Holds places t (tables_of parts.old)
         → HasPassed places unit c it t kept.old (C.told chip.old) (tables_of parts.old)
@@ -73,9 +74,11 @@ pub fn pass<C: Chip>(
     ensures passes { (places : ℕ) (x : Contents) (it : Layout)
         → (C.told chip.old).places ≡ places → (C.told chip.old).contents ≡ Some x
         → Mirrors places (chart_of x) it (tables_of parts.old)
-        → PassEnds places it (tables_of parts.old) result (C.told chip.new) (tables_of parts.new)
+        → PassEnds places (chart_of x) it (tables_of parts.old) result (C.told chip.new)
+        (tables_of parts.new)
         (HasPassed places (places - 4) (chart_of x) it (tables_of parts.old) kept.new
         (C.told chip.new) (tables_of parts.new)) }
+    ensures goes_on { GoesOnTelling result (C.told chip.old) (C.told chip.new) }
     ensures complete { CompletesRenewal (C.told chip.old).places (tables_of parts.old) result
         (C.told chip.old) }
     ensures steps { (places : ℕ) → (C.told chip.old).places ≡ places

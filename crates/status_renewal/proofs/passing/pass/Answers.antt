@@ -8,6 +8,7 @@ use Rattle.status_renewal.specs.Passes.{HasPassed}
 use Rattle.status_renewal.proofs.CostLemmas.{erases_none, erases_more, erases_then}
 use Rattle.status_renewal.proofs.PassLemmas.{passed_none}
 use Rattle.status_renewal.proofs.PreserveLemmas.{passed_then}
+use Rattle.status_renewal.proofs.TellingLemmas.{goes_on_same, goes_on_then}
 use Rattle.status_renewal.proofs.passing.pass.Goals as goal
 
 pub loop-unit-init : goal.loop-unit-init
@@ -22,6 +23,7 @@ loop-unit-init g c =
       passes = λ places x it same is mirrors.
           subst (λ (kept : List ℕ). HasPassed places 0 (chart_of x) it t kept told t)
           (sym c.clear.ensures) (passed_none places (chart_of x) it t x told refl is mirrors);
+      goes_on = goes_on_same (Ok tt) told told refl;
       steps = λ places same m it h steady rests agrees. nothing_keeps places m t h told steady rests;
     }
 
@@ -50,6 +52,14 @@ returns-in_err-take_unit-clause-steps g c = λ places same m it h steady rests a
     (λ k was there resting agreeing. c.in_err-take_unit.ensures.steps places
     (so_far.counts.places ∙ same) m was.now k there resting agreeing))
 
+pub returns-in_err-take_unit-clause-goes_on : goal.returns-in_err-take_unit-clause-goes_on
+returns-in_err-take_unit-clause-goes_on g c =
+    let e = err_from_is_err_and c.from_residual.result c.from_residual.ensures.1 in
+    rw (e.1 ∙ ap Err e.2) (goes_on_then (Err c.in_err-take_unit.field-0.0)
+    (g.C.Chip.told c.args.chip.now) (g.C.Chip.told c.loop-unit.chip)
+    (g.C.Chip.told c.take_unit.new.chip) c.loop-unit.invariant.goes_on
+    c.in_err-take_unit.ensures.goes_on)
+
 pub loop-unit-preserved : goal.loop-unit-preserved
 loop-unit-preserved g c =
     let so_far = c.loop-unit.invariant in
@@ -74,6 +84,7 @@ loop-unit-preserved g c =
       passes = λ places x it same is mirrors. c.in_ok-take_unit.ensures.passes places (chart_of x)
           it t (so_far.counts.places ∙ same) (subst (λ n. Holds n t between) same so_far.holds)
           (so_far.passes places x it same is mirrors);
+      goes_on = goes_on_then (Ok tt) old mid new so_far.goes_on c.in_ok-take_unit.ensures.goes_on;
       steps = λ places same m it h steady rests agrees. passed_then places m h it t between after
           old mid new (Ok tt) c.loop-unit.unit c.loop-unit.kept so_far.counts
           (g.met.C.Chip.consistent c.args.chip.now) (g.met.C.Chip.consistent c.loop-unit.chip)

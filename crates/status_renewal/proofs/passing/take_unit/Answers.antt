@@ -19,6 +19,7 @@ use Rattle.status_renewal.proofs.PassLemmas.{passed_read, passed_joined, merge_e
 use Rattle.status_renewal.proofs.UnitLemmas.{records_are_logged}
 use Rattle.status_renewal.proofs.PreserveLemmas.{reads_preserve, steps_preserve, read_then}
 use Rattle.status_renewal.proofs.CompleteLemmas.{merge_is_complete}
+use Rattle.status_renewal.proofs.TellingLemmas.{goes_on_same, goes_on_then, goes_on_from}
 use Rattle.status_renewal.proofs.passing.take_unit.Goals as goal
 
 pub returns-in_err-read_live-clause-passes : goal.returns-in_err-read_live-clause-passes
@@ -45,6 +46,18 @@ returns-in_err-read_live-clause-accounts g c =
       cause = read_cause _ c.in_err-read_live.field-0.0 (g.C.Chip.told c.args.chip.now)
           (g.C.Chip.told c.read_live.new.chip) c.in_err-read_live.ensures.looks.cause;
     })
+
+pub returns-in_err-read_live-clause-goes_on : goal.returns-in_err-read_live-clause-goes_on
+returns-in_err-read_live-clause-goes_on g c =
+    let e = err_from_is_err_and c.from_residual.result c.from_residual.ensures.1 in
+    rw (e.1 ∙ ap Err e.2) (goes_on_same (Err c.in_err-read_live.field-0.0)
+    (g.C.Chip.told c.args.chip.now) (g.C.Chip.told c.read_live.new.chip)
+    c.read_live.ensures.looks.reads.contents)
+
+pub returns-then-join-clause-goes_on : goal.returns-then-join-clause-goes_on
+returns-then-join-clause-goes_on g c =
+    goes_on_same (Ok tt) (g.C.Chip.told c.args.chip.now) (g.C.Chip.told c.read_live.new.chip)
+    c.read_live.ensures.looks.reads.contents
 
 pub returns-then-join-clause-passes : goal.returns-then-join-clause-passes
 returns-then-join-clause-passes g c = λ places chart it t same holds was.
@@ -77,6 +90,18 @@ returns-then-join-clause-steps g c = λ places same m it h steady rests agrees.
     (g.C.Chip.told c.args.chip.now) (g.C.Chip.told c.read_live.new.chip) steady rests
     c.read_live.ensures.looks.reads
 
+pub returns-clause-goes_on : goal.returns-clause-goes_on
+returns-clause-goes_on g c =
+    let old = g.C.Chip.told c.args.chip.now in
+    let mid = g.C.Chip.told c.read_live.new.chip in
+    let new = g.C.Chip.told c.merge.new.chip in
+    let t = tables_of c.args.parts.now in
+    let after = tables_of c.merge.new.parts in
+    goes_on_then c.merge.result old mid new
+    (goes_on_same (Ok tt) old mid c.read_live.ensures.looks.reads.contents)
+    (goes_on_from (λ done. Merges mid.places c.args.unit t after)
+    (StaysMirrored mid.places t after) c.merge.result mid new c.merge.ensures.tells)
+
 pub returns-clause-passes : goal.returns-clause-passes
 returns-clause-passes g c = λ places chart it t same holds was.
     let parts = c.args.parts.now in
@@ -103,7 +128,7 @@ returns-clause-passes g c = λ places chart it t same holds was.
     let many : 3840 < length (joined parts.status.numbers (records_of log) c.args.kept.now) =
     subst (λ (rs : List Record). 3840 < length (joined parts.status.numbers rs c.args.kept.now))
     records (too_many c.join.result _ c.join.ensures.fits c.if-join.false) in
-    subst (λ (k : List ℕ). PassEnds places it t c.merge.result new after
+    subst (λ (k : List ℕ). PassEnds places chart it t c.merge.result new after
     (HasPassed places (unit + 1) chart it t k new after)) (sym c.if-join.ensures.same)
     (merge_ends places chart it t unit low c.args.kept.now mid (tables_of parts) there
     c.merge.result new after holds.status holds.active many

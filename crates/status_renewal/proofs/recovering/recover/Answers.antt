@@ -84,9 +84,9 @@ returns-clause-tells g c = λ x told.
     let renews : RenewsTold old.places t after mid (Ok tt) new =
     subst (λ n. RenewsTold n t after mid (Ok tt) new)
     c.recover.ensures.looks.reads.counts.places c.in_ok-renew.ensures.tells in
+    let (y, there, any) = renews x (c.recover.ensures.looks.reads.contents ∙ told) in
     opens_done old.places (chart_of x) t after new (c.in_ok-recover.ensures.fault x told)
-    (renews x (layout_in (chart_of x) old.places)
-    (c.recover.ensures.looks.reads.contents ∙ told) parts.1)
+    (y, there, any (layout_in (chart_of x) old.places) parts.1)
 
 pub returns-clause-number : goal.returns-clause-number
 returns-clause-number g c = λ x told.

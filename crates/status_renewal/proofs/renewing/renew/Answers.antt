@@ -13,13 +13,17 @@ use Rattle.status_renewal.proofs.CostLemmas.{erases_more, erases_then, place_era
 use Rattle.status_renewal.proofs.PreserveLemmas.{passed_then, steps_preserve}
 use Rattle.status_renewal.proofs.RenewLemmas.{may_renew, renew_ends, status_ends}
 use Rattle.status_renewal.proofs.CompleteLemmas.{written_alone}
+use Rattle.status_renewal.proofs.TellingLemmas.{goes_on_then, goes_on_where, renews_told}
 use Rattle.status_renewal.proofs.renewing.renew.Goals as goal
 
 pub returns-in_err-pass-clause-tells : goal.returns-in_err-pass-clause-tells
-returns-in_err-pass-clause-tells g c = λ x it told mirrors.
+returns-in_err-pass-clause-tells g c =
+    let old = g.C.Chip.told c.args.chip.now in
     let e = err_from_is_err_and c.from_residual.result c.from_residual.ensures.1 in
-    rw (e.1 ∙ ap Err e.2) (c.in_err-pass.ensures.passes (g.C.Chip.told c.args.chip.now).places x it
-    refl told mirrors)
+    rw (e.1 ∙ ap Err e.2) (renews_told old.places (tables_of c.args.parts.now)
+    (tables_of c.pass.new.parts) old (Err c.in_err-pass.field-0.0)
+    (g.C.Chip.told c.pass.new.chip) c.in_err-pass.ensures.goes_on
+    (λ x it told mirrors. c.in_err-pass.ensures.passes old.places x it refl told mirrors))
 
 pub returns-in_err-pass-clause-steps : goal.returns-in_err-pass-clause-steps
 returns-in_err-pass-clause-steps g c = λ m it h steady rests agrees.
@@ -33,7 +37,7 @@ renew_place-requires-clause-free g c = c.known_laws.ensures.free
     c.in_ok-pass.ensures.holds.known
 
 pub returns-clause-tells : goal.returns-clause-tells
-returns-clause-tells g c = λ x it told mirrors.
+returns-clause-tells g c =
     let old = g.C.Chip.told c.args.chip.now in
     let mid = g.C.Chip.told c.pass.new.chip in
     let new = g.C.Chip.told c.renew_place.new.chip in
@@ -43,15 +47,20 @@ returns-clause-tells g c = λ x it told mirrors.
     let directory = c.renew_place.new.directory in
     let status = c.renew_place.new.status in
     let drawn = c.renew_place.new.counter in
-    let was = subst (λ (k : List ℕ). HasPassed old.places (old.places - 4) (chart_of x) it t k mid
-    between) (sym c.as_slice.ensures.numbers)
-    (c.in_ok-pass.ensures.passes old.places x it refl told mirrors) in
-    renew_ends old.places (chart_of x) it t kept mid between was directory status drawn new
-    c.renew_place.result
-    (subst (λ n. OnOk c.renew_place.result (Charts (Renews n between.places between.status
-    between.next kept directory status drawn) mid new)) c.pass.ensures.accounts.counts.places
-    c.renew_place.ensures.tells)
-    c.renew_place.ensures.accounts.cause
+    let renews = subst (λ n. OnOk c.renew_place.result (Charts (Renews n between.places
+    between.status between.next kept directory status drawn) mid new))
+    c.pass.ensures.accounts.counts.places c.renew_place.ensures.tells in
+    let cause = c.renew_place.ensures.accounts.cause in
+    renews_told old.places t (with_tables between directory status drawn) old c.renew_place.result
+    new
+    (goes_on_then c.renew_place.result old mid new c.in_ok-pass.ensures.goes_on
+    (goes_on_where (Renews old.places between.places between.status between.next kept directory
+    status drawn) c.renew_place.result mid new renews cause))
+    (λ x it told mirrors. renew_ends old.places (chart_of x) it t kept mid between
+    (subst (λ (k : List ℕ). HasPassed old.places (old.places - 4) (chart_of x) it t k mid between)
+    (sym c.as_slice.ensures.numbers)
+    (c.in_ok-pass.ensures.passes old.places x it refl told mirrors))
+    directory status drawn new c.renew_place.result renews cause)
 
 pub returns-clause-steps : goal.returns-clause-steps
 returns-clause-steps g c = λ m it h steady rests agrees.
