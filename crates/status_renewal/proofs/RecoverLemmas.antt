@@ -30,7 +30,7 @@ use Rattle.unit_io.specs.Leads.{IsSteady}
 use Rattle.unit_io.specs.ReadsAt.{IsReadAt, ReadsAt}
 use Rattle.unit_io.proofs.ReadsAtLemmas.{at_rests}
 use Rattle.status_renewal.specs.Passes.{HasRenewed, TellsChart, KeepsInSteps, RenewCause}
-use Rattle.status_renewal.specs.Recovers.{HasOpened, IsOpeningFault, IsNowhere, RecoversInSteps, OpeningCause}
+use Rattle.status_renewal.specs.Recovers.{HasOpened, IsOpeningFault, LooksAtFaults, IsNowhere, RecoversInSteps, OpeningCause}
 use Rattle.status_renewal.proofs.PreserveLemmas.{held_told, agrees_of, reads_preserve, preserves_then}
 
 -- ---- reads
@@ -117,6 +117,13 @@ opens_told places c e old new tells cause no_read = elim (cases_Bool (is_image e
   | inl image ↦ inl (tells image)
   | inr other ↦ absurd (no_read (cause other).fault)
 ]
+
+-- a chip without a fault has nothing to show here
+pub sound_looks : (places : ℕ) (old new : Told)
+    → ((x : Contents) → old.contents ≡ Some x → first_fault (chart_of x) places ≡ None)
+    → LooksAtFaults places old new
+sound_looks places old new sound x told e is =
+    let no_way : None ≡ Some e = sym (sound x told) ∙ is in absurd cc
 
 -- ---- causes
 

@@ -70,8 +70,8 @@ pub renews_told : (places : ℕ) (t after : Tables) (old : Told)
     (TellsChart (HasRenewed places (chart_of x) it t after) new))
     → RenewsTold places t after old result new
 renews_told places t after old (Ok v) new goes_on ends =
-    told_of_each (λ it c. Mirrors places c it t) (λ it c y. HasRenewed places c it t after y) old new
-    goes_on ends
+    told_of_each (λ it c. Mirrors places c it t) (λ it c y. HasRenewed places c it t after y) old
+    new goes_on ends
 renews_told places t after old (Err e) new goes_on ends = λ soft.
-    told_of_each (λ it c. Mirrors places c it t) (λ it c y. HasStopped places c it t after y) old new
-    (goes_on soft) (λ x it told mirrors. ends x it told mirrors soft)
+    told_of_each (λ it c. Mirrors places c it t) (λ it c y. HasStopped places c it t after y) old
+    new (goes_on soft) (λ x it told mirrors. ends x it told mirrors soft)

@@ -98,7 +98,7 @@ abbrev pub PassEnds : ℕ → Chart → Layout → Tables → Result (Unit {0}) 
 PassEnds places c it t result new after Done = MatchResult result
     (λ _. Done) (λ fault. fault ≢ Stopped → TellsChart (HasStopped places c it t after) new)
 
--- a chip that tells its contents goes on telling them, whatever the tables are, unless a write failed
+-- a chip that tells its contents goes on telling them, unless a write failed
 abbrev pub GoesOnTelling : Result (Unit {0}) ChipFault → Told → Told → Type 0
 GoesOnTelling result old new =
     ChartsThroughout (λ done c y. Unit {0}) (λ c y. Unit {0}) result old new

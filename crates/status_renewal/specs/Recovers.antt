@@ -17,6 +17,7 @@ use Rattle.ipl_meaning.specs.Tables.{Tables, IsCountedClean}
 use Rattle.merge_rules.specs.Known.{KnowsPlaces}
 use Rattle.opening_rules.specs.Faults.{first_fault}
 use Rattle.opening_rules.specs.LaidOut.{layout_in}
+use Rattle.restart.specs.Looks.{OnlyReads}
 use Rattle.steps.specs.Steps.{Settled, EndsWith, Outcome, TidyWork}
 use Rattle.txn_status.specs.Status.{room_of}
 use Rattle.unit_io.specs.Leads.{IsSteady}
@@ -47,6 +48,11 @@ abbrev pub RecoversTold : ℕ → Told → Result (Unit {0}) ImageFault → Tabl
 RecoversTold places old result after new = (x : Contents) → old.contents ≡ Some x
     → MatchResult result (λ _. TellsChart (HasOpened places (chart_of x) after) new)
     (λ e. e ≢ Chip ReadFault → e ≢ Chip Stopped → IsOpeningFault places (chart_of x) e)
+
+-- a chip whose contents have a fault was only read
+abbrev pub LooksAtFaults : ℕ → Told → Told → Type 0
+LooksAtFaults places old new = OfContents old (λ x. (e : ImageFault)
+    → first_fault (chart_of x) places ≡ Some e → OnlyReads old new)
 
 -- a call of the chip failed
 abbrev pub FailsByCallAlone : ImageFault → Type 0

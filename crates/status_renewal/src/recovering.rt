@@ -7,7 +7,7 @@ ghost use Rattle.unit_io.specs.Accounts.{Accounts};
 ghost use Rattle.unit_io.specs.Costs.{Spends};
 ghost use Rattle.unit_io.specs.Reads.{OfContents};
 ghost use Rattle.status_renewal.specs.Passes.{ErasesAtMost};
-ghost use Rattle.status_renewal.specs.Recovers.{CompletesOpening, RecoversTold, RecoversInSteps, HoldsOpened, OpeningCause};
+ghost use Rattle.status_renewal.specs.Recovers.{CompletesOpening, RecoversTold, LooksAtFaults, RecoversInSteps, HoldsOpened, OpeningCause};
 
 use crate::kept::KeptNumbers;
 use crate::renewing::renew;
@@ -21,8 +21,9 @@ use selective_merge::Parts;
 /// records still have. No session is open.
 ///
 /// Whatever a power cut leaves at any moment stands for the map on which the story rested. It fails
-/// with the first fault of the chip; or where it has none, where a unit can't be merged; or where a
-/// call of the chip failed. Where no write failed, the story rests on the map still.
+/// with the first fault of the chip, which was only read then; or where it has none, where a unit
+/// can't be merged; or where a call of the chip failed. Where no write failed, the story rests on the
+/// map still.
 pub fn recover<C: Chip>(
     chip: &mut C,
     scratch: &mut Scratch,
@@ -37,6 +38,7 @@ pub fn recover<C: Chip>(
     // What the chip holds then, and what a power cut leaves.
     ensures tells { RecoversTold (C.told chip.old).places (C.told chip.old) result
         (tables_of parts.new) (C.told chip.new) }
+    ensures looks { LooksAtFaults (C.told chip.old).places (C.told chip.old) (C.told chip.new) }
     ensures number { OnOk result (OfContents (C.told chip.old) (λ x. parts.new.counter
         ≤ greatest_found (chart_of x) (C.told chip.old).places + 1 + 2 ^ 14)) }
     ensures steps { RecoversInSteps (C.told chip.old).places (C.told chip.old) result

@@ -6,7 +6,7 @@ use Rattle.selective_merge.specs.Moving.{tables_of}
 use Rattle.unit_io.specs.Costs.{Spends}
 use Rattle.status_renewal.specs.Passes.{RenewsTold, KeepsInSteps, CompletesRenewal, ErasesAtMost}
 use Rattle.status_renewal.proofs.CostLemmas.{reads_erase, reads_then_erase}
-use Rattle.status_renewal.proofs.RecoverLemmas.{Anywhere, reads_anywhere, of_parts, opened_parts, opens_told, opens_done, reads_recover, recovers_done, recovers_failed}
+use Rattle.status_renewal.proofs.RecoverLemmas.{Anywhere, reads_anywhere, of_parts, opened_parts, opens_told, opens_done, sound_looks, reads_recover, recovers_done, recovers_failed}
 use Rattle.status_renewal.proofs.CompleteLemmas.{all_mergeable, call_failed, reading_failed}
 use Rattle.status_renewal.proofs.recovering.recover.Goals as goal
 
@@ -17,6 +17,9 @@ returns-in_err-recover-clause-tells g c = λ x told.
     rw (e.1 ∙ ap Err e.2) (λ no_read no_stop. opens_told old.places (chart_of x)
     c.in_err-recover.field-0.0 old (g.C.Chip.told c.recover.new.chip)
     (c.in_err-recover.ensures.fault x told) c.in_err-recover.ensures.looks.cause no_read)
+
+pub returns-in_err-recover-clause-looks : goal.returns-in_err-recover-clause-looks
+returns-in_err-recover-clause-looks g c = λ x told e is. c.recover.ensures.looks.reads
 
 pub returns-in_err-recover-clause-steps : goal.returns-in_err-recover-clause-steps
 returns-in_err-recover-clause-steps g c =
@@ -33,6 +36,11 @@ returns-in_err-recover-clause-costs g c =
     let mid = g.C.Chip.told c.recover.new.chip in
     reads_erase Anywhere (old.places - 3) old mid
     (reads_anywhere old mid c.recover.ensures.looks.reads)
+
+pub returns-in_err-renew-clause-looks : goal.returns-in_err-renew-clause-looks
+returns-in_err-renew-clause-looks g c =
+    let old = g.C.Chip.told c.args.chip.now in
+    sound_looks old.places old (g.C.Chip.told c.renew.new.chip) c.in_ok-recover.ensures.fault
 
 pub returns-in_err-renew-clause-steps : goal.returns-in_err-renew-clause-steps
 returns-in_err-renew-clause-steps g c =
@@ -87,6 +95,11 @@ returns-clause-tells g c = λ x told.
     let (y, there, any) = renews x (c.recover.ensures.looks.reads.contents ∙ told) in
     opens_done old.places (chart_of x) t after new (c.in_ok-recover.ensures.fault x told)
     (y, there, any (layout_in (chart_of x) old.places) parts.1)
+
+pub returns-clause-looks : goal.returns-clause-looks
+returns-clause-looks g c =
+    let old = g.C.Chip.told c.args.chip.now in
+    sound_looks old.places old (g.C.Chip.told c.renew.new.chip) c.in_ok-recover.ensures.fault
 
 pub returns-clause-number : goal.returns-clause-number
 returns-clause-number g c = λ x told.
