@@ -1,6 +1,6 @@
 -- Frames of the pages of names, one name after the other.
-use Rattle.std.proofs.Common.{◌≡◌, ◌<◌, ◌≤◌, ◌+◌, ℕ, eqb, List, [], ◌∷◌, ◌++◌, filter, map, take, get_or, length, Option, Some, None, inl, inr, refl, sym, ◌∙◌, ap, ap₂, subst, arith}
-use Rattle.std.proofs.lemmas.Bool.{cases_Bool, cases_eq}
+use Rattle.std.proofs.Common.{◌≡◌, ◌⊎◌, ◌<◌, ◌≤◌, ◌+◌, ◌&&◌, not, ℕ, zero, suc, Bool, true, false, eqb, List, [], ◌∷◌, ◌++◌, filter, map, take, get_or, length, Contains, Option, Some, None, inl, inr, refl, sym, ◌∙◌, ap, ap₂, subst, arith}
+use Rattle.std.proofs.lemmas.Bool.{cases_Bool, cases_eq, eqb-true, false≢true}
 use Rattle.std.proofs.lemmas.List.{map_more, take_all}
 use Rattle.std.proofs.lemmas.List.Elements.{Contains-append_cases}
 use Rattle.slab.proofs.SlabLemmas.{Contains-cons_cases}
@@ -10,8 +10,9 @@ use Rattle.ipl_base.specs.declared.spot.Home.{Home}
 use Rattle.ipl_format.specs.Record.{Record}
 use Rattle.page_ops.specs.Pending.{Pending, seen_by, without_pending}
 use Rattle.pending_writes.specs.Pending.{is_other}
-use Rattle.pending_writes.specs.Frames.{Frame, Frames, IsCommittedFrame, IsAbortedFrame, ChangesSo}
-use Rattle.frame_changes.specs.Changes.{FrameChanges, HomeChanges, OnlyPageChanges, IsSameOr, EachNamedFrame}
+use Rattle.pending_writes.specs.Frames.{Frame, Frames, with_frame_at, IsCommittedFrame, IsAbortedFrame, ChangesSo}
+use Rattle.store_steps.specs.NamedFrames.{IsSameOr, ChangesPageOf, NamedFramesChange}
+use Rattle.frame_changes.specs.Changes.{FrameChanges, IsHome, OnlyPageChanges}
 use Rattle.frame_changes.proofs.FrameLemmas.{frame_here, frame_elsewhere}
 
 -- ---- one name
@@ -55,7 +56,7 @@ same_frames : (R : Frame → Frame → Type 0) (o : Option Frame) → ChangesSo 
 same_frames R None = tt
 same_frames R (Some a) = inl refl
 
-pub no_names : (R : Frame → Frame → Type 0) (frames : Frames) → EachNamedFrame R [] frames frames
+pub no_names : (R : Frame → Frame → Type 0) (frames : Frames) → NamedFramesChange R [] frames frames
 no_names R frames = record {
   each = λ u page. same_frames R (frames u page);
   named = λ n has. absurd (omega (arith, has.1));
@@ -81,7 +82,7 @@ module _ (R : Frame → Frame → Type 0) (joined : IsJoined R) where
   or_changed (Some x) None did = absurd did
   or_changed (Some x) (Some y) did = inr did
 
-  module _ (names : List ℕ) (n : ℕ) (old now new : Frames) (so : EachNamedFrame R names old now)
+  module _ (names : List ℕ) (n : ℕ) (old now new : Frames) (so : NamedFramesChange R names old now)
       (did : OnlyPageChanges R now new n) where
     -- each page is the name's, or stays
     each_then : (P : Option Frame → Option Frame → Type 0) (v q : ℕ)
@@ -98,7 +99,7 @@ module _ (R : Frame → Frame → Type 0) (joined : IsJoined R) where
       | inr other ↦ subst (P (old v q)) (sym (did.others v q (λ is. other is.0))) stays
     ]
 
-    pub one_name_more : EachNamedFrame R (names ++ n ∷ []) old new
+    pub one_name_more : NamedFramesChange R (names ++ n ∷ []) old new
     one_name_more = record {
       each = λ v q. each_then (ChangesSo (IsSameOr R)) v q
           (λ changed. or_changed (old v q) (new v q)
@@ -112,7 +113,7 @@ module _ (R : Frame → Frame → Type 0) (joined : IsJoined R) where
             (changed_then (old v q) (now v q) (new v q) (so.each v q)) (so.named m before)
         | inr last ↦ elim (Contains-cons_cases n m [] last) [
           | inl same ↦
-              subst (HomeChanges R old new) same
+              subst (ChangesPageOf R old new) same
               (changed_then (old (home_of n).unit (home_of n).page) (now (home_of n).unit (home_of n).page)
               (new (home_of n).unit (home_of n).page) (so.each (home_of n).unit (home_of n).page)
               did.here)
@@ -124,18 +125,18 @@ module _ (R : Frame → Frame → Type 0) (joined : IsJoined R) where
 -- ---- a list of names, up to a place
 
 module _ (R : Frame → Frame → Type 0) (names : List Name) (i : ℕ) (old now : Frames)
-    (so : EachNamedFrame R (map (λ n. n.0) (take i names)) old now) where
+    (so : NamedFramesChange R (map (λ n. n.0) (take i names)) old now) where
   pub names_turn : IsJoined R → (new : Frames) (first : Name) → i < length names
       → OnlyPageChanges R now new (get_or names i first).0
-      → EachNamedFrame R (map (λ n. n.0) (take (i + 1) names)) old new
+      → NamedFramesChange R (map (λ n. n.0) (take (i + 1) names)) old new
   names_turn joined new first within did =
-      subst (λ (l : List ℕ). EachNamedFrame R l old new)
+      subst (λ (l : List ℕ). NamedFramesChange R l old new)
       (sym (map_more (λ (n : Name). n.0) names i first within))
       (one_name_more R joined (map (λ n. n.0) (take i names)) (get_or names i first).0 old now new so did)
 
-  pub names_all : length names ≤ i → EachNamedFrame R (map (λ n. n.0) names) old now
+  pub names_all : length names ≤ i → NamedFramesChange R (map (λ n. n.0) names) old now
   names_all past =
-      subst (λ (l : List Name). EachNamedFrame R (map (λ n. n.0) l) old now) (take_all i names past) so
+      subst (λ (l : List Name). NamedFramesChange R (map (λ n. n.0) l) old now) (take_all i names past) so
 
 -- ---- the two kinds
 

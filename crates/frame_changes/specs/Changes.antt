@@ -1,9 +1,10 @@
 -- What calls make of the frames of a pool.
-use Rattle.std.specs.Prelude.{ℕ, ◌≡◌, ◌≤◌, ◌+◌, ◌⊎◌, List, [], Some, Contains}
+use Rattle.std.specs.Prelude.{ℕ, ◌≡◌, ◌≤◌, ◌+◌, [], Some}
 use Rattle.ipl_base.specs.Places.{home_of}
 use Rattle.ipl_format.specs.Record.{Record}
 use Rattle.ipl_meaning.specs.Last.{size_of, size_of_all}
-use Rattle.pending_writes.specs.Frames.{Frame, Frames, with_frame_at, with_frame_log, ChangesSo, EachFrameChanges}
+use Rattle.pending_writes.specs.Frames.{Frame, Frames, with_frame_at, with_frame_log}
+use Rattle.store_steps.specs.NamedFrames.{ChangesPageOf}
 
 -- the page of the record is in a frame of this unit, and its records have room for one more
 pub record MayPut (frames : Frames) (unit : ℕ) (r : Record) : Type 0 where
@@ -30,22 +31,7 @@ IsClearedFrame a b = b ≡ with_frame_log a []
 abbrev pub IsHome : ℕ → ℕ → ℕ → Type 0
 IsHome n u page = (u ≡ (home_of n).unit) × (page ≡ (home_of n).page)
 
--- the frame of the name's page changes so, if it has one
-abbrev pub HomeChanges : (Frame → Frame → Type 0) → Frames → Frames → ℕ → Type 0
-HomeChanges R old new n =
-    ChangesSo R (old (home_of n).unit (home_of n).page) (new (home_of n).unit (home_of n).page)
-
--- and no other
+-- the frame of the name's page changes so, if it has one, and no other
 pub record OnlyPageChanges (R : Frame → Frame → Type 0) (old new : Frames) (n : ℕ) : Type 0 where
-  pub here : HomeChanges R old new n
+  pub here : ChangesPageOf R old new n
   pub others : (u page : ℕ) → (IsHome n u page → ⊥) → new u page ≡ old u page
-
--- a frame is as it was, or changes so
-abbrev pub IsSameOr : (Frame → Frame → Type 0) → Frame → Frame → Type 0
-IsSameOr R a b = (b ≡ a) ⊎ R a b
-
--- each page's frame is as it was or changes so; the frames of the names' pages change so
-pub record EachNamedFrame (R : Frame → Frame → Type 0) (names : List ℕ) (old new : Frames)
-    : Type 0 where
-  pub each : EachFrameChanges (IsSameOr R) old new
-  pub named : (n : ℕ) → Contains names n → HomeChanges R old new n

@@ -3,7 +3,8 @@ ghost use Rattle.std.specs.Prelude.{◌≡◌, ◌<◌, map};
 ghost use Rattle.buffer_pool.specs.Holding.{KeepsPins};
 ghost use Rattle.pending_writes.specs.Frames.{IsCommittedFrame, IsAbortedFrame};
 ghost use Rattle.frame_changes.specs.Views.{frames_of};
-ghost use Rattle.frame_changes.specs.Changes.{EachNamedFrame, OnlyPageChanges};
+ghost use Rattle.store_steps.specs.NamedFrames.{NamedFramesChange};
+ghost use Rattle.frame_changes.specs.Changes.{OnlyPageChanges};
 
 use buffer_pool::Pool;
 use ipl_base::{Name, home};
@@ -11,7 +12,7 @@ use ipl_base::{Name, home};
 /// Makes what is pending under this number a value, in the frames of these names' pages, as a commit
 /// does. Pages that are in no frame are passed over.
 pub fn settle_names(pool: &mut Pool, names: &[Name], tid: u64)
-    ensures settled { EachNamedFrame (IsCommittedFrame tid) (map (λ n. n.0) names.now)
+    ensures settled { NamedFramesChange (IsCommittedFrame tid) (map (λ n. n.0) names.now)
         (frames_of pool.old) (frames_of pool.new) }
     ensures pins { KeepsPins pool.old pool.new }
     ensures order { pool.new.order ≡ pool.old.order }
@@ -24,7 +25,7 @@ pub fn settle_names(pool: &mut Pool, names: &[Name], tid: u64)
 /// Drops what is pending under this number and its records, in the frames of these names' pages, as an
 /// abort does. Pages that are in no frame are passed over.
 pub fn drop_names(pool: &mut Pool, names: &[Name], tid: u64)
-    ensures dropped { EachNamedFrame (IsAbortedFrame tid) (map (λ n. n.0) names.now)
+    ensures dropped { NamedFramesChange (IsAbortedFrame tid) (map (λ n. n.0) names.now)
         (frames_of pool.old) (frames_of pool.new) }
     ensures pins { KeepsPins pool.old pool.new }
     ensures order { pool.new.order ≡ pool.old.order }

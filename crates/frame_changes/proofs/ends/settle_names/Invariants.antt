@@ -2,13 +2,13 @@ use Rattle.std.proofs.Common.{◌≡◌, take, map}
 use Rattle.buffer_pool.specs.Holding.{KeepsPins}
 use Rattle.pending_writes.specs.Frames.{IsCommittedFrame}
 use Rattle.frame_changes.specs.Views.{frames_of}
-use Rattle.frame_changes.specs.Changes.{EachNamedFrame}
+use Rattle.store_steps.specs.NamedFrames.{NamedFramesChange}
 use Rattle.frame_changes.proofs.ends.settle_names.Given as goal
 
 -- the frames of the names so far
 abbrev pub invariant-loop-name : goal.invariant-loop-name
 invariant-loop-name l =
-    EachNamedFrame (IsCommittedFrame l.tid) (map (λ n. n.0) (take l.name-index l.names)) (frames_of l.fn.pool)
+    NamedFramesChange (IsCommittedFrame l.tid) (map (λ n. n.0) (take l.name-index l.names)) (frames_of l.fn.pool)
     (frames_of l.pool)
     × KeepsPins l.fn.pool l.pool
     × (l.pool.order ≡ l.fn.pool.order)
