@@ -1,0 +1,129 @@
+-- What a commit makes of the memory of a store and of its chip.
+use Rattle.std.proofs.Common.{◌≡◌, ℕ, ◌<◌, ◌≤◌, ◌+◌, [], ◌∷◌, List, map, length, Option, Some, None, Result, Ok, Err, OnOk, OnErr, refl, sym, ◌∙◌, ap, subst, arith}
+use Rattle.std.specs.List.{All}
+use Rattle.chip_trait.specs.Told.{Told}
+use Rattle.ipl_base.specs.declared.fault.ChipFault.{ChipFault}
+use Rattle.ipl_base.specs.declared.name.Name.{Name}
+use Rattle.ipl_rules.specs.Operations.{after_commit}
+use Rattle.record_locks.specs.Held.{number_of, numbers_in, written_of, after_end}
+use Rattle.ipl_meaning.specs.Tables.{Status}
+use Rattle.unit_io.specs.Accounts.{Accounts}
+use Rattle.unit_io.specs.Charts.{Charts}
+use Rattle.unit_io.specs.Leads.{IsStopped}
+use Rattle.txn_status.specs.Status.{after_add}
+use Rattle.status_renewal.proofs.CauseLemmas.{write_accounts}
+use Rattle.buffer_pool.specs.Holding.{KeepsPins}
+use Rattle.buffer_pool.specs.Pools.{PoolView}
+use Rattle.buffer_pool.proofs.HoldingLemmas.{nothing_keeps}
+use Rattle.pending_writes.specs.Frames.{EachFrameChanges, IsCommittedFrame}
+use Rattle.pending_writes.specs.Fits.{LocksHold}
+use Rattle.store_steps.specs.Advances.{Memory, LeadsTo}
+use Rattle.store_steps.specs.NamedFrames.{NamedFramesChange, IsSameOr}
+use Rattle.store_steps.specs.Numbers.{IsOut, added_to, AddsNumber, AddsNumberInSteps}
+use Rattle.store_steps.proofs.CommitLemmas.{numbers_lead, failed_numbers_lead}
+use Rattle.frame_changes.specs.Views.{frames_of}
+use Rattle.page_frames.specs.declared.pages.Pages.{Pages}
+use Rattle.page_frames.specs.Pages.{tables_in, frames_in}
+use Rattle.transactions.specs.declared.transactions.Transactions.{Transactions}
+use Rattle.transactions.specs.Turns.{memory_in, IsInOrder, Turns, IsSameButActive}
+use Rattle.transactions.proofs.OrderLemmas.{changed_had, same_had, still_ready, memory_is}
+use Rattle.transactions.proofs.SessionLemmas.{among_all}
+
+-- the number of a session was added, and its changes are values
+pub number_added : (s tid : ℕ) (names : List Name) (old new : Transactions) (added : Pages)
+    (before after : Told)
+    → IsInOrder before.places old → s < 32 → number_of old.sessions s ≡ Some tid
+    → All (IsOut (frames_in old.pages)) (written_of old.sessions s)
+    → Charts (AddsNumber before.places old.pages.parts.status old.pages.parts.counter tid)
+    before after
+    → AddsNumberInSteps before.places old.pages.parts.status old.pages.parts.counter tid (Ok tt)
+    before after
+    → added.parts.directory ≡ old.pages.parts.directory
+    → added.parts.overflow ≡ old.pages.parts.overflow
+    → added.parts.status ≡ after_add old.pages.parts.status (tid ∷ [])
+    → added.parts.counter ≡ old.pages.parts.counter + 1
+    → map (λ (n : Name). n.0) names ≡ written_of old.sessions s
+    → NamedFramesChange (IsCommittedFrame tid) (map (λ (n : Name). n.0) names)
+    (frames_of old.pages.pool) (frames_of added.pool)
+    → KeepsPins old.pages.pool added.pool
+    → IsSameButActive added new.pages
+    → new.sessions ≡ after_end old.sessions s
+    → new.pages.parts.active ≡ numbers_in new.sessions → LocksHold new.sessions
+    → Accounts IsStopped (Ok (tt {0})) before after
+    → Turns (λ state. after_commit state s) 1 old before (Ok (tt {0})) new after
+number_added s tid names old new added before after order low mine out adds steps directory
+    overflow status counter written settled pins rest slots active locks accounts =
+    let ended = after_end old.sessions s in
+    let locked : LocksHold ended = subst LocksHold slots locks in
+    let R = IsCommittedFrame tid in
+    let change : NamedFramesChange R (written_of old.sessions s) (frames_in old.pages)
+    (frames_of added.pool) =
+    subst (λ (l : List ℕ). NamedFramesChange R l (frames_in old.pages) (frames_of added.pool))
+    written settled in
+    let t = added_to (tables_in old.pages) tid ended in
+    let pins_then = subst (KeepsPins old.pages.pool) (sym rest.pool) pins in record {
+      leads = subst (λ (m : Memory). LeadsTo {T = Unit {0}} {E = ChipFault}
+          (λ state. after_commit state s) (memory_in old) before (Ok tt) m after)
+          (memory_is t (frames_of added.pool) ended new (record {
+            places = rest.directory ∙ directory;
+            overflow = rest.overflow ∙ overflow;
+            status = rest.status ∙ status;
+            next = omega (arith, rest.counter, counter);
+            active = active ∙ ap numbers_in slots;
+            frames_are = ap frames_of rest.pool;
+            slots_are = slots;
+          }))
+          (numbers_lead s tid (memory_in old) (frames_of added.pool) before after
+          (among_all old.sessions s None locked low) mine out adds steps change locked);
+      order = record {
+        ready = still_ready before.places old.pages new.pages (record {
+          places = rest.directory ∙ directory;
+          overflow = rest.overflow ∙ overflow;
+          status = ap (λ (it : Status). it.place) (rest.status ∙ status);
+        }) pins_then
+            (changed_had (IsSameOr R) old.pages new.pages
+            (subst (λ (p : PoolView). EachFrameChanges (IsSameOr R) (frames_in old.pages)
+            (frames_of p)) (sym rest.pool) change.each)) order.ready;
+        active = active;
+      };
+      pins = pins_then;
+      least = omega (arith, rest.counter, counter);
+      drawn = omega (arith, rest.counter, counter);
+      accounts = write_accounts before after (Ok tt) accounts;
+    }
+
+-- it wasn't added
+pub number_not_added : (s tid : ℕ) (e f : ChipFault) (old new : Transactions) (before after : Told)
+    → IsInOrder before.places old → number_of old.sessions s ≡ Some tid
+    → All (IsOut (frames_in old.pages)) (written_of old.sessions s)
+    → AddsNumberInSteps before.places old.pages.parts.status old.pages.parts.counter tid (Err e)
+    before after
+    → new.sessions ≡ old.sessions → new.pages.pool ≡ old.pages.pool
+    → new.pages.parts.directory ≡ old.pages.parts.directory
+    → new.pages.parts.overflow ≡ old.pages.parts.overflow
+    → new.pages.parts.status ≡ old.pages.parts.status
+    → new.pages.parts.active ≡ old.pages.parts.active
+    → (old.pages.parts.counter ≤ new.pages.parts.counter)
+    × (new.pages.parts.counter ≤ old.pages.parts.counter + 1)
+    → Accounts {T = Unit {0}} IsStopped (Err e) before after → f ≡ e
+    → Turns {T = Unit {0}} (λ state. after_commit state s) 1 old before (Err f) new after
+number_not_added s tid e f old new before after order mine out steps sessions pool directory
+    overflow status active draws accounts is =
+    let pins = subst (KeepsPins old.pages.pool) (sym pool) (nothing_keeps old.pages.pool) in record {
+      leads = failed_numbers_lead s tid (memory_in old) (memory_in new) e f before after mine out
+          steps accounts.cause;
+      order = record {
+        ready = still_ready before.places old.pages new.pages (record {
+          places = directory;
+          overflow = overflow;
+          status = ap (λ (it : Status). it.place) status;
+        }) pins (same_had old.pages new.pages (ap frames_of pool)) order.ready;
+        active = active ∙ order.active ∙ ap numbers_in (sym sessions);
+      };
+      pins = pins;
+      least = draws.0;
+      drawn = draws.1;
+      accounts = write_accounts before after (Err f)
+          (subst (λ (g : ChipFault). Accounts {T = Unit {0}} IsStopped (Err g) before after)
+          (sym is) accounts);
+    }

@@ -1,0 +1,5 @@
+pub mod NumberLemmas
+pub mod OpenLemmas
+pub mod OrderLemmas
+pub mod SessionLemmas
+pub mod CommitLemmas

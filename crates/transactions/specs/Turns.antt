@@ -1,0 +1,48 @@
+-- What sessions do to the memory of a store, and to its chip.
+use Rattle.std.specs.Prelude.{ℕ, ◌≡◌, ◌≤◌, ◌+◌, Result, Ok}
+use Rattle.chip_trait.specs.Told.{Told}
+use Rattle.ipl_base.specs.declared.fault.ChipFault.{ChipFault}
+use Rattle.ipl_rules.specs.State.{State}
+use Rattle.record_locks.specs.Held.{numbers_in}
+use Rattle.unit_io.specs.Accounts.{Accounts}
+use Rattle.buffer_pool.specs.Holding.{KeepsPins}
+use Rattle.store_steps.specs.Advances.{Memory, memory_of, LeadsTo}
+use Rattle.page_frames.specs.declared.pages.Pages.{Pages}
+use Rattle.page_frames.specs.Pages.{tables_in, frames_in, IsReady, PageCause}
+use Rattle.transactions.specs.declared.transactions.Transactions.{Transactions}
+
+-- the memory of a store
+abbrev pub memory_in : Transactions → Memory
+memory_in it = memory_of (tables_in it.pages) (frames_in it.pages) it.sessions
+
+-- told or not: the pages are ready, and the tables have the numbers of the open sessions
+pub record IsInOrder (places : ℕ) (it : Transactions) : Type 0 where
+  pub ready : IsReady places it.pages
+  pub active : it.pages.parts.active ≡ numbers_in it.sessions
+
+-- A call that leads from each state that memory and chip stand for to the next one. Whatever the chip
+-- tells: the memory is in order, the same pages are held, at most so many numbers were drawn, and a
+-- fault has its cause.
+pub record Turns {T : Type 0} (next : State → State) (most : ℕ) (old : Transactions) (before : Told)
+    (result : Result T ChipFault) (new : Transactions) (after : Told) : Type 0 where
+  pub leads : LeadsTo next (memory_in old) before result (memory_in new) after
+  pub order : IsInOrder before.places new
+  pub pins : KeepsPins old.pages.pool new.pages.pool
+  pub least : old.pages.parts.counter ≤ new.pages.parts.counter
+  pub drawn : new.pages.parts.counter ≤ old.pages.parts.counter + most
+  pub accounts : Accounts PageCause result before after
+
+-- A call in memory alone that does, over whatever chip.
+pub record TurnsInMemory (next : State → State) (old new : Transactions) : Type 0 where
+  pub leads : (told : Told) → LeadsTo {T = Unit {0}} {E = ChipFault} next (memory_in old) told (Ok tt)
+      (memory_in new) told
+  pub order : (places : ℕ) → IsInOrder places old → IsInOrder places new
+  pub pins : KeepsPins old.pages.pool new.pages.pool
+
+-- the pages are the same, but that the tables have other numbers of open sessions
+pub record IsSameButActive (old new : Pages) : Type 0 where
+  pub directory : new.parts.directory ≡ old.parts.directory
+  pub overflow : new.parts.overflow ≡ old.parts.overflow
+  pub status : new.parts.status ≡ old.parts.status
+  pub counter : new.parts.counter ≡ old.parts.counter
+  pub pool : new.pool ≡ old.pool

@@ -1,0 +1,68 @@
+//! Sessions that are opened and closed, and names that they share: all in memory.
+ghost use Rattle.std.specs.Prelude.{◌≡◌, ◌<◌, ◌+◌, ◌^◌, None};
+ghost use Rattle.ipl_rules.specs.Operations.{after_begin, after_share, after_abort};
+ghost use Rattle.pending_writes.specs.Fits.{LocksHold};
+ghost use Rattle.record_locks.specs.Held.{after_end, numbers_in};
+ghost use Rattle.record_locks.specs.Locks.{refuses_begin, refuses_share, refuses_end};
+ghost use Rattle.transactions.specs.Turns.{TurnsInMemory, IsSameButActive};
+
+use crate::Transactions;
+use crate::numbers::active_numbers;
+use frame_changes::drop_names;
+use ipl_base::Name;
+
+impl Transactions {
+    /// Opens a session (0 to 31), with the next number as its own.
+    pub fn begin(&mut self, s: u32)
+        requires session { s < 32 }
+        requires closed { refuses_begin self.old.sessions s ≡ None }
+        requires left { self.old.pages.parts.counter + 1 < 2 ^ 64 }
+        ensures turns { TurnsInMemory (λ state. after_begin state s) self.old self.new }
+        ensures drawn { self.new.pages.parts.counter ≡ self.old.pages.parts.counter + 1 }
+    {
+        let number = self.pages.parts.counter.draw();
+        let _ = self.sessions.begin(s, number);
+        self.pages.parts.active = active_numbers(&self.sessions);
+        self.sessions.facts();
+    }
+
+    /// Shares a name, until the session (0 to 31) ends.
+    pub fn share(&mut self, s: u32, name: Name)
+        requires session { s < 32 }
+        requires unrefused { refuses_share self.old.sessions s name.0 ≡ None }
+        ensures turns { TurnsInMemory (λ state. after_share state s name.0) self.old self.new }
+        ensures drawn { self.new.pages.parts.counter ≡ self.old.pages.parts.counter }
+    {
+        let _ = self.sessions.share(s, name);
+        self.sessions.facts();
+    }
+
+    /// Closes a session (0 to 31).
+    pub(crate) fn end(&mut self, s: u32)
+        requires session { s < 32 }
+        requires open { refuses_end self.old.sessions s ≡ None }
+        ensures sessions { self.new.sessions ≡ after_end self.old.sessions s }
+        ensures active { self.new.pages.parts.active ≡ numbers_in self.new.sessions }
+        ensures locks { LocksHold self.new.sessions }
+        ensures rest { IsSameButActive self.old.pages self.new.pages }
+    {
+        let _ = self.sessions.end(s);
+        self.pages.parts.active = active_numbers(&self.sessions);
+        self.sessions.facts();
+    }
+
+    /// Aborts a session (0 to 31): what it changed is dropped from all frames, and its records on the
+    /// chip will never count.
+    pub fn abort(&mut self, s: u32)
+        requires session { s < 32 }
+        requires open { refuses_end self.old.sessions s ≡ None }
+        ensures turns { TurnsInMemory (λ state. after_abort state s) self.old self.new }
+        ensures drawn { self.new.pages.parts.counter ≡ self.old.pages.parts.counter }
+    {
+        let Some(number) = self.sessions.number(s) else {
+            unreachable!("the session is open");
+        };
+        drop_names(&mut self.pages.pool, self.sessions.written(s), number);
+        self.end(s);
+    }
+}
