@@ -33,3 +33,32 @@ emptied_none frames u page v q none = elim (cases_page u page v q) [
       ∙ (ap (λ w. frames w q) (sym here.0) ∙ none))
   | inr apart ↦ frame_other frames u page _ v q apart ∙ none
 ]
+
+-- a page that is in a frame then was in one
+pub emptied_there : (frames : Frames) (u page v q : ℕ) (f : Frame)
+    → emptied frames u page v q ≡ Some f → (g : Frame) × (frames v q ≡ Some g)
+emptied_there frames u page v q f there = by_frame (frames v q) refl
+  where
+    by_frame : (o : Option Frame) → frames v q ≡ o → (g : Frame) × (frames v q ≡ Some g)
+    by_frame (Some g) is = (g, is)
+    by_frame None none =
+        absurd (let clash = sym (emptied_none frames u page v q none) ∙ there in cc clash)
+
+-- the page itself has no records in memory
+pub emptied_out : (frames : Frames) (u page : ℕ) → logs_of (emptied frames u page) u page ≡ []
+emptied_out frames u page =
+    ap (λ (o : Option Frame). option_map_or (λ f. f.log) o [])
+    (frame_here frames u page _ u page refl refl) ∙ no_records (frames u page)
+  where
+    no_records : (o : Option Frame)
+        → option_map_or (λ f. f.log) (option_map (λ f. with_frame_log f []) o) [] ≡ []
+    no_records None = refl
+    no_records (Some f) = refl
+
+-- a page in no frame is in none once another left its frame
+pub evicted_none : (frames : Frames) (u page v q : ℕ) → frames v q ≡ None
+    → with_frame_at frames u page None v q ≡ None
+evicted_none frames u page v q none = elim (cases_page u page v q) [
+  | inl here ↦ frame_here frames u page None v q here.0 here.1
+  | inr apart ↦ frame_other frames u page None v q apart ∙ none
+]

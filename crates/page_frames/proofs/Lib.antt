@@ -1,4 +1,10 @@
-pub mod UpholdLemmas
 pub mod FrameLemmas
+pub mod HeldLemmas
+pub mod UpholdLemmas
 pub mod SpendLemmas
+pub mod RenewLemmas
 pub mod TableLemmas
+pub mod OutLemmas
+pub mod LeaveLemmas
+pub mod LoadLemmas
+pub mod BringLemmas

@@ -1,5 +1,5 @@
 -- Calls that know the tables alone keep each state, whatever frames there are.
-use Rattle.std.proofs.Common.{◌≡◌, ◌≢◌, ◌≤◌, ◌+◌, ℕ, List, Result, Ok, Err, refl, sym, ◌∙◌, ap, subst, arith}
+use Rattle.std.proofs.Common.{◌≡◌, ◌≢◌, ◌≤◌, ◌+◌, ◌^◌, ℕ, List, Result, Ok, Err, refl, sym, ◌∙◌, ap, subst, arith}
 use Rattle.chip_trait.specs.Told.{History, Told}
 use Rattle.ipl_base.specs.declared.fault.ChipFault.{ChipFault}
 use Rattle.ipl_base.specs.declared.fault.ChipFault.TheVariants.{Stopped}
@@ -24,8 +24,10 @@ use Rattle.merge_rules.specs.Known.{KnowsPlaces}
 use Rattle.buffer_pool.specs.Pools.{PoolView}
 use Rattle.buffer_pool.specs.Holding.{IsAtRest, KeepsPins}
 use Rattle.buffer_pool.proofs.HoldingLemmas.{nothing_keeps}
+use Rattle.status_renewal.specs.Passes.{RenewsTold, HoldsRenewed, KeepsInSteps, RenewCause}
 use Rattle.status_renewal.proofs.CauseLemmas.{merge_accounts}
 use Rattle.frame_changes.specs.Views.{frames_of}
+use Rattle.page_frames.proofs.RenewLemmas.{renew_keeps}
 use Rattle.page_frames.specs.declared.pages.Pages.{Pages}
 use Rattle.page_frames.specs.Pages.{tables_in, frames_in, IsReady, Upholds, PageCause}
 
@@ -43,15 +45,21 @@ merge_turns : (places u place : ℕ) (spots : List (ℕ × ℕ)) (t after : Tabl
     → Accounts (MergeCause place spots) result old new → Settled result old new
     → Charts (TurnsTables places t after) old new
 merge_turns places u place spots t after (Ok v) old new holds tells accounts settled x told =
-    let (y, there, did) = tells x told in
-    (y, there, λ it mirrors none. turned_merged places (chart_of x) (chart_of y) it t u after
-    (did it mirrors) holds.known.none_lost holds.active)
+    let (y, there, did) = tells x told in (
+      y,
+      there,
+      λ it mirrors none. turned_merged places (chart_of x) (chart_of y) it t u after
+          (did it mirrors) holds.known.none_lost holds.active,
+    )
 merge_turns places u place spots t after (Err e) old new holds tells accounts settled x told =
-    let (y, there, stays) = tells (unstopped place spots e old new accounts.cause settled) x told in
-    (y, there, λ it mirrors none.
-    let still = stays it mirrors in
-    turned_same places (chart_of x) (chart_of y) it t after still.0 still.1 holds.known.none_lost
-    holds.active)
+    let (y, there, stays) = tells (unstopped place spots e old new accounts.cause settled) x told in (
+      y,
+      there,
+      λ it mirrors none.
+          let still = stays it mirrors in
+          turned_same places (chart_of x) (chart_of y) it t after still.0 still.1 holds.known.none_lost
+          holds.active,
+    )
 
 -- so it keeps each state
 pub merge_keeps : (u place : ℕ) (spots : List (ℕ × ℕ)) (t after : Tables) (frames : Frames)
@@ -112,3 +120,16 @@ merge_upholds u old new result before after ready same holds tells steps draws p
     (merge_keeps u place spots (tables_in old) (tables_in new) (frames_in old) result before after
     holds tells steps accounts) draws
     (merge_accounts place spots before after result accounts)
+
+-- a renewal
+pub renew_upholds : (old new : Pages) (result : Result (Unit {0}) ChipFault) (before after : Told)
+    → IsReady before.places old → new.pool ≡ old.pool
+    → HoldsRenewed before.places (tables_in old) result (tables_in new)
+    → RenewsTold before.places (tables_in old) (tables_in new) before result after
+    → KeepsInSteps before.places (tables_in old) (tables_in new) before result after
+    → (old.parts.counter ≤ new.parts.counter) × (new.parts.counter ≤ old.parts.counter + 2 ^ 14)
+    → Accounts RenewCause result before after → Upholds (2 ^ 14) old before result new after
+renew_upholds old new result before after ready same holds tells steps draws accounts =
+    tables_uphold (2 ^ 14) old new result before after ready same holds.known holds.active
+    (renew_keeps (tables_in old) (tables_in new) (frames_in old) result before after holds tells steps
+    accounts) draws accounts

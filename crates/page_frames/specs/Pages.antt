@@ -1,11 +1,14 @@
 -- Pages in frames over the tables of a chip, as contracts see them, and what their calls leave.
-use Rattle.std.specs.Prelude.{ℕ, ◌≡◌, ◌≤◌, ◌<◌, ◌+◌, [], IsSome, Option, Some, None, Result, Ok, Err}
+use Rattle.std.specs.Prelude.{ℕ, ◌≡◌, ◌≤◌, ◌<◌, ◌+◌, [], IsSome, Option, Some, None, Result, Ok, Err, OnOk}
 use Rattle.std.specs.Option.{option_map}
 use Rattle.chip_trait.specs.Told.{Told}
 use Rattle.ipl_base.specs.declared.fault.ChipFault.{ChipFault}
+use Rattle.ipl_meaning.specs.Chart.{chart_of}
+use Rattle.ipl_meaning.specs.Layout.{Layout}
+use Rattle.ipl_meaning.specs.Mirrors.{Mirrors}
 use Rattle.ipl_meaning.specs.Tables.{Tables}
-use Rattle.slab.specs.Slab.{get, slab_len}
-use Rattle.buffer_pool.specs.declared.pool.Buffer.{Buffer}
+use Rattle.unit_io.specs.Reads.{OfContents}
+use Rattle.slab.specs.Slab.{slab_len}
 use Rattle.buffer_pool.specs.Holding.{IsAtRest, KeepsPins}
 use Rattle.merge_rules.specs.Known.{KnowsPlaces}
 use Rattle.selective_merge.specs.Moving.{tables_of}
@@ -13,6 +16,10 @@ use Rattle.status_renewal.specs.Passes.{RenewCause}
 use Rattle.unit_io.specs.Accounts.{Accounts}
 use Rattle.store_steps.specs.Advances.{KeepsState}
 use Rattle.pending_writes.specs.Frames.{Frame, Frames, with_frame_at, with_frame_log}
+use Rattle.number_set.specs.Numbers.{among}
+use Rattle.page_ops.specs.Frames.{FrameView}
+use Rattle.page_rebuild.specs.Loaded.{IsLoaded}
+use Rattle.store_steps.specs.Views.{frame_of}
 use Rattle.frame_changes.specs.Views.{frames_of}
 use Rattle.page_frames.specs.declared.pages.Pages.{Pages}
 
@@ -35,15 +42,6 @@ HasFreeFrame pages = slab_len pages.pool.buffers < pages.pool.limit
 -- the page is in a frame, with no records in memory
 abbrev pub IsFresh : Pages → ℕ → ℕ → Type 0
 IsFresh pages u page = (f : Frame) × (frames_in pages u page ≡ Some f) × (f.log ≡ [])
-
--- the page is in a frame, and no hold keeps it there
-pub record IsUnheld (pages : Pages) (u page : ℕ) : Type 0 where
-  pub key : ℕ
-  pub buffer : Buffer
-  pub stored : get pages.pool.buffers key ≡ Some buffer
-  pub unit_is : buffer.unit ≡ u
-  pub page_is : buffer.page ≡ page
-  pub unpinned : buffer.pins ≡ 0
 
 -- ---- what always holds between calls
 
@@ -88,6 +86,15 @@ emptied frames u page =
 abbrev pub frames_after : {T E : Type 0} → Result T E → Frames → ℕ → ℕ → Frames
 frames_after (Ok v) frames u page = emptied frames u page
 frames_after (Err e) frames u page = frames
+
+-- The page's frame was written, with no records in memory. Done, it has what the chip says of the page,
+-- where the tables mirror that.
+pub record LoadsFrame {T E : Type 0} (result : Result T E) (told : Told) (t : Tables) (u page : ℕ)
+    (old new : Frames) : Type 0 where
+  pub view : FrameView
+  pub frames : new ≡ with_frame_at old u page (Some (frame_of view []))
+  pub loaded : OnOk result (OfContents told (λ x. (it : Layout) → Mirrors told.places (chart_of x) it t
+      → IsLoaded (chart_of x) it (among t.active) u page view))
 
 -- the page is in a frame that was free, with no records in memory; or the frames are as they were
 -- where the call failed

@@ -6,9 +6,11 @@
 //! that each call keeps whatever state they stand for (`KeepsState`).
 #![tactic(auto)]
 
+mod bringing;
 mod frames;
 mod pages;
 mod tables;
+mod writing;
 
 pub use frames::{has_records, is_framed};
 pub use pages::Pages;

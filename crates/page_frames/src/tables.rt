@@ -2,17 +2,43 @@
 //! merge.
 ghost use Rattle.std.specs.Prelude.{◌≡◌, ◌<◌, ◌≤◌, ◌+◌, ◌-◌, ◌^◌, slice_index, is_ok, OnOk};
 ghost use Rattle.unit_io.specs.Costs.{Spends};
+ghost use Rattle.txn_status.specs.Status.{room_of};
 ghost use Rattle.selective_merge.specs.Merging.{Merges, StaysMirrored};
 ghost use Rattle.selective_merge.specs.Spending.{ErasesFor};
 ghost use Rattle.selective_merge.specs.Throughout.{ChartsThroughout};
+ghost use Rattle.status_renewal.specs.Passes.{ErasesAtMost};
 ghost use Rattle.page_frames.specs.Pages.{tables_in, IsReady, Upholds};
 
 use crate::Pages;
 use chip_trait::Chip;
 use ipl_base::ChipFault;
 use selective_merge::merge;
+use status_renewal::{KeptNumbers, renew};
 
 impl Pages {
+    /// Makes sure of a clean sector for a commit: where the status place has none, it is renewed.
+    pub fn ready_status<C: Chip>(
+        &mut self,
+        chip: &mut C,
+        kept: &mut KeptNumbers,
+    ) -> Result<(), ChipFault>
+        requires ready { IsReady (C.told chip.old).places self.old }
+        requires left { self.old.parts.counter + 2 ^ 14 < 2 ^ 64 }
+        ensures upholds { Upholds (2 ^ 14) self.old (C.told chip.old)
+            result self.new (C.told chip.new) }
+        ensures room { OnOk result (0 < room_of self.new.parts.status) }
+        ensures frames { self.new.pool ≡ self.old.pool }
+        ensures idle { 0 < room_of self.old.parts.status
+            → (self.new ≡ self.old) × (C.told chip.new ≡ C.told chip.old) }
+        ensures costs { Spends (ErasesAtMost ((C.told chip.old).places - 3))
+            (C.told chip.old) (C.told chip.new) }
+    {
+        if self.parts.status.room() > 0 {
+            return Ok(());
+        }
+        renew(chip, &mut self.parts, kept)
+    }
+
     /// Merges a unit, whatever is carried.
     pub fn merge<C: Chip>(&mut self, chip: &mut C, unit: u32) -> Result<(), ChipFault>
         requires ready { IsReady (C.told chip.old).places self.old }

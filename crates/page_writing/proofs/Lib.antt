@@ -4,6 +4,6 @@ pub mod RoomLemmas
 mod FoundLemmas
 mod RoomStepLemmas
 mod OutLemmas
-mod KeepLemmas
+pub mod KeepLemmas
 mod CauseLemmas
 pub mod SpendLemmas

@@ -1,0 +1,89 @@
+-- A page that leaves its frame once its records are written out.
+use Rattle.std.proofs.Common.{◌≡◌, ◌<◌, ◌≤◌, ◌+◌, ℕ, [], Option, Some, None, Result, Ok, Err, refl, sym, ◌∙◌, ap, subst, inl, inr, arith}
+use Rattle.std.specs.Option.{option_map}
+use Rattle.chip_trait.specs.Told.{Told, IsConsistent}
+use Rattle.chip_trait.proofs.CountsLemmas.{counts_none}
+use Rattle.ipl_base.specs.declared.fault.ChipFault.{ChipFault}
+use Rattle.buffer_pool.specs.Pools.{PoolView, AreOnce}
+use Rattle.buffer_pool.specs.Holding.{KeepsPins}
+use Rattle.buffer_pool.proofs.HoldingLemmas.{rest_stays}
+use Rattle.pending_writes.specs.Frames.{Frame, Frames, with_frame_at, with_frame_log}
+use Rattle.pending_writes.proofs.MemoryLemmas.{cases_page}
+use Rattle.pending_writes.proofs.SameLemmas.{frame_here, frame_other}
+use Rattle.store_steps.specs.Advances.{KeepsState}
+use Rattle.merge_rules.specs.Known.{KnowsPlaces}
+use Rattle.selective_merge.specs.Moving.{tables_of}
+use Rattle.store_steps.proofs.KeeperLemmas.{evictions_keep_states}
+use Rattle.frame_changes.specs.Views.{frame_in, frames_of}
+use Rattle.page_frames.specs.declared.pages.Pages.{Pages}
+use Rattle.page_frames.specs.Frames.{IsUnheld}
+use Rattle.page_frames.specs.Pages.{tables_in, frames_in, IsReady, Upholds, emptied}
+use Rattle.page_frames.proofs.HeldLemmas.{unheld_frame, still_unheld}
+use Rattle.page_frames.proofs.UpholdLemmas.{upholds_then}
+
+-- the frame of the page has no records then
+emptied_frame : (frames : Frames) (u page : ℕ) (f : Frame) → frames u page ≡ Some f
+    → emptied frames u page u page ≡ Some (with_frame_log f [])
+emptied_frame frames u page f there =
+    frame_here frames u page _ u page refl refl ∙ ap (option_map (λ g. with_frame_log g [])) there
+
+-- nothing holds it there still
+pub leaves_unheld : (old new : PoolView) (u page : ℕ) → AreOnce old.buffers → AreOnce new.buffers
+    → KeepsPins old new → frames_of new ≡ emptied (frames_of old) u page → IsUnheld old u page
+    → IsUnheld new u page
+leaves_unheld old new u page once then_once pins is unheld =
+    let f = frame_in unheld.buffer in
+    still_unheld old new u page (with_frame_log f []) once then_once pins
+    (ap (λ (F : Frames). F u page) is ∙ emptied_frame (frames_of old) u page f
+    (unheld_frame old u page once unheld)) unheld
+
+-- it leaves
+gone_upholds : (u page : ℕ) (f : Frame) (old new : Pages) (t : Told) → IsReady t.places old
+    → new.parts ≡ old.parts → frames_in old u page ≡ Some f → f.log ≡ []
+    → frames_in new ≡ with_frame_at (frames_in old) u page None → KeepsPins old.pool new.pool
+    → Upholds {T = Unit {0}} 0 old t (Ok tt) new t
+gone_upholds u page f old new t ready same there empty is pins = record {
+  keeps = subst (λ (x : Pages). KeepsState {T = Unit {0}} {E = ChipFault} (tables_in old)
+      (frames_in old) t (Ok tt) (tables_in x) (frames_in new) t)
+      (ap (λ parts. record { parts = parts; pool = old.pool }) (sym same))
+      (subst (λ (F : Frames). KeepsState {T = Unit {0}} {E = ChipFault} (tables_in old)
+      (frames_in old) t (Ok tt) (tables_in old) F t) (sym is)
+      (evictions_keep_states (tables_in old) (frames_in old) u page f t there empty));
+  ready = record {
+    known = subst (λ parts. KnowsPlaces t.places (tables_of parts)) (sym same) ready.known;
+    within = λ v q g found.
+        let was = left_there v q g (ap (λ (F : Frames). F v q) (sym is) ∙ found) in
+        ready.within v q g was;
+    rest = rest_stays old.pool new.pool pins ready.rest;
+  };
+  active = ap (λ parts. parts.active) same;
+  pins = pins;
+  least = subst (λ parts. old.parts.counter ≤ parts.counter) (sym same) (omega arith);
+  drawn = subst (λ parts. parts.counter ≤ old.parts.counter + 0) (sym same) (omega arith);
+  accounts = record { counts = counts_none t; cause = tt };
+}
+  where
+    left_there : (v q : ℕ) (g : Frame) → with_frame_at (frames_in old) u page None v q ≡ Some g
+        → frames_in old v q ≡ Some g
+    left_there v q g found = elim (cases_page u page v q) [
+      | inl here ↦ absurd (let clash = sym (frame_here (frames_in old) u page None v q here.0 here.1)
+          ∙ found in cc clash)
+      | inr apart ↦ sym (frame_other (frames_in old) u page None v q apart) ∙ found
+    ]
+
+-- both
+pub leaves_upholds : (u page : ℕ) (first between last : Pages) (old mid : Told)
+    → IsConsistent old → IsConsistent mid → AreOnce first.pool.buffers
+    → IsUnheld first.pool u page → Upholds {T = Unit {0}} 14 first old (Ok tt) between mid
+    → frames_in between ≡ emptied (frames_in first) u page
+    → frames_in last ≡ with_frame_at (frames_in between) u page None
+    → KeepsPins between.pool last.pool → last.parts ≡ between.parts
+    → Upholds {T = Unit {0}} 14 first old (Ok tt) last mid
+leaves_upholds u page first between last old mid consistent then_consistent once unheld did is gone
+    pins same =
+    let f = frame_in unheld.buffer in
+    upholds_then 14 0 first between last (Ok tt) old mid mid consistent then_consistent did
+    (gone_upholds u page (with_frame_log f []) between last mid
+    (subst (λ (n : ℕ). IsReady n between) (sym did.accounts.counts.places) did.ready) same
+    (ap (λ (F : Frames). F u page) is ∙ emptied_frame (frames_in first) u page f
+    (unheld_frame first.pool u page once unheld)) refl gone pins)

@@ -1,0 +1,128 @@
+-- The records of a page, written out from its frame.
+use Rattle.std.proofs.Common.{◌≡◌, ◌<◌, ◌≤◌, ◌+◌, ℕ, List, [], Option, Some, None, Result, Ok, Err, IfErr, refl, sym, ◌∙◌, ap, subst, inl, inr}
+use Rattle.std.specs.Prelude.{IsSome}
+use Rattle.std.specs.Option.{option_map, option_map_or}
+use Rattle.chip_trait.specs.Told.{Told}
+use Rattle.ipl_base.specs.declared.fault.ChipFault.{ChipFault}
+use Rattle.ipl_base.specs.declared.fault.ChipFault.TheVariants.{ReadFault, Stopped, Damaged, Malformed}
+use Rattle.ipl_format.specs.Record.{Record, SpellsLog}
+use Rattle.ipl_meaning.specs.Tables.{Tables}
+use Rattle.unit_io.specs.Accounts.{Accounts}
+use Rattle.merge_rules.specs.Known.{KnowsPlaces}
+use Rattle.selective_merge.specs.Moving.{Holds}
+use Rattle.status_renewal.specs.Passes.{RenewCause}
+use Rattle.buffer_pool.specs.Pools.{PoolView}
+use Rattle.buffer_pool.specs.Holding.{KeepsPins}
+use Rattle.buffer_pool.proofs.HoldingLemmas.{nothing_keeps, rest_stays}
+use Rattle.pending_writes.specs.Frames.{Frame, Frames, logs_of, with_frame_at, with_frame_log}
+use Rattle.store_steps.specs.Advances.{KeepsState}
+use Rattle.page_writing.specs.Causes.{WritingCause}
+use Rattle.page_writing.specs.Laws.{frames_out}
+use Rattle.page_writing.specs.Writing.{WritesOut, WritesOutInSteps}
+use Rattle.page_writing.proofs.KeepLemmas.{writings_keep_states}
+use Rattle.frame_changes.specs.Changes.{FrameChanges, IsClearedFrame}
+use Rattle.page_frames.specs.declared.pages.Pages.{Pages}
+use Rattle.page_frames.specs.Pages.{tables_in, frames_in, IsReady, Upholds, PageCause, emptied, frames_after}
+use Rattle.page_frames.proofs.FrameLemmas.{emptied_there}
+use Rattle.page_frames.proofs.HeldLemmas.{some_of}
+use Rattle.page_frames.proofs.TableLemmas.{tables_uphold}
+
+-- ---- causes
+
+out_cause : (t : Tables) (u place : ℕ) (fault : ChipFault) (old new : Told)
+    → WritingCause t u place fault old new → RenewCause fault old new
+out_cause t u place ReadFault old new (inl rose) = rose
+out_cause t u place Stopped old new (inl rose) = rose
+out_cause t u place (Damaged p s stored computed) old new (inl is) = (is.1, is.2)
+out_cause t u place (Malformed p s) old new cause = tt
+out_cause t u place ReadFault old new (inr lost) = absurd (let is = lost.fault_is in cc is)
+out_cause t u place Stopped old new (inr lost) = absurd (let is = lost.fault_is in cc is)
+out_cause t u place (Damaged p s stored computed) old new (inr lost) =
+    absurd (let is = lost.fault_is in cc is)
+
+out_accounts : (t : Tables) (u place : ℕ) (result : Result (Unit {0}) ChipFault) (old new : Told)
+    → Accounts (WritingCause t u place) result old new → Accounts PageCause result old new
+out_accounts t u place (Ok v) old new did = record { counts = did.counts; cause = tt }
+out_accounts t u place (Err e) old new did =
+    record { counts = did.counts; cause = out_cause t u place e old new did.cause }
+
+-- ---- the state is kept
+
+frames_then : {T E : Type 0} (result : Result T E) (frames : Frames) (u page : ℕ) (f : Frame)
+    → frames u page ≡ Some f → frames_out result frames u page f ≡ frames_after result frames u page
+frames_then (Ok v) frames u page f there =
+    ap (with_frame_at frames u page) (sym (ap (option_map (λ g. with_frame_log g [])) there))
+frames_then (Err e) frames u page f there = refl
+
+out_keeps : (t after : Tables) (frames : Frames) (u page place : ℕ) (payload : List ℕ)
+    (old new : Told) (result : Result (Unit {0}) ChipFault) → IsSome (frames u page)
+    → SpellsLog payload (logs_of frames u page)
+    → WritesOut old.places u payload t after old result new
+    → WritesOutInSteps old.places payload t after old result new
+    → Accounts (WritingCause t u place) result old new
+    → KeepsState t frames old result after (frames_after result frames u page) new
+out_keeps t after frames u page place payload old new result there spelled tells steps accounts =
+    let (f, is) = some_of (frames u page) there in
+    subst (λ (later : Frames). KeepsState t frames old result after later new)
+    (frames_then result frames u page f is)
+    (writings_keep_states t after frames u page place f payload old new result is
+    (subst (SpellsLog payload) (ap (λ (o : Option Frame). option_map_or (λ g. g.log) o []) is) spelled)
+    tells steps accounts.cause)
+
+-- ---- not done
+
+pub out_failed : (u page place : ℕ) (payload : List ℕ) (old new : Pages) (e : ChipFault)
+    (before after : Told) → IsReady before.places old → new.pool ≡ old.pool
+    → IsSome (frames_in old u page) → SpellsLog payload (logs_of (frames_in old) u page)
+    → WritesOut before.places u payload (tables_in old) (tables_in new) before (Err e) after
+    → WritesOutInSteps before.places payload (tables_in old) (tables_in new) before (Err e) after
+    → Holds before.places (tables_in old) (tables_in new)
+    → (old.parts.counter ≤ new.parts.counter) × (new.parts.counter ≤ old.parts.counter + 14)
+    → Accounts {T = Unit {0}} (WritingCause (tables_in old) u place) (Err e) before after
+    → Upholds {T = Unit {0}} 14 old before (Err e) new after
+out_failed u page place payload old new e before after ready same there spelled tells steps holds
+    draws accounts =
+    tables_uphold 14 old new (Err e) before after ready same holds.known holds.active
+    (out_keeps (tables_in old) (tables_in new) (frames_in old) u page place payload before after
+    (Err e) there spelled tells steps accounts) draws
+    (out_accounts (tables_in old) u place (Err e) before after accounts)
+
+-- ---- done
+
+-- the frame of the page has no records
+pub cleared_frames : (old new : Frames) (u page : ℕ) → FrameChanges IsClearedFrame old new u page
+    → new ≡ emptied old u page
+cleared_frames old new u page did =
+    did.frames ∙ ap (with_frame_at old u page) (ap Some did.changes
+    ∙ sym (ap (option_map (λ g. with_frame_log g [])) did.there))
+
+pub out_done : (u page place : ℕ) (payload : List ℕ) (old new : Pages) (before after : Told)
+    → IsReady before.places old → SpellsLog payload (logs_of (frames_in old) u page)
+    → FrameChanges IsClearedFrame (frames_in old) (frames_in new) u page → KeepsPins old.pool new.pool
+    → WritesOut before.places u payload (tables_in old) (tables_in new) before (Ok tt) after
+    → WritesOutInSteps before.places payload (tables_in old) (tables_in new) before (Ok tt) after
+    → Holds before.places (tables_in old) (tables_in new)
+    → (old.parts.counter ≤ new.parts.counter) × (new.parts.counter ≤ old.parts.counter + 14)
+    → Accounts {T = Unit {0}} {E = ChipFault} (WritingCause (tables_in old) u place) (Ok tt) before after
+    → Upholds {T = Unit {0}} 14 old before (Ok tt) new after
+out_done u page place payload old new before after ready spelled did pins tells steps holds draws
+    accounts =
+    let is = cleared_frames (frames_in old) (frames_in new) u page did in record {
+      keeps = subst (λ (later : Frames). KeepsState {T = Unit {0}} {E = ChipFault} (tables_in old)
+          (frames_in old) before (Ok tt) (tables_in new) later after) (sym is)
+          (out_keeps (tables_in old) (tables_in new) (frames_in old) u page place payload before after
+          (Ok tt) (subst IsSome (sym did.there) refl) spelled tells steps accounts);
+      ready = record {
+        known = holds.known;
+        within = λ v q f there.
+            let was = emptied_there (frames_in old) u page v q f
+            (ap (λ (F : Frames). F v q) (sym is) ∙ there) in
+            ready.within v q was.0 was.1;
+        rest = rest_stays old.pool new.pool pins ready.rest;
+      };
+      active = holds.active;
+      pins = pins;
+      least = draws.0;
+      drawn = draws.1;
+      accounts = out_accounts (tables_in old) u place (Ok tt) before after accounts;
+    }

@@ -1,0 +1,54 @@
+use Rattle.std.proofs.Common.{refl, ◌∙◌}
+use Rattle.buffer_pool.specs.Pools.{HasPage, new_buffer, without_pin}
+use Rattle.buffer_pool.proofs.CallerLemmas.{pinned_brought}
+use Rattle.buffer_pool.proofs.HoldingLemmas.{nothing_keeps, brings_keep}
+use Rattle.frame_changes.proofs.FrameLemmas.{brings_add_a_frame, pins_keep_frames}
+use Rattle.page_frames.proofs.HeldLemmas.{absent_in}
+use Rattle.page_frames.proofs.frames.take_frame.Goals as goal
+
+pub bring-pin-requires-clause-absent : goal.bring-pin-requires-clause-absent
+bring-pin-requires-clause-absent c =
+    absent_in c.args.pool.now c.args.unit c.args.page c.facts.ensures.once c.requires.absent
+
+pub unpin-requires : goal.unpin-requires
+unpin-requires c =
+    pinned_brought c.args.pool.now.buffers c.bring-pin.new.self.buffers c.bring-pin.result
+    c.args.unit c.args.page c.args.pool.now.clock c.bring-pin.ensures.pin
+    c.bring-pin.ensures.buffers
+
+pub returns-clause-frames : goal.returns-clause-frames
+returns-clause-frames c =
+    let p = c.args.pool.now in
+    let mid = c.bring-pin.new.self in
+    let pin = c.bring-pin.result in
+    let is = c.bring-pin.ensures in
+    let has : HasPage mid.buffers c.args.unit c.args.page pin.key = record {
+      buffer = new_buffer c.args.unit c.args.page p.clock;
+      stored = is.buffers.changed;
+      unit_is = refl;
+      page_is = refl;
+    } in
+    pins_keep_frames mid c.unpin.new.self c.args.unit c.args.page pin.key without_pin
+    c.facts-2.ensures.once has (λ b. record { page = (refl, refl); frame = refl })
+    c.unpin.ensures.buffers
+    ∙ brings_add_a_frame p mid c.args.unit c.args.page pin.key c.facts.ensures.once
+    (absent_in p c.args.unit c.args.page c.facts.ensures.once c.requires.absent) is.key is.buffers
+
+pub returns-clause-unheld : goal.returns-clause-unheld
+returns-clause-unheld c =
+    let b = new_buffer c.args.unit c.args.page c.args.pool.now.clock in record {
+      key = c.bring-pin.result.key;
+      buffer = without_pin b;
+      stored = c.unpin.ensures.buffers.here b c.bring-pin.ensures.buffers.changed;
+      unit_is = refl;
+      page_is = refl;
+      unpinned = refl;
+    }
+
+pub returns-clause-pins : goal.returns-clause-pins
+returns-clause-pins c =
+    let p = c.args.pool.now in
+    let mid = c.bring-pin.new.self in
+    let is = c.bring-pin.ensures in
+    brings_keep p mid mid c.unpin.new.self c.args.unit c.args.page c.bring-pin.result.key is.key
+    is.counts.limit is.buffers (nothing_keeps mid) c.unpin.ensures.limit c.unpin.ensures.buffers

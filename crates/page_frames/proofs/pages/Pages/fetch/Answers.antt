@@ -1,0 +1,24 @@
+use Rattle.page_frames.specs.Pages.{frames_in}
+use Rattle.page_frames.proofs.BringLemmas.{brings_fresh}
+use Rattle.page_frames.proofs.SpendLemmas.{logs_then_reads}
+use Rattle.page_frames.proofs.UpholdLemmas.{upholds_then}
+use Rattle.page_frames.proofs.pages.Pages.fetch.Goals as goal
+
+pub returns-clause-upholds : goal.returns-clause-upholds
+returns-clause-upholds g c =
+    upholds_then 14 0 c.args.self.now c.make_room.new.self c.load.new.self c.load.result
+    (g.C.Chip.told c.args.chip.now) (g.C.Chip.told c.make_room.new.chip)
+    (g.C.Chip.told c.load.new.chip) (g.met.C.Chip.consistent c.args.chip.now)
+    (g.met.C.Chip.consistent c.make_room.new.chip) c.in_ok-make_room.ensures.upholds
+    c.load.ensures.upholds
+
+pub returns-clause-fresh : goal.returns-clause-fresh
+returns-clause-fresh g c =
+    brings_fresh c.load.result c.args.unit c.args.page c.make_room.new.self c.load.new.self
+    c.load.ensures.brings
+
+pub returns-clause-costs : goal.returns-clause-costs
+returns-clause-costs g c =
+    logs_then_reads c.args.self.now.parts.directory (g.C.Chip.told c.args.chip.now)
+    (g.C.Chip.told c.make_room.new.chip) (g.C.Chip.told c.load.new.chip)
+    c.in_ok-make_room.ensures.costs c.load.ensures.costs

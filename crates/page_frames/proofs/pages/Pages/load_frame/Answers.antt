@@ -1,0 +1,65 @@
+use Rattle.std.proofs.Common.{ℕ, List, Some, refl, ◌∙◌, ap, subst, sym}
+use Rattle.ipl_meaning.specs.Chart.{chart_of}
+use Rattle.number_set.specs.Numbers.{among}
+use Rattle.page_rebuild.specs.Loaded.{IsLoaded}
+use Rattle.std.proofs.lemmas.Result.{on_ok_weaker}
+use Rattle.ipl_format.specs.Record.{Record}
+use Rattle.buffer_pool.specs.Lending.{with_frame}
+use Rattle.buffer_pool.proofs.HoldingLemmas.{loans_keep}
+use Rattle.frame_changes.proofs.FrameLemmas.{loans_change_a_frame}
+use Rattle.frame_changes.proofs.PutLemmas.{stored_then, frame_pins}
+use Rattle.pending_writes.specs.Frames.{with_frame_at}
+use Rattle.store_steps.specs.Views.{frame_of}
+use Rattle.page_frames.specs.Pages.{tables_in, frames_in}
+use Rattle.page_frames.proofs.HeldLemmas.{unheld_page, has_log}
+use Rattle.page_frames.proofs.pages.Pages.load_frame.Goals as goal
+
+pub unreachable-requires : goal.unreachable-requires
+unreachable-requires g c =
+    let is = c.requires.unheld in
+    c.in_default.ensures.none is.key (unheld_page c.args.self.now.pool c.args.unit c.args.page is)
+
+pub returns-clause-loads : goal.returns-clause-loads
+returns-clause-loads g c =
+    let p = c.args.self.now.pool in
+    let u = c.args.unit in
+    let page = c.args.page in
+    let once = c.facts.ensures.once in
+    let has = c.in-Some.ensures.found in
+    let t = tables_in c.args.self.now in
+    let bare = has_log p u page c.in-Some.key once has c.requires.empty in
+    record {
+      view = c.load.new.frame;
+      frames = loans_change_a_frame p u page c.in-Some.key (with_frame c.load.new.frame) once has
+          (refl, refl)
+          ∙ ap (λ (l : List Record). with_frame_at (frames_in c.args.self.now) u page
+          (Some (frame_of c.load.new.frame l))) bare;
+      loaded = on_ok_weaker c.load.result (λ loads x told it mirrors.
+          subst (λ (l : List ℕ). IsLoaded (chart_of x) it (among l) u page c.load.new.frame)
+          c.as_slice.ensures.numbers (loads x told it t (record {
+            mirrored = record { mirrors = mirrors; directory_is = refl; overflow_is = refl };
+            status_is = refl;
+          }))) c.load.ensures.loads;
+    }
+
+pub returns-clause-unheld : goal.returns-clause-unheld
+returns-clause-unheld g c =
+    let p = c.args.self.now.pool in
+    let is = c.requires.unheld in
+    let has = unheld_page p c.args.unit c.args.page is in
+    let same = c.facts.ensures.once c.args.unit c.args.page c.in-Some.key is.key
+    c.in-Some.ensures.found has in
+    let f = c.load.new.frame in
+    rw same (record {
+      key = is.key;
+      buffer = with_frame f is.buffer;
+      stored = stored_then p c.args.unit c.args.page is.key c.facts.ensures.once has f;
+      unit_is = is.unit_is;
+      page_is = is.page_is;
+      unpinned = is.unpinned;
+    })
+
+pub returns-clause-pins : goal.returns-clause-pins
+returns-clause-pins g c =
+    frame_pins c.args.self.now.pool c.args.unit c.args.page c.in-Some.key c.facts.ensures.once
+    c.in-Some.ensures.found c.load.new.frame

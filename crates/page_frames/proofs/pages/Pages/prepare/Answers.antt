@@ -1,0 +1,24 @@
+use Rattle.std.proofs.Common.{refl}
+use Rattle.std.proofs.lemmas.Result.{on_ok_weaker}
+use Rattle.log_records.specs.View.{record_of}
+use Rattle.page_frames.proofs.BringLemmas.{fits_fresh, out_fresh}
+use Rattle.page_frames.proofs.UpholdLemmas.{upholds_none}
+use Rattle.page_frames.proofs.pages.Pages.prepare.Goals as goal
+
+pub returns-then-has_room-clause-upholds : goal.returns-then-has_room-clause-upholds
+returns-then-has_room-clause-upholds g c =
+    upholds_none 14 c.args.self.now (g.C.Chip.told c.args.chip.now) c.requires.ready
+
+pub returns-then-is_framed-clause-room : goal.returns-then-is_framed-clause-room
+returns-then-is_framed-clause-room g c =
+    let r = record_of c.args.logged.now in
+    on_ok_weaker c.write_out.result
+    (fits_fresh c.write_out.new.self c.args.unit r c.short.ensures)
+    (out_fresh c.write_out.result c.args.unit c.args.logged.now.page c.args.self.now
+    c.write_out.new.self (c.is_framed.ensures.0 c.if-is_framed.true) c.write_out.ensures.frames)
+
+pub returns-clause-room : goal.returns-clause-room
+returns-clause-room g c =
+    on_ok_weaker c.fetch.result
+    (fits_fresh c.fetch.new.self c.args.unit (record_of c.args.logged.now) c.short.ensures)
+    c.fetch.ensures.fresh

@@ -1,0 +1,15 @@
+use Rattle.std.proofs.Common.{◌^◌, refl}
+use Rattle.page_frames.proofs.TableLemmas.{renew_upholds}
+use Rattle.page_frames.proofs.UpholdLemmas.{upholds_none}
+use Rattle.page_frames.proofs.pages.Pages.ready_status.Goals as goal
+
+pub returns-then-room-gt0-clause-upholds : goal.returns-then-room-gt0-clause-upholds
+returns-then-room-gt0-clause-upholds g c =
+    upholds_none (2 ^ 14) c.args.self.now (g.C.Chip.told c.args.chip.now) c.requires.ready
+
+pub returns-clause-upholds : goal.returns-clause-upholds
+returns-clause-upholds g c =
+    let is = c.renew.ensures in
+    renew_upholds c.args.self.now (record { parts = c.renew.new.parts; pool = c.args.self.now.pool })
+    c.renew.result (g.C.Chip.told c.args.chip.now) (g.C.Chip.told c.renew.new.chip) c.requires.ready
+    refl is.holds is.tells is.steps is.draws is.accounts

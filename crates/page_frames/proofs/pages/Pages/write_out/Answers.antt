@@ -1,0 +1,49 @@
+use Rattle.std.proofs.Common.{Ok, Err, refl, sym, slice_index}
+use Rattle.std.proofs.lemmas.Result.{err_from_is_err_and}
+use Rattle.page_frames.specs.Pages.{frames_in}
+use Rattle.page_frames.proofs.FrameLemmas.{emptied_same}
+use Rattle.page_frames.proofs.OutLemmas.{out_failed, cleared_frames, out_done}
+use Rattle.page_frames.proofs.UpholdLemmas.{upholds_none}
+use Rattle.page_frames.proofs.pages.Pages.write_out.Goals as goal
+
+pub returns-then-not-has_records-clause-upholds : goal.returns-then-not-has_records-clause-upholds
+returns-then-not-has_records-clause-upholds g c =
+    upholds_none 14 c.args.self.now (g.C.Chip.told c.args.chip.now) c.requires.ready
+
+pub returns-then-not-has_records-clause-frames : goal.returns-then-not-has_records-clause-frames
+returns-then-not-has_records-clause-frames g c =
+    sym (emptied_same (frames_in c.args.self.now) c.args.unit c.args.page
+    (c.if-not-has_records.ensures.none refl))
+
+pub returns-in_err-write_out-clause-upholds : goal.returns-in_err-write_out-clause-upholds
+returns-in_err-write_out-clause-upholds g c =
+    let is = c.in_err-write_out.ensures in
+    let e = err_from_is_err_and c.from_residual.result c.from_residual.ensures.1 in
+    rw (e.1, e.2) (out_failed c.args.unit c.args.page
+    (slice_index c.write_out.new.parts.directory.current c.args.unit) c.log_payload-payload.result
+    c.args.self.now (record { parts = c.write_out.new.parts; pool = c.args.self.now.pool })
+    c.in_err-write_out.field-0.0 (g.C.Chip.told c.args.chip.now) (g.C.Chip.told c.write_out.new.chip)
+    c.requires.ready refl (c.if-not-has_records.ensures.some refl) c.log_payload-payload.ensures is.tells
+    is.steps is.holds is.draws is.accounts)
+
+pub returns-in_err-write_out-clause-idle : goal.returns-in_err-write_out-clause-idle
+returns-in_err-write_out-clause-idle g c = λ none. absurd (c.if-not-has_records.ensures.full refl none)
+
+pub returns-clause-upholds : goal.returns-clause-upholds
+returns-clause-upholds g c =
+    let is = c.in_ok-write_out.ensures in
+    out_done c.args.unit c.args.page (slice_index c.write_out.new.parts.directory.current c.args.unit)
+    c.log_payload-payload.result c.args.self.now
+    (record { parts = c.write_out.new.parts; pool = c.clear_log.new.pool })
+    (g.C.Chip.told c.args.chip.now) (g.C.Chip.told c.write_out.new.chip) c.requires.ready
+    c.log_payload-payload.ensures c.clear_log.ensures.cleared c.clear_log.ensures.pins is.tells is.steps
+    is.holds is.draws is.accounts
+
+pub returns-clause-frames : goal.returns-clause-frames
+returns-clause-frames g c =
+    cleared_frames (frames_in c.args.self.now)
+    (frames_in (record { parts = c.write_out.new.parts; pool = c.clear_log.new.pool })) c.args.unit
+    c.args.page c.clear_log.ensures.cleared
+
+pub returns-clause-idle : goal.returns-clause-idle
+returns-clause-idle g c = λ none. absurd (c.if-not-has_records.ensures.full refl none)

@@ -1,0 +1,207 @@
+//! A page is brought into a frame.
+ghost use Rattle.std.specs.Prelude.{◌≡◌, ◌<◌, ◌≤◌, ◌+◌, ◌^◌, [], ℕ, None, OnOk};
+ghost use Rattle.unit_io.specs.Accounts.{Accounts};
+ghost use Rattle.unit_io.specs.Costs.{Costs, Spends};
+ghost use Rattle.unit_io.specs.ReadsAt.{ReadsAt};
+ghost use Rattle.merge_rules.specs.Known.{Suits};
+ghost use Rattle.buffer_pool.specs.Holding.{KeepsPins};
+ghost use Rattle.pending_writes.specs.Frames.{logs_of};
+ghost use Rattle.store_steps.specs.Laws.{Anywhere};
+ghost use Rattle.log_records.specs.View.{record_of};
+ghost use Rattle.page_writing.specs.Spending.{ErasesAndLogs};
+ghost use Rattle.frame_changes.specs.Changes.{MayPut};
+ghost use Rattle.page_frames.specs.Frames.{IsUnheld};
+ghost use Rattle.page_frames.specs.Pages.{
+  tables_in,
+  frames_in,
+  IsFramed,
+  IsFresh,
+  HasFreeFrame,
+  IsReady,
+  Upholds,
+  LoadsFrame,
+  BringsPage,
+  PageCause,
+};
+
+use crate::Pages;
+use crate::frames::{free_frame, is_framed, short, take_frame};
+use buffer_pool::Room;
+use chip_trait::Chip;
+use frame_changes::has_room;
+use ipl_base::ChipFault;
+use log_records::Record;
+use page_rebuild::load;
+
+impl Pages {
+    /// Takes a page out of its frame, in which it has no hold, once its records are written out.
+    fn give_up<C: Chip>(&mut self, chip: &mut C, unit: u32, page: u32) -> Result<(), ChipFault>
+        requires ready { IsReady (C.told chip.old).places self.old }
+        requires page { page < 15 }
+        requires unheld { IsUnheld self.old.pool unit page }
+        requires left { self.old.parts.counter + 14 < 2 ^ 64 }
+        ensures upholds { Upholds 14 self.old (C.told chip.old) result self.new (C.told chip.new) }
+        ensures room { OnOk result (HasFreeFrame self.new) }
+        ensures absent { (u q : ℕ) → frames_in self.old u q ≡ None → frames_in self.new u q ≡ None }
+        ensures status { self.new.parts.status ≡ self.old.parts.status }
+        ensures costs { Spends (ErasesAndLogs self.old.parts.directory)
+            (C.told chip.old) (C.told chip.new) }
+    {
+        self.pool.facts();
+        self.write_out(chip, unit, page)?;
+        self.pool.facts();
+        free_frame(&mut self.pool, unit, page);
+        Ok(())
+    }
+
+    /// Makes a frame free, where none is: the page that was used longest ago, of those that aren't
+    /// held, leaves it.
+    fn make_room<C: Chip>(&mut self, chip: &mut C) -> Result<(), ChipFault>
+        requires ready { IsReady (C.told chip.old).places self.old }
+        requires left { self.old.parts.counter + 14 < 2 ^ 64 }
+        ensures upholds { Upholds 14 self.old (C.told chip.old) result self.new (C.told chip.new) }
+        ensures room { OnOk result (HasFreeFrame self.new) }
+        ensures absent { (u q : ℕ) → frames_in self.old u q ≡ None → frames_in self.new u q ≡ None }
+        ensures idle { HasFreeFrame self.old
+            → (self.new ≡ self.old) × (C.told chip.new ≡ C.told chip.old) }
+        ensures status { self.new.parts.status ≡ self.old.parts.status }
+        ensures costs { Spends (ErasesAndLogs self.old.parts.directory)
+            (C.told chip.old) (C.told chip.new) }
+    {
+        self.pool.facts();
+        match self.pool.room() {
+            Room::Free => Ok(()),
+            Room::Victim(unit, page) => self.give_up(chip, unit, page),
+            Room::AllPinned => unreachable!("fewer pages are held than there are frames"),
+        }
+    }
+
+    /// Loads a page into its frame, where it has no records in memory.
+    fn load_frame<C: Chip>(&mut self, chip: &mut C, unit: u32, page: u32) -> Result<(), ChipFault>
+        requires suits { Suits (C.told chip.old).places (tables_in self.old) }
+        requires unit { unit + 4 < (C.told chip.old).places }
+        requires page { page < 15 }
+        requires unheld { IsUnheld self.old.pool unit page }
+        requires empty { logs_of (frames_in self.old) unit page ≡ [] }
+        ensures loads { LoadsFrame result (C.told chip.old) (tables_in self.old) unit page
+            (frames_in self.old) (frames_in self.new) }
+        ensures tables { tables_in self.new ≡ tables_in self.old }
+        ensures unheld { IsUnheld self.new.pool unit page }
+        ensures pins { KeepsPins self.old.pool self.new.pool }
+        ensures reads { ReadsAt Anywhere (C.told chip.old) (C.told chip.new) }
+        ensures accounts { Accounts PageCause result (C.told chip.old) (C.told chip.new) }
+    {
+        self.pool.facts();
+        let Some(key) = self.pool.find(unit, page) else {
+            unreachable!("the page is in a frame");
+        };
+        let parts = &mut self.parts;
+        load(
+            chip,
+            &parts.directory,
+            &parts.overflow,
+            &parts.status,
+            parts.active.as_slice(),
+            unit,
+            page,
+            &mut parts.scratch.sectors,
+            self.pool.frame_under(key),
+        )
+    }
+
+    /// Loads a page that is in no frame into one that is free. Where it fails, that is free again.
+    fn load<C: Chip>(&mut self, chip: &mut C, unit: u32, page: u32) -> Result<(), ChipFault>
+        requires ready { IsReady (C.told chip.old).places self.old }
+        requires unit { unit + 4 < (C.told chip.old).places }
+        requires page { page < 15 }
+        requires absent { frames_in self.old unit page ≡ None }
+        requires free { HasFreeFrame self.old }
+        ensures upholds { Upholds 0 self.old (C.told chip.old) result self.new (C.told chip.new) }
+        ensures brings { BringsPage result unit page (frames_in self.old) (frames_in self.new) }
+        ensures tables { tables_in self.new ≡ tables_in self.old }
+        ensures status { self.new.parts.status ≡ self.old.parts.status }
+        ensures costs { Spends (Costs 0 0 0 []) (C.told chip.old) (C.told chip.new) }
+    {
+        take_frame(&mut self.pool, unit, page);
+        match self.load_frame(chip, unit, page) {
+            Ok(()) => Ok(()),
+            Err(fault) => {
+                free_frame(&mut self.pool, unit, page);
+                Err(fault)
+            }
+        }
+    }
+
+    /// Loads a page that is in no frame, for which another page may have to leave its frame.
+    fn fetch<C: Chip>(&mut self, chip: &mut C, unit: u32, page: u32) -> Result<(), ChipFault>
+        requires ready { IsReady (C.told chip.old).places self.old }
+        requires unit { unit + 4 < (C.told chip.old).places }
+        requires page { page < 15 }
+        requires absent { frames_in self.old unit page ≡ None }
+        requires left { self.old.parts.counter + 14 < 2 ^ 64 }
+        ensures upholds { Upholds 14 self.old (C.told chip.old) result self.new (C.told chip.new) }
+        ensures fresh { OnOk result (IsFresh self.new unit page) }
+        ensures idle { HasFreeFrame self.old
+            → Spends (Costs 0 0 0 []) (C.told chip.old) (C.told chip.new) }
+        ensures status { self.new.parts.status ≡ self.old.parts.status }
+        ensures costs { Spends (ErasesAndLogs self.old.parts.directory)
+            (C.told chip.old) (C.told chip.new) }
+    {
+        self.make_room(chip)?;
+        self.load(chip, unit, page)
+    }
+
+    /// Brings a page into a frame, where it is in none; another page may have to leave its frame then.
+    pub fn bring<C: Chip>(&mut self, chip: &mut C, unit: u32, page: u32) -> Result<(), ChipFault>
+        requires ready { IsReady (C.told chip.old).places self.old }
+        requires unit { unit + 4 < (C.told chip.old).places }
+        requires page { page < 15 }
+        requires left { self.old.parts.counter + 14 < 2 ^ 64 }
+        ensures upholds { Upholds 14 self.old (C.told chip.old) result self.new (C.told chip.new) }
+        ensures there { OnOk result (IsFramed self.new unit page) }
+        ensures idle { IsFramed self.old unit page
+            → (self.new ≡ self.old) × (C.told chip.new ≡ C.told chip.old) }
+        ensures free { HasFreeFrame self.old
+            → Spends (Costs 0 0 0 []) (C.told chip.old) (C.told chip.new) }
+        ensures status { self.new.parts.status ≡ self.old.parts.status }
+        ensures costs { Spends (ErasesAndLogs self.old.parts.directory)
+            (C.told chip.old) (C.told chip.new) }
+    {
+        if is_framed(&self.pool, unit, page) {
+            return Ok(());
+        }
+        self.fetch(chip, unit, page)
+    }
+
+    /// Brings the page of a record into a frame, where the record fits behind the page's records in
+    /// memory then.
+    pub fn prepare<C: Chip>(
+        &mut self,
+        chip: &mut C,
+        unit: u32,
+        logged: &Record,
+    ) -> Result<(), ChipFault>
+        requires ready { IsReady (C.told chip.old).places self.old }
+        requires unit { unit + 4 < (C.told chip.old).places }
+        requires page { logged.now.page < 15 }
+        requires left { self.old.parts.counter + 14 < 2 ^ 64 }
+        ensures upholds { Upholds 14 self.old (C.told chip.old) result self.new (C.told chip.new) }
+        ensures room { OnOk result (MayPut (frames_in self.new) unit (record_of logged.now)) }
+        ensures idle { MayPut (frames_in self.old) unit (record_of logged.now)
+            → C.told chip.new ≡ C.told chip.old }
+        ensures free { frames_in self.old unit logged.now.page ≡ None → HasFreeFrame self.old
+            → Spends (Costs 0 0 0 []) (C.told chip.old) (C.told chip.new) }
+        ensures status { self.new.parts.status ≡ self.old.parts.status }
+        ensures costs { Spends (ErasesAndLogs self.old.parts.directory)
+            (C.told chip.old) (C.told chip.new) }
+    {
+        short(logged);
+        if has_room(&self.pool, unit, logged) {
+            return Ok(());
+        }
+        if is_framed(&self.pool, unit, logged.page) {
+            return self.write_out(chip, unit, logged.page);
+        }
+        self.fetch(chip, unit, logged.page)
+    }
+}

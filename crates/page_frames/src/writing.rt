@@ -1,0 +1,44 @@
+//! The records of a page, written out from its frame.
+ghost use Rattle.std.specs.Prelude.{◌≡◌, ◌<◌, ◌≤◌, ◌+◌, ◌^◌, []};
+ghost use Rattle.unit_io.specs.Costs.{Spends};
+ghost use Rattle.pending_writes.specs.Frames.{logs_of};
+ghost use Rattle.page_writing.specs.Spending.{ErasesAndLogs};
+ghost use Rattle.page_frames.specs.Pages.{frames_in, IsReady, Upholds, frames_after};
+
+use crate::Pages;
+use crate::frames::has_records;
+use chip_trait::Chip;
+use frame_changes::{clear_log, log_payload};
+use ipl_base::ChipFault;
+use page_writing::write_out;
+
+impl Pages {
+    /// Writes the records out that a page has in memory, where it is in a frame and has some. It stays
+    /// in its frame. Where it fails the frames are as they were.
+    pub fn write_out<C: Chip>(
+        &mut self,
+        chip: &mut C,
+        unit: u32,
+        page: u32,
+    ) -> Result<(), ChipFault>
+        requires ready { IsReady (C.told chip.old).places self.old }
+        requires unit { unit + 4 < (C.told chip.old).places }
+        requires page { page < 15 }
+        requires left { self.old.parts.counter + 14 < 2 ^ 64 }
+        ensures upholds { Upholds 14 self.old (C.told chip.old) result self.new (C.told chip.new) }
+        ensures frames { frames_in self.new ≡ frames_after result (frames_in self.old) unit page }
+        ensures status { self.new.parts.status ≡ self.old.parts.status }
+        ensures costs { Spends (ErasesAndLogs self.old.parts.directory)
+            (C.told chip.old) (C.told chip.new) }
+        ensures idle { logs_of (frames_in self.old) unit page ≡ []
+            → C.told chip.new ≡ C.told chip.old }
+    {
+        if !has_records(&self.pool, unit, page) {
+            return Ok(());
+        }
+        let mut payload = log_payload(&self.pool, unit, page);
+        write_out(chip, &mut self.parts, unit, &mut payload)?;
+        clear_log(&mut self.pool, unit, page);
+        Ok(())
+    }
+}
