@@ -1,5 +1,5 @@
 //! The pages that are in frames, in their order, and a look at one of them.
-ghost use Rattle.std.specs.Prelude.{◌≡◌, ◌<◌, length, option_map, slice_index_or};
+ghost use Rattle.std.specs.Prelude.{◌≡◌, ◌<◌, ◌≤◌, length, option_map, slice_index_or};
 ghost use Rattle.buffer_pool.specs.Pools.{IsThere};
 ghost use Rattle.buffer_pool.specs.Index.{page_number};
 ghost use Rattle.buffer_pool.specs.Laws.{buffer_of};
@@ -11,7 +11,8 @@ use page_ops::Frame;
 impl Pool {
     /// How many pages are in frames.
     pub fn len(&self) -> usize
-        ensures { result ≡ length self.now.order }
+        ensures all { result ≡ length self.now.order }
+        ensures few { result ≤ 64 }
     {
         self.buffers.len()
     }

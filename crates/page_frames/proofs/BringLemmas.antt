@@ -1,16 +1,15 @@
 -- A page that was brought in, and room for its next record.
-use Rattle.std.proofs.Common.{◌≡◌, ◌≤◌, ◌+◌, ℕ, List, [], Option, Some, None, Result, Ok, Err, OnOk, refl, sym, ◌∙◌, ap, arith}
+use Rattle.std.proofs.Common.{◌≡◌, ◌≤◌, ℕ, [], Some, Result, Ok, Err, OnOk, refl, ◌∙◌, ap, arith}
 use Rattle.std.specs.Prelude.{IsSome}
 use Rattle.std.specs.Option.{option_map}
-use Rattle.std.proofs.lemmas.Result.{on_ok_weaker}
 use Rattle.ipl_base.specs.declared.fault.ChipFault.{ChipFault}
 use Rattle.ipl_format.specs.Record.{Record}
 use Rattle.ipl_meaning.specs.Last.{size_of, size_of_all}
-use Rattle.pending_writes.specs.Frames.{Frame, Frames, with_frame_at, with_frame_log}
+use Rattle.pending_writes.specs.Frames.{Frames, with_frame_log}
 use Rattle.pending_writes.proofs.SameLemmas.{frame_here}
 use Rattle.frame_changes.specs.Changes.{MayPut}
 use Rattle.page_frames.specs.declared.pages.Pages.{Pages}
-use Rattle.page_frames.specs.Pages.{frames_in, IsFresh, BringsPage, emptied, frames_after}
+use Rattle.page_frames.specs.Pages.{frames_in, IsFresh, BringsPage, frames_after}
 use Rattle.page_frames.proofs.HeldLemmas.{some_of}
 
 -- done, the page has no records in memory

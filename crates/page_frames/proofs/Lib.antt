@@ -8,3 +8,4 @@ pub mod OutLemmas
 pub mod LeaveLemmas
 pub mod LoadLemmas
 pub mod BringLemmas
+pub mod OutAllLemmas

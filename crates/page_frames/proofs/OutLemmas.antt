@@ -1,19 +1,17 @@
 -- The records of a page, written out from its frame.
-use Rattle.std.proofs.Common.{◌≡◌, ◌<◌, ◌≤◌, ◌+◌, ℕ, List, [], Option, Some, None, Result, Ok, Err, IfErr, refl, sym, ◌∙◌, ap, subst, inl, inr}
+use Rattle.std.proofs.Common.{◌≡◌, ◌≤◌, ◌+◌, ℕ, List, [], Option, Some, Result, Ok, Err, refl, sym, ◌∙◌, ap, subst, inl, inr}
 use Rattle.std.specs.Prelude.{IsSome}
 use Rattle.std.specs.Option.{option_map, option_map_or}
 use Rattle.chip_trait.specs.Told.{Told}
 use Rattle.ipl_base.specs.declared.fault.ChipFault.{ChipFault}
 use Rattle.ipl_base.specs.declared.fault.ChipFault.TheVariants.{ReadFault, Stopped, Damaged, Malformed}
-use Rattle.ipl_format.specs.Record.{Record, SpellsLog}
+use Rattle.ipl_format.specs.Record.{SpellsLog}
 use Rattle.ipl_meaning.specs.Tables.{Tables}
 use Rattle.unit_io.specs.Accounts.{Accounts}
-use Rattle.merge_rules.specs.Known.{KnowsPlaces}
 use Rattle.selective_merge.specs.Moving.{Holds}
 use Rattle.status_renewal.specs.Passes.{RenewCause}
-use Rattle.buffer_pool.specs.Pools.{PoolView}
 use Rattle.buffer_pool.specs.Holding.{KeepsPins}
-use Rattle.buffer_pool.proofs.HoldingLemmas.{nothing_keeps, rest_stays}
+use Rattle.buffer_pool.proofs.HoldingLemmas.{rest_stays}
 use Rattle.pending_writes.specs.Frames.{Frame, Frames, logs_of, with_frame_at, with_frame_log}
 use Rattle.store_steps.specs.Advances.{KeepsState}
 use Rattle.page_writing.specs.Causes.{WritingCause}

@@ -1,6 +1,5 @@
 -- What bringing a page in costs: what writing another page's records out does, and reads.
-use Rattle.std.proofs.Common.{◌≡◌, ℕ, [], ◌∷◌, arith}
-use Rattle.std.specs.Prelude.{Contains}
+use Rattle.std.proofs.Common.{ℕ, [], ◌∷◌, arith}
 use Rattle.chip_trait.specs.Told.{Told}
 use Rattle.ipl_meaning.specs.Tables.{Places}
 use Rattle.unit_io.specs.Costs.{Costs, Spends}

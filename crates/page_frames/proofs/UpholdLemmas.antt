@@ -1,5 +1,5 @@
 -- Calls that keep each state: nothing done, one after another, and causes.
-use Rattle.std.proofs.Common.{◌≡◌, ◌≤◌, ◌+◌, ℕ, Result, Ok, Err, IfErr, refl, sym, ◌∙◌, subst, arith}
+use Rattle.std.proofs.Common.{◌≤◌, ◌+◌, ℕ, Result, Ok, refl, ◌∙◌, subst, arith}
 use Rattle.chip_trait.specs.Told.{Told, IsConsistent}
 use Rattle.chip_trait.proofs.CountsLemmas.{counts_none}
 use Rattle.ipl_base.specs.declared.fault.ChipFault.{ChipFault}

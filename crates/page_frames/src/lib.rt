@@ -9,6 +9,7 @@
 mod bringing;
 mod frames;
 mod pages;
+mod sessions;
 mod tables;
 mod writing;
 

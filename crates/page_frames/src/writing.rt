@@ -27,6 +27,7 @@ impl Pages {
         requires left { self.old.parts.counter + 14 < 2 ^ 64 }
         ensures upholds { Upholds 14 self.old (C.told chip.old) result self.new (C.told chip.new) }
         ensures frames { frames_in self.new ≡ frames_after result (frames_in self.old) unit page }
+        ensures order { self.new.pool.order ≡ self.old.pool.order }
         ensures status { self.new.parts.status ≡ self.old.parts.status }
         ensures costs { Spends (ErasesAndLogs self.old.parts.directory)
             (C.told chip.old) (C.told chip.new) }

@@ -1,4 +1,3 @@
-use Rattle.page_frames.specs.Pages.{frames_in}
 use Rattle.page_frames.proofs.BringLemmas.{brings_fresh}
 use Rattle.page_frames.proofs.SpendLemmas.{logs_then_reads}
 use Rattle.page_frames.proofs.UpholdLemmas.{upholds_then}

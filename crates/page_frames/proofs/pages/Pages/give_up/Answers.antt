@@ -1,8 +1,7 @@
-use Rattle.std.proofs.Common.{Some, refl, ◌∙◌, ap}
-use Rattle.buffer_pool.specs.Pools.{PoolView}
+use Rattle.std.proofs.Common.{refl, ◌∙◌, ap}
 use Rattle.pending_writes.specs.Frames.{Frames, logs_of}
 use Rattle.frame_changes.specs.Views.{frame_in}
-use Rattle.page_frames.specs.Pages.{frames_in, IsFramed}
+use Rattle.page_frames.specs.Pages.{frames_in}
 use Rattle.page_frames.proofs.FrameLemmas.{emptied_out, emptied_none, evicted_none}
 use Rattle.page_frames.proofs.HeldLemmas.{unheld_frame}
 use Rattle.page_frames.proofs.LeaveLemmas.{leaves_unheld, leaves_upholds}

@@ -1,4 +1,4 @@
-use Rattle.std.proofs.Common.{[], Some, refl, ◌∙◌, ap}
+use Rattle.std.proofs.Common.{[], refl, ◌∙◌, ap}
 use Rattle.buffer_pool.proofs.HoldingLemmas.{both_keep}
 use Rattle.page_ops.specs.Frames.{empty_frame}
 use Rattle.pending_writes.specs.Frames.{Frames, logs_of}

@@ -1,11 +1,10 @@
-use Rattle.std.proofs.Common.{ℕ, List, Some, refl, ◌∙◌, ap, subst, sym}
+use Rattle.std.proofs.Common.{ℕ, List, Some, refl, ◌∙◌, ap, subst}
 use Rattle.ipl_meaning.specs.Chart.{chart_of}
 use Rattle.number_set.specs.Numbers.{among}
 use Rattle.page_rebuild.specs.Loaded.{IsLoaded}
 use Rattle.std.proofs.lemmas.Result.{on_ok_weaker}
 use Rattle.ipl_format.specs.Record.{Record}
 use Rattle.buffer_pool.specs.Lending.{with_frame}
-use Rattle.buffer_pool.proofs.HoldingLemmas.{loans_keep}
 use Rattle.frame_changes.proofs.FrameLemmas.{loans_change_a_frame}
 use Rattle.frame_changes.proofs.PutLemmas.{stored_then, frame_pins}
 use Rattle.pending_writes.specs.Frames.{with_frame_at}

@@ -1,4 +1,4 @@
-use Rattle.std.proofs.Common.{ap, arith}
+use Rattle.std.proofs.Common.{arith}
 use Rattle.buffer_pool.proofs.HoldingLemmas.{room_at_rest}
 use Rattle.page_frames.proofs.UpholdLemmas.{upholds_none}
 use Rattle.page_frames.proofs.pages.Pages.make_room.Goals as goal

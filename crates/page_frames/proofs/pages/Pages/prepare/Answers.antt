@@ -1,4 +1,3 @@
-use Rattle.std.proofs.Common.{refl}
 use Rattle.std.proofs.lemmas.Result.{on_ok_weaker}
 use Rattle.log_records.specs.View.{record_of}
 use Rattle.page_frames.proofs.BringLemmas.{fits_fresh, out_fresh}

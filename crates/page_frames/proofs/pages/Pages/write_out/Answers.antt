@@ -1,4 +1,4 @@
-use Rattle.std.proofs.Common.{Ok, Err, refl, sym, slice_index}
+use Rattle.std.proofs.Common.{refl, sym, slice_index}
 use Rattle.std.proofs.lemmas.Result.{err_from_is_err_and}
 use Rattle.page_frames.specs.Pages.{frames_in}
 use Rattle.page_frames.proofs.FrameLemmas.{emptied_same}

@@ -1,0 +1,258 @@
+-- The pages of names, written out one after the other in the order of pages.
+use Rattle.std.proofs.Common.{◌≡◌, ◌<◌, ◌≤◌, ◌+◌, ◌*◌, ◌∷◌, ◌++◌, ◌⊎◌, ◌==◌, ◌&&◌, ◌||◌, ℕ, zero, suc, Bool, true, false, List, [], All, Contains, Option, Some, None, Ok, Err, length, get_or, refl, sym, ◌∙◌, ap, subst, inl, inr, arith}
+use Rattle.std.specs.Prelude.{slice_index_or}
+use Rattle.std.specs.Option.{option_map, option_map_or}
+use Rattle.std.proofs.lemmas.Bool.{cases_eq, eq-eqb, false≢true}
+use Rattle.ipl_meaning.specs.Tables.{Places}
+use Rattle.chip_trait.specs.Told.{Told, IsConsistent}
+use Rattle.ipl_base.specs.Places.{home_of}
+use Rattle.ipl_base.specs.declared.fault.ChipFault.{ChipFault}
+use Rattle.unit_io.specs.Costs.{Costs, Spends}
+use Rattle.unit_io.proofs.CostLemmas.{costs_none, costs_then, costs_at_most, spends_none, spends_then, spends_weaker}
+use Rattle.buffer_pool.specs.Pools.{PoolView, IsThere, AreOnce}
+use Rattle.buffer_pool.specs.Index.{page_number}
+use Rattle.pending_writes.specs.Frames.{Frame, Frames, logs_of}
+use Rattle.pending_writes.proofs.MemoryLemmas.{cases_page}
+use Rattle.pending_writes.proofs.SameLemmas.{frame_other}
+use Rattle.store_steps.specs.Numbers.{IsOut}
+use Rattle.page_writing.specs.Spending.{ErasesAndLogs}
+use Rattle.buffer_pool.specs.declared.pool.Buffer.{Buffer}
+use Rattle.buffer_pool.specs.Laws.{buffer_of}
+use Rattle.buffer_pool.proofs.BufferLemmas.{buffers_are_told}
+use Rattle.frame_changes.specs.Views.{frame_in, frames_of}
+use Rattle.frame_changes.proofs.FrameLemmas.{frame_found}
+use Rattle.page_frames.proofs.HeldLemmas.{none_some}
+use Rattle.page_frames.specs.declared.pages.Pages.{Pages}
+use Rattle.page_frames.specs.Pages.{frames_in, IsReady, Upholds, emptied}
+use Rattle.page_frames.specs.Changed.{is_home, is_on_page}
+use Rattle.page_frames.proofs.FrameLemmas.{emptied_out}
+use Rattle.page_frames.proofs.UpholdLemmas.{upholds_none, upholds_then, upholds_weaker}
+
+-- of the first n pages in the order, those that are of the names have no records in memory
+abbrev pub AreOutBelow : ℕ → List ℕ → List ℕ → Frames → Type 0
+AreOutBelow n names order frames = (u page k : ℕ) → page < 15 → k < n
+    → slice_index_or order k 0 ≡ page_number u page → is_on_page names u page ≡ true
+    → logs_of frames u page ≡ []
+
+-- after so many pages
+pub record IsOutBelow (n : ℕ) (names : List ℕ) (first : Pages) (before : Told) (now : Pages)
+    (after : Told) : Type 0 where
+  pub upholds : Upholds {T = Unit {0}} (14 * n) first before (Ok tt) now after
+  pub order : now.pool.order ≡ first.pool.order
+  pub status : now.parts.status ≡ first.parts.status
+  pub out : AreOutBelow n names first.pool.order (frames_in now)
+  pub costs : Spends (Costs n n (3 * n) (5 ∷ [])) before after
+
+pub none_out : (names : List ℕ) (first : Pages) (before : Told) → IsReady before.places first
+    → IsOutBelow 0 names first before first before
+none_out names first before ready = record {
+  upholds = upholds_none 0 first before ready;
+  order = refl;
+  status = refl;
+  out = λ u page k few less. absurd (omega (arith, less));
+  costs = spends_none (Costs 0 0 0 (5 ∷ [])) before (costs_none (5 ∷ []));
+}
+
+-- ---- one page more
+
+-- a page without records has none after another is written out
+still_out : (frames : Frames) (u page v q : ℕ) → logs_of frames v q ≡ []
+    → logs_of (emptied frames u page) v q ≡ []
+still_out frames u page v q none = elim (cases_page u page v q) [
+  | inl here ↦
+      let same : logs_of (emptied frames u page) v q ≡ logs_of (emptied frames u page) u page =
+      ap (λ w. logs_of (emptied frames u page) w q) here.0
+      ∙ ap (logs_of (emptied frames u page) u) here.1 in
+      same ∙ emptied_out frames u page
+  | inr apart ↦ ap (λ (o : Option Frame). option_map_or (λ f. f.log) o [])
+      (frame_other frames u page _ v q apart) ∙ none
+]
+
+-- a page number says unit and page
+same_page : (u page v q : ℕ) → page < 15 → q < 15 → page_number u page ≡ page_number v q
+    → (v ≡ u) × (q ≡ page)
+same_page u page v q few less same = (omega (arith, few, less, same), omega (arith, few, less, same))
+
+one_more : (n u page : ℕ) (names order : List ℕ) (frames later : Frames) → page < 15
+    → page_number u page ≡ slice_index_or order n 0
+    → ((v q : ℕ) → logs_of frames v q ≡ [] → logs_of later v q ≡ [])
+    → (is_on_page names u page ≡ true → logs_of later u page ≡ [])
+    → AreOutBelow n names order frames → AreOutBelow (n + 1) names order later
+one_more n u page names order frames later few at still here out v q k less below is on =
+    elim (cases_below k n below) [
+      | inl before ↦ still v q (out v q k less before is on)
+      | inr same ↦
+          let number : page_number u page ≡ page_number v q =
+          at ∙ (ap (λ i. slice_index_or order i 0) (sym same) ∙ is) in
+          let (unit_is, page_is) = same_page u page v q few less number in
+          ap (λ w. logs_of later w q) unit_is ∙ (ap (logs_of later u) page_is
+          ∙ here (ap (λ w. is_on_page names u w) (sym page_is)
+          ∙ (ap (λ w. is_on_page names w q) (sym unit_is) ∙ on)))
+    ]
+  where
+    cases_below : (k n : ℕ) → k < n + 1 → (k < n) ⊎ (k ≡ n)
+    cases_below k n less = elim (cases_eq k n) [
+      | inl same ↦ inr same
+      | inr other ↦ inl (omega (arith, less, other))
+    ]
+
+-- the page is none of the names'
+pub passed_out : (n u page : ℕ) (names : List ℕ) (first : Pages) (before : Told) (now : Pages)
+    (after : Told) → page < 15 → page_number u page ≡ slice_index_or now.pool.order n 0
+    → is_on_page names u page ≡ false → IsOutBelow n names first before now after
+    → IsOutBelow (n + 1) names first before now after
+passed_out n u page names first before now after few at off so_far = record {
+  upholds = upholds_weaker (14 * n) (14 * (n + 1)) first now (Ok tt) before after (omega arith)
+      so_far.upholds;
+  order = so_far.order;
+  status = so_far.status;
+  out = one_more n u page names first.pool.order (frames_in now) (frames_in now) few
+      (at ∙ ap (λ (l : List ℕ). slice_index_or l n 0) so_far.order) (λ v q none. none)
+      (λ on. absurd (false≢true (sym off ∙ on))) so_far.out;
+  costs = spends_weaker (Costs n n (3 * n) (5 ∷ [])) (Costs (n + 1) (n + 1) (3 * (n + 1)) (5 ∷ []))
+      before after (λ added costs. costs_at_most n (n + 1) n (n + 1) (3 * n) (3 * (n + 1)) (5 ∷ [])
+      (5 ∷ []) added (omega arith) (omega arith) (omega arith) (λ kind has. has) costs) so_far.costs;
+}
+
+-- or it is written out, however that ends
+costs_more : (n : ℕ) (before mid after : Told) (t : Places)
+    → Spends (Costs n n (3 * n) (5 ∷ [])) before mid → Spends (ErasesAndLogs t) mid after
+    → Spends (Costs (n + 1) (n + 1) (3 * (n + 1)) (5 ∷ [])) before after
+costs_more n before mid after t = spends_then (Costs n n (3 * n) (5 ∷ [])) (ErasesAndLogs t)
+    (Costs (n + 1) (n + 1) (3 * (n + 1)) (5 ∷ [])) before mid after (λ later earlier one two.
+    costs_at_most (n + 1) (n + 1) (n + 1) (n + 1) (3 * n + 3) (3 * (n + 1)) (5 ∷ []) (5 ∷ [])
+    (later ++ earlier) (omega arith) (omega arith) (omega arith) (λ kind has. has)
+    (costs_then n 1 n 1 (3 * n) 3 (5 ∷ []) later earlier one two.costs))
+
+-- done
+pub written_out : (n u page : ℕ) (names : List ℕ) (first : Pages) (before : Told) (mid : Pages)
+    (between : Told) (now : Pages) (after : Told) → IsConsistent before → IsConsistent between
+    → page < 15 → page_number u page ≡ slice_index_or mid.pool.order n 0
+    → IsOutBelow n names first before mid between
+    → Upholds {T = Unit {0}} 14 mid between (Ok tt) now after
+    → frames_in now ≡ emptied (frames_in mid) u page → now.pool.order ≡ mid.pool.order
+    → now.parts.status ≡ mid.parts.status
+    → Spends (ErasesAndLogs mid.parts.directory) between after
+    → IsOutBelow (n + 1) names first before now after
+written_out n u page names first before mid between now after consistent then_consistent few at
+    so_far did is order status costs = record {
+      upholds = upholds_weaker (14 * n + 14) (14 * (n + 1)) first now (Ok tt) before after
+          (omega arith)
+          (upholds_then (14 * n) 14 first mid now (Ok tt) before between after consistent
+          then_consistent so_far.upholds did);
+      order = order ∙ so_far.order;
+      status = status ∙ so_far.status;
+      out = one_more n u page names first.pool.order (frames_in mid) (frames_in now) few
+          (at ∙ ap (λ (l : List ℕ). slice_index_or l n 0) so_far.order)
+          (λ v q none. ap (λ (F : Frames). logs_of F v q) is
+          ∙ still_out (frames_in mid) u page v q none)
+          (λ on. ap (λ (F : Frames). logs_of F u page) is ∙ emptied_out (frames_in mid) u page)
+          so_far.out;
+      costs = costs_more n before between after mid.parts.directory so_far.costs costs;
+    }
+
+-- not done
+pub unwritten_upholds : (n count : ℕ) (names : List ℕ) (first : Pages) (before : Told) (mid : Pages)
+    (between : Told) (now : Pages) (after : Told) (e : ChipFault) → IsConsistent before
+    → IsConsistent between → n < count → count ≤ 64 → IsOutBelow n names first before mid between
+    → Upholds {T = Unit {0}} 14 mid between (Err e) now after
+    → Upholds {T = Unit {0}} (14 * 64) first before (Err e) now after
+unwritten_upholds n count names first before mid between now after e consistent then_consistent less
+    few so_far did =
+    upholds_weaker (14 * n + 14) (14 * 64) first now (Err e) before after (omega (arith, less, few))
+    (upholds_then (14 * n) 14 first mid now (Err e) before between after consistent then_consistent
+    so_far.upholds did)
+
+pub unwritten_costs : (n count : ℕ) (names : List ℕ) (first : Pages) (before : Told) (mid : Pages)
+    (between after : Told) → n < count → IsOutBelow n names first before mid between
+    → Spends (ErasesAndLogs mid.parts.directory) between after
+    → Spends (Costs count count (3 * count) (5 ∷ [])) before after
+unwritten_costs n count names first before mid between after less so_far costs =
+    spends_weaker (Costs (n + 1) (n + 1) (3 * (n + 1)) (5 ∷ []))
+    (Costs count count (3 * count) (5 ∷ [])) before after (λ added is.
+    costs_at_most (n + 1) count (n + 1) count (3 * (n + 1)) (3 * count) (5 ∷ []) (5 ∷ []) added
+    (omega (arith, less)) (omega (arith, less)) (omega (arith, less)) (λ kind has. has) is)
+    (costs_more n before between after mid.parts.directory so_far.costs costs)
+
+-- ---- pages in frames
+
+both_true : (a b : Bool) → a ≡ true → b ≡ true → (a && b) ≡ true
+both_true a b one two = rw one two
+
+or_left : (a b : Bool) → a ≡ true → (a || b) ≡ true
+or_left a b one = rw one refl
+
+or_right : (a b : Bool) → b ≡ true → (a || b) ≡ true
+or_right true b two = refl
+or_right false b two = two
+
+-- a page that is in a buffer is of the chip's units
+pub framed_unit : (most : ℕ) (first now : Pages) (before after : Told) (u page : ℕ)
+    → Upholds {T = Unit {0}} most first before (Ok tt) now after → AreOnce now.pool.buffers
+    → IsThere now.pool.buffers u page → u + 4 < after.places
+framed_unit most first now before after u page did once there =
+    subst (λ (n : ℕ). u + 4 < n) (sym did.accounts.counts.places)
+    (did.ready.within u page (frame_in there.has.buffer)
+    (frame_found now.pool u page there.key once there.has))
+
+-- one that has a frame is in a buffer
+framed_there : (p : PoolView) (u page : ℕ) (f : Frame) → AreOnce p.buffers
+    → frames_of p u page ≡ Some f → IsThere p.buffers u page
+framed_there p u page f once there = by_buffer (buffer_of p.buffers u page) refl
+  where
+    by_buffer : (o : Option Buffer) → buffer_of p.buffers u page ≡ o → IsThere p.buffers u page
+    by_buffer None none = absurd (none_some f (sym there ∙ ap (option_map frame_in) none))
+    by_buffer (Some b) found =
+        let (key, stored, unit_is, page_is) =
+        (buffers_are_told p.buffers once).stands u page b found in record {
+          key = key;
+          has = record { buffer = b; stored = stored; unit_is = unit_is; page_is = page_is };
+        }
+
+-- an element, whatever stands for those past the end
+indexed : (l : List ℕ) (k x : ℕ) → k < length l → slice_index_or l k x ≡ x → slice_index_or l k 0 ≡ x
+indexed [] k x less is = absurd (omega (arith, less))
+indexed (y ∷ l) zero x less is = is
+indexed (y ∷ l) (suc k) x less is = indexed l k x (omega (arith, less)) is
+
+-- the page of a name is that of one of the names
+any_home : (names : List ℕ) (i d : ℕ) → i < length names
+    → is_on_page names (home_of (get_or names i d)).unit (home_of (get_or names i d)).page ≡ true
+any_home [] i d less = absurd (omega (arith, less))
+any_home (n ∷ names) zero d less =
+    let own = both_true ((home_of n).unit == (home_of n).unit) ((home_of n).page == (home_of n).page)
+    (eq-eqb (home_of n).unit (home_of n).unit refl) (eq-eqb (home_of n).page (home_of n).page refl) in
+    or_left (is_home (home_of n).unit (home_of n).page n)
+    (is_on_page names (home_of n).unit (home_of n).page) own
+any_home (n ∷ names) (suc i) d less =
+    or_right (is_home (home_of (get_or names i d)).unit (home_of (get_or names i d)).page n)
+    (is_on_page names (home_of (get_or names i d)).unit (home_of (get_or names i d)).page)
+    (any_home names i d (omega (arith, less)))
+
+-- ---- all pages
+
+-- the names' pages have no records in memory
+pub names_out : (count : ℕ) (names : List ℕ) (first : Pages) (before : Told) (now : Pages)
+    (after : Told) → count ≡ length first.pool.order → AreOnce now.pool.buffers
+    → ((unit page : ℕ) → page < 15
+    → IsThere now.pool.buffers unit page → Contains now.pool.order (page_number unit page))
+    → IsOutBelow count names first before now after → All (IsOut (frames_in now)) names
+names_out count names first before now after all once listed done i d within =
+    by_frame (frames_in now (home_of (get_or names i d)).unit (home_of (get_or names i d)).page) refl
+  where
+    by_frame : (o : Option Frame)
+        → frames_in now (home_of (get_or names i d)).unit (home_of (get_or names i d)).page ≡ o
+        → IsOut (frames_in now) (get_or names i d)
+    by_frame None none = ap (λ (o : Option Frame). option_map_or (λ f. f.log) o []) none
+    by_frame (Some f) there =
+        let n : ℕ = get_or names i d in
+        let is = framed_there now.pool (home_of n).unit (home_of n).page f once there in
+        let few : (home_of n).page < 15 = omega arith in
+        let (k, low, at) = listed (home_of n).unit (home_of n).page few is in
+        done.out (home_of n).unit (home_of n).page k few
+        (let same = ap length done.order in omega (arith, all, same, low))
+        (indexed first.pool.order k (page_number (home_of n).unit (home_of n).page)
+        (let same = ap length done.order in omega (arith, same, low))
+        (ap (λ (l : List ℕ). slice_index_or l k (page_number (home_of n).unit (home_of n).page))
+        (sym done.order) ∙ at))
+        (any_home names i d within)

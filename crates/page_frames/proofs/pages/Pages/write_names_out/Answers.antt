@@ -1,0 +1,62 @@
+use Rattle.std.proofs.Common.{◌*◌, ◌∷◌, [], ℕ, arith, map, sym, ◌∙◌, subst}
+use Rattle.std.proofs.lemmas.Result.{err_from_is_err_and}
+use Rattle.unit_io.specs.Costs.{Costs, Spends}
+use Rattle.page_frames.proofs.OutAllLemmas.{none_out, passed_out, written_out, unwritten_upholds, unwritten_costs, framed_unit, names_out}
+use Rattle.page_frames.proofs.pages.Pages.write_names_out.Goals.{then-has_page+in_ok-write_out, else-has_page}
+use Rattle.page_frames.proofs.pages.Pages.write_names_out.Goals as goal
+
+pub loop-i-init : goal.loop-i-init
+loop-i-init g c =
+    none_out (map (λ n. n.0) c.args.names.now) c.args.self.now (g.C.Chip.told c.args.chip.now)
+    c.requires.ready
+
+pub write_out-requires-clause-unit : goal.write_out-requires-clause-unit
+write_out-requires-clause-unit g c =
+    framed_unit (14 * c.loop-i.i) c.args.self.now c.loop-i.self (g.C.Chip.told c.args.chip.now)
+    (g.C.Chip.told c.loop-i.chip) c.page_at-unit.result.0 c.page_at-unit.result.1
+    c.loop-i.invariant.upholds c.facts.ensures.once c.page_at-unit.ensures.there
+
+pub returns-in_err-write_out-clause-upholds : goal.returns-in_err-write_out-clause-upholds
+returns-in_err-write_out-clause-upholds g c =
+    let e = err_from_is_err_and c.from_residual.result c.from_residual.ensures.1 in
+    rw (e.1, e.2) (unwritten_upholds c.loop-i.i c.len-i-end.result (map (λ n. n.0) c.args.names.now)
+    c.args.self.now (g.C.Chip.told c.args.chip.now) c.loop-i.self (g.C.Chip.told c.loop-i.chip)
+    c.write_out.new.self (g.C.Chip.told c.write_out.new.chip) c.in_err-write_out.field-0.0
+    (g.met.C.Chip.consistent c.args.chip.now) (g.met.C.Chip.consistent c.loop-i.chip)
+    c.loop-i-test.true c.len-i-end.ensures.few c.loop-i.invariant c.in_err-write_out.ensures.upholds)
+
+pub returns-in_err-write_out-clause-costs : goal.returns-in_err-write_out-clause-costs
+returns-in_err-write_out-clause-costs g c =
+    let old = g.C.Chip.told c.args.chip.now in
+    let new = g.C.Chip.told c.write_out.new.chip in
+    subst (λ (n : ℕ). Spends (Costs n n (3 * n) (5 ∷ [])) old new) c.len-i-end.ensures.all
+    (unwritten_costs c.loop-i.i c.len-i-end.result (map (λ n. n.0) c.args.names.now)
+    c.args.self.now old c.loop-i.self (g.C.Chip.told c.loop-i.chip) new c.loop-i-test.true
+    c.loop-i.invariant c.in_err-write_out.ensures.costs)
+
+pub loop-i-preserved : goal.loop-i-preserved
+loop-i-preserved g c = elim c.if-has_page.branch [
+  | then-has_page+in_ok-write_out w ↦
+      let is = w.in_ok-write_out.ensures in
+      rw (w.self-is, w.chip-is) (written_out c.loop-i.i c.page_at-unit.result.0
+      c.page_at-unit.result.1 (map (λ n. n.0) c.args.names.now) c.args.self.now
+      (g.C.Chip.told c.args.chip.now) c.loop-i.self (g.C.Chip.told c.loop-i.chip)
+      w.write_out.new.self (g.C.Chip.told w.write_out.new.chip)
+      (g.met.C.Chip.consistent c.args.chip.now) (g.met.C.Chip.consistent c.loop-i.chip)
+      c.page_at-unit.ensures.page c.page_at-unit.ensures.number c.loop-i.invariant is.upholds
+      is.frames is.order is.status is.costs)
+  | else-has_page w ↦
+      rw (w.self-is, w.chip-is) (passed_out c.loop-i.i c.page_at-unit.result.0
+      c.page_at-unit.result.1 (map (λ n. n.0) c.args.names.now) c.args.self.now
+      (g.C.Chip.told c.args.chip.now) c.loop-i.self (g.C.Chip.told c.loop-i.chip)
+      c.page_at-unit.ensures.page c.page_at-unit.ensures.number
+      (sym c.has_page.ensures ∙ w.if-has_page.false) c.loop-i.invariant)
+]
+
+pub returns-clause-out : goal.returns-clause-out
+returns-clause-out g c =
+    names_out c.loop-i.i (map (λ n. n.0) c.args.names.now) c.args.self.now
+    (g.C.Chip.told c.args.chip.now) c.loop-i.self (g.C.Chip.told c.loop-i.chip)
+    (omega (arith, c.loop-i-test.false, c.loop-i.auto.i-end, c.len-i-end.ensures.all))
+    c.facts-2.ensures.once (λ u page few. (c.facts-2.ensures.listed u page few).1)
+    c.loop-i.invariant
