@@ -1,10 +1,13 @@
 -- What a commit makes of the memory of a store and of its chip.
-use Rattle.std.proofs.Common.{◌≡◌, ℕ, ◌<◌, ◌≤◌, ◌+◌, [], ◌∷◌, List, map, length, Option, Some, None, Result, Ok, Err, OnOk, OnErr, refl, sym, ◌∙◌, ap, subst, arith}
+use Rattle.std.proofs.Common.{◌≡◌, ◌≢◌, ℕ, ◌<◌, ◌≤◌, ◌+◌, ◌*◌, ◌^◌, Bool, true, false, eqb, [], ◌∷◌, List, map, length, Some, None, Result, Ok, Err, refl, sym, ◌∙◌, ap, subst, arith}
 use Rattle.std.specs.List.{All}
-use Rattle.chip_trait.specs.Told.{Told}
+use Rattle.std.proofs.lemmas.Bool.{eqb-true, eq-eqb}
+use Rattle.chip_trait.specs.Told.{Told, IsConsistent}
+use Rattle.chip_trait.proofs.CountsLemmas.{counts_none}
 use Rattle.ipl_base.specs.declared.fault.ChipFault.{ChipFault}
 use Rattle.ipl_base.specs.declared.name.Name.{Name}
 use Rattle.ipl_rules.specs.Operations.{after_commit}
+use Rattle.ipl_rules.specs.State.{State}
 use Rattle.record_locks.specs.Held.{number_of, numbers_in, written_of, after_end}
 use Rattle.ipl_meaning.specs.Tables.{Status}
 use Rattle.unit_io.specs.Accounts.{Accounts}
@@ -20,14 +23,17 @@ use Rattle.pending_writes.specs.Fits.{LocksHold}
 use Rattle.store_steps.specs.Advances.{Memory, LeadsTo}
 use Rattle.store_steps.specs.NamedFrames.{NamedFramesChange, IsSameOr}
 use Rattle.store_steps.specs.Numbers.{IsOut, added_to, AddsNumber, AddsNumberInSteps}
+use Rattle.store_steps.specs.SessionLaws.{with_numbers_of}
 use Rattle.store_steps.proofs.CommitLemmas.{numbers_lead, failed_numbers_lead}
+use Rattle.store_steps.proofs.SessionLemmas.{empty_commits_lead}
 use Rattle.frame_changes.specs.Views.{frames_of}
 use Rattle.page_frames.specs.declared.pages.Pages.{Pages}
-use Rattle.page_frames.specs.Pages.{tables_in, frames_in}
+use Rattle.page_frames.specs.Pages.{tables_in, frames_in, Upholds}
 use Rattle.transactions.specs.declared.transactions.Transactions.{Transactions}
 use Rattle.transactions.specs.Turns.{memory_in, IsInOrder, Turns, IsSameButActive}
 use Rattle.transactions.proofs.OrderLemmas.{changed_had, same_had, still_ready, memory_is}
 use Rattle.transactions.proofs.SessionLemmas.{among_all}
+use Rattle.transactions.proofs.TurnLemmas.{upheld_then, upheld_no_more, turns_weaker}
 
 -- the number of a session was added, and its changes are values
 pub number_added : (s tid : ℕ) (names : List Name) (old new : Transactions) (added : Pages)
@@ -93,7 +99,7 @@ number_added s tid names old new added before after order low mine out adds step
     }
 
 -- it wasn't added
-pub number_not_added : (s tid : ℕ) (e f : ChipFault) (old new : Transactions) (before after : Told)
+pub number_not_added : (s tid : ℕ) (e : ChipFault) (old new : Transactions) (before after : Told)
     → IsInOrder before.places old → number_of old.sessions s ≡ Some tid
     → All (IsOut (frames_in old.pages)) (written_of old.sessions s)
     → AddsNumberInSteps before.places old.pages.parts.status old.pages.parts.counter tid (Err e)
@@ -105,12 +111,12 @@ pub number_not_added : (s tid : ℕ) (e f : ChipFault) (old new : Transactions) 
     → new.pages.parts.active ≡ old.pages.parts.active
     → (old.pages.parts.counter ≤ new.pages.parts.counter)
     × (new.pages.parts.counter ≤ old.pages.parts.counter + 1)
-    → Accounts {T = Unit {0}} IsStopped (Err e) before after → f ≡ e
-    → Turns {T = Unit {0}} (λ state. after_commit state s) 1 old before (Err f) new after
-number_not_added s tid e f old new before after order mine out steps sessions pool directory
-    overflow status active draws accounts is =
+    → Accounts {T = Unit {0}} IsStopped (Err e) before after
+    → Turns {T = Unit {0}} (λ state. after_commit state s) 1 old before (Err e) new after
+number_not_added s tid e old new before after order mine out steps sessions pool directory
+    overflow status active draws accounts =
     let pins = subst (KeepsPins old.pages.pool) (sym pool) (nothing_keeps old.pages.pool) in record {
-      leads = failed_numbers_lead s tid (memory_in old) (memory_in new) e f before after mine out
+      leads = failed_numbers_lead s tid (memory_in old) (memory_in new) e e before after mine out
           steps accounts.cause;
       order = record {
         ready = still_ready before.places old.pages new.pages (record {
@@ -123,7 +129,91 @@ number_not_added s tid e f old new before after order mine out steps sessions po
       pins = pins;
       least = draws.0;
       drawn = draws.1;
-      accounts = write_accounts before after (Err f)
-          (subst (λ (g : ChipFault). Accounts {T = Unit {0}} IsStopped (Err g) before after)
-          (sym is) accounts);
+      accounts = write_accounts before after (Err e) accounts;
     }
+
+-- ---- all of a commit
+
+-- the session wrote nothing
+pub empty_committed : (s tid most : ℕ) (old new : Transactions) (told : Told)
+    → IsInOrder told.places old → s < 32 → number_of old.sessions s ≡ Some tid
+    → written_of old.sessions s ≡ [] → IsSameButActive old.pages new.pages
+    → new.sessions ≡ after_end old.sessions s
+    → new.pages.parts.active ≡ numbers_in new.sessions → LocksHold new.sessions
+    → Turns {T = Unit {0}} (λ state. after_commit state s) most old told (Ok tt) new told
+empty_committed s tid most old new told order low mine none rest slots active locks =
+    let ended = after_end old.sessions s in
+    let locked : LocksHold ended = subst LocksHold slots locks in
+    let pins = subst (KeepsPins old.pages.pool) (sym rest.pool) (nothing_keeps old.pages.pool) in
+    record {
+      leads = subst (λ (m : Memory). LeadsTo {T = Unit {0}} {E = ChipFault}
+          (λ state. after_commit state s) (memory_in old) told (Ok tt) m told)
+          (memory_is (with_numbers_of (tables_in old.pages) ended) (frames_in old.pages) ended new
+          (record {
+            places = rest.directory;
+            overflow = rest.overflow;
+            status = rest.status;
+            next = rest.counter;
+            active = active ∙ ap numbers_in slots;
+            frames_are = ap frames_of rest.pool;
+            slots_are = slots;
+          }))
+          (empty_commits_lead s tid (memory_in old) told (among_all old.sessions s None locked low)
+          mine none locked);
+      order = record {
+        ready = still_ready told.places old.pages new.pages (record {
+          places = rest.directory;
+          overflow = rest.overflow;
+          status = ap (λ (it : Status). it.place) rest.status;
+        }) pins (same_had old.pages new.pages (ap frames_of rest.pool)) order.ready;
+        active = active;
+      };
+      pins = pins;
+      least = omega (arith, rest.counter);
+      drawn = omega (arith, rest.counter);
+      accounts = record { counts = counts_none told; cause = tt };
+    }
+
+-- the most numbers that are drawn before the session's number is added
+abbrev pub BEFORE_NUMBER : ℕ
+BEFORE_NUMBER = 2 ^ 14 + 14 * 64
+
+-- its records were written out, and then its number was added, or not
+pub committed : (s : ℕ) (old mid new : Transactions) (result : Result (Unit {0}) ChipFault)
+    (before between after : Told) → IsConsistent before → IsConsistent between
+    → Upholds BEFORE_NUMBER old.pages before (Ok (tt {0})) mid.pages between
+    → mid.sessions ≡ old.sessions
+    → Turns (λ state. after_commit state s) 1 mid between result new after
+    → Turns (λ state. after_commit state s) (2 ^ 15) old before result new after
+committed s old mid new result before between after consistent then_consistent did same turns =
+    let next = λ (state : State). after_commit state s in
+    turns_weaker next (BEFORE_NUMBER + 1) (2 ^ 15) old new result before after (omega arith)
+    (upheld_then next BEFORE_NUMBER 1 old mid new result before between after consistent
+    then_consistent did same turns)
+
+-- they weren't
+pub not_committed : (s : ℕ) (old new : Transactions) (e : ChipFault) (before after : Told)
+    → IsInOrder before.places old
+    → Upholds {T = Unit {0}} BEFORE_NUMBER old.pages before (Err e) new.pages after
+    → new.sessions ≡ old.sessions
+    → Turns {T = Unit {0}} (λ state. after_commit state s) (2 ^ 15) old before (Err e) new after
+not_committed s old new e before after order did same =
+    let next = λ (state : State). after_commit state s in
+    turns_weaker next BEFORE_NUMBER (2 ^ 15) old new (Err e) before after (omega arith)
+    (upheld_no_more next BEFORE_NUMBER old new e before after order did same)
+
+-- ---- whether the session wrote a name
+
+module _ (b : Bool) (written : List ℕ) where
+  pub wrote_nothing : (names : List Name) → b ≡ eqb (length names) 0 → b ≡ true
+      → map (λ (n : Name). n.0) names ≡ written → written ≡ []
+  wrote_nothing [] is has_none same = sym same
+  wrote_nothing (n ∷ names) is has_none same =
+      absurd (let none = eqb-true (length (n ∷ names)) 0 (sym is ∙ has_none) in omega (arith, none))
+
+  pub wrote_some : (names : List Name) → b ≡ eqb (length names) 0 → b ≡ false
+      → map (λ (n : Name). n.0) names ≡ written → written ≢ []
+  wrote_some [] is has_some same none =
+      let e : true ≡ false = sym (eq-eqb (length {A = Name} []) 0 refl) ∙ (sym is ∙ has_some) in
+      absurd (cc e)
+  wrote_some (n ∷ names) is has_some same none = absurd (cc (same ∙ none))

@@ -3,3 +3,5 @@ pub mod OpenLemmas
 pub mod OrderLemmas
 pub mod SessionLemmas
 pub mod CommitLemmas
+pub mod TurnLemmas
+pub mod WriteLemmas

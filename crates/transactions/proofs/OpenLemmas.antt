@@ -7,7 +7,7 @@ use Rattle.ipl_base.specs.declared.fault.Refusal.TheVariants.{AlreadyOpen, NotOp
 use Rattle.ipl_rules.specs.State.{is_open}
 use Rattle.record_locks.specs.Held.{Held, Slots, held_at, number_of}
 use Rattle.record_locks.specs.Standing.{state_of}
-use Rattle.record_locks.specs.Locks.{refuses_begin, refuses_share, refuses_write, refuses_end}
+use Rattle.record_locks.specs.Locks.{refuses_begin, refuses_write, refuses_end}
 use Rattle.record_locks.proofs.StandingLemmas.{open_at}
 
 -- a session that has a number

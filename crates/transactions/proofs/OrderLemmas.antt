@@ -1,9 +1,9 @@
 -- Memory in order: what of it decides that it is, and calls in memory that keep it so.
-use Rattle.std.proofs.Common.{◌≡◌, ℕ, ◌<◌, Option, Some, None, Result, Ok, length, Contains, ◌⊎◌, refl, sym, ◌∙◌, ap, subst}
+use Rattle.std.proofs.Common.{◌≡◌, ℕ, ◌<◌, Option, Some, None, Ok, Contains, ◌⊎◌, refl, sym, ◌∙◌, ap, subst}
 use Rattle.chip_trait.specs.Told.{Told}
 use Rattle.ipl_base.specs.declared.fault.ChipFault.{ChipFault}
 use Rattle.ipl_rules.specs.State.{State}
-use Rattle.ipl_meaning.specs.Tables.{Places, OverflowLists, Status, Tables, IsFree, overflow_places}
+use Rattle.ipl_meaning.specs.Tables.{Status, Tables, IsFree, overflow_places}
 use Rattle.record_locks.specs.Held.{Slots, numbers_in}
 use Rattle.merge_rules.specs.Known.{KnowsPlaces}
 use Rattle.buffer_pool.specs.Holding.{KeepsPins}
@@ -13,7 +13,7 @@ use Rattle.store_steps.specs.Advances.{Memory, memory_of, LeadsTo}
 use Rattle.page_frames.specs.declared.pages.Pages.{Pages}
 use Rattle.page_frames.specs.Pages.{tables_in, frames_in, IsReady}
 use Rattle.transactions.specs.declared.transactions.Transactions.{Transactions}
-use Rattle.transactions.specs.Turns.{memory_in, IsInOrder, TurnsInMemory}
+use Rattle.transactions.specs.Turns.{memory_in, TurnsInMemory}
 
 -- ---- tables
 

@@ -1,5 +1,6 @@
 //! A session is committed.
 ghost use Rattle.std.specs.Prelude.{◌≡◌, ◌<◌, ◌+◌, ◌^◌, All, Some};
+ghost use Rattle.unit_io.specs.Costs.{ProgramsAt, Spends};
 ghost use Rattle.txn_status.specs.Status.{room_of};
 ghost use Rattle.ipl_rules.specs.Operations.{after_commit};
 ghost use Rattle.record_locks.specs.Held.{number_of, written_of};
@@ -25,6 +26,8 @@ impl Transactions {
         requires left { self.old.pages.parts.counter + 1 < 2 ^ 64 }
         ensures turns { Turns (λ state. after_commit state s) 1
             self.old (C.told chip.old) result self.new (C.told chip.new) }
+        ensures costs { Spends (ProgramsAt self.old.pages.parts.status.place 1 2 6)
+            (C.told chip.old) (C.told chip.new) }
     {
         let parts = &mut self.pages.parts;
         add_number(chip, &mut parts.status, &mut parts.counter, tid)?;

@@ -1,4 +1,4 @@
-use Rattle.std.proofs.Common.{refl, sym, ◌∙◌, arith}
+use Rattle.std.proofs.Common.{sym, ◌∙◌, arith}
 use Rattle.transactions.proofs.NumberLemmas.{number_joins, no_number_joins, all_numbers, few_below}
 use Rattle.transactions.proofs.numbers.active_numbers.Goals as goal
 use Rattle.transactions.proofs.numbers.active_numbers.Goals.{in-Some, in_default}

@@ -1,4 +1,4 @@
-use Rattle.std.proofs.Common.{refl, sym, ◌∙◌, ap}
+use Rattle.std.proofs.Common.{refl, ◌∙◌, ap}
 use Rattle.record_locks.specs.Held.{after_begin}
 use Rattle.record_locks.specs.Locks.{refuses_begin}
 use Rattle.transactions.proofs.OpenLemmas.{unrefused_done}

@@ -1,0 +1,84 @@
+-- Calls that keep each state, and then one that leads to the next.
+use Rattle.std.proofs.Common.{◌≡◌, ℕ, ◌≤◌, ◌+◌, Result, Ok, Err, sym, ◌∙◌, ap, subst, arith}
+use Rattle.chip_trait.specs.Told.{Told, IsConsistent}
+use Rattle.ipl_base.specs.declared.fault.ChipFault.{ChipFault}
+use Rattle.ipl_rules.specs.State.{State}
+use Rattle.record_locks.specs.Held.{Slots, numbers_in}
+use Rattle.buffer_pool.proofs.HoldingLemmas.{both_keep}
+use Rattle.status_renewal.proofs.CauseLemmas.{accounts_then}
+use Rattle.store_steps.specs.Advances.{memory_of, LeadsTo}
+use Rattle.store_steps.proofs.LeadLemmas.{keepers_then_lead, failed_keepers_lead}
+use Rattle.page_frames.specs.Pages.{tables_in, frames_in, Upholds}
+use Rattle.transactions.specs.declared.transactions.Transactions.{Transactions}
+use Rattle.transactions.specs.Turns.{memory_in, IsInOrder, Turns}
+
+-- with the same sessions memory is in order still
+upheld_order : (most : ℕ) (old new : Transactions) (result : Result (Unit {0}) ChipFault)
+    (before after : Told) → IsInOrder before.places old
+    → Upholds most old.pages before result new.pages after → new.sessions ≡ old.sessions
+    → IsInOrder before.places new
+upheld_order most old new result before after order did same = record {
+  ready = did.ready;
+  active = did.active ∙ order.active ∙ ap numbers_in (sym same);
+}
+
+pub upheld_order_then : (most : ℕ) (old new : Transactions) (result : Result (Unit {0}) ChipFault)
+    (before after : Told) → IsInOrder before.places old
+    → Upholds most old.pages before result new.pages after → new.sessions ≡ old.sessions
+    → IsInOrder after.places new
+upheld_order_then most old new result before after order did same =
+    subst (λ (places : ℕ). IsInOrder places new) (sym did.accounts.counts.places)
+    (upheld_order most old new result before after order did same)
+
+-- after a call that was done, one that leads on
+pub upheld_then : (next : State → State) (n m : ℕ) (old mid new : Transactions)
+    (result : Result (Unit {0}) ChipFault) (before between after : Told)
+    → IsConsistent before → IsConsistent between
+    → Upholds n old.pages before (Ok (tt {0})) mid.pages between → mid.sessions ≡ old.sessions
+    → Turns next m mid between result new after
+    → Turns next (n + m) old before result new after
+upheld_then next n m old mid new result before between after consistent then_consistent did same
+    turns =
+    let counts = did.accounts.counts in record {
+      leads = keepers_then_lead next (memory_in old) (tables_in mid.pages) (frames_in mid.pages)
+          (memory_in new) result before between after consistent then_consistent counts did.keeps
+          (subst (λ (slots : Slots). LeadsTo next
+          (memory_of (tables_in mid.pages) (frames_in mid.pages) slots) between result
+          (memory_in new) after) same turns.leads);
+      order = subst (λ (places : ℕ). IsInOrder places new) counts.places turns.order;
+      pins = both_keep old.pages.pool mid.pages.pool new.pages.pool did.pins turns.pins;
+      least = omega (arith, did.least, turns.least);
+      drawn = omega (arith, did.drawn, turns.drawn);
+      accounts = accounts_then before between after result counts turns.accounts;
+    }
+
+-- one that failed, where nothing else is done then
+pub upheld_no_more : (next : State → State) (n : ℕ) (old new : Transactions) (e : ChipFault)
+    (before after : Told) → IsInOrder before.places old
+    → Upholds {T = Unit {0}} n old.pages before (Err e) new.pages after
+    → new.sessions ≡ old.sessions
+    → Turns {T = Unit {0}} next n old before (Err e) new after
+upheld_no_more next n old new e before after order did same = record {
+  leads = subst (λ (slots : Slots). LeadsTo {T = Unit {0}} next (memory_in old) before (Err e)
+      (memory_of (tables_in new.pages) (frames_in new.pages) slots) after) (sym same)
+      (failed_keepers_lead next (memory_in old) (tables_in new.pages) (frames_in new.pages) e e
+      before after did.keeps);
+  order = upheld_order n old new (Err e) before after order did same;
+  pins = did.pins;
+  least = did.least;
+  drawn = did.drawn;
+  accounts = did.accounts;
+}
+
+-- fewer numbers were drawn
+pub turns_weaker : (next : State → State) (n m : ℕ) (old new : Transactions)
+    (result : Result (Unit {0}) ChipFault) (before after : Told) → n ≤ m
+    → Turns next n old before result new after → Turns next m old before result new after
+turns_weaker next n m old new result before after fewer turns = record {
+  leads = turns.leads;
+  order = turns.order;
+  pins = turns.pins;
+  least = turns.least;
+  drawn = omega (arith, turns.drawn, fewer);
+  accounts = turns.accounts;
+}

@@ -1,0 +1,106 @@
+-- What a write makes of the memory of a store.
+use Rattle.std.proofs.Common.{◌≡◌, ℕ, ◌<◌, ◌-◌, ◌*◌, Some, Ok, inl, inr, refl, sym, ◌∙◌, ap, subst, arith}
+use Rattle.chip_trait.specs.Told.{Told, IsConsistent}
+use Rattle.chip_trait.proofs.CountsLemmas.{counts_none}
+use Rattle.ipl_base.specs.declared.fault.ChipFault.{ChipFault}
+use Rattle.ipl_format.specs.Record.{Record, IsRecord}
+use Rattle.ipl_rules.specs.Operations as rules
+use Rattle.ipl_rules.specs.State.{State}
+use Rattle.record_locks.specs.Held.{number_of, numbers_in, after_write}
+use Rattle.selective_merge.specs.declared.parts.Parts.{Parts}
+use Rattle.selective_merge.specs.Moving.{tables_of}
+use Rattle.buffer_pool.specs.Holding.{KeepsPins}
+use Rattle.pending_writes.specs.Pending.{name_at}
+use Rattle.pending_writes.specs.Frames.{Frame, Frames, with_frame_at, IsWrittenFrame}
+use Rattle.pending_writes.specs.Fits.{LocksHold}
+use Rattle.pending_writes.proofs.MemoryLemmas.{cases_page}
+use Rattle.pending_writes.proofs.SameLemmas.{frame_other}
+use Rattle.store_steps.specs.Advances.{Memory, memory_of, LeadsTo}
+use Rattle.store_steps.proofs.SessionLemmas.{writes_lead}
+use Rattle.frame_changes.specs.Changes.{FrameChanges}
+use Rattle.page_frames.specs.declared.pages.Pages.{Pages}
+use Rattle.page_frames.specs.Pages.{tables_in, frames_in, Upholds}
+use Rattle.transactions.specs.declared.transactions.Transactions.{Transactions}
+use Rattle.transactions.specs.Turns.{memory_in, IsInOrder, Turns}
+use Rattle.transactions.proofs.OrderLemmas.{HadFrames, still_ready}
+use Rattle.transactions.proofs.SessionLemmas.{among_all, writes_keep_numbers}
+use Rattle.transactions.proofs.TurnLemmas.{upheld_order_then, upheld_then}
+
+-- one page's frame changed
+put_had : (R : Frame → Frame → Type 0) (u page : ℕ) (old new : Pages)
+    → FrameChanges R (frames_in old) (frames_in new) u page → HadFrames old new
+put_had R u page old new did v q f is = elim (cases_page u page v q) [
+  | inl here ↦
+      (did.was, ap (λ (w : ℕ). frames_in old w q) here.0 ∙ ap (frames_in old u) here.1 ∙ did.there)
+  | inr apart ↦ (
+    f,
+    sym (frame_other (frames_in old) u page (Some did.now) v q apart)
+        ∙ sym (ap (λ (frames : Frames). frames v q) did.frames)
+        ∙ is,
+  )
+]
+
+-- a record was put behind those of its page
+pub was_put : (s n u : ℕ) (r : Record) (old new : Transactions) (told : Told)
+    → IsInOrder told.places old → s < 32 → number_of old.sessions s ≡ Some r.tid
+    → u < told.places - 4 → IsRecord r → name_at u r.page r.slot ≡ n
+    → new.sessions ≡ after_write old.sessions s n → LocksHold new.sessions
+    → new.pages.parts ≡ old.pages.parts
+    → FrameChanges (IsWrittenFrame r) (frames_in old.pages) (frames_in new.pages) u r.page
+    → KeepsPins old.pages.pool new.pages.pool
+    → Turns {T = Unit {0}} (λ state. rules.after_write state s (n, r.change)) 0 old told (Ok tt)
+    new told
+was_put s n u r old new told order low mine of_unit valid home slots locks parts did pins =
+    let t = tables_in old.pages in
+    let next = λ (state : State). rules.after_write state s (n, r.change) in
+    let after = after_write old.sessions s n in
+    let locked : LocksHold after = subst LocksHold slots locks in
+    let led = subst (λ (k : ℕ). LocksHold (after_write old.sessions s k)
+    → LeadsTo {T = Unit {0}} {E = ChipFault}
+    (λ state. rules.after_write state s (k, r.change)) (memory_in old) told (Ok tt)
+    (memory_of t (with_frame_at (frames_in old.pages) u r.page (Some did.now))
+    (after_write old.sessions s k)) told) home
+    (writes_lead s u r did.was did.now (memory_in old) told
+    (among_all old.sessions s _ locked low) mine of_unit valid did.there did.changes) locked in
+    record {
+      leads = subst (λ (m : Memory). LeadsTo {T = Unit {0}} {E = ChipFault} next (memory_in old)
+          told (Ok tt) m told)
+          (λ i. memory_of (tables_of (sym parts i)) (sym did.frames i) (sym slots i)) led;
+      order = record {
+        ready = still_ready told.places old.pages new.pages (record {
+          places = ap (λ (p : Parts). p.directory) parts;
+          overflow = ap (λ (p : Parts). p.overflow) parts;
+          status = ap (λ (p : Parts). p.status.place) parts;
+        }) pins (put_had (IsWrittenFrame r) u r.page old.pages new.pages did) order.ready;
+        active = ap (λ (p : Parts). p.active) parts ∙ order.active
+            ∙ sym (writes_keep_numbers old.sessions s n) ∙ ap numbers_in (sym slots);
+      };
+      pins = pins;
+      least = omega (arith, ap (λ (p : Parts). p.counter) parts);
+      drawn = omega (arith, ap (λ (p : Parts). p.counter) parts);
+      accounts = record { counts = counts_none told; cause = tt };
+    }
+
+-- after the record's page was brought into its frame
+pub was_written : (s n u : ℕ) (r : Record) (old new : Transactions) (mid : Pages)
+    (before after : Told) → IsConsistent before → IsConsistent after
+    → IsInOrder before.places old → s < 32 → number_of old.sessions s ≡ Some r.tid
+    → n < 960 * (before.places - 4) → n ≡ name_at u r.page r.slot → IsRecord r
+    → Upholds 14 old.pages before (Ok (tt {0})) mid after
+    → new.sessions ≡ after_write old.sessions s n → LocksHold new.sessions
+    → new.pages.parts ≡ mid.parts
+    → FrameChanges (IsWrittenFrame r) (frames_in mid) (frames_in new.pages) u r.page
+    → KeepsPins mid.pool new.pages.pool
+    → Turns {T = Unit {0}} (λ state. rules.after_write state s (n, r.change)) 14 old before (Ok tt)
+    new after
+was_written s n u r old new mid before after consistent then_consistent order low mine within home
+    valid did slots locks parts changes pins =
+    let between : Transactions = record { pages = mid; sessions = old.sessions } in
+    let next = λ (state : State). rules.after_write state s (n, r.change) in
+    let places = did.accounts.counts.places in
+    upheld_then next 14 0 old between new (Ok tt) before after after consistent then_consistent did
+    refl
+    (was_put s n u r between new after
+    (upheld_order_then 14 old between (Ok tt) before after order did refl) low mine
+    (omega (arith, within, home, places, valid.page, valid.slot)) valid (sym home) slots locks parts
+    changes pins)
