@@ -12,6 +12,7 @@ use Rattle.ipl_base.specs.declared.fault.ImageFault.{ImageFault}
 use Rattle.ipl_base.specs.declared.fault.ImageFault.TheVariants.{Chip}
 use Rattle.ipl_rules.specs.State.{Map}
 use Rattle.ipl_meaning.specs.Chart.{Chart, chart_of}
+use Rattle.ipl_meaning.specs.Layout.{Laid}
 use Rattle.ipl_meaning.specs.Mirrors.{Mirrors}
 use Rattle.ipl_meaning.specs.Rests.{now, StoryRests}
 use Rattle.ipl_meaning.specs.Tables.{Places, OverflowLists, Status, Tables, IsCountedClean}
@@ -100,13 +101,20 @@ opened_parts places c directory overflow status next active none opened mirrors 
 -- ---- how it ended
 
 pub opens_done : (places : ℕ) (c : Chart) (t after : Tables) (new : Told)
-    → first_fault c places ≡ None
+    → first_fault c places ≡ None → Laid places c (layout_in c places)
     → TellsChart (HasRenewed places c (layout_in c places) t after) new
     → TellsChart (HasOpened places c after) new
-opens_done places c t after new none (y, told, is) = (
+opens_done places c t after new none laid (y, told, is) = (
   y,
   told,
-  record { none = none; now = is.now; mirrors = is.mirrors; pages = is.pages; exact = is.exact },
+  record {
+    none = none;
+    laid = laid;
+    now = is.now;
+    mirrors = is.mirrors;
+    pages = is.pages;
+    exact = is.exact;
+  },
 )
 
 -- a fault of the reading

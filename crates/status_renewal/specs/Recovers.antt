@@ -8,7 +8,7 @@ use Rattle.ipl_base.specs.declared.fault.ImageFault.{ImageFault}
 use Rattle.ipl_base.specs.declared.fault.ImageFault.TheVariants.{Chip}
 use Rattle.ipl_rules.specs.State.{Map}
 use Rattle.ipl_meaning.specs.Chart.{Chart, chart_of}
-use Rattle.ipl_meaning.specs.Layout.{Layout}
+use Rattle.ipl_meaning.specs.Layout.{Layout, Laid}
 use Rattle.ipl_meaning.specs.Mirrors.{Mirrors}
 use Rattle.ipl_meaning.specs.Rests.{EachStands, StoryRests}
 use Rattle.ipl_meaning.specs.Stands.{Says}
@@ -27,10 +27,11 @@ use Rattle.status_renewal.specs.Passes.{TellsChart}
 
 -- ---- what the chip holds
 
--- The chart had no fault. All pages show what they showed, and of the numbers that were committed
+-- The chart had no fault, and was laid out so. All pages show what they showed, and of the numbers that were committed
 -- exactly those are so still that a live record has; the tables mirror the new chart.
 pub record HasOpened (places : ℕ) (c : Chart) (after : Tables) (y : Chart) : Type 0 where
   pub none : first_fault c places ≡ None
+  pub laid : Laid places c (layout_in c places)
   pub now : Layout
   pub mirrors : Mirrors places y now after
   pub pages : KeepsPages places c (layout_in c places) y now

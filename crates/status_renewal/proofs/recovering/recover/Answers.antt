@@ -94,7 +94,7 @@ returns-clause-tells g c = λ x told.
     c.recover.ensures.looks.reads.counts.places c.in_ok-renew.ensures.tells in
     let (y, there, any) = renews x (c.recover.ensures.looks.reads.contents ∙ told) in
     opens_done old.places (chart_of x) t after new (c.in_ok-recover.ensures.fault x told)
-    (y, there, any (layout_in (chart_of x) old.places) parts.1)
+    parts.1.laid (y, there, any (layout_in (chart_of x) old.places) parts.1)
 
 pub returns-clause-looks : goal.returns-clause-looks
 returns-clause-looks g c =
