@@ -1,0 +1,205 @@
+-- What calls of a store leave.
+use Rattle.std.proofs.Common.{◌≡◌, ℕ, ◌+◌, ◌≤◌, ◌||◌, nat_lt, Bool, true, false, List, length, Option, Some, None, Result, Ok, Err, IfErr, is_ok, if◌then◌else◌, refl, sym, ◌∙◌, ap, subst, arith}
+use Rattle.std.proofs.lemmas.Bool.Decides.{nat_tests}
+use Rattle.chip_trait.specs.Told.{Told, Counts}
+use Rattle.ipl_base.specs.declared.fault.ChipFault.{ChipFault}
+use Rattle.ipl_base.specs.declared.fault.Refusal.{Refusal}
+use Rattle.ipl_base.specs.declared.fault.StoreFault.{StoreFault}
+use Rattle.ipl_base.specs.declared.fault.StoreFault.TheVariants.{Down, Spent, Refused, Chip}
+use Rattle.ipl_rules.specs.State.{State}
+use Rattle.store_trait.specs.Keeping.{LAST_NUMBER}
+use Rattle.unit_io.specs.Accounts.{Accounts}
+use Rattle.store_steps.specs.Advances.{TurnsMapOf, LeadsTo}
+use Rattle.store_steps.proofs.AdvanceLemmas.{answers_advance}
+use Rattle.store_steps.proofs.LeadLemmas.{keepers_lead_still}
+use Rattle.page_frames.specs.declared.pages.Pages.{Pages}
+use Rattle.page_frames.specs.Pages.{PageCause, Upholds}
+use Rattle.transactions.specs.declared.transactions.Transactions.{Transactions}
+use Rattle.transactions.specs.Turns.{memory_in, IsInOrder, Turns, TurnsInMemory}
+use Rattle.ipl_store.specs.declared.store.Store.{Store}
+use Rattle.ipl_store.specs.Calls.{memory_of_store, counter_of, IsMade, IsSound, early_fault, entry_fault, down_fault, is_stopped, EndsAs, EndsFor, Calls}
+
+-- ---- before anything is done
+
+pub counts_still : (told : Told) → Counts told told
+counts_still told =
+    record { places = refl; reads = omega arith; writes = omega arith; beside = refl }
+
+pub calls_refused : {T : Type 0} (early : Option StoreFault) (next : State → State) (most : ℕ)
+    (store : Store) (told : Told) (result : Result T StoreFault) (fault : StoreFault)
+    → early ≡ Some fault → result ≡ Err fault → IsSound told.places store
+    → Calls early next most store told result store told
+calls_refused early next most store told result fault is answer sound = record {
+  refuses = λ first also.
+      let same : Some fault ≡ Some first = sym is ∙ also in
+      let one : fault ≡ first = cc same in (answer ∙ ap Err one, refl, refl);
+  serves = λ none. let no : Some fault ≡ None = sym is ∙ none in absurd (cc no);
+  sound = sound;
+  counts = counts_still told;
+}
+
+-- what is known where a call is let in
+passed_down : (down : Bool) (refusal : Option Refusal)
+    → early_fault (if down then Some Down else None) refusal ≡ None
+    → (down ≡ false) × (refusal ≡ None)
+passed_down true refusal none = absurd (cc none)
+passed_down false (Some r) none = absurd (cc none)
+passed_down false None none = (refl, refl)
+
+passed_entry : (down spent : Bool) (refusal : Option Refusal)
+    → early_fault (if down then Some Down else (if spent then Some Spent else None)) refusal ≡ None
+    → (down ≡ false) × (spent ≡ false) × (refusal ≡ None)
+passed_entry true spent refusal none = absurd (cc none)
+passed_entry false true refusal none = absurd (cc none)
+passed_entry false false (Some r) none = absurd (cc none)
+passed_entry false false None none = (refl, refl, refl)
+
+pub let_in_down : (store : Store) (refusal : Option Refusal)
+    → early_fault (down_fault store) refusal ≡ None → (store.down ≡ false) × (refusal ≡ None)
+let_in_down store refusal none = passed_down store.down refusal none
+
+pub let_in : (store : Store) (refusal : Option Refusal)
+    → early_fault (entry_fault store) refusal ≡ None
+    → (store.down ≡ false) × (counter_of store ≤ LAST_NUMBER) × (refusal ≡ None)
+let_in store refusal none =
+    let (up, few, rest) =
+    passed_entry store.down (nat_lt LAST_NUMBER (counter_of store)) refusal none in
+    let low : nat_lt LAST_NUMBER (counter_of store) ≡ false = few in
+    (up, grind (arith, nat_tests), rest)
+
+-- ---- calls as moves
+
+-- what a call of a store leaves that was let in, whichever pages are held then
+pub record Moves (next : State → State) (most : ℕ) (old : Transactions) (before : Told)
+    (done : Result (Unit {0}) ChipFault) (new : Transactions) (after : Told) : Type 0 where
+  pub leads : LeadsTo next (memory_in old) before done (memory_in new) after
+  pub order : IsInOrder before.places new
+  pub limit : new.pages.pool.limit ≡ old.pages.pool.limit
+  pub least : old.pages.parts.counter ≤ new.pages.parts.counter
+  pub drawn : new.pages.parts.counter ≤ old.pages.parts.counter + most
+  pub accounts : Accounts PageCause done before after
+
+pub turns_move : (next : State → State) (most : ℕ) (old new : Transactions) (before after : Told)
+    (done : Result (Unit {0}) ChipFault) → Turns next most old before done new after
+    → Moves next most old before done new after
+turns_move next most old new before after done did = record {
+  leads = did.leads;
+  order = did.order;
+  limit = did.pins.limit;
+  least = did.least;
+  drawn = did.drawn;
+  accounts = did.accounts;
+}
+
+-- one in memory alone
+pub memory_moves : (next : State → State) (most : ℕ) (old new : Transactions) (told : Told)
+    → TurnsInMemory next old new → IsInOrder told.places old
+    → old.pages.parts.counter ≤ new.pages.parts.counter
+    → new.pages.parts.counter ≤ old.pages.parts.counter + most
+    → Moves next most old told (Ok tt) new told
+memory_moves next most old new told did order least drawn = record {
+  leads = did.leads told;
+  order = did.order told.places order;
+  limit = did.pins.limit;
+  least = least;
+  drawn = drawn;
+  accounts = record { counts = counts_still told; cause = tt };
+}
+
+-- one that knows the pages alone
+pub pages_move : (most : ℕ) (old : Transactions) (pages : Pages) (before after : Told)
+    (result : Result (Unit {0}) ChipFault) → IsInOrder before.places old
+    → Upholds most old.pages before result pages after
+    → Moves (λ state. state) most old before result (record old { pages = pages }) after
+pages_move most old pages before after result order did = record {
+  leads = keepers_lead_still (memory_in old) _ _ result before after did.keeps;
+  order = record { ready = did.ready; active = did.active ∙ order.active };
+  limit = did.pins.limit;
+  least = did.least;
+  drawn = did.drawn;
+  accounts = did.accounts;
+}
+
+-- ---- the end of a call
+
+same_answer : (done : Result (Unit {0}) ChipFault) (was is : Bool)
+    (result : Result (Unit {0}) StoreFault) → EndsAs done was result is → is_ok done ≡ is_ok result
+same_answer (Ok v) was is result ends = ap is_ok (sym ends.0)
+same_answer (Err e) was is result ends = ap is_ok (sym ends.0)
+
+not_down : (stopped : Bool) → (stopped || false) ≡ stopped
+not_down true = refl
+not_down false = refl
+
+ends_for : (done : Result (Unit {0}) ChipFault) (was : Bool)
+    (result : Result (Unit {0}) StoreFault) (new : Store) (before after : Told) → was ≡ false
+    → IfErr done (λ e. PageCause e before after) → EndsAs done was result new.down
+    → EndsFor before result new after
+ends_for (Ok v) was result new before after up cause ends =
+    subst (λ (r : Result (Unit {0}) StoreFault). EndsFor before r new after) (sym ends.0)
+    (ends.1 ∙ up)
+ends_for (Err e) was result new before after up cause ends =
+    subst (λ (r : Result (Unit {0}) StoreFault). EndsFor before r new after) (sym ends.0)
+    (e, refl, cause,
+    ends.1 ∙ ap (λ (b : Bool). is_stopped e || b) up ∙ not_down (is_stopped e))
+
+module _ (next : State → State) (most : ℕ) (old : Store) (t : Transactions) (kept : List ℕ)
+    (before after : Told) (done : Result (Unit {0}) ChipFault)
+    (result : Result (Unit {0}) StoreFault) (new : Store) (up : old.down ≡ false)
+    (sound : IsSound before.places old)
+    (moves : Moves next most old.transactions before done t after)
+    (rest : new ≡ record old { transactions = t; kept = kept; down = new.down })
+    (ends : EndsAs done old.down result new.down) where
+  moved : new.transactions ≡ t
+  moved = ap (λ (s : Store). s.transactions) rest
+
+  made : IsMade before.places new
+  made =
+      let was = sound.made in record {
+        geometry = was.geometry;
+        units = ap (λ (s : Store). s.units + 4) rest ∙ was.units;
+        scratch = ap (λ (s : Store). s.scratch) rest ∙ was.scratch;
+        directory = ap (λ (it : Transactions). length it.pages.parts.directory.in_use) moved
+            ∙ moves.order.ready.known.suits.all;
+        overflow = ap (λ (it : Transactions). length it.pages.parts.overflow.spots + 4) moved
+            ∙ moves.order.ready.known.suits.overflow;
+        frames = ap (λ (s : Store). s.frames) rest ∙ was.frames ∙ sym moves.limit
+            ∙ ap (λ (it : Transactions). it.pages.pool.limit) (sym moved);
+        two = subst (λ (n : ℕ). 2 ≤ n) (sym (ap (λ (s : Store). s.frames) rest)) was.two;
+      }
+
+  pub moved_calls : (early : Option StoreFault) → early ≡ None
+      → Calls early next most old before result new after
+  moved_calls early none = record {
+    refuses = λ fault is. let no : None ≡ Some fault = sym none ∙ is in absurd (cc no);
+    serves = λ let_in. record {
+      leads = answers_advance (TurnsMapOf next) next (memory_of_store old) (memory_of_store new)
+          done result before after (same_answer done old.down new.down result ends)
+          (subst (λ (it : Transactions).
+          LeadsTo next (memory_in old.transactions) before done (memory_in it) after) (sym moved)
+          moves.leads);
+      ends = ends_for done old.down result new before after up moves.accounts.cause ends;
+      least = subst (λ (it : Transactions). counter_of old ≤ it.pages.parts.counter) (sym moved)
+          moves.least;
+      drawn = subst (λ (it : Transactions). it.pages.parts.counter ≤ counter_of old + most)
+          (sym moved) moves.drawn;
+    };
+    sound = record {
+      made = made;
+      order = λ still. subst (IsInOrder before.places) (sym moved) moves.order;
+    };
+    counts = moves.accounts.counts;
+  }
+
+-- ---- calls in memory alone
+
+pub memory_calls : (next : State → State) (most : ℕ) (old : Store) (t : Transactions) (told : Told)
+    (early : Option StoreFault) → IsSound told.places old → old.down ≡ false
+    → TurnsInMemory next old.transactions t → counter_of old ≤ t.pages.parts.counter
+    → t.pages.parts.counter ≤ counter_of old + most → early ≡ None
+    → Calls {T = Unit {0}} early next most old told (Ok tt) (record old { transactions = t }) told
+memory_calls next most old t told early sound up did least drawn none =
+    moved_calls next most old t old.kept told told (Ok tt) (Ok tt) (record old { transactions = t })
+    up sound
+    (memory_moves next most old.transactions t told did (sound.order up) least drawn) refl
+    (refl, refl) early none

@@ -1,0 +1,303 @@
+-- What an opening of a chip leaves of a store.
+use Rattle.std.proofs.Common.{◌≡◌, inl, inr, ℕ, ◌+◌, ◌-◌, ◌<◌, ◌≤◌, ◌^◌, Bool, List, Option, Some, None, Ok, get_or, length, slice_index_or, count_by, replicate, refl, sym, ◌∙◌, ap, subst, arith}
+use Rattle.std.specs.Option.{option_map}
+use Rattle.std.proofs.lemmas.Bool.{cases_lt}
+use Rattle.std.proofs.lemmas.List.{get_or-replicate, get_or_past, length-replicate}
+use Rattle.chip_trait.specs.Story.{Contents, held}
+use Rattle.chip_trait.specs.Told.{History, Told, IsConsistent, adds_all}
+use Rattle.ipl_base.specs.declared.fault.ChipFault.{ChipFault}
+use Rattle.ipl_rules.specs.Operations.{after_restart}
+use Rattle.ipl_rules.specs.State.{Map, at_rest}
+use Rattle.ipl_meaning.specs.Agrees.{IsTidy}
+use Rattle.ipl_meaning.specs.Chart.{Chart, chart_of}
+use Rattle.ipl_meaning.specs.Laws.{AreOneLayout}
+use Rattle.ipl_meaning.specs.Layout.{Layout, Shape, Laid}
+use Rattle.ipl_meaning.specs.Mirrors.{Mirrors}
+use Rattle.ipl_meaning.specs.Rests.{now, StoryRests}
+use Rattle.ipl_meaning.specs.Stands.{Shows, Says, Stands, page_in}
+use Rattle.ipl_meaning.specs.Steps.{KeepsPages}
+use Rattle.ipl_meaning.specs.Tables.{Tables}
+use Rattle.ipl_meaning.specs.Values.{Values}
+use Rattle.ipl_meaning.proofs.OnceLemmas.{laid_once}
+use Rattle.ipl_meaning.proofs.StoryLemmas.{held_stands}
+use Rattle.opening_rules.specs.Faults.{greatest_found}
+use Rattle.opening_rules.specs.LaidOut.{layout_in}
+use Rattle.record_locks.specs.Held.{Held, number_of, numbers_in}
+use Rattle.slab.specs.Slab.{get}
+use Rattle.buffer_pool.specs.declared.pool.Buffer.{Buffer}
+use Rattle.buffer_pool.specs.Holding.{is_pinned, pinned_count}
+use Rattle.buffer_pool.specs.Laws.{buffer_in}
+use Rattle.selective_merge.specs.declared.parts.Parts.{Parts}
+use Rattle.steps.specs.Laws.{Preserves}
+use Rattle.unit_io.specs.Charts.{Charts}
+use Rattle.unit_io.specs.Leads.{IsSteady}
+use Rattle.unit_io.specs.Reads.{OfContents}
+use Rattle.status_renewal.specs.Recovers.{RecoversTold, RecoversInSteps, HoldsOpened}
+use Rattle.status_renewal.proofs.ReadyLemmas.{layouts_say}
+use Rattle.pending_writes.proofs.FirstLemmas.{empty_slots_are_at_rest}
+use Rattle.pending_writes.proofs.MemoryFitLemmas.{openings_fit}
+use Rattle.store_steps.specs.Advances.{Memory, memory_of, LeadsTo}
+use Rattle.store_steps.specs.Laws.{IsReopened}
+use Rattle.store_steps.specs.Keeps.{View, limits_of, RestsOnMap, ShowsState, KeepsStore, opened_with}
+use Rattle.store_steps.proofs.AdvanceLemmas.{held_now, same_held}
+use Rattle.store_steps.proofs.FaultLemmas.{opened_stores_keep}
+use Rattle.store_steps.proofs.KeepLemmas.{same_history}
+use Rattle.store_steps.proofs.LeadLemmas.{restarts_lead}
+use Rattle.frame_changes.specs.Views.{frame_in}
+use Rattle.page_frames.specs.Pages.{tables_in, frames_in}
+use Rattle.ipl_store.specs.declared.store.Store.{Store}
+use Rattle.ipl_store.specs.Calls.{memory_of_store, view_of, counter_of, IsMade, IsSound}
+use Rattle.ipl_store.specs.Openings.{IsFresh, Opens, Restarts}
+
+-- ---- pages
+
+-- pages that are kept say the map that they said
+says_kept : (places : ℕ) (c y : Chart) (it new : Layout) (m : Map) → KeepsPages places c it y new
+    → Says places c it m → Says places y new m
+says_kept places c y it new m keeps says = record {
+  pages = λ u page low few. keeps u page (page_in m u page) low few (says.pages u page low few);
+  nowhere_else = says.nowhere_else;
+}
+
+-- two layouts of a chart show the same
+shows_as : (places : ℕ) (c : Chart) (it other : Layout) (u page : ℕ) (values : Values)
+    → AreOneLayout places it other → u < places - 4
+    → Shows c it.committed u (it.units u) page values
+    → Shows c other.committed u (other.units u) page values
+shows_as places c it other u page values same low shows =
+    subst (λ (shape : Shape). Shows c other.committed u shape page values) (same.units u low)
+    (subst (λ (f : ℕ → Bool). Shows c f u (it.units u) page values)
+    (λ i tid. same.committed tid i) shows)
+
+-- ---- no session
+
+abbrev no_one : Option Held
+no_one = None
+
+none_at : (s : ℕ) → get_or (replicate 32 no_one) s no_one ≡ no_one
+none_at s = elim (cases_lt s 32) [
+  | inl low ↦ get_or-replicate 32 s no_one no_one low
+  | inr past ↦ get_or_past (replicate 32 no_one) s no_one
+      (omega (arith, past, length-replicate 32 no_one))
+]
+
+none_open : (s : ℕ) → number_of (replicate 32 None) s ≡ None
+none_open s = ap (option_map (λ (h : Held). h.number)) (none_at s)
+
+-- ---- a store of which a chip was opened
+
+module _ (places : ℕ) (t : Tables) (old new : Told)
+    (tells : RecoversTold places old (Ok tt) t new)
+    (steps : RecoversInSteps places old (Ok tt) t new)
+    (holds : HoldsOpened places t) where
+  opened_says : (m : Map) (x y : Contents) → old.contents ≡ Some x
+      → Stands places (chart_of x) m → new.contents ≡ Some y
+      → (it : Layout) × Mirrors places (chart_of y) it t × Says places (chart_of y) it m
+  opened_says m x y told stands then =
+      let (z, there, is) = tells x told in
+      let said = layouts_say places (chart_of x) (layout_in (chart_of x) places) m is.laid stands in
+      subst (λ (v : Contents). (it : Layout) × Mirrors places (chart_of v) it t
+      × Says places (chart_of v) it m) (same_held z y new there then)
+      (is.now, is.mirrors, says_kept places (chart_of x) (chart_of z)
+      (layout_in (chart_of x) places) is.now m is.pages said)
+
+  -- it leads to the state without sessions
+  pub opened_leads : (before : Memory) → old.places ≡ places
+      → LeadsTo {T = Unit {0}} {E = ChipFault} (λ state. after_restart state) before old (Ok tt)
+      (memory_of t (λ u page. None) (replicate 32 None)) new
+  opened_leads before suits = restarts_lead before t (replicate 32 None) old new holds.active
+      none_open empty_slots_are_at_rest opens keeps
+    where
+      reopened : (x : Contents) → old.contents ≡ Some x → (y : Contents)
+          × (new.contents ≡ Some y) × ((it : Layout) → Laid places (chart_of x) it
+          → IsReopened places (chart_of x) it (chart_of y) t)
+      reopened x told =
+          let (y, there, is) = tells x told in (y, there, λ it laid. record {
+            layout = is.now;
+            mirrors = is.mirrors;
+            none_lost = holds.known.none_lost;
+            pages = λ u page values low few shows. is.pages u page values low few
+                (shows_as places (chart_of x) it (layout_in (chart_of x) places) u page values
+                (laid_once places (chart_of x) it (layout_in (chart_of x) places) laid is.laid)
+                low shows);
+          })
+
+      opens : (all : ℕ) → old.places ≡ all → Charts (λ c y. (it : Layout) → Laid all c it
+          → IsReopened all c it y t) old new
+      opens all same = subst (λ (n : ℕ). Charts (λ c y. (it : Layout) → Laid n c it
+          → IsReopened n c it y t) old new) (sym suits ∙ same) reopened
+
+      preserved : (m : Map) (h : History) → IsSteady h old → StoryRests places m h
+          → Preserves {T = Unit {0}} {E = ChipFault} places m before.tables t h (Ok tt) old new
+      preserved m h steady rests =
+          let did = steps m h steady rests in record {
+            added = did.added;
+            history = did.history;
+            each_moment = did.each_moment;
+            does = record {
+              silent = did.does.silent;
+              lawful = record {
+                lawful = λ base is clean.
+                    did.does.lawful.lawful base is (λ p s nowhere. absurd nowhere);
+              };
+              clean = λ done base clean. did.does.clean refl base (λ p s nowhere. absurd nowhere);
+            };
+            settled = λ done. did.settled tt;
+            ends = λ done. did.ends tt;
+          }
+
+      keeps : (all : ℕ) (m : Map) (it : Layout) (h : History) → old.places ≡ all → IsSteady h old
+          → StoryRests all m h → Laid all (now h) it
+          → Preserves {T = Unit {0}} {E = ChipFault} all m before.tables t h (Ok tt) old new
+      keeps all m it h same steady rests laid =
+          subst (λ (n : ℕ). StoryRests n m h → Preserves {T = Unit {0}} {E = ChipFault} n m
+          before.tables t h (Ok tt) old new) (sym suits ∙ same) (preserved m h steady) rests
+
+module _ (units : ℕ) (t : Tables) (old new : Told)
+    (tells : RecoversTold (units + 4) old (Ok tt) t new)
+    (steps : RecoversInSteps (units + 4) old (Ok tt) t new)
+    (holds : HoldsOpened (units + 4) t) where
+  -- over contents that stood for a map
+  pub opened_shows : (m : Map) (x y : Contents) → old.contents ≡ Some x
+      → Stands (units + 4) (chart_of x) m → new.contents ≡ Some y
+      → ShowsState (opened_with units t (replicate 32 None)) (at_rest m) y
+  opened_shows m x y told stands then =
+      let (it, mirrors, says) = opened_says (units + 4) t old new tells steps holds m x y told
+      stands then in record {
+        layout = it;
+        fits = openings_fit (units + 4) (chart_of y) it t (replicate 32 None) m mirrors
+            holds.known.none_lost holds.active none_open (empty_slots_are_at_rest m);
+        says = says;
+      }
+
+  -- over a story that rested on it
+  pub opened_keeps : (m : Map) (h : History) → IsConsistent old → IsSteady h old
+      → StoryRests (units + 4) m h
+      → KeepsStore (limits_of units) (opened_with units t (replicate 32 None)) new (at_rest m)
+  opened_keeps m h consistent steady rests =
+      opened_stores_keep units t (replicate 32 None) new m holds.known.none_lost holds.active
+      none_open (empty_slots_are_at_rest m)
+      (λ y then. opened_says (units + 4) t old new tells steps holds m (held h.start h.story) y
+      (held_now h old consistent steady) (held_stands (units + 4) m h rests.each) then)
+      (λ k then.
+      let did = steps m h steady rests in
+      let same = same_history (adds_all did.added h) k new did.history then in
+      subst (λ (j : History). RestsOnMap (opened_with units t (replicate 32 None)) new m j
+      × IsTidy j.story t) same
+      (record { settled = did.settled tt; rests = did.ends tt },
+      did.does.clean refl h.story (λ p s nowhere. absurd nowhere)))
+
+-- ---- as its fields have it
+
+pub fresh_view : (store : Store) → IsFresh store
+    → opened_with store.units (tables_in store.transactions.pages) (replicate 32 None)
+    ≡ view_of store
+fresh_view store fresh = λ i. record {
+  memory = memory_of (tables_in store.transactions.pages)
+      (λ u page. option_map frame_in (buffer_in (sym fresh.empty i) u page)) (sym fresh.idle i);
+  units = store.units;
+  down = sym fresh.up i;
+}
+
+-- ---- the store
+
+module _ (places : ℕ) (store : Store) (made : IsMade places store) (fresh : IsFresh store)
+    (holds : HoldsOpened places (tables_in store.transactions.pages)) where
+  no_frame : (u page : ℕ) → frames_in store.transactions.pages u page ≡ None
+  no_frame u page = ap (λ (slots : List (Option Buffer)). option_map frame_in
+      (buffer_in slots u page)) fresh.empty
+
+  no_buffer : (key : ℕ) → get store.transactions.pages.pool.buffers key ≡ None
+  no_buffer key = ap (λ (slots : List (Option Buffer)). slice_index_or slots key None) fresh.empty
+
+  none_pinned : pinned_count store.transactions.pages.pool.buffers ≡ 0
+  none_pinned = ap (λ (slots : List (Option Buffer)). count_by is_pinned slots) fresh.empty
+
+  -- its memory is in order
+  pub fresh_sound : IsSound places store
+  fresh_sound = record {
+    made = made;
+    order = λ up. record {
+      ready = record {
+        known = holds.known;
+        within = λ u page f there.
+            let nothing : None ≡ Some f = sym (no_frame u page) ∙ there in absurd (cc nothing);
+        rest = record {
+          one = λ key b stored.
+              let nothing : None ≡ Some b = sym (no_buffer key) ∙ stored in absurd (cc nothing);
+          few = omega (arith, none_pinned, made.frames, made.two);
+        };
+      };
+      active = holds.active ∙ ap numbers_in (sym fresh.idle);
+    };
+  }
+
+  -- and it has the records for which the chip stood
+  pub fresh_opens : (old new : Told) → IsConsistent old
+      → RecoversTold places old (Ok tt) (tables_in store.transactions.pages) new
+      → RecoversInSteps places old (Ok tt) (tables_in store.transactions.pages) new
+      → OfContents old (λ x. counter_of store ≤ greatest_found (chart_of x) places + 1 + 2 ^ 14)
+      → counter_of store ≤ 2 ^ 63 + 2 ^ 14 → Opens places old store new
+  fresh_opens old new consistent tells steps number left = record {
+    fresh = fresh;
+    shows = λ m x told stands y then.
+        subst (λ (v : View). ShowsState v (at_rest m) y) (fresh_view store fresh)
+        (opened_shows store.units t old new tells_here steps_here holds_here m x y told
+        (subst (λ (n : ℕ). Stands n (chart_of x) m) (sym made.units) stands) then);
+    keeps = λ m h steady rests.
+        subst (λ (v : View). KeepsStore (limits_of store.units) v new (at_rest m))
+        (fresh_view store fresh)
+        (opened_keeps store.units t old new tells_here steps_here holds_here m h consistent steady
+        (subst (λ (n : ℕ). StoryRests n m h) (sym made.units) rests));
+    number = number;
+    left = left;
+  }
+    where
+      t : Tables
+      t = tables_in store.transactions.pages
+
+      tells_here : RecoversTold (store.units + 4) old (Ok tt) t new
+      tells_here = subst (λ (n : ℕ). RecoversTold n old (Ok tt) t new) (sym made.units) tells
+
+      steps_here : RecoversInSteps (store.units + 4) old (Ok tt) t new
+      steps_here = subst (λ (n : ℕ). RecoversInSteps n old (Ok tt) t new) (sym made.units) steps
+
+      holds_here : HoldsOpened (store.units + 4) t
+      holds_here = subst (λ (n : ℕ). HoldsOpened n t) (sym made.units) holds
+
+  -- a store that stood for states stands for them with no session open
+  pub fresh_restarts : (before : Memory) (old new : Told) → old.places ≡ places
+      → RecoversTold places old (Ok tt) (tables_in store.transactions.pages) new
+      → RecoversInSteps places old (Ok tt) (tables_in store.transactions.pages) new
+      → Restarts before old (memory_of_store store) new
+  fresh_restarts before old new suits tells steps =
+      subst (λ (v : View). Restarts before old v.memory new) (fresh_view store fresh)
+      (opened_leads places (tables_in store.transactions.pages) old new tells steps holds before
+      suits)
+
+-- ---- a store whose tables an opening wrote
+
+abbrev pub recovered : Store → Parts → List ℕ → ℕ → Bool → Store
+recovered store parts kept scratch down = record store {
+  transactions = record store.transactions {
+    pages = record store.transactions.pages { parts = parts };
+  };
+  kept = kept;
+  scratch = scratch;
+  down = down;
+}
+
+pub made_recovered : (places : ℕ) (store : Store) (parts : Parts) (kept : List ℕ) (scratch : ℕ)
+    (down : Bool) → IsMade places store
+    → (scratch ≡ store.scratch) × (length parts.directory.in_use ≡ places)
+    × (length parts.overflow.spots + 4 ≡ places)
+    → IsMade places (recovered store parts kept scratch down)
+made_recovered places store parts kept scratch down made sized = record {
+  geometry = made.geometry;
+  units = made.units;
+  scratch = sized.0 ∙ made.scratch;
+  directory = sized.1;
+  overflow = sized.2;
+  frames = made.frames;
+  two = made.two;
+}

@@ -1,0 +1,21 @@
+use Rattle.std.proofs.Common.{◌≡◌, ◌∙◌, None, sym, ap, arith}
+use Rattle.ipl_rules.specs.Operations.{after_abort}
+use Rattle.ipl_rules.specs.Refusals.{refuses_end}
+use Rattle.record_locks.specs.Standing.{state_of}
+use Rattle.store_steps.specs.Keeps.{limits_of}
+use Rattle.ipl_store.specs.Calls.{early_fault, down_fault}
+use Rattle.ipl_store.proofs.CallLemmas.{let_in_down, memory_calls}
+use Rattle.ipl_store.proofs.store.Store.abort.Goals as goal
+
+pub returns-clause-calls : goal.returns-clause-calls
+returns-clause-calls g c =
+    let store = c.args.self.now in
+    let slots = store.transactions.sessions in
+    let refusal = refuses_end (limits_of store.units) (state_of slots) c.args.s in
+    let none : early_fault (down_fault store) refusal ≡ None =
+    ap (early_fault (down_fault store)) (sym c.refuses_end.ensures) ∙ sym c.in_ok-admit_end.ensures in
+    let (up, free) = let_in_down store refusal none in
+    memory_calls (λ state. after_abort state c.args.s) 0 store c.abort.new.self
+    (g.C.Chip.told c.args._chip.now) (early_fault (down_fault store) refusal) c.requires.sound up
+    c.abort.ensures.turns (omega (arith, c.abort.ensures.drawn))
+    (omega (arith, c.abort.ensures.drawn)) none

@@ -1,0 +1,21 @@
+use Rattle.std.proofs.Common.{◌≡◌, ◌∙◌, None, sym, ap, arith}
+use Rattle.ipl_rules.specs.Operations.{after_begin}
+use Rattle.ipl_rules.specs.Refusals.{refuses_begin}
+use Rattle.record_locks.specs.Standing.{state_of}
+use Rattle.store_steps.specs.Keeps.{limits_of}
+use Rattle.ipl_store.specs.Calls.{early_fault, entry_fault}
+use Rattle.ipl_store.proofs.CallLemmas.{let_in, memory_calls}
+use Rattle.ipl_store.proofs.store.Store.begin.Goals as goal
+
+pub returns-clause-calls : goal.returns-clause-calls
+returns-clause-calls g c =
+    let store = c.args.self.now in
+    let slots = store.transactions.sessions in
+    let refusal = refuses_begin (limits_of store.units) (state_of slots) c.args.s in
+    let none : early_fault (entry_fault store) refusal ≡ None =
+    ap (early_fault (entry_fault store)) (sym c.refuses_begin.ensures) ∙ sym c.in_ok-admit.ensures in
+    let (up, few, free) = let_in store refusal none in
+    memory_calls (λ state. after_begin state c.args.s) 1 store c.begin.new.self
+    (g.C.Chip.told c.args._chip.now) (early_fault (entry_fault store) refusal) c.requires.sound up
+    c.begin.ensures.turns (omega (arith, c.begin.ensures.drawn))
+    (omega (arith, c.begin.ensures.drawn)) none

@@ -1,0 +1,148 @@
+-- What a contract sees of a store, and what each of its calls leaves.
+use Rattle.std.specs.Prelude.{ℕ, ◌≡◌, ◌≤◌, ◌+◌, ◌-◌, ◌||◌, ◌&&◌, nat_le, nat_lt, Bool, not, true, false, ◌∷◌, [], length, Option, Some, None, Result, Ok, Err, MatchResult, if◌then◌else◌}
+use Rattle.chip_trait.specs.Told.{Told, Counts}
+use Rattle.ipl_base.specs.Places.{IsGeometry}
+use Rattle.ipl_base.specs.declared.fault.ChipFault.{ChipFault}
+use Rattle.ipl_base.specs.declared.fault.ChipFault.TheVariants.{ReadFault, Stopped, Damaged, Malformed}
+use Rattle.ipl_base.specs.declared.fault.Refusal.{Refusal}
+use Rattle.ipl_base.specs.declared.fault.Refusal.TheVariants.{BadUnit, HoldsFull, NotHeld}
+use Rattle.ipl_base.specs.declared.fault.StoreFault.{StoreFault}
+use Rattle.ipl_base.specs.declared.fault.StoreFault.TheVariants.{Down, Spent, Refused, Chip}
+use Rattle.ipl_rules.specs.State.{State, Limits}
+use Rattle.ipl_rules.specs.Refusals.{Test, first_of, bad_session, bad_name}
+use Rattle.buffer_pool.specs.Pools.{PoolView}
+use Rattle.buffer_pool.specs.Laws.{buffer_of}
+use Rattle.buffer_pool.specs.Holding.{is_pinned, pinned_count, KeepsPins}
+use Rattle.store_trait.specs.Keeping.{LAST_NUMBER}
+use Rattle.store_steps.specs.Advances.{Memory, LeadsTo}
+use Rattle.store_steps.specs.Keeps.{View}
+use Rattle.page_frames.specs.Pages.{PageCause}
+use Rattle.transactions.specs.Turns.{memory_in, IsInOrder}
+use Rattle.ipl_store.specs.declared.store.Store.{Store}
+
+-- ---- what is seen
+
+abbrev pub memory_of_store : Store → Memory
+memory_of_store store = memory_in store.transactions
+
+-- as a run over a script sees it
+abbrev pub view_of : Store → View
+view_of store = record { memory = memory_of_store store; units = store.units; down = store.down }
+
+-- the next number that it draws
+abbrev pub counter_of : Store → ℕ
+counter_of store = store.transactions.pages.parts.counter
+
+-- ---- the condition of all calls
+
+-- the store is made for a chip of so many places
+pub record IsMade (places : ℕ) (store : Store) : Type 0 where
+  pub geometry : IsGeometry places
+  pub units : store.units + 4 ≡ places
+  pub scratch : store.scratch ≡ places
+  pub directory : length store.transactions.pages.parts.directory.in_use ≡ places
+  pub overflow : length store.transactions.pages.parts.overflow.spots + 4 ≡ places
+  pub frames : store.frames ≡ store.transactions.pages.pool.limit
+  pub two : 2 ≤ store.frames
+
+-- and one that isn't down has its memory in order, whatever the chip tells
+pub record IsSound (places : ℕ) (store : Store) : Type 0 where
+  pub made : IsMade places store
+  pub order : store.down ≡ false → IsInOrder places store.transactions
+
+-- ---- calls that end before they do anything
+
+-- the store is down
+abbrev pub down_fault : Store → Option StoreFault
+down_fault store = if store.down then Some Down else None
+
+-- or its numbers are used up
+abbrev pub entry_fault : Store → Option StoreFault
+entry_fault store = if store.down then Some Down else
+    (if nat_lt LAST_NUMBER (counter_of store) then Some Spent else None)
+
+-- the first of these comes first
+abbrev pub early_fault : Option StoreFault → Option Refusal → Option StoreFault
+early_fault (Some fault) refusal = Some fault
+early_fault None (Some refusal) = Some (Refused refusal)
+early_fault None None = None
+
+-- the refusal of a session and a name that aren't there, which comes before all others
+abbrev pub refuses_pair : Limits → ℕ → ℕ → Option Refusal
+refuses_pair limits s n = first_of (bad_session limits s ∷ bad_name limits n ∷ [])
+
+-- ---- refusals of which the model has none
+
+-- why a name can't be meant, if it can't
+abbrev pub refuses_name : Limits → ℕ → Option Refusal
+refuses_name limits n = first_of (bad_name limits n ∷ [])
+
+-- there is no such unit, or no such page in it
+abbrev pub bad_page : ℕ → ℕ → ℕ → Test
+bad_page units u page = (nat_le units u || nat_le 15 page, BadUnit)
+
+-- the page is held in a frame
+abbrev pub is_held : PoolView → ℕ → ℕ → Bool
+is_held pool u page = is_pinned (buffer_of pool.buffers u page)
+
+-- the page isn't held, and all frames but one are
+abbrev pub holds_full : PoolView → ℕ → ℕ → Test
+holds_full pool u page =
+    (not (is_held pool u page) && nat_le (pool.limit - 1) (pinned_count pool.buffers), HoldsFull)
+
+abbrev pub not_held : PoolView → ℕ → ℕ → Test
+not_held pool u page = (not (is_held pool u page), NotHeld)
+
+abbrev pub refuses_page : ℕ → ℕ → ℕ → Option Refusal
+refuses_page units u page = first_of (bad_page units u page ∷ [])
+
+abbrev pub refuses_hold : ℕ → PoolView → ℕ → ℕ → Option Refusal
+refuses_hold units pool u page = first_of (bad_page units u page ∷ holds_full pool u page ∷ [])
+
+abbrev pub refuses_release : ℕ → PoolView → ℕ → ℕ → Option Refusal
+refuses_release units pool u page = first_of (bad_page units u page ∷ not_held pool u page ∷ [])
+
+-- ---- calls that do something
+
+-- from a failed write on the store is down
+abbrev pub is_stopped : ChipFault → Bool
+is_stopped ReadFault = false
+is_stopped Stopped = true
+is_stopped (Damaged p s stored computed) = false
+is_stopped (Malformed p s) = false
+
+-- the answer of work on the chip; a fault is handed on, and a failed write leaves the store down
+abbrev pub EndsAs : Result (Unit {0}) ChipFault → Bool → Result (Unit {0}) StoreFault → Bool → Type 0
+EndsAs (Ok v) was result is = (result ≡ Ok v) × (is ≡ was)
+EndsAs (Err e) was result is = (result ≡ Err (Chip e)) × (is ≡ (is_stopped e || was))
+
+-- done, the store isn't down; else a fault of the chip ended the call, for its cause, and the store is
+-- down exactly where a write failed
+abbrev pub EndsFor : {T : Type 0} → Told → Result T StoreFault → Store → Told → Type 0
+EndsFor before result new after = MatchResult result (λ v. new.down ≡ false)
+    (λ fault. (e : ChipFault) × (fault ≡ Chip e) × PageCause e before after
+    × (new.down ≡ is_stopped e))
+
+-- A call that is let in. It leads from each state that memory and chip stand for to the next one, and
+-- at most so many numbers were drawn.
+pub record Serves {T : Type 0} (next : State → State) (most : ℕ) (old : Store) (before : Told)
+    (result : Result T StoreFault) (new : Store) (after : Told) : Type 0 where
+  pub leads : LeadsTo next (memory_of_store old) before result (memory_of_store new) after
+  pub ends : EndsFor before result new after
+  pub least : counter_of old ≤ counter_of new
+  pub drawn : counter_of new ≤ counter_of old + most
+
+-- the same pages are held
+abbrev pub KeepsHolds : Store → Store → Type 0
+KeepsHolds old new = KeepsPins old.transactions.pages.pool new.transactions.pages.pool
+
+-- A call of a store: it ends early with this fault, and nothing was done; or it does what it is for.
+-- The store is sound either way.
+pub record Calls {T : Type 0} (early : Option StoreFault) (next : State → State) (most : ℕ)
+    (old : Store) (before : Told) (result : Result T StoreFault) (new : Store) (after : Told)
+    : Type 0 where
+  pub refuses : (fault : StoreFault) → early ≡ Some fault
+      → (result ≡ Err fault) × (new ≡ old) × (after ≡ before)
+  pub serves : early ≡ None → Serves next most old before result new after
+  pub sound : IsSound before.places new
+  pub counts : Counts before after

@@ -1,0 +1,78 @@
+-- What an opening of a chip leaves of a store.
+use Rattle.std.specs.Prelude.{ℕ, ◌≡◌, ◌⊎◌, ◌≤◌, ◌+◌, ◌-◌, ◌^◌, false, true, [], replicate, None, Result, Ok, Err, is_ok, MatchResult}
+use Rattle.chip_trait.specs.Told.{History, Told}
+use Rattle.ipl_base.specs.declared.fault.ChipFault.{ChipFault}
+use Rattle.ipl_base.specs.declared.fault.ImageFault.{ImageFault}
+use Rattle.ipl_base.specs.declared.fault.ImageFault.TheVariants.{Geometry}
+use Rattle.ipl_base.specs.declared.fault.OpenFault.{OpenFault}
+use Rattle.ipl_base.specs.declared.fault.OpenFault.TheVariants.{Image, OutOfMemory}
+use Rattle.ipl_base.specs.Places.{IsGeometry}
+use Rattle.ipl_rules.specs.Operations.{after_restart}
+use Rattle.ipl_rules.specs.State.{Map, at_rest}
+use Rattle.ipl_meaning.specs.Chart.{chart_of}
+use Rattle.ipl_meaning.specs.Rests.{StoryRests}
+use Rattle.ipl_meaning.specs.Stands.{Stands}
+use Rattle.ipl_meaning.specs.Tables.{Tables}
+use Rattle.opening_rules.specs.Faults.{greatest_found}
+use Rattle.unit_io.specs.Accounts.{Accounts}
+use Rattle.unit_io.specs.Costs.{Spends}
+use Rattle.unit_io.specs.Leads.{IsSteady}
+use Rattle.unit_io.specs.Reads.{OfContents}
+use Rattle.status_renewal.specs.Passes.{ErasesAtMost}
+use Rattle.status_renewal.specs.Recovers.{CompletesOpening, RecoversTold, RecoversInSteps, OpeningCause}
+use Rattle.store_steps.specs.Advances.{Memory, LeadsTo}
+use Rattle.store_steps.specs.Keeps.{limits_of, ShowsState, KeepsStore}
+use Rattle.page_frames.specs.Pages.{tables_in}
+use Rattle.ipl_store.specs.declared.store.Store.{Store}
+use Rattle.ipl_store.specs.Calls.{view_of, counter_of, IsSound}
+
+-- the store isn't down, no session is open, and no page is in a frame
+pub record IsFresh (store : Store) : Type 0 where
+  pub up : store.down ≡ false
+  pub idle : store.transactions.sessions ≡ replicate 32 None
+  pub empty : store.transactions.pages.pool.buffers.slots ≡ []
+
+-- A store of which a chip was opened. Where the contents before stood for a map, its memory and the
+-- contents then show that map; and where the story rested on it, the store keeps it.
+pub record Opens (places : ℕ) (old : Told) (store : Store) (new : Told) : Type 0 where
+  pub fresh : IsFresh store
+  pub shows : (m : Map) → OfContents old (λ x. Stands places (chart_of x) m
+      → OfContents new (ShowsState (view_of store) (at_rest m)))
+  pub keeps : (m : Map) (h : History) → IsSteady h old → StoryRests places m h
+      → KeepsStore (limits_of store.units) (view_of store) new (at_rest m)
+  pub number : OfContents old (λ x. counter_of store
+      ≤ greatest_found (chart_of x) places + 1 + 2 ^ 14)
+  pub left : counter_of store ≤ 2 ^ 63 + 2 ^ 14
+
+-- each state for which the memory and the chip stood is left, with no session open
+abbrev pub Restarts : Memory → Told → Memory → Told → Type 0
+Restarts before old after new = LeadsTo {T = Unit {0}} {E = ChipFault}
+    (λ state. after_restart state) before old (Ok tt) after new
+
+-- What an opening does to the chip, which fails so or leaves these tables: what it tells, what a
+-- power cut leaves, when it may fail, how many erases it makes, and why it fails.
+pub record Tries (places : ℕ) (old : Told) (result : Result (Unit {0}) ImageFault) (t : Tables)
+    (new : Told) : Type 0 where
+  pub tells : RecoversTold places old result t new
+  pub steps : RecoversInSteps places old result t new
+  pub complete : CompletesOpening places result old
+  pub costs : Spends (ErasesAtMost (places - 3)) old new
+  pub accounts : Accounts OpeningCause result old new
+
+-- a chip was opened again, or wasn't, and the store is down then
+abbrev pub Reopens : ℕ → Told → Result (Unit {0}) ImageFault → Store → Told → Type 0
+Reopens places old result store new = MatchResult result
+    (λ done. Opens places old store new) (λ e. store.down ≡ true)
+
+-- the chip's number of places can't be used, and it wasn't asked anything else; or it failed
+abbrev pub FailsToOpen : ℕ → Told → ImageFault → Told → Type 0
+FailsToOpen places old e new =
+    ((IsGeometry places → ⊥) × (e ≡ Geometry) × (new ≡ old))
+    ⊎ (IsGeometry places × ((t : Tables) × Tries places old (Err e) t new))
+
+-- a chip was opened, or wasn't; it wasn't asked where memory was wanting
+abbrev pub OpensAs : ℕ → Told → Result Store OpenFault → Told → Type 0
+OpensAs places old (Ok store) new = IsSound places store × Opens places old store new
+    × Tries places old (Ok tt) (tables_in store.transactions.pages) new
+OpensAs places old (Err (Image e)) new = FailsToOpen places old e new
+OpensAs places old (Err OutOfMemory) new = new ≡ old

@@ -1,0 +1,53 @@
+//! Sessions begin, and are aborted: in memory alone.
+ghost use Rattle.std.specs.Prelude.{◌≡◌};
+ghost use Rattle.ipl_rules.specs.Operations.{after_begin, after_abort};
+ghost use Rattle.ipl_rules.specs.Refusals.{refuses_begin, refuses_end};
+ghost use Rattle.record_locks.specs.Standing.{state_of};
+ghost use Rattle.store_steps.specs.Keeps.{limits_of};
+ghost use Rattle.ipl_store.specs.Calls.{
+  IsSound,
+  KeepsHolds,
+  Calls,
+  early_fault,
+  entry_fault,
+  down_fault,
+};
+
+use crate::Store;
+use chip_trait::Chip;
+use ipl_base::StoreFault;
+use store_steps::passing_laws;
+
+impl Store {
+    /// Opens a session, 0 to 31: it begins a transaction. The chip isn't asked.
+    pub fn begin<C: Chip>(&mut self, _chip: &mut C, s: u32) -> Result<(), StoreFault>
+        requires sound { IsSound (C.told _chip.old).places self.old }
+        ensures calls { Calls (early_fault (entry_fault self.old)
+            (refuses_begin (limits_of self.old.units) (state_of self.old.transactions.sessions) s))
+            (λ state. after_begin state s) 1
+            self.old (C.told _chip.old) result self.new (C.told _chip.new) }
+        ensures holds { KeepsHolds self.old self.new }
+        ensures idle { C.told _chip.new ≡ C.told _chip.old }
+    {
+        self.admit(self.refuses_begin(s))?;
+        passing_laws();
+        self.transactions.begin(s);
+        Ok(())
+    }
+
+    /// Aborts a session: its writes are dropped, and it is closed. The chip isn't asked.
+    pub fn abort<C: Chip>(&mut self, _chip: &mut C, s: u32) -> Result<(), StoreFault>
+        requires sound { IsSound (C.told _chip.old).places self.old }
+        ensures calls { Calls (early_fault (down_fault self.old)
+            (refuses_end (limits_of self.old.units) (state_of self.old.transactions.sessions) s))
+            (λ state. after_abort state s) 0
+            self.old (C.told _chip.old) result self.new (C.told _chip.new) }
+        ensures holds { KeepsHolds self.old self.new }
+        ensures idle { C.told _chip.new ≡ C.told _chip.old }
+    {
+        self.admit_end(self.refuses_end(s))?;
+        passing_laws();
+        self.transactions.abort(s);
+        Ok(())
+    }
+}

@@ -1,0 +1,110 @@
+//! A chip is opened, at first and again.
+ghost use Rattle.std.specs.Prelude.{◌≡◌, ◌≤◌, ℕ, [], true, None, IfOk, OnOk, replicate};
+ghost use Rattle.page_frames.specs.Pages.{tables_in};
+ghost use Rattle.ipl_store.specs.Calls.{memory_of_store, IsMade, IsSound};
+ghost use Rattle.ipl_store.specs.Openings.{Tries, Reopens, Restarts, OpensAs};
+
+use crate::Store;
+use chip_trait::Chip;
+use ipl_base::{Geometry, ImageFault, OpenFault, OutOfMemory};
+use page_frames::Pages;
+use record_locks::Sessions;
+use restart::Scratch;
+use selective_merge::Active;
+use status_renewal::{KeptNumbers, recover};
+use std::alloc::Global;
+use transactions::Transactions;
+
+impl Store {
+    /// The memory of a store with 2 to 64 frames for pages, for a chip that isn't opened yet: it is
+    /// down. `reopen` takes no more memory.
+    pub fn closed(alloc: Global, geometry: Geometry, frames: u32) -> Result<Store, OutOfMemory>
+        requires two { 2 ≤ frames }
+        requires few { frames ≤ 64 }
+        ensures sound { IfOk result (λ store. IsSound geometry store) }
+        ensures down { IfOk result (λ store. store.down ≡ true) }
+    {
+        let pages = Pages::new(alloc, geometry, frames)?;
+        let sessions = Sessions::new(alloc)?;
+        Ok(Store {
+            transactions: Transactions { pages, sessions },
+            kept: KeptNumbers::new(alloc)?,
+            scratch: Scratch::new(alloc, geometry)?,
+            units: geometry.units(),
+            frames,
+            down: true,
+        })
+    }
+
+    /// Forgets all sessions, and the pages in frames. The store is down.
+    fn forget(&mut self)
+        ensures idle { self.new.transactions.sessions ≡ replicate 32 None }
+        ensures empty { self.new.transactions.pages.pool.buffers.slots ≡ [] }
+        ensures active { self.new.transactions.pages.parts.active ≡ [] }
+        ensures down { self.new.down ≡ true }
+        ensures made { (places : ℕ) → IsMade places self.old → IsMade places self.new }
+    {
+        self.down = true;
+        self.transactions.sessions.reset();
+        self.transactions.pages.pool.reset();
+        self.transactions.pages.parts.active = Active::none();
+    }
+
+    /// Opens the chip, whatever the memory has. Where that fails the store is down.
+    fn open_chip<C: Chip>(&mut self, chip: &mut C) -> Result<(), ImageFault>
+        requires sound { IsSound (C.told chip.old).places self.old }
+        ensures sound { IsSound (C.told chip.old).places self.new }
+        ensures opens { Reopens (C.told chip.old).places (C.told chip.old) result self.new
+            (C.told chip.new) }
+        ensures tries { Tries (C.told chip.old).places (C.told chip.old) result
+            (tables_in self.new.transactions.pages) (C.told chip.new) }
+        // Of a store that stands for states: each is left with no session open.
+        ensures leads { OnOk result (Restarts (memory_of_store self.old) (C.told chip.old)
+            (memory_of_store self.new) (C.told chip.new)) }
+    {
+        self.forget();
+        recover(
+            chip,
+            &mut self.scratch,
+            &mut self.transactions.pages.parts,
+            &mut self.kept,
+        )?;
+        self.down = false;
+        Ok(())
+    }
+
+    /// Opens a chip of 5 to 1,028 places, with 2 to 64 frames for pages. The store has the records for
+    /// which the chip's contents stand, and no session is open. Memory is taken before the first read.
+    pub fn open<C: Chip>(alloc: Global, chip: &mut C, frames: u32) -> Result<Store, OpenFault>
+        requires two { 2 ≤ frames }
+        requires few { frames ≤ 64 }
+        ensures opens { OpensAs (C.told chip.old).places (C.told chip.old) result
+            (C.told chip.new) }
+    {
+        let Some(geometry) = Geometry::of(chip.units()) else {
+            return Err(OpenFault::Image(ImageFault::Geometry));
+        };
+        let Ok(mut store) = Store::closed(alloc, geometry, frames) else {
+            return Err(OpenFault::OutOfMemory);
+        };
+        store.open_chip(chip)?;
+        Ok(store)
+    }
+
+    /// Opens the chip again, or what is left of it: all sessions are dropped, and all holds. Where that
+    /// fails the store is down.
+    pub fn reopen<C: Chip>(mut self, chip: &mut C) -> (Store, Result<(), ImageFault>)
+        requires sound { IsSound (C.told chip.old).places self }
+        ensures sound { IsSound (C.told chip.old).places result.0 }
+        ensures opens { Reopens (C.told chip.old).places (C.told chip.old) result.1 result.0
+            (C.told chip.new) }
+        ensures tries { Tries (C.told chip.old).places (C.told chip.old) result.1
+            (tables_in result.0.transactions.pages) (C.told chip.new) }
+        // Of a store that stands for states: each is left with no session open.
+        ensures leads { OnOk result.1 (Restarts (memory_of_store self) (C.told chip.old)
+            (memory_of_store result.0) (C.told chip.new)) }
+    {
+        let opened = self.open_chip(chip);
+        (self, opened)
+    }
+}

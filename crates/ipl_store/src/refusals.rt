@@ -1,0 +1,193 @@
+//! When calls are refused, by the sessions alone.
+ghost use Rattle.std.specs.Prelude.{◌≡◌, ◌<◌, ◌≤◌};
+ghost use Rattle.record_locks.specs.Standing.{state_of};
+ghost use Rattle.ipl_rules.specs.Refusals.{
+  refuses_begin,
+  refuses_get,
+  refuses_share,
+  refuses_put,
+  refuses_del,
+  refuses_end,
+  refuses_merge,
+};
+ghost use Rattle.store_steps.specs.Keeps.{limits_of};
+ghost use Rattle.ipl_store.specs.Calls.{
+  is_held,
+  refuses_pair,
+  refuses_name,
+  refuses_page,
+  refuses_hold,
+  refuses_release,
+};
+
+use crate::Store;
+use buffer_pool::{Pool, pool_laws};
+use ipl_base::{Name, PAGES, Refusal, UNIT_NAMES};
+
+/// Sessions are numbered below this.
+const SESSIONS: u32 = 32;
+
+/// The longest value.
+const VALUE_LEN: usize = 108;
+
+impl Store {
+    /// Why a begin is refused, if it is.
+    pub(crate) fn refuses_begin(&self, s: u32) -> Option<Refusal>
+        ensures { result ≡ refuses_begin (limits_of self.now.units)
+            (state_of self.now.transactions.sessions) s }
+    {
+        if s >= SESSIONS {
+            return Some(Refusal::BadSession);
+        }
+        if self.transactions.sessions.is_open(s) {
+            return Some(Refusal::AlreadyOpen);
+        }
+        None
+    }
+
+    /// Why a commit or an abort is refused, if it is.
+    pub(crate) fn refuses_end(&self, s: u32) -> Option<Refusal>
+        ensures { result ≡ refuses_end (limits_of self.now.units)
+            (state_of self.now.transactions.sessions) s }
+    {
+        if s >= SESSIONS {
+            return Some(Refusal::BadSession);
+        }
+        if !self.transactions.sessions.is_open(s) {
+            return Some(Refusal::NotOpen);
+        }
+        None
+    }
+
+    /// Why a session or a name can't be meant, if they can't: there is no such one.
+    fn refuses_pair(&self, s: u32, n: u32) -> Option<Refusal>
+        ensures { result ≡ refuses_pair (limits_of self.now.units) s n }
+    {
+        if s >= SESSIONS {
+            return Some(Refusal::BadSession);
+        }
+        if n / UNIT_NAMES >= self.units {
+            return Some(Refusal::BadName);
+        }
+        None
+    }
+
+    /// Why a get is refused, if it is.
+    pub(crate) fn refuses_get(&self, s: u32, n: u32) -> Option<Refusal>
+        ensures { result ≡ refuses_get (limits_of self.now.units)
+            (state_of self.now.transactions.sessions) s n }
+    {
+        if let Some(refusal) = self.refuses_pair(s, n) {
+            return Some(refusal);
+        }
+        if !self.transactions.sessions.is_open(s) {
+            return Some(Refusal::NotOpen);
+        }
+        None
+    }
+
+    /// Why a share is refused, if it is.
+    pub(crate) fn refuses_share(&self, s: u32, n: u32) -> Option<Refusal>
+        ensures { result ≡ refuses_share (limits_of self.now.units)
+            (state_of self.now.transactions.sessions) s n }
+    {
+        if let Some(refusal) = self.refuses_pair(s, n) {
+            return Some(refusal);
+        }
+        self.transactions.sessions.refuses_share(s, Name(n))
+    }
+
+    /// Why a put is refused, if it is.
+    pub(crate) fn refuses_put(&self, s: u32, n: u32, value: &[u8]) -> Option<Refusal>
+        ensures { result ≡ refuses_put (limits_of self.now.units)
+            (state_of self.now.transactions.sessions) s n value.now }
+    {
+        if let Some(refusal) = self.refuses_pair(s, n) {
+            return Some(refusal);
+        }
+        if value.len() > VALUE_LEN {
+            return Some(Refusal::TooLong);
+        }
+        self.transactions.sessions.refuses_write(s, Name(n))
+    }
+
+    /// Why a delete is refused, if it is.
+    pub(crate) fn refuses_del(&self, s: u32, n: u32) -> Option<Refusal>
+        ensures { result ≡ refuses_del (limits_of self.now.units)
+            (state_of self.now.transactions.sessions) s n }
+    {
+        if let Some(refusal) = self.refuses_pair(s, n) {
+            return Some(refusal);
+        }
+        self.transactions.sessions.refuses_write(s, Name(n))
+    }
+
+    /// Why a merge is refused, if it is.
+    pub(crate) fn refuses_merge(&self, unit: u32) -> Option<Refusal>
+        ensures { result ≡ refuses_merge (limits_of self.now.units) unit }
+    {
+        if unit >= self.units {
+            return Some(Refusal::BadUnit);
+        }
+        None
+    }
+
+    /// Why a name can't be meant, if it can't.
+    pub(crate) fn refuses_name(&self, n: u32) -> Option<Refusal>
+        ensures { result ≡ refuses_name (limits_of self.now.units) n }
+    {
+        if n / UNIT_NAMES >= self.units {
+            return Some(Refusal::BadName);
+        }
+        None
+    }
+
+    /// Why a page can't be meant, if it can't.
+    fn refuses_page(&self, unit: u32, page: u32) -> Option<Refusal>
+        ensures { result ≡ refuses_page self.now.units unit page }
+    {
+        if unit >= self.units || page >= PAGES {
+            return Some(Refusal::BadUnit);
+        }
+        None
+    }
+
+    /// Why a hold is refused, if it is.
+    pub(crate) fn refuses_hold(&self, unit: u32, page: u32) -> Option<Refusal>
+        requires frames { self.now.frames ≡ self.now.transactions.pages.pool.limit }
+        requires two { 2 ≤ self.now.frames }
+        ensures { result ≡ refuses_hold self.now.units self.now.transactions.pages.pool unit page }
+    {
+        if let Some(refusal) = self.refuses_page(unit, page) {
+            return Some(refusal);
+        }
+        let pool = &self.transactions.pages.pool;
+        if !is_held(pool, unit, page) && pool.held() >= self.frames as usize - 1 {
+            return Some(Refusal::HoldsFull);
+        }
+        None
+    }
+
+    /// Why a release is refused, if it is.
+    pub(crate) fn refuses_release(&self, unit: u32, page: u32) -> Option<Refusal>
+        ensures { result ≡ refuses_release self.now.units self.now.transactions.pages.pool unit page }
+    {
+        if let Some(refusal) = self.refuses_page(unit, page) {
+            return Some(refusal);
+        }
+        if !is_held(&self.transactions.pages.pool, unit, page) {
+            return Some(Refusal::NotHeld);
+        }
+        None
+    }
+}
+
+/// Whether a page (0 to 14 of a unit) is held.
+pub(crate) fn is_held(pool: &Pool, unit: u32, page: u32) -> bool
+    requires { page < 15 }
+    ensures { result ≡ is_held pool.now unit page }
+{
+    pool.facts();
+    pool_laws();
+    pool.is_held(unit, page)
+}

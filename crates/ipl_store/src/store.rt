@@ -1,0 +1,20 @@
+//! What a store has in memory.
+use restart::Scratch;
+use status_renewal::KeptNumbers;
+use transactions::Transactions;
+
+/// A store of records over a chip. It has the chip's tables, pages in frames and open sessions in
+/// memory; the chip comes with each call. Memory is taken by `open` alone.
+#[derive(Drop)]
+pub struct Store {
+    pub(crate) transactions: Transactions,
+    // The numbers that a new status place keeps, while it is made.
+    pub(crate) kept: KeptNumbers,
+    // What an opening notes of each place.
+    pub(crate) scratch: Scratch,
+    pub(crate) units: u32,
+    // So many pages may be in frames.
+    pub(crate) frames: u32,
+    // A write failed or the chip wasn't opened again: nothing is done until it is.
+    pub(crate) down: bool,
+}
