@@ -182,7 +182,7 @@ leads_are_work c before after result old new consistent suits units up leads rep
           (keeps_then (TurnsMapOf (stepped before c)) (stepped before c) before after result old new
           state h here suits units
           leads);
-      drawn = drawn;
+      drawn = drawn state own (held h.start h.story) here.there;
       excuse = on_err_weaker result (λ excuse. excuse state own (held h.start h.story) here.there)
           excused;
     })

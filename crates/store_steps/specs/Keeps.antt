@@ -231,6 +231,12 @@ abbrev pub IsExcused : ℕ → View → Told → Told → Type 0
 IsExcused n store old new = (state : State) → KeepsStore (limits_of store.units) store old state
     → OfContents old (λ x. Excuses store_keeping n store old new)
 
+-- Few numbers were drawn, where the store keeps a state and the chip tells what it holds: a chip that
+-- tells nothing may have any when it is opened again.
+abbrev pub DrawsFew : ℕ → View → Told → View → Type 0
+DrawsFew n before old after = (state : State) → KeepsStore (limits_of before.units) before old state
+    → OfContents old (λ x. after.memory.tables.next ≤ before.memory.tables.next + n)
+
 -- What a call leaves that leads to the model's next state, and answers the model's reply where the
 -- chip tells what it holds, is the work of the command, where few numbers were drawn and a fault has
 -- its excuse.
@@ -242,7 +248,7 @@ LeadsAreWork = (c : Command) (before after : View) (result : Result Reply Fault)
     after.memory new
     → IfOk result (λ reply. (state : State) → KeepsStore (limits_of before.units) before old state
     → OfContents old (λ x. (step (limits_of before.units) state c).1 ≡ reply ∷ []))
-    → after.memory.tables.next ≤ before.memory.tables.next + WORK_DRAWS
+    → DrawsFew WORK_DRAWS before old after
     → OnErr result (IsExcused WORK_DRAWS before old new)
     → Works store_keeping c before old result after new
 
