@@ -1,9 +1,10 @@
 -- Which buffer has which page: the pages' numbers in rising order, each with a key.
 use Rattle.std.specs.Prelude.{ℕ, ◌≡◌, ◌<◌, ◌≤◌, ◌+◌, ◌*◌, ◌==◌, List, [], ◌∷◌, length, map, slice_index_or, Option, Some, None, if◌then◌else◌}
+use Rattle.ipl_base.specs.declared.limits.TheConstants.{PAGES}
 
 -- the number of a page among all pages of a chip
 abbrev pub page_number : ℕ → ℕ → ℕ
-page_number unit page = 15 * unit + page
+page_number unit page = PAGES * unit + page
 
 -- the key of the number, if it is listed
 abbrev pub key_of : List (ℕ × ℕ) → ℕ → Option ℕ

@@ -1,5 +1,6 @@
 -- What a contract sees of a pool of frames.
 use Rattle.std.specs.Prelude.{ℕ, ◌≡◌, ◌≢◌, ◌<◌, ◌≤◌, ◌+◌, ◌-◌, ◌↔◌, min, List, [], length, Some, Contains}
+use Rattle.ipl_base.specs.declared.limits.TheConstants.{PAGES, FRAMES}
 use Rattle.slab.specs.Slab.{Slab, slab_len, get}
 use Rattle.page_ops.specs.Frames.{empty_frame}
 use Rattle.buffer_pool.specs.declared.pool.Buffer.{Buffer}
@@ -61,11 +62,11 @@ AreOnce buffers = (unit page key other : ℕ)
 -- 64. The order rises, and has the numbers of the pages that are in buffers, and no others.
 pub record IsSoundPool (p : PoolView) : Type 0 where
   pub once : AreOnce p.buffers
-  pub pages : (key : ℕ) (buffer : Buffer) → get p.buffers key ≡ Some buffer → buffer.page < 15
+  pub pages : (key : ℕ) (buffer : Buffer) → get p.buffers key ≡ Some buffer → buffer.page < PAGES
   pub holds : slab_len p.buffers ≤ p.limit
-  pub few : p.limit ≤ 64
+  pub few : p.limit ≤ FRAMES
   pub rising : EachIsAboveTheLast p.order
-  pub listed : (unit page : ℕ) → page < 15
+  pub listed : (unit page : ℕ) → page < PAGES
       → Contains p.order (page_number unit page) ↔ IsThere p.buffers unit page
 
 -- the buffer under a key has the page of this number
@@ -79,14 +80,14 @@ pub record IsIndexed (index : List (ℕ × ℕ)) (buffers : Slab Buffer) : Type 
   pub found : (number key : ℕ) → key_of index number ≡ Some key → HasNumber buffers number key
   pub listed : (key : ℕ) (buffer : Buffer) → get buffers key ≡ Some buffer
       → key_of index (page_number buffer.unit buffer.page) ≡ Some key
-  pub pages : (key : ℕ) (buffer : Buffer) → get buffers key ≡ Some buffer → buffer.page < 15
+  pub pages : (key : ℕ) (buffer : Buffer) → get buffers key ≡ Some buffer → buffer.page < PAGES
   pub len : length index ≡ slab_len buffers
 
 -- the buffers keep to the limit, their room is reserved, and the index is theirs
 pub record IsSound (p : Inside) : Type 0 where
   pub holds : slab_len p.buffers ≤ p.limit
   pub reserved : p.limit ≤ p.buffers.capacity
-  pub few : p.limit ≤ 64
+  pub few : p.limit ≤ FRAMES
   pub indexed : IsIndexed p.index p.buffers
 
 -- ---- what calls ask and do

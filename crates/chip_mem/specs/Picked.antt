@@ -1,5 +1,6 @@
 -- The image of a power cut that picks make. A pick names a sector and what it is left with.
 use Rattle.std.specs.Prelude.{◌≡◌, ℕ, ◌+◌, ◌-◌, ◌==◌, ◌&&◌, nat_lt, nat_le, Bool, false, List, [], ◌∷◌, length, drop, fold, Option, Some, None, unwrap_or, All, if◌then◌else◌}
+use Rattle.ipl_base.specs.declared.limits.TheConstants.{SECTORS}
 use Rattle.chip_trait.specs.declared.event.Event.TheVariants.{Read, Program, Erase, Barrier, Said}
 use Rattle.chip_trait.specs.Story.{Story, Contents, held}
 use Rattle.chip_trait.specs.Image.{is_open}
@@ -32,7 +33,7 @@ chosen start story p s (Bytes bytes) = Some bytes
 -- what a pick gives its sector; none where that isn't an open sector
 abbrev pub given : Contents → Story → Pick → Option (List ℕ)
 given start story pick =
-    if nat_lt pick.sector 256 && is_open story pick.place pick.sector
+    if nat_lt pick.sector SECTORS && is_open story pick.place pick.sector
     then chosen start story pick.place pick.sector pick.choice else None
 
 -- the contents with a pick done, where it gives its sector anything

@@ -1,5 +1,6 @@
 -- The events that a chip in memory keeps, the oldest first.
 use Rattle.std.specs.Prelude.{◌≡◌, ℕ, Bool, true, List, reverse, nat_lt, ◌&&◌}
+use Rattle.ipl_base.specs.declared.limits.TheConstants.{SECTORS}
 use Rattle.chip_trait.specs.declared.event.Event.{Event}
 use Rattle.chip_trait.specs.declared.event.Event.TheVariants.{Read, Program, Erase, Barrier, Said}
 use Rattle.chip_trait.specs.Story.{held}
@@ -8,7 +9,7 @@ use Rattle.chip_mem.specs.Sectors.{contents_of}
 -- what the event writes is a sector or a place of a chip of so many places
 abbrev pub is_inside : ℕ → Event → Bool
 is_inside places (Read q t) = true
-is_inside places (Program q t bytes) = nat_lt q places && nat_lt t 256
+is_inside places (Program q t bytes) = nat_lt q places && nat_lt t SECTORS
 is_inside places (Erase q) = nat_lt q places
 is_inside places Barrier = true
 is_inside places (Said piece) = true

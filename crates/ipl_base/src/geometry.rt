@@ -2,6 +2,7 @@
 ghost use Rattle.std.specs.Prelude.{◌≡◌, ◌+◌, ◌≤◌, ℕ, IfSome, IfNone};
 ghost use Rattle.ipl_base.specs.Places.{IsGeometry};
 
+use crate::limits::{LEAST_PLACES, MOST_PLACES, RESERVED_PLACES};
 use std::marker::Model;
 
 /// The number of places of a chip that can be used, 5 to 1028, as a contract sees it.
@@ -26,7 +27,7 @@ impl Geometry {
         ensures some { IfSome result (λ g. IsGeometry places × (g ≡ places)) }
         ensures none { IfNone result (IsGeometry places → ⊥) }
     {
-        if places < 5 || places > 1028 {
+        if places < LEAST_PLACES || places > MOST_PLACES {
             return None;
         }
         Some(Geometry { places })
@@ -45,6 +46,6 @@ impl Geometry {
         ensures units { result + 4 ≡ self.now }
         ensures range { (1 ≤ result) × (result ≤ 1024) }
     {
-        self.places - 4
+        self.places - RESERVED_PLACES
     }
 }

@@ -1,6 +1,7 @@
 //! The bytes of one record.
 ghost use Rattle.std.specs.Prelude.{◌≡◌, ◌≤◌, ◌<◌, ℕ, List, [], length, IfSome, IfNone};
 
+use crate::limits::VALUE_LEN;
 use arrayvec::ArrayVec;
 use std::alloc::AllocError;
 use std::marker::Model;
@@ -23,7 +24,7 @@ impl Model for Value {
 
 impl Value {
     /// The most bytes that a record has.
-    pub const MAX_LEN: usize = 108;
+    pub const MAX_LEN: usize = VALUE_LEN;
 
     /// The value of no bytes.
     pub fn empty() -> Value

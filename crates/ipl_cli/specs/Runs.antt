@@ -1,6 +1,7 @@
 -- How the program starts and runs.
 use Rattle.std.specs.Prelude.{◌≡◌, ◌≤◌, ◌-◌, ◌^◌, ◌++◌, true, Some, Ok, Err}
 use Rattle.std.specs.FinMap.{empty}
+use Rattle.ipl_base.specs.declared.limits.TheConstants.{RESERVED_PLACES}
 use Rattle.chip_trait.specs.Story.{Story}
 use Rattle.chip_trait.specs.Lawful.{IsLawful}
 use Rattle.chip_trait.specs.Told.{History, Told, Rose, adds_all}
@@ -29,7 +30,7 @@ pub record StartsFormatted (old : Told) (store : UnitStore) (new : Told) : Type 
       → IsLawful (format_events old.places ++ base)
   pub history : (h : History) → old.history ≡ Some h → new.history ≡ Some (adds_all (format_events old.places) h)
   pub keeps : (h : History) → old.history ≡ Some h → old.settled ≡ true
-      → KeepsUnit (limits_of (old.places - 4)) store new (at_rest empty)
+      → KeepsUnit (limits_of (old.places - RESERVED_PLACES)) store new (at_rest empty)
 
 -- The chip is opened, and the store keeps what was found.
 pub record StartsOpened (old : Told) (store : UnitStore) (new : Told) : Type 0 where

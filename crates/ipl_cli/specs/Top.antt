@@ -1,6 +1,7 @@
 -- The program as a whole: how it ends, what it says, and what it leaves on the chip.
 use Rattle.std.specs.Prelude.{◌≡◌, ◌≢◌, ◌⊎◌, ◌<◌, ◌≤◌, ℕ, ◌+◌, ◌-◌, ◌^◌, min, Bool, true, false, List, [], ◌∷◌, ◌++◌, codes, length, Some, None, Ok, Err}
 use Rattle.std.specs.FinMap.{empty}
+use Rattle.ipl_base.specs.declared.limits.TheConstants.{RESERVED_PLACES}
 use Rattle.chip_trait.specs.declared.event.Event.TheVariants.{Said}
 use Rattle.chip_trait.specs.Chart.{says}
 use Rattle.chip_trait.specs.Story.{Story, Contents, pieces, said}
@@ -104,11 +105,12 @@ EndCause (Some request) (Err end) old new = RequestCause request end old new
 
 -- the lines that answer a script on so many places, from these records and no open session
 abbrev pub answers : ℕ → Map → List ℕ → List (List ℕ)
-answers places m script = lines (limits_of (places - 4)) (at_rest m) (commands_of script)
+answers places m script =
+    lines (limits_of (places - RESERVED_PLACES)) (at_rest m) (commands_of script)
 
 -- this is so of the model's state after the commands of which the bytes have the whole replies, or after one more
 abbrev pub IsAbout : (State → Type 0) → ℕ → Map → List ℕ → List ℕ → Type 0
-IsAbout Q places m script bytes = IsNear Q (limits_of (places - 4)) (at_rest m) (commands_of script) bytes
+IsAbout Q places m script bytes = IsNear Q (limits_of (places - RESERVED_PLACES)) (at_rest m) (commands_of script) bytes
 
 -- the contents stand for the records of such a state
 abbrev pub StandsAbout : ℕ → Map → List ℕ → List ℕ → Contents → Type 0

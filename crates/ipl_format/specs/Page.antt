@@ -1,5 +1,6 @@
 -- A page of 64 slots, and its text, which the payloads of its base sectors hold (docs/FORMAT.md, "Page text").
 use Rattle.std.specs.Prelude.{ℕ, suc, ◌≡◌, ◌≤◌, ◌<◌, ◌+◌, ◌*◌, List, [], ◌∷◌, ◌++◌, length, take, drop, replicate, slice_index_or, Option, Some, None, All}
+use Rattle.ipl_base.specs.declared.limits.TheConstants.{PAYLOAD_LEN, VALUE_LEN, SLOTS}
 
 -- what each slot holds
 abbrev pub Slots : Type 0
@@ -11,16 +12,16 @@ value_in page slot = slice_index_or page slot None
 
 -- a page with nothing
 unfoldable pub empty_page : Slots
-empty_page = replicate 64 None
+empty_page = replicate SLOTS None
 
 -- a slot's value has at most 108 bytes
 abbrev pub IsShort : Option (List ℕ) → Type 0
 IsShort None = Unit {0}
-IsShort (Some value) = length value ≤ 108
+IsShort (Some value) = length value ≤ VALUE_LEN
 
 -- a page has 64 slots, and short values
 pub record IsPage (page : Slots) : Type 0 where
-  pub slots : length page ≡ 64
+  pub slots : length page ≡ SLOTS
   pub short : All IsShort page
 
 -- the record of a slot: its number, the length, the value; an empty slot has none
@@ -48,9 +49,9 @@ IsPageText bytes = (page : Slots) × SpellsPage bytes page
 
 -- the i-th piece of a text, which one base sector holds
 abbrev pub piece_of : List ℕ → ℕ → List ℕ
-piece_of text i = take 480 (drop (480 * i) text)
+piece_of text i = take PAYLOAD_LEN (drop (PAYLOAD_LEN * i) text)
 
 -- so many pieces hold the text, and fewer don't
 pub record IsCutInto (text : List ℕ) (pieces : ℕ) : Type 0 where
-  pub enough : length text ≤ 480 * pieces
-  pub needed : 480 * pieces < length text + 480
+  pub enough : length text ≤ PAYLOAD_LEN * pieces
+  pub needed : PAYLOAD_LEN * pieces < length text + PAYLOAD_LEN

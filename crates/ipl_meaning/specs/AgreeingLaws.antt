@@ -1,5 +1,6 @@
 -- What agreement gives, and what keeps it.
 use Rattle.std.specs.Prelude.{ℕ, ◌≡◌, ◌<◌, ◌≤◌, ◌∷◌, List, Some, Contains}
+use Rattle.ipl_base.specs.declared.limits.TheConstants.{SECTORS}
 use Rattle.chip_trait.specs.declared.event.Event.TheVariants.{Read, Program, Erase, Barrier, Said}
 use Rattle.chip_trait.specs.Story.{Story}
 use Rattle.chip_trait.specs.Lawful.{Clean, age, IsLawful}
@@ -35,7 +36,7 @@ TidyAfterPrograms =
 abbrev pub TidyAfterMoves : Type 0
 TidyAfterMoves =
     (story : Story) (t after : Tables) (p s from : ℕ) (bytes : List ℕ) → IsTidy story t → CountedMove t after p s from
-    → ((n : ℕ) → from ≤ n → n < 256 → age story p n ≡ Clean) → IsTidy (Program p s bytes ∷ story) after
+    → ((n : ℕ) → from ≤ n → n < SECTORS → age story p n ≡ Clean) → IsTidy (Program p s bytes ∷ story) after
 
 -- it stays so with a barrier
 abbrev pub TidyAfterBarriers : Type 0

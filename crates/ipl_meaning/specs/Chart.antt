@@ -1,5 +1,6 @@
 -- The chart of a chip: what each of its sectors says. Which headers count, and which log sectors.
 use Rattle.std.specs.Prelude.{ℕ, ◌≡◌, ◌⊎◌, ◌<◌, ◌≤◌, Option, Some}
+use Rattle.ipl_base.specs.declared.limits.TheConstants.{SECTORS, FIRST_LOG_SECTOR}
 use Rattle.chip_trait.specs.Story.{Contents}
 use Rattle.chip_trait.specs.Chart.{decoded}
 use Rattle.ipl_format.specs.Sector.{Sector, sector_in}
@@ -50,5 +51,5 @@ pub record IsLive (c : Chart) (places u home generation p s : ℕ) (sector : Sec
   pub kind : sector.kind ≡ 5
   pub of_unit : sector.unit ≡ u
   pub of_generation : sector.generation ≡ generation
-  pub within : (p < places) × (s < 256)
-  pub counts : ((p ≡ home) × (241 ≤ s)) ⊎ (IsOverflow c p × (1 ≤ s))
+  pub within : (p < places) × (s < SECTORS)
+  pub counts : ((p ≡ home) × (FIRST_LOG_SECTOR ≤ s)) ⊎ (IsOverflow c p × (1 ≤ s))

@@ -1,5 +1,6 @@
 -- Laws of the counter: what it draws is new, and it stays above all that is found.
 use Rattle.std.specs.Prelude.{ℕ, ◌≡◌, ◌≢◌, ◌<◌, ◌≤◌, ◌-◌, Bool, false, List, Some, None, All}
+use Rattle.ipl_base.specs.declared.limits.TheConstants.{RESERVED_PLACES, FIRST_LOG_SECTOR}
 use Rattle.chip_trait.specs.Chart.{with_sector}
 use Rattle.ipl_format.specs.Sector.{Sector}
 use Rattle.ipl_format.specs.Record.{Record}
@@ -12,21 +13,22 @@ use Rattle.ipl_meaning.specs.Found.{MentionsBelow, IsAbove, IsPlaceBelow}
 abbrev pub NewGenerationsWakeNothing : Type 0
 NewGenerationsWakeNothing =
     (places : ℕ) (c : Chart) (it : Layout) (next generation u p q s : ℕ) (sector : Sector)
-    → IsAbove places c it next → next ≤ generation → IsLive c places u p generation q s sector → (q ≡ p) × (241 ≤ s)
+    → IsAbove places c it next → next ≤ generation → IsLive c places u p generation q s sector → (q ≡ p) × (FIRST_LOG_SECTOR ≤ s)
 
 -- a new serial is above those of all headers and live sectors
 abbrev pub NewSerialsAreGreatest : Type 0
 NewSerialsAreGreatest =
     (places : ℕ) (c : Chart) (it : Layout) (next serial : ℕ) → IsAbove places c it next → next ≤ serial
     → ((q : ℕ) (other : Sector) → q < places → c q 0 ≡ Some other → IsHeader other → other.serial < serial)
-    × ((u q t : ℕ) (other : Sector) → u < places - 4 → IsLiveIn c places it u q t other → other.serial < serial)
+    × ((u q t : ℕ) (other : Sector) → u < places - RESERVED_PLACES → IsLiveIn c places it u q t other → other.serial < serial)
 
 -- a new transaction number is not committed, and no live sector has a record of it
 abbrev pub NewNumbersWait : Type 0
 NewNumbersWait =
     (places : ℕ) (c : Chart) (it : Layout) (next tid : ℕ) → Laid places c it → IsAbove places c it next → next ≤ tid
     → (it.committed tid ≡ false)
-    × ((u : ℕ) → u < places - 4 → All (λ e. All (λ r. r.tid ≢ tid) e.records) (it.units u).log)
+    × ((u : ℕ) → u < places - RESERVED_PLACES
+    → All (λ e. All (λ r. r.tid ≢ tid) e.records) (it.units u).log)
 
 -- the counter is above all found numbers after a log sector that it is above
 abbrev pub LogSectorsKeepTheCounter : Type 0
@@ -56,5 +58,5 @@ HeadersKeepTheCounter =
 abbrev pub BarePlacesKeepTheCounter : Type 0
 BarePlacesKeepTheCounter =
     (places : ℕ) (c : Chart) (it : Layout) (p : ℕ) (y : Chart) (next : ℕ)
-    → it.status ≢ p → ((u : ℕ) → u < places - 4 → (it.units u).home ≢ p) → SameBut p c y → y p 0 ≡ None
+    → it.status ≢ p → ((u : ℕ) → u < places - RESERVED_PLACES → (it.units u).home ≢ p) → SameBut p c y → y p 0 ≡ None
     → IsAbove places c it next → IsAbove places y it next

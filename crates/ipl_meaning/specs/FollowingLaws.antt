@@ -1,5 +1,6 @@
 -- How the tables follow log sectors and commit sectors.
 use Rattle.std.specs.Prelude.{ℕ, ◌<◌, ◌≤◌, ◌-◌, Bool, List, length, slice_index, All, AllPairs, Contains}
+use Rattle.ipl_base.specs.declared.limits.TheConstants.{SECTORS, RESERVED_PLACES, LOG_SECTORS, OVERFLOW_SECTORS}
 use Rattle.chip_trait.specs.Chart.{with_sector}
 use Rattle.ipl_format.specs.Sector.{Sector}
 use Rattle.ipl_format.specs.Record.{Record}
@@ -15,8 +16,8 @@ use Rattle.ipl_meaning.specs.TableSteps.{IsFreshLog, after_home_log, after_overf
 abbrev pub TablesFollowHomeLogs : Type 0
 TablesFollowHomeLogs =
     (places : ℕ) (c : Chart) (it : Layout) (t : Tables) (u next : ℕ) (sector : Sector) (records : List Record)
-    → Mirrors places c it t → u < places - 4
-    → slice_index t.places.written u < 15 → IsFreshLog it t u sector records → t.next ≤ next → MentionsBelow next sector
+    → Mirrors places c it t → u < places - RESERVED_PLACES
+    → slice_index t.places.written u < LOG_SECTORS → IsFreshLog it t u sector records → t.next ≤ next → MentionsBelow next sector
     → let p = slice_index t.places.current u in let s = first_log t u in
     Mirrors places (with_sector c p s sector) (with_log it u (entry_at p s sector records)) (after_home_log t u next)
 
@@ -24,8 +25,8 @@ TablesFollowHomeLogs =
 abbrev pub TablesFollowOverflowLogs : Type 0
 TablesFollowOverflowLogs =
     (places : ℕ) (c : Chart) (it : Layout) (t : Tables) (u p s next : ℕ) (sector : Sector) (records : List Record)
-    → Mirrors places c it t → u < places - 4
-    → Contains t.overflow.in_use (p, s) → 1 ≤ s → s < 256 → length (spots_of t u) < 16 → IsFreshLog it t u sector records
+    → Mirrors places c it t → u < places - RESERVED_PLACES
+    → Contains t.overflow.in_use (p, s) → 1 ≤ s → s < SECTORS → length (spots_of t u) < OVERFLOW_SECTORS → IsFreshLog it t u sector records
     → t.next ≤ next → MentionsBelow next sector
     → Mirrors places (with_sector c p s sector) (with_log it u (entry_at p s sector records))
     (after_overflow_log t u p s next)
@@ -44,6 +45,6 @@ TablesFollowCommits =
 abbrev pub CountedFollow : Type 0
 CountedFollow =
     (places : ℕ) (c : Chart) (it : Layout) (t : Tables) → Mirrors places c it t
-    → ((u next : ℕ) → u < places - 4 → CountedShrink t (after_home_log t u next) (slice_index t.places.current u) (first_log t u))
+    → ((u next : ℕ) → u < places - RESERVED_PLACES → CountedShrink t (after_home_log t u next) (slice_index t.places.current u) (first_log t u))
     × ((u p s next : ℕ) → Contains t.overflow.in_use (p, s) → CountedShrink t (after_overflow_log t u p s next) p s)
     × ((numbers active : List ℕ) (next : ℕ) → CountedShrink t (after_commit t numbers next active) it.status t.status.first)

@@ -1,5 +1,6 @@
 -- A chip that was just formatted.
 use Rattle.std.specs.Prelude.{ℕ, ◌+◌, ◌-◌, List, replicate, Option, Some, None, if◌then◌else◌, ◌==◌, nat_lt}
+use Rattle.ipl_base.specs.declared.limits.TheConstants.{RESERVED_PLACES, PAGES}
 use Rattle.ipl_format.specs.Numbers.{word}
 use Rattle.ipl_format.specs.Header.{data_header_bytes}
 use Rattle.ipl_format.specs.Sector.{Sector}
@@ -7,7 +8,7 @@ use Rattle.ipl_meaning.specs.Chart.{Chart}
 
 -- no page has base sectors
 abbrev pub no_pieces : List ℕ
-no_pieces = replicate 15 0
+no_pieces = replicate PAGES 0
 
 -- the header of a unit, whose generation and serial is its number and 1
 abbrev pub first_head : ℕ → ℕ → Sector
@@ -17,7 +18,7 @@ first_head places u = record {
   unit = u;
   generation = u + 1;
   serial = u + 1;
-  payload = data_header_bytes (places - 4) no_pieces 0;
+  payload = data_header_bytes (places - RESERVED_PLACES) no_pieces 0;
 }
 
 -- the status header, with the next number
@@ -26,15 +27,15 @@ first_status places = record {
   kind = 2;
   version = 1;
   unit = 0;
-  generation = places - 4 + 1;
-  serial = places - 4 + 1;
-  payload = word (places - 4);
+  generation = places - RESERVED_PLACES + 1;
+  serial = places - RESERVED_PLACES + 1;
+  payload = word (places - RESERVED_PLACES);
 }
 
 -- each unit's header stands at the place of its number, and the status header after them
 abbrev pub header_at : ℕ → ℕ → Option Sector
 header_at places p =
-    if nat_lt p (places - 4) then Some (first_head places p) else if p == places - 4 then Some (first_status places) else None
+    if nat_lt p (places - RESERVED_PLACES) then Some (first_head places p) else if p == places - RESERVED_PLACES then Some (first_status places) else None
 
 -- and nothing else stands anywhere
 abbrev pub formatted : ℕ → Chart

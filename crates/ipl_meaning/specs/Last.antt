@@ -1,6 +1,7 @@
 -- The last record that counts, what a merge carries, and how records are packed into sectors.
 use Rattle.std.specs.Prelude.{ℕ, ◌+◌, ◌*◌, List, [], ◌∷◌, ◌++◌, length, sum_by, Option, Some, None, Bool, false, ◌≡◌, ◌==◌, ◌&&◌, not, if◌then◌else◌, nat_le}
 use Rattle.std.specs.List.{list_any}
+use Rattle.ipl_base.specs.declared.limits.TheConstants.{PAYLOAD_LEN, SLOTS}
 use Rattle.ipl_format.specs.Record.{Record, value_of}
 use Rattle.ipl_meaning.specs.Values.{counts_for}
 use Rattle.ipl_meaning.specs.Layout.{Entry, records_of}
@@ -20,7 +21,7 @@ size_of_all records = sum_by size_of records
 
 -- the record fits behind those of the sector
 abbrev pub has_room : List Record → Record → Bool
-has_room full r = nat_le (size_of_all full + size_of r) 480
+has_room full r = nat_le (size_of_all full + size_of r) PAYLOAD_LEN
 
 -- the records after those of the open sector: each joins the sector where it fits, else it begins the next
 abbrev pub pack_after : List Record → List Record → List (List Record)
@@ -42,7 +43,7 @@ carried active (r ∷ records) =
 
 -- the number of a record's name among those of its unit
 abbrev pub name_in_unit : Record → ℕ
-name_in_unit r = 64 * r.page + r.slot
+name_in_unit r = SLOTS * r.page + r.slot
 
 -- how many log sectors a merge of a unit with this log writes
 abbrev pub carried_count : (ℕ → Bool) → List Entry → ℕ

@@ -1,6 +1,7 @@
 -- Laws of what stands.
 use Rattle.std.specs.Prelude.{ℕ, ◌≡◌, ◌<◌, ◌≤◌, ◌-◌, Some, Bool, List, Contains}
 use Rattle.std.specs.FinMap.{empty}
+use Rattle.ipl_base.specs.declared.limits.TheConstants.{LEAST_PLACES, MOST_PLACES, RESERVED_PLACES}
 use Rattle.chip_trait.specs.Chart.{with_sector}
 use Rattle.ipl_rules.specs.State.{Map}
 use Rattle.ipl_format.specs.Sector.{Sector}
@@ -22,7 +23,7 @@ pub record AreOneLayout (places : ℕ) (it other : Layout) : Type 0 where
   pub status : it.status ≡ other.status
   pub head : it.head ≡ other.head
   pub committed : (tid : ℕ) → it.committed tid ≡ other.committed tid
-  pub units : (u : ℕ) → u < places - 4 → it.units u ≡ other.units u
+  pub units : (u : ℕ) → u < places - RESERVED_PLACES → it.units u ≡ other.units u
 
 -- a chart is laid out in one way
 abbrev pub LaidOnce : Type 0
@@ -44,7 +45,7 @@ pub record IsRebuilt (y : Chart) (it : Layout) (u page : ℕ) (now : Values) : T
 abbrev pub AllowedSectorsSuffice : Type 0
 AllowedSectorsSuffice =
     (places : ℕ) (c y : Chart) (it : Layout) (u page : ℕ) (now : Values)
-    → Laid places c it → u < places - 4 → ((p s : ℕ) → IsAllowed c places it u page p s → y p s ≡ c p s)
+    → Laid places c it → u < places - RESERVED_PLACES → ((p s : ℕ) → IsAllowed c places it u page p s → y p s ≡ c p s)
     → Shows c it.committed u (it.units u) page now → IsRebuilt y it u page now
 
 -- a place at which nothing counts may change, where nothing there comes to count
@@ -116,4 +117,4 @@ OverflowHeadersWait =
 
 -- a formatted chip stands for the empty map
 abbrev pub FormattedChipsAreEmpty : Type 0
-FormattedChipsAreEmpty = (places : ℕ) → 5 ≤ places → places ≤ 1028 → Stands places (formatted places) empty
+FormattedChipsAreEmpty = (places : ℕ) → LEAST_PLACES ≤ places → places ≤ MOST_PLACES → Stands places (formatted places) empty

@@ -1,6 +1,7 @@
 -- How the sectors of a chip are laid out: one home for each unit, and one status place.
 use Rattle.std.specs.Prelude.{ℕ, ◌≡◌, ◌≢◌, ◌<◌, ◌≤◌, ◌+◌, ◌-◌, ◌*◌, List, length, slice_index, Some, Bool, IsTrue, All, AllPairs, Contains}
 use Rattle.std.specs.List.{flat_map}
+use Rattle.ipl_base.specs.declared.limits.TheConstants.{SECTORS, LEAST_PLACES, MOST_PLACES, RESERVED_PLACES, PAGE_SECTORS, OVERFLOW_PLACES, OVERFLOW_SECTORS}
 use Rattle.ipl_format.specs.Sector.{Sector}
 use Rattle.ipl_format.specs.Record.{Record, SpellsLog}
 use Rattle.ipl_format.specs.Commit.{SpellsCommit}
@@ -64,13 +65,13 @@ pub record IsLog (c : Chart) (places u home generation : ℕ) (log : List Entry)
   pub rising : AllRise log
   -- at most 16 of them stand elsewhere: these spots are all of theirs
   pub spots : List (ℕ × ℕ)
-  pub few : length spots ≤ 16
+  pub few : length spots ≤ OVERFLOW_SECTORS
   pub listed : All (IsListed spots home) log
 
 -- the header of the unit that counts stands at its home, and the log is its log
 pub record IsUnit (c : Chart) (places u : ℕ) (it : Shape) : Type 0 where
   pub chosen : IsChosen c places (IsDataHeader u) it.home it.head
-  pub counts : SpellsDataHeader (places - 4) it.pieces it.head.payload
+  pub counts : SpellsDataHeader (places - RESERVED_PLACES) it.pieces it.head.payload
   pub log : IsLog c places u it.home it.head.generation it.log
 
 -- ---- committed numbers
@@ -80,7 +81,7 @@ pub record IsCommitSector (c : Chart) (status generation s : ℕ) (sector : Sect
   pub here : c status s ≡ Some sector
   pub kind : sector.kind ≡ 6
   pub of_generation : sector.generation ≡ generation
-  pub where_it_is : (1 ≤ s) × (s < 256)
+  pub where_it_is : (1 ≤ s) × (s < SECTORS)
 
 -- the number is in one of them
 pub record IsCommitted (c : Chart) (status generation tid : ℕ) : Type 0 where
@@ -102,16 +103,16 @@ pub record IsStatus (c : Chart) (status generation : ℕ) (committed : ℕ → B
 
 -- the chart is laid out so: all that it takes to stand for a map, but for the base pages
 pub record Laid (places : ℕ) (c : Chart) (it : Layout) : Type 0 where
-  pub least : 5 ≤ places
-  pub most : places ≤ 1028
+  pub least : LEAST_PLACES ≤ places
+  pub most : places ≤ MOST_PLACES
   pub chosen : IsChosen c places IsStatusHeader it.status it.head
-  pub counts : SpellsUnits (places - 4) it.head.payload
+  pub counts : SpellsUnits (places - RESERVED_PLACES) it.head.payload
   pub commits : IsStatus c it.status it.head.generation it.committed
-  pub each : (u : ℕ) → u < places - 4 → IsUnit c places u (it.units u)
+  pub each : (u : ℕ) → u < places - RESERVED_PLACES → IsUnit c places u (it.units u)
   -- at most two overflow places hold live sectors: these are all
   pub overflows : List ℕ
-  pub two : length overflows ≤ 2
-  pub in_overflow : (u : ℕ) → u < places - 4 → All (IsInOverflow overflows (it.units u).home) (it.units u).log
+  pub two : length overflows ≤ OVERFLOW_PLACES
+  pub in_overflow : (u : ℕ) → u < places - RESERVED_PLACES → All (IsInOverflow overflows (it.units u).home) (it.units u).log
 
 -- the sector is live for the unit, as it is laid out
 abbrev pub IsLiveIn : Chart → ℕ → Layout → ℕ → ℕ → ℕ → Sector → Type 0
@@ -122,7 +123,7 @@ IsLiveIn c places it u p s sector = IsLive c places u (it.units u).home (it.unit
 -- a base sector: the i-th piece of the text of a page
 abbrev pub base_sector : ℕ → ℕ → ℕ → ℕ → List ℕ → Sector
 base_sector u generation page i text =
-    record { kind = 4; version = 1; unit = u; generation = generation; serial = page * 16 + i; payload = piece_of text i }
+    record { kind = 4; version = 1; unit = u; generation = generation; serial = page * PAGE_SECTORS + i; payload = piece_of text i }
 
 -- the page's base sectors read well: they hold the text of this page, cut into as many pieces as the header says
 pub record ReadsWell (c : Chart) (u : ℕ) (it : Shape) (page : ℕ) (slots : Slots) : Type 0 where

@@ -1,5 +1,6 @@
 -- The tables in memory say what the chip's sectors say.
 use Rattle.std.specs.Prelude.{ℕ, ◌≡◌, ◌≢◌, ◌↔◌, ◌⊎◌, ◌<◌, ◌≤◌, ◌-◌, false, IsTrue, length, slice_index, None, All, AllPairs, Contains}
+use Rattle.ipl_base.specs.declared.limits.TheConstants.{RESERVED_PLACES, OVERFLOW_PLACES, OVERFLOW_SECTORS}
 use Rattle.ipl_format.specs.Sector.{Sector}
 use Rattle.ipl_meaning.specs.Chart.{Chart, IsOverflow}
 use Rattle.ipl_meaning.specs.Layout.{Layout, Laid, IsLiveIn}
@@ -12,26 +13,29 @@ AreApart x y = x ≢ y
 
 -- the directory has each unit's place, and no place in use is free
 pub record MirrorsPlaces (places : ℕ) (it : Layout) (t : Tables) : Type 0 where
-  pub units : length t.places.current ≡ places - 4
-  pub logs : length t.places.written ≡ places - 4
+  pub units : length t.places.current ≡ places - RESERVED_PLACES
+  pub logs : length t.places.written ≡ places - RESERVED_PLACES
   pub all : length t.places.in_use ≡ places
-  pub current : (u : ℕ) → u < places - 4 → slice_index t.places.current u ≡ (it.units u).home
-  pub not_home : (p : ℕ) → IsFree t.places p → (u : ℕ) → u < places - 4 → (it.units u).home ≢ p
+  pub current : (u : ℕ) → u < places - RESERVED_PLACES
+      → slice_index t.places.current u ≡ (it.units u).home
+  pub not_home : (p : ℕ) → IsFree t.places p → (u : ℕ) → u < places - RESERVED_PLACES
+      → (it.units u).home ≢ p
   pub not_status : (p : ℕ) → IsFree t.places p → it.status ≢ p
   pub not_overflow : (p : ℕ) → IsFree t.places p → ¬ Contains (overflow_places t) p
 
 -- the overflow lists have exactly the live sectors that stand elsewhere
 pub record MirrorsOverflow (places : ℕ) (c : Chart) (it : Layout) (t : Tables) : Type 0 where
-  pub units : length t.overflow.spots ≡ places - 4
-  pub listed : (u p s : ℕ) (sector : Sector) → u < places - 4 → IsLiveIn c places it u p s sector
+  pub units : length t.overflow.spots ≡ places - RESERVED_PLACES
+  pub listed : (u p s : ℕ) (sector : Sector) → u < places - RESERVED_PLACES
+      → IsLiveIn c places it u p s sector
       → p ≢ (it.units u).home → Contains (spots_of t u) (p, s)
-  pub only : (u p s : ℕ) → u < places - 4 → Contains (spots_of t u) (p, s)
+  pub only : (u p s : ℕ) → u < places - RESERVED_PLACES → Contains (spots_of t u) (p, s)
       → (p ≢ (it.units u).home) × (sector : Sector) × IsLiveIn c places it u p s sector
-  pub once : (u : ℕ) → u < places - 4 → AllPairs AreApart (spots_of t u)
-  pub few : (u : ℕ) → u < places - 4 → length (spots_of t u) ≤ 16
-  pub in_overflow : (u p s : ℕ) → u < places - 4 → Contains (spots_of t u) (p, s) → Contains (overflow_places t) p
+  pub once : (u : ℕ) → u < places - RESERVED_PLACES → AllPairs AreApart (spots_of t u)
+  pub few : (u : ℕ) → u < places - RESERVED_PLACES → length (spots_of t u) ≤ OVERFLOW_SECTORS
+  pub in_overflow : (u p s : ℕ) → u < places - RESERVED_PLACES → Contains (spots_of t u) (p, s) → Contains (overflow_places t) p
   pub headed : (p : ℕ) → Contains (overflow_places t) p → (p < places) × IsOverflow c p
-  pub two : length t.overflow.in_use ≤ 2
+  pub two : length t.overflow.in_use ≤ OVERFLOW_PLACES
   pub apart : AllPairs AreApart (overflow_places t)
 
 -- the status table has the status place, its generation and the committed numbers

@@ -1,5 +1,6 @@
 -- How the tables follow places that are taken, and units that move.
 use Rattle.std.specs.Prelude.{ℕ, ◌≡◌, ◌↔◌, ◌<◌, ◌≤◌, ◌+◌, ◌-◌, Bool, false, IsTrue, length, None, All, Contains}
+use Rattle.ipl_base.specs.declared.limits.TheConstants.{SECTORS, RESERVED_PLACES, FIRST_LOG_SECTOR, OVERFLOW_PLACES}
 use Rattle.chip_trait.specs.Chart.{with_sector}
 use Rattle.ipl_format.specs.Sector.{Sector}
 use Rattle.ipl_meaning.specs.Chart.{Chart}
@@ -26,9 +27,9 @@ PlacesMayBeTaken = (places : ℕ) (c : Chart) (it : Layout) (t : Tables) (p : �
 abbrev pub TablesFollowMerges : Type 0
 TablesFollowMerges =
     (places : ℕ) (c : Chart) (it : Layout) (t after : Tables) (u p used : ℕ) (fresh : Shape) → Mirrors places c it t
-    → u < places - 4 → IsReady places c t u p fresh → ¬ IsFree t.places p
+    → u < places - RESERVED_PLACES → IsReady places c t u p fresh → ¬ IsFree t.places p
     → IsMoved t after u p used → MentionsBelow after.next fresh.head → IsPlaceBelow after.next c p
-    → ((s : ℕ) → 241 + used ≤ s → s < 256 → c p s ≡ None)
+    → ((s : ℕ) → FIRST_LOG_SECTOR + used ≤ s → s < SECTORS → c p s ≡ None)
     → Mirrors places (with_sector c p 0 fresh.head) (with_unit it u fresh) after
 
 -- after the header of a new status place
@@ -39,14 +40,14 @@ TablesFollowRenewals =
     → IsRenewed t after p head.generation first
     → ((tid : ℕ) → IsTrue (committed tid) ↔ Contains after.status.numbers tid) → All (λ n. committed n ≡ false) t.active
     → MentionsBelow after.next head → IsPlaceBelow after.next c p → 1 ≤ first
-    → ((s : ℕ) → first ≤ s → s < 256 → c p s ≡ None)
+    → ((s : ℕ) → first ≤ s → s < SECTORS → c p s ≡ None)
     → Mirrors places (with_sector c p 0 head) (with_status it p head committed) after
 
 -- after the header of a new overflow place
 abbrev pub TablesFollowOverflows : Type 0
 TablesFollowOverflows =
     (places : ℕ) (c : Chart) (it : Layout) (t : Tables) (p next : ℕ) (head : Sector) → Mirrors places c it t
-    → MayOpenOverflow places c it p head → p < places → ¬ IsFree t.places p → length t.overflow.in_use < 2
+    → MayOpenOverflow places c it p head → p < places → ¬ IsFree t.places p → length t.overflow.in_use < OVERFLOW_PLACES
     → t.next ≤ next → MentionsBelow next head → ((s : ℕ) → c p s ≡ None)
     → Mirrors places (with_sector c p 0 head) it (with_overflow t p next)
 
@@ -54,10 +55,10 @@ TablesFollowOverflows =
 abbrev pub CountedFollowMerges : Type 0
 CountedFollowMerges =
     (places : ℕ) (c : Chart) (it : Layout) (t after : Tables) (u p used : ℕ) (fresh : Shape) → Mirrors places c it t
-    → u < places - 4 → IsReady places c t u p fresh → ¬ IsFree t.places p
+    → u < places - RESERVED_PLACES → IsReady places c t u p fresh → ¬ IsFree t.places p
     → IsMoved t after u p used → MentionsBelow after.next fresh.head → IsPlaceBelow after.next c p
-    → ((s : ℕ) → 241 + used ≤ s → s < 256 → c p s ≡ None)
-    → CountedMove t after p 0 (241 + used)
+    → ((s : ℕ) → FIRST_LOG_SECTOR + used ≤ s → s < SECTORS → c p s ≡ None)
+    → CountedMove t after p 0 (FIRST_LOG_SECTOR + used)
 
 -- after a renewal
 abbrev pub CountedFollowRenewals : Type 0
@@ -67,13 +68,13 @@ CountedFollowRenewals =
     → IsRenewed t after p head.generation first
     → ((tid : ℕ) → IsTrue (committed tid) ↔ Contains after.status.numbers tid) → All (λ n. committed n ≡ false) t.active
     → MentionsBelow after.next head → IsPlaceBelow after.next c p → 1 ≤ first
-    → ((s : ℕ) → first ≤ s → s < 256 → c p s ≡ None)
+    → ((s : ℕ) → first ≤ s → s < SECTORS → c p s ≡ None)
     → CountedMove t after p 0 first
 
 -- after a new overflow place
 abbrev pub CountedFollowOverflows : Type 0
 CountedFollowOverflows =
     (places : ℕ) (c : Chart) (it : Layout) (t : Tables) (p next : ℕ) (head : Sector) → Mirrors places c it t
-    → MayOpenOverflow places c it p head → p < places → ¬ IsFree t.places p → length t.overflow.in_use < 2
+    → MayOpenOverflow places c it p head → p < places → ¬ IsFree t.places p → length t.overflow.in_use < OVERFLOW_PLACES
     → t.next ≤ next → MentionsBelow next head → ((s : ℕ) → c p s ≡ None)
     → CountedMove t (with_overflow t p next) p 0 1

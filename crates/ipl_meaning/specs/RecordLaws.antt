@@ -1,6 +1,7 @@
 -- Laws of lists of records.
 use Rattle.std.specs.Prelude.{ℕ, ◌≡◌, ◌≤◌, Bool, true, List, All, Contains, IsTrue, length, Option, None, if◌then◌else◌}
 use Rattle.std.specs.List.{flat_map}
+use Rattle.ipl_base.specs.declared.limits.TheConstants.{PAYLOAD_LEN, CARRIED_SECTORS, PENDING_NAMES}
 use Rattle.ipl_format.specs.Record.{Record, IsRecord}
 use Rattle.ipl_meaning.specs.Values.{counts_for, after_records}
 use Rattle.ipl_meaning.specs.Layout.{Entry, records_of}
@@ -36,7 +37,7 @@ PacksAreTheList = (records : List Record) → flat_map (λ sector. sector) (pack
 
 -- the records of a sector have room there
 abbrev pub IsWithin : List Record → Type 0
-IsWithin sector = size_of_all sector ≤ 480
+IsWithin sector = size_of_all sector ≤ PAYLOAD_LEN
 
 -- each sector of a pack is within its 480 bytes
 abbrev pub PacksFit : Type 0
@@ -45,6 +46,6 @@ PacksFit = (records : List Record) → All IsRecord records → All IsWithin (pa
 -- where at most 48 names of a unit have records of active numbers, a merge carries at most 12 sectors
 abbrev pub FewAreCarried : Type 0
 FewAreCarried =
-    (active : ℕ → Bool) (log : List Entry) (names : List ℕ) → All IsRecord (records_of log) → length names ≤ 48
+    (active : ℕ → Bool) (log : List Entry) (names : List ℕ) → All IsRecord (records_of log) → length names ≤ PENDING_NAMES
     → ((r : Record) → Contains (records_of log) r → IsTrue (active r.tid) → Contains names (name_in_unit r))
-    → carried_count active log ≤ 12
+    → carried_count active log ≤ CARRIED_SECTORS

@@ -1,6 +1,7 @@
 -- When the sectors of a chip stand for a map.
 use Rattle.std.specs.Prelude.{ℕ, ◌≡◌, ◌<◌, ◌≤◌, ◌+◌, ◌-◌, ◌*◌, None, Bool}
 use Rattle.std.specs.FinMap.{get}
+use Rattle.ipl_base.specs.declared.limits.TheConstants.{RESERVED_PLACES, PAGES, SLOTS, UNIT_NAMES}
 use Rattle.ipl_rules.specs.State.{Map}
 use Rattle.ipl_format.specs.Page.{Slots, value_in}
 use Rattle.ipl_meaning.specs.Chart.{Chart}
@@ -9,19 +10,19 @@ use Rattle.ipl_meaning.specs.Layout.{Shape, Layout, Laid, ReadsWell, records_of}
 
 -- the values of one page's names
 abbrev pub page_in : Map → ℕ → ℕ → Values
-page_in m u page slot = get m (960 * u + 64 * page + slot)
+page_in m u page slot = get m (UNIT_NAMES * u + SLOTS * page + slot)
 
 -- the base page reads well, and with the committed records of the unit's log it has these values
 pub record Shows (c : Chart) (committed : ℕ → Bool) (u : ℕ) (it : Shape) (page : ℕ) (now : Values) : Type 0 where
   pub base : Slots
   pub reads : ReadsWell c u it page base
-  pub says : (slot : ℕ) → slot < 64
+  pub says : (slot : ℕ) → slot < SLOTS
       → now slot ≡ after_records committed page slot (records_of it.log) (value_in base slot)
 
 -- the map has the values that the pages show, and no others
 pub record Says (places : ℕ) (c : Chart) (it : Layout) (m : Map) : Type 0 where
-  pub pages : (u page : ℕ) → u < places - 4 → page < 15 → Shows c it.committed u (it.units u) page (page_in m u page)
-  pub nowhere_else : (n : ℕ) → 960 * (places - 4) ≤ n → get m n ≡ None
+  pub pages : (u page : ℕ) → u < places - RESERVED_PLACES → page < PAGES → Shows c it.committed u (it.units u) page (page_in m u page)
+  pub nowhere_else : (n : ℕ) → UNIT_NAMES * (places - RESERVED_PLACES) ≤ n → get m n ≡ None
 
 -- the chart is laid out rightly, and its pages show the map
 pub record Stands (places : ℕ) (c : Chart) (m : Map) : Type 0 where

@@ -1,5 +1,6 @@
 -- The steps from one chart to the next, and when each may be taken.
 use Rattle.std.specs.Prelude.{ℕ, ◌≡◌, ◌≢◌, ◌⊎◌, ◌<◌, ◌≤◌, ◌-◌, Bool, false, Some, None, All, Contains, IsTrue, List, [], ◌∷◌, ◌++◌, length, if◌then◌else◌, ◌==◌}
+use Rattle.ipl_base.specs.declared.limits.TheConstants.{SECTORS, RESERVED_PLACES, PAGES, SLOTS, FIRST_LOG_SECTOR, OVERFLOW_PLACES, OVERFLOW_SECTORS}
 use Rattle.chip_trait.specs.Chart.{IsPartOf}
 use Rattle.ipl_format.specs.Sector.{Sector}
 use Rattle.ipl_format.specs.Record.{Record, SpellsLog}
@@ -19,7 +20,7 @@ SameBut p c y = (q s : ℕ) → q ≢ p → y q s ≡ c q s
 
 -- two charts that are the same within the chip
 abbrev pub SameWithin : ℕ → Chart → Chart → Type 0
-SameWithin places c y = (p s : ℕ) → p < places → s < 256 → y p s ≡ c p s
+SameWithin places c y = (p s : ℕ) → p < places → s < SECTORS → y p s ≡ c p s
 
 -- all that the part has, the whole has too, and the headers are the same
 pub record IsPart (part whole : Chart) : Type 0 where
@@ -28,7 +29,8 @@ pub record IsPart (part whole : Chart) : Type 0 where
 
 -- each page that the one chart shows, laid out so, the other shows with the same values
 abbrev pub KeepsPages : ℕ → Chart → Layout → Chart → Layout → Type 0
-KeepsPages places c it y new = (u page : ℕ) (now : Values) → u < places - 4 → page < 15
+KeepsPages places c it y new = (u page : ℕ) (now : Values) → u < places - RESERVED_PLACES
+    → page < PAGES
     → Shows c it.committed u (it.units u) page now → Shows y new.committed u (new.units u) page now
 
 -- ---- two layouts
@@ -67,15 +69,15 @@ entry_at p s sector records = record { place = p; number = s; sector = sector; r
 -- nothing that counts stands at the place
 pub record IsIdle (places : ℕ) (c : Chart) (it : Layout) (p : ℕ) : Type 0 where
   pub not_status : it.status ≢ p
-  pub not_home : (u : ℕ) → u < places - 4 → (it.units u).home ≢ p
-  pub no_live : (u : ℕ) → u < places - 4 → (s : ℕ) (sector : Sector) → ¬ IsLiveIn c places it u p s sector
+  pub not_home : (u : ℕ) → u < places - RESERVED_PLACES → (it.units u).home ≢ p
+  pub no_live : (u : ℕ) → u < places - RESERVED_PLACES → (s : ℕ) (sector : Sector) → ¬ IsLiveIn c places it u p s sector
 
 -- what the chart has at the place does not come to count
 pub record ComesToNothing (places : ℕ) (y : Chart) (it : Layout) (p : ℕ) : Type 0 where
-  pub unit_header : (u : ℕ) → u < places - 4 → (head : Sector) → y p 0 ≡ Some head → IsDataHeader u head
+  pub unit_header : (u : ℕ) → u < places - RESERVED_PLACES → (head : Sector) → y p 0 ≡ Some head → IsDataHeader u head
       → Beats (it.units u).head (it.units u).home head p
   pub status : (head : Sector) → y p 0 ≡ Some head → IsStatusHeader head → Beats it.head it.status head p
-  pub no_live : (u : ℕ) → u < places - 4 → (s : ℕ) (sector : Sector) → ¬ IsLiveIn y places it u p s sector
+  pub no_live : (u : ℕ) → u < places - RESERVED_PLACES → (s : ℕ) (sector : Sector) → ¬ IsLiveIn y places it u p s sector
 
 -- ---- log sectors
 
@@ -85,26 +87,27 @@ AllWait committed records = All (λ r. committed r.tid ≡ false) records
 
 -- a log sector of the unit that may go to this spot: it comes last, and none of its records is committed
 pub record MayLog (places : ℕ) (c : Chart) (it : Layout) (u p s : ℕ) (sector : Sector) (records : List Record) : Type 0 where
-  pub unit : u < places - 4
+  pub unit : u < places - RESERVED_PLACES
   pub free : c p s ≡ None
   pub kind : sector.kind ≡ 5
   pub of_unit : sector.unit ≡ u
   pub of_generation : sector.generation ≡ (it.units u).head.generation
-  pub within : (p < places) × (s < 256)
-  pub counts : ((p ≡ (it.units u).home) × (241 ≤ s)) ⊎ (IsOverflow c p × (1 ≤ s))
+  pub within : (p < places) × (s < SECTORS)
+  pub counts : ((p ≡ (it.units u).home) × (FIRST_LOG_SECTOR ≤ s)) ⊎ (IsOverflow c p × (1 ≤ s))
   pub spelled : SpellsLog sector.payload records
   pub waits : AllWait it.committed records
   pub last : (q t : ℕ) (other : Sector) → IsLiveIn c places it u q t other → other.serial < sector.serial
   -- with the new one, these spots are all of the unit's that stand elsewhere
   pub spots : List (ℕ × ℕ)
-  pub few : length spots ≤ 16
+  pub few : length spots ≤ OVERFLOW_SECTORS
   pub listed : (q t : ℕ) (other : Sector) → IsLiveIn c places it u q t other → q ≢ (it.units u).home
       → Contains spots (q, t)
   pub listed_here : p ≢ (it.units u).home → Contains spots (p, s)
   -- and these places are all that hold live sectors elsewhere
   pub overflows : List ℕ
-  pub two : length overflows ≤ 2
-  pub in_overflow : (v q t : ℕ) (other : Sector) → v < places - 4 → IsLiveIn c places it v q t other
+  pub two : length overflows ≤ OVERFLOW_PLACES
+  pub in_overflow : (v q t : ℕ) (other : Sector) → v < places - RESERVED_PLACES
+      → IsLiveIn c places it v q t other
       → q ≢ (it.units v).home → Contains overflows q
   pub in_overflow_here : p ≢ (it.units u).home → Contains overflows p
 
@@ -115,7 +118,7 @@ pub record MayCommit (c : Chart) (it : Layout) (s : ℕ) (sector : Sector) (numb
   pub free : c it.status s ≡ None
   pub kind : sector.kind ≡ 6
   pub of_generation : sector.generation ≡ it.head.generation
-  pub where_it_is : (1 ≤ s) × (s < 256)
+  pub where_it_is : (1 ≤ s) × (s < SECTORS)
   pub spelled : SpellsCommit sector.payload numbers
   pub old_too : (tid : ℕ) → IsTrue (it.committed tid) → IsTrue (committed tid)
   pub new_too : (tid : ℕ) → Contains numbers tid → IsTrue (committed tid)
@@ -125,12 +128,12 @@ pub record MayCommit (c : Chart) (it : Layout) (s : ℕ) (sector : Sector) (numb
 
 -- a header that may be put on the place: it beats the unit's others, and what stands there is ready
 pub record MaySeal (places : ℕ) (c : Chart) (it : Layout) (u p : ℕ) (fresh : Shape) : Type 0 where
-  pub unit : u < places - 4
+  pub unit : u < places - RESERVED_PLACES
   pub within : p < places
   pub free : c p 0 ≡ None
   pub home : fresh.home ≡ p
   pub fits : IsDataHeader u fresh.head
-  pub counts : SpellsDataHeader (places - 4) fresh.pieces fresh.head.payload
+  pub counts : SpellsDataHeader (places - RESERVED_PLACES) fresh.pieces fresh.head.payload
   pub newest : (q : ℕ) (other : Sector) → q < places → c q 0 ≡ Some other → IsDataHeader u other
       → other.serial < fresh.head.serial
   pub log : IsLog c places u p fresh.head.generation fresh.log
@@ -139,17 +142,17 @@ pub record MaySeal (places : ℕ) (c : Chart) (it : Layout) (u p : ℕ) (fresh :
 
 -- the new place shows the unit's pages as the old one does
 abbrev pub IsSameUnit : Chart → Layout → ℕ → Shape → Type 0
-IsSameUnit c it u fresh = (page : ℕ) (now : Values) → page < 15 → Shows c it.committed u (it.units u) page now
+IsSameUnit c it u fresh = (page : ℕ) (now : Values) → page < PAGES → Shows c it.committed u (it.units u) page now
     → Shows c it.committed u fresh page now
 
 -- the slots have the values that the log's committed records make of the base
 abbrev pub IsApplied : (ℕ → Bool) → List Entry → ℕ → Slots → Slots → Type 0
-IsApplied committed log page base new = (slot : ℕ) → slot < 64
+IsApplied committed log page base new = (slot : ℕ) → slot < SLOTS
     → value_in new slot ≡ after_records committed page slot (records_of log) (value_in base slot)
 
 -- the new place has the committed pages, and log sectors of records that wait
 pub record IsMerged (c : Chart) (it : Layout) (u : ℕ) (fresh : Shape) : Type 0 where
-  pub pages : (page : ℕ) (base : Slots) → page < 15 → ReadsWell c u (it.units u) page base
+  pub pages : (page : ℕ) (base : Slots) → page < PAGES → ReadsWell c u (it.units u) page base
       → (new : Slots) × ReadsWell c u fresh page new × IsApplied it.committed (it.units u).log page base new
   pub waits : AllWait it.committed (records_of fresh.log)
 
@@ -160,14 +163,14 @@ pub record MaySwitch (places : ℕ) (c : Chart) (p : ℕ) (head : Sector) (commi
   pub within : p < places
   pub free : c p 0 ≡ None
   pub fits : IsStatusHeader head
-  pub counts : SpellsUnits (places - 4) head.payload
+  pub counts : SpellsUnits (places - RESERVED_PLACES) head.payload
   pub newest : (q : ℕ) (other : Sector) → q < places → c q 0 ≡ Some other → IsStatusHeader other
       → other.serial < head.serial
   pub commits : IsStatus c p head.generation committed
 
 -- exactly the committed numbers of the unit's live sectors are committed still
 abbrev pub KeepsNumbers : ℕ → Layout → (ℕ → Bool) → Type 0
-KeepsNumbers places it committed = (u : ℕ) → u < places - 4
+KeepsNumbers places it committed = (u : ℕ) → u < places - RESERVED_PLACES
     → All (λ r. committed r.tid ≡ it.committed r.tid) (records_of (it.units u).log)
 
 -- ---- overflow headers
@@ -176,5 +179,5 @@ KeepsNumbers places it committed = (u : ℕ) → u < places - 4
 pub record MayOpenOverflow (places : ℕ) (c : Chart) (it : Layout) (p : ℕ) (head : Sector) : Type 0 where
   pub free : c p 0 ≡ None
   pub kind : IsOverflowHeader head
-  pub no_log : (u s : ℕ) (sector : Sector) → u < places - 4 → c p s ≡ Some sector → sector.kind ≡ 5 → sector.unit ≡ u
+  pub no_log : (u s : ℕ) (sector : Sector) → u < places - RESERVED_PLACES → c p s ≡ Some sector → sector.kind ≡ 5 → sector.unit ≡ u
       → sector.generation ≢ (it.units u).head.generation

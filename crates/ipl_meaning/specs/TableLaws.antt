@@ -1,5 +1,6 @@
 -- What the tables give: the conditions of each step.
 use Rattle.std.specs.Prelude.{ℕ, ◌≡◌, ◌⊎◌, ◌<◌, ◌≤◌, ◌-◌, Bool, IsTrue, List, length, slice_index, None, Contains}
+use Rattle.ipl_base.specs.declared.limits.TheConstants.{SECTORS, LEAST_PLACES, MOST_PLACES, RESERVED_PLACES, LOG_SECTORS, OVERFLOW_SECTORS}
 use Rattle.ipl_format.specs.Sector.{Sector}
 use Rattle.ipl_format.specs.Record.{Record}
 use Rattle.ipl_format.specs.Commit.{SpellsCommit}
@@ -22,16 +23,16 @@ FreePlacesAreIdle = (places : ℕ) (c : Chart) (it : Layout) (t : Tables) (p : �
 abbrev pub LogSectorsMayGoHome : Type 0
 LogSectorsMayGoHome =
     (places : ℕ) (c : Chart) (it : Layout) (t : Tables) (u : ℕ) (sector : Sector) (records : List Record)
-    → Mirrors places c it t → u < places - 4
-    → slice_index t.places.written u < 15 → IsFreshLog it t u sector records
+    → Mirrors places c it t → u < places - RESERVED_PLACES
+    → slice_index t.places.written u < LOG_SECTORS → IsFreshLog it t u sector records
     → MayLog places c it u (slice_index t.places.current u) (first_log t u) sector records
 
 -- or to the first clean sector of an overflow place, where fewer than 16 of the unit stand elsewhere
 abbrev pub LogSectorsMayGoElsewhere : Type 0
 LogSectorsMayGoElsewhere =
     (places : ℕ) (c : Chart) (it : Layout) (t : Tables) (u p s : ℕ) (sector : Sector) (records : List Record)
-    → Mirrors places c it t → u < places - 4
-    → Contains t.overflow.in_use (p, s) → 1 ≤ s → s < 256 → length (spots_of t u) < 16 → IsFreshLog it t u sector records
+    → Mirrors places c it t → u < places - RESERVED_PLACES
+    → Contains t.overflow.in_use (p, s) → 1 ≤ s → s < SECTORS → length (spots_of t u) < OVERFLOW_SECTORS → IsFreshLog it t u sector records
     → MayLog places c it u p s sector records
 
 -- a commit sector may go to the first clean sector of the status place
@@ -39,7 +40,7 @@ abbrev pub CommitSectorsMayGo : Type 0
 CommitSectorsMayGo =
     (places : ℕ) (c : Chart) (it : Layout) (t : Tables) (sector : Sector) (numbers : List ℕ) (committed : ℕ → Bool)
     → Mirrors places c it t
-    → 1 ≤ t.status.first → t.status.first < 256 → sector.kind ≡ 6 → sector.generation ≡ t.status.generation
+    → 1 ≤ t.status.first → t.status.first < SECTORS → sector.kind ≡ 6 → sector.generation ≡ t.status.generation
     → SpellsCommit sector.payload numbers
     → ((tid : ℕ) → IsTrue (committed tid) → IsTrue (it.committed tid) ⊎ Contains numbers tid)
     → ((tid : ℕ) → IsTrue (it.committed tid) ⊎ Contains numbers tid → IsTrue (committed tid))
@@ -49,14 +50,14 @@ CommitSectorsMayGo =
 abbrev pub HeadersMayGo : Type 0
 HeadersMayGo =
     (places : ℕ) (c : Chart) (it : Layout) (t : Tables) (u p : ℕ) (fresh : Shape) → Mirrors places c it t
-    → u < places - 4 → IsReady places c t u p fresh → MaySeal places c it u p fresh
+    → u < places - RESERVED_PLACES → IsReady places c t u p fresh → MaySeal places c it u p fresh
 
 -- a status header of a new serial
 abbrev pub StatusHeadersMayGo : Type 0
 StatusHeadersMayGo =
     (places : ℕ) (c : Chart) (it : Layout) (t : Tables) (p : ℕ) (head : Sector) (committed : ℕ → Bool)
     → Mirrors places c it t
-    → p < places → c p 0 ≡ None → IsStatusHeader head → SpellsUnits (places - 4) head.payload → t.next ≤ head.serial
+    → p < places → c p 0 ≡ None → IsStatusHeader head → SpellsUnits (places - RESERVED_PLACES) head.payload → t.next ≤ head.serial
     → IsStatus c p head.generation committed
     → MaySwitch places c p head committed
 
@@ -68,5 +69,5 @@ OverflowHeadersMayGo =
 
 -- the first tables mirror a formatted chip
 abbrev pub FirstTablesMirror : Type 0
-FirstTablesMirror = (places : ℕ) → 5 ≤ places → places ≤ 1028
+FirstTablesMirror = (places : ℕ) → LEAST_PLACES ≤ places → places ≤ MOST_PLACES
     → Mirrors places (formatted places) (first_layout places) (first_tables places)

@@ -1,5 +1,6 @@
 -- What each step makes of the tables, and what it asks of them.
 use Rattle.std.specs.Prelude.{ℕ, ◌≡◌, ◌≢◌, ◌⊎◌, ◌<◌, ◌≤◌, ◌+◌, ◌-◌, ◌==◌, true, List, [], ◌∷◌, ◌++◌, map, length, slice_index, slice_set, None, All, AllPairs, Contains, if◌then◌else◌}
+use Rattle.ipl_base.specs.declared.limits.TheConstants.{SECTORS, RESERVED_PLACES, OVERFLOW_PLACES}
 use Rattle.ipl_format.specs.Sector.{Sector}
 use Rattle.ipl_format.specs.Record.{Record, SpellsLog}
 use Rattle.ipl_format.specs.Header.{SpellsDataHeader}
@@ -23,7 +24,7 @@ pub record IsReady (places : ℕ) (c : Chart) (t : Tables) (u p : ℕ) (fresh : 
   pub bare : c p 0 ≡ None
   pub home : fresh.home ≡ p
   pub fits : IsDataHeader u fresh.head
-  pub counts : SpellsDataHeader (places - 4) fresh.pieces fresh.head.payload
+  pub counts : SpellsDataHeader (places - RESERVED_PLACES) fresh.pieces fresh.head.payload
   pub new_generation : t.next ≤ fresh.head.generation
   pub new_serial : t.next ≤ fresh.head.serial
   pub each : All (IsEntry c places u p fresh.head.generation) fresh.log
@@ -73,7 +74,7 @@ CountedShrink t after p s = (q n : ℕ) → IsCountedClean after q n → IsCount
 -- just written
 abbrev pub CountedMove : Tables → Tables → ℕ → ℕ → ℕ → Type 0
 CountedMove t after p s from = (q n : ℕ) → IsCountedClean after q n
-    → (IsCountedClean t q n ⊎ ((q ≡ p) × (from ≤ n) × (n < 256))) × (q ≡ p → n ≢ s)
+    → (IsCountedClean t q n ⊎ ((q ≡ p) × (from ≤ n) × (n < SECTORS))) × (q ≡ p → n ≢ s)
 
 -- numbers were drawn
 abbrev pub with_next : Tables → ℕ → Tables
@@ -94,7 +95,7 @@ pub record IsMoved (t after : Tables) (u p used : ℕ) : Type 0 where
       ⊎ (Contains (overflow_places t) q × ¬ Contains (overflow_places after) q)
   pub spots : after.overflow.spots ≡ slice_set t.overflow.spots u []
   pub some : All (Contains t.overflow.in_use) after.overflow.in_use
-  pub two : length after.overflow.in_use ≤ 2
+  pub two : length after.overflow.in_use ≤ OVERFLOW_PLACES
   pub apart : AllPairs AreApart (overflow_places after)
   pub named : (v q s : ℕ) → v ≢ u → Contains (spots_of t v) (q, s) → Contains (overflow_places t) q
       → Contains (overflow_places after) q

@@ -1,5 +1,6 @@
 -- What the tables in memory say, as lists.
 use Rattle.std.specs.Prelude.{ℕ, ◌≡◌, ◌⊎◌, ◌<◌, ◌≤◌, ◌+◌, Bool, true, false, List, [], map, length, slice_index, slice_index_or, slice_set, Contains}
+use Rattle.ipl_base.specs.declared.limits.TheConstants.{SECTORS, FIRST_LOG_SECTOR}
 
 -- the place of each unit, whether each place is in use, and how many of the last 15 sectors of each unit's place count as
 -- written
@@ -57,12 +58,12 @@ overflow_places t = map place_of t.overflow.in_use
 
 -- the first log sector of the unit that is known clean (256 where there is none)
 abbrev pub first_log : Tables → ℕ → ℕ
-first_log t u = 241 + slice_index t.places.written u
+first_log t u = FIRST_LOG_SECTOR + slice_index t.places.written u
 
 -- the tables count the sector as clean
 abbrev pub IsCountedClean : Tables → ℕ → ℕ → Type 0
 IsCountedClean t p s =
-    (s < 256)
+    (s < SECTORS)
     × (((u : ℕ) × (u < length t.places.current) × (p ≡ slice_index t.places.current u) × (first_log t u ≤ s))
     ⊎ ((first : ℕ) × Contains t.overflow.in_use (p, first) × (first ≤ s))
     ⊎ ((p ≡ t.status.place) × (t.status.first ≤ s)))

@@ -1,7 +1,8 @@
 //! What the sectors of a chip mean, and which steps keep it: when a chart stands for a map, when a
 //! story rests on one, when tables mirror it, and the laws of all three. It stands on the chip's
-//! stories (`chip_trait`), the formats (`ipl_format`) and the model's map (`ipl_rules`). There is
-//! no code here but the laws: bodies that do nothing, with a contract that is the law.
+//! stories (`chip_trait`), the formats (`ipl_format`), the model's map (`ipl_rules`) and the limits
+//! (`ipl_base`). There is no code here but the laws: bodies that do nothing, with a contract that
+//! is the law.
 #![tactic(auto)]
 
 mod laws;

@@ -5,6 +5,7 @@ use Rattle.std.specs.Option.{option_map, option_map_or}
 use Rattle.std.specs.FinMap.{empty, get, insert}
 use Rattle.std.specs.declared.alloc.Global.{Global}
 use Rattle.std.specs.declared.alloc.AllocError.{AllocError}
+use Rattle.ipl_base.specs.declared.limits.TheConstants.{UNIT_NAMES, SESSIONS}
 use Rattle.ipl_base.specs.declared.fault.Refusal.{Refusal}
 use Rattle.ipl_rules.specs.State as rules
 use Rattle.ipl_rules.specs.Slots.{open_from, opened}
@@ -40,7 +41,7 @@ state_of m = record { map = rules.with_writes (newest_first m.committed.items) e
 
 -- 32 sessions, and 960 names in each unit
 abbrev pub limits_for : ℕ → rules.Limits
-limits_for units = record { sessions = 32; names = 960 * units; units = units }
+limits_for units = record { sessions = SESSIONS; names = UNIT_NAMES * units; units = units }
 
 -- the limits of the model
 abbrev pub limits_of : PlainModel → rules.Limits

@@ -1,5 +1,6 @@
 -- When an operation is refused: the first test of a list that holds gives the refusal.
 use Rattle.std.specs.Prelude.{ℕ, ◌==◌, ◌/◌, nat_le, nat_lt, Bool, not, ◌&&◌, ◌||◌, List, [], ◌∷◌, length, Option, Some, None, is_some, unwrap_or, if◌then◌else◌}
+use Rattle.ipl_base.specs.declared.limits.TheConstants.{VALUE_LEN, UNIT_NAMES, SESSION_NAMES, PENDING_NAMES}
 use Rattle.ipl_base.specs.declared.fault.Refusal.{Refusal}
 use Rattle.ipl_base.specs.declared.fault.Refusal.TheVariants.{BadSession, BadName, TooLong, AlreadyOpen, NotOpen, Conflict, WritesFull, SharesFull, PendingFull, BadUnit}
 use Rattle.std.specs.List.{list_any}
@@ -24,7 +25,7 @@ bad_name limits n = (nat_le limits.names n, BadName)
 
 -- more than 108 bytes
 abbrev pub too_long : List ℕ → Test
-too_long bytes = (nat_lt 108 (length bytes), TooLong)
+too_long bytes = (nat_lt VALUE_LEN (length bytes), TooLong)
 
 abbrev pub already_open : State → ℕ → Test
 already_open state s = (is_open state s, AlreadyOpen)
@@ -42,7 +43,7 @@ is_new_write state s n = not (is_some (last_write (writes_of state s) n))
 
 -- the name is new, and the session wrote 256
 abbrev pub writes_full : State → ℕ → ℕ → Test
-writes_full state s n = (is_new_write state s n && nat_le 256 (length (written_names (writes_of state s))), WritesFull)
+writes_full state s n = (is_new_write state s n && nat_le SESSION_NAMES (length (written_names (writes_of state s))), WritesFull)
 
 -- the name is neither among those that the session wrote nor among those that it shares
 abbrev pub is_new_share : State → ℕ → ℕ → Bool
@@ -50,11 +51,11 @@ is_new_share state s n = is_new_write state s n && not (list_any (λ k. k == n) 
 
 -- the name is new, and the session shares 256
 abbrev pub shares_full : State → ℕ → ℕ → Test
-shares_full state s n = (is_new_share state s n && nat_le 256 (length (shared_of state s)), SharesFull)
+shares_full state s n = (is_new_share state s n && nat_le SESSION_NAMES (length (shared_of state s)), SharesFull)
 
 -- the name is new, and 48 names of its unit are pending
 abbrev pub pending_full : State → ℕ → ℕ → Test
-pending_full state s n = (is_new_write state s n && nat_le 48 (pending state (n / 960)), PendingFull (n / 960))
+pending_full state s n = (is_new_write state s n && nat_le PENDING_NAMES (pending state (n / UNIT_NAMES)), PendingFull (n / UNIT_NAMES))
 
 -- ---- the operations, each with its tests in order
 

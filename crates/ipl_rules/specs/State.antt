@@ -4,6 +4,7 @@ use Rattle.std.specs.List.{flat_map, list_any}
 use Rattle.std.specs.Ordering.{nat_cmp}
 use Rattle.std.specs.Option.{option_map, option_map_or}
 use Rattle.std.specs.FinMap.{FinMap, get, insert, remove, empty, entries}
+use Rattle.ipl_base.specs.declared.limits.TheConstants.{UNIT_NAMES}
 
 -- the records: a value for each name that has one
 abbrev pub Map : Type 0
@@ -97,4 +98,5 @@ pending_writes state = flat_map (λ e. e.1.writes) (entries state.sessions)
 
 -- how many names of a unit open sessions wrote
 abbrev pub pending : State → ℕ → ℕ
-pending state unit = length (filter (λ n. n / 960 == unit) (written_names (pending_writes state)))
+pending state unit =
+    length (filter (λ n. n / UNIT_NAMES == unit) (written_names (pending_writes state)))

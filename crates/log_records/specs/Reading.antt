@@ -1,16 +1,17 @@
 -- How log records are read from bytes, one by one.
 use Rattle.std.specs.Prelude.{ℕ, zero, suc, ◌+◌, ◌==◌, ◌&&◌, ◌||◌, Bool, if◌then◌else◌, List, [], ◌∷◌, take, drop, length, slice_index, nat_le, nat_lt, Option, Some, None}
 use Rattle.std.specs.Option.{option_map_or}
+use Rattle.ipl_base.specs.declared.limits.TheConstants.{VALUE_LEN, PAGES, SLOTS}
 use Rattle.ipl_format.specs.Numbers.{long_at}
 use Rattle.ipl_format.specs.Record.{Record, Change}
 
 -- the kind, and the length that a record of it may have: 1 is a put, 2 a delete
 abbrev pub is_change : ℕ → ℕ → Bool
-is_change kind len = (kind == 1 && nat_le len 108) || (kind == 2 && len == 0)
+is_change kind len = (kind == 1 && nat_le len VALUE_LEN) || (kind == 2 && len == 0)
 
 -- the bytes begin with a record
 abbrev pub has_record : List ℕ → Bool
-has_record bytes = nat_le 12 (length bytes) && (nat_lt (slice_index bytes 0) 15 && (nat_lt (slice_index bytes 2) 64
+has_record bytes = nat_le 12 (length bytes) && (nat_lt (slice_index bytes 0) PAGES && (nat_lt (slice_index bytes 2) SLOTS
     && (is_change (slice_index bytes 1) (slice_index bytes 3) && nat_le (12 + slice_index bytes 3) (length bytes))))
 
 -- what that record does

@@ -3,6 +3,7 @@ use Rattle.std.specs.Prelude.{◌≡◌, ◌<◌, ◌==◌, nat_lt, ◌&&◌, �
 use Rattle.std.specs.List.{list_any}
 use Rattle.std.specs.Ordering.{nat_cmp}
 use Rattle.std.specs.FinMap.{FinMap, get, insert, empty}
+use Rattle.ipl_base.specs.declared.limits.TheConstants.{UNIT_NAMES}
 use Rattle.ipl_rules.specs.State.{State, Session, Write, Limits, last_write, written_names, at_rest, holder_for_write}
 use Rattle.ipl_rules.specs.Refusals.{first_of, not_open, conflict, writes_full, pending_full}
 use Rattle.ipl_rules.specs.Operations.{after_write}
@@ -18,7 +19,7 @@ use Rattle.memory_store.specs.Kept.{kept_change, record_of}
 
 -- one session, and the names of one unit
 abbrev pub unit_limits : Limits
-unit_limits = record { sessions = 1; names = 960; units = 1 }
+unit_limits = record { sessions = 1; names = UNIT_NAMES; units = 1 }
 
 -- one session, or none
 abbrev pub sessions_of : Bool → Session → FinMap nat_cmp Session
@@ -27,14 +28,14 @@ sessions_of is_open session = if is_open then insert empty 0 session else empty
 -- these writes are of names of the one unit
 abbrev pub AreNamed : List Write → Type 0
 AreNamed [] = Unit {0}
-AreNamed (w ∷ older) = (w.0 < 960) × AreNamed older
+AreNamed (w ∷ older) = (w.0 < UNIT_NAMES) × AreNamed older
 
 -- The records are those of the map below 960; the one session, where it is open, has the writes and the shared names that are kept.
 pub record FitsParts (records : List (Option (List ℕ))) (kept : List Kept) (shares : List ℕ) (is_open : Bool) (state : State) : Type 0 where
   pub session : Session
   pub sessions : state.sessions ≡ sessions_of is_open session
   pub closed : is_open ≡ false → (kept ≡ []) × (shares ≡ [])
-  pub map : (n : ℕ) → n < 960 → get state.map n ≡ record_of records n
+  pub map : (n : ℕ) → n < UNIT_NAMES → get state.map n ≡ record_of records n
   pub written : (n : ℕ) → last_write session.writes n ≡ kept_change kept n
   pub named : AreNamed session.writes
   pub count : length (written_names session.writes) ≡ length kept

@@ -1,13 +1,14 @@
 -- What the tables know of the places of a chip.
 use Rattle.std.specs.Prelude.{ℕ, ◌≡◌, ◌⊎◌, ◌<◌, ◌≤◌, ◌+◌, length, AllPairs, Contains}
+use Rattle.ipl_base.specs.declared.limits.TheConstants.{RESERVED_PLACES, OVERFLOW_PLACES}
 use Rattle.ipl_meaning.specs.Mirrors.{AreApart, NoneIsLost}
 use Rattle.ipl_meaning.specs.Tables.{IsFree, Tables, overflow_places}
 
 -- the tables are made for a chip of so many places: four more than units
 pub record Suits (places : ℕ) (t : Tables) : Type 0 where
   pub all : length t.places.in_use ≡ places
-  pub units : length t.places.current + 4 ≡ places
-  pub overflow : length t.overflow.spots + 4 ≡ places
+  pub units : length t.places.current + RESERVED_PLACES ≡ places
+  pub overflow : length t.overflow.spots + RESERVED_PLACES ≡ places
 
 -- the place is a unit's, the status place or an overflow place
 abbrev pub IsNamed : Tables → ℕ → Type 0
@@ -26,5 +27,5 @@ pub record KnowsPlaces (places : ℕ) (t : Tables) : Type 0 where
   pub no_home : (p : ℕ) → Contains (overflow_places t) p → ¬ Contains t.places.current p
   pub status_apart :
       (¬ Contains t.places.current t.status.place) × (¬ Contains (overflow_places t) t.status.place)
-  pub two : length t.overflow.in_use ≤ 2
+  pub two : length t.overflow.in_use ≤ OVERFLOW_PLACES
   pub status_placed : t.status.place < places

@@ -1,5 +1,6 @@
 -- Laws of the places that the tables know.
 use Rattle.std.specs.Prelude.{ℕ, ◌<◌, ◌+◌, length}
+use Rattle.ipl_base.specs.declared.limits.TheConstants.{RESERVED_PLACES, OVERFLOW_PLACES}
 use Rattle.ipl_meaning.specs.Mirrors.{NoneIsLost}
 use Rattle.ipl_meaning.specs.Tables.{IsFree, Tables}
 use Rattle.ipl_meaning.specs.TableSteps.{IsMoved, taken, with_next, with_overflow}
@@ -15,7 +16,7 @@ KnownPlacesLeaveOne = (places : ℕ) (t : Tables) → KnowsPlaces places t
 abbrev pub KnownPlacesMove : Type 0
 KnownPlacesMove =
     (places : ℕ) (t after : Tables) (u p used next : ℕ) → KnowsPlaces places t
-    → u + 4 < places → p < places → IsFree t.places p
+    → u + RESERVED_PLACES < places → p < places → IsFree t.places p
     → IsMoved (with_next (taken t p) next) after u p used → NoneIsLost places after
     → KnowsPlaces places after
 
@@ -23,5 +24,5 @@ KnownPlacesMove =
 abbrev pub KnownPlacesTakeOverflows : Type 0
 KnownPlacesTakeOverflows =
     (places : ℕ) (t : Tables) (p next : ℕ) → KnowsPlaces places t
-    → p < places → IsFree t.places p → length t.overflow.in_use < 2
+    → p < places → IsFree t.places p → length t.overflow.in_use < OVERFLOW_PLACES
     → KnowsPlaces places (with_overflow (taken t p) p next)

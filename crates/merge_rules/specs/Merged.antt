@@ -1,5 +1,6 @@
 -- A unit merged into a place that was free.
 use Rattle.std.specs.Prelude.{ℕ, ◌≡◌, ◌<◌, ◌≤◌, ◌-◌, List, length}
+use Rattle.ipl_base.specs.declared.limits.TheConstants.{RESERVED_PLACES, PAGES, FIRST_LOG_SECTOR, CARRIED_SECTORS}
 use Rattle.ipl_format.specs.Sector.{Sector}
 use Rattle.ipl_format.specs.Record.{Record}
 use Rattle.ipl_format.specs.Header.{SpellsDataHeader, data_header_bytes}
@@ -32,7 +33,7 @@ pub record IsFilled (from : Source) (p generation serial : ℕ) (pieces : List �
   pub bare : Chart
   pub paged : Chart
   pub cleared : IsCleared p c bare
-  pub moved : HasMoved from p generation pieces 15 bare paged
+  pub moved : HasMoved from p generation pieces PAGES bare paged
   pub logs : HasLogs p from.unit generation serial payloads (length payloads) paged y
 
 -- ---- the unit then
@@ -58,7 +59,7 @@ merged_shape t it u p head pieces serial = record {
   home = p;
   head = head;
   pieces = pieces;
-  log = entries_from p u head.generation 241 serial (packs_in t it);
+  log = entries_from p u head.generation FIRST_LOG_SECTOR serial (packs_in t it);
 }
 
 -- the layout with the unit merged
@@ -73,28 +74,28 @@ merged_layout t it u p head pieces serial =
 pub record IsToMerge (places : ℕ) (c : Chart) (it : Layout) (t : Tables) (u p generation serial : ℕ)
     (from : Source) (payloads : List (List ℕ)) : Type 0 where
   pub mirrors : Mirrors places c it t
-  pub low : u < places - 4
+  pub low : u < places - RESERVED_PLACES
   pub free : IsFree t.places p
   pub within : p < places
   pub source : from ≡ source_of t (it.units u) u
   pub new : t.next ≤ generation
   pub later : generation < serial
   pub carried : payloads ≡ payloads_of (packs_in t (it.units u))
-  pub twelve : length payloads ≤ 12
+  pub twelve : length payloads ≤ CARRIED_SECTORS
 
 -- what is asked of the chip and the tables before, of the place, and of what was written there
 pub record MayMerge (places : ℕ) (c y : Chart) (it : Layout) (t : Tables) (u p : ℕ)
     (head : Sector) (pieces : List ℕ) (serial : ℕ) : Type 0 where
   pub mirrors : Mirrors places c it t
-  pub low : u < places - 4
+  pub low : u < places - RESERVED_PLACES
   pub free : IsFree t.places p
   pub within : p < places
-  pub head_is : IsUnitHead (places - 4) u head.generation pieces
+  pub head_is : IsUnitHead (places - RESERVED_PLACES) u head.generation pieces
       (length (packs_in t (it.units u))) head
   pub new : t.next ≤ head.generation
   pub later : head.generation < serial
   pub few : IsFew pieces
-  pub twelve : length (packs_in t (it.units u)) ≤ 12
+  pub twelve : length (packs_in t (it.units u)) ≤ CARRIED_SECTORS
   pub filled : IsFilled (source_of t (it.units u) u) p head.generation serial pieces
       (payloads_of (packs_in t (it.units u))) c y
 
@@ -117,7 +118,7 @@ pub record IsMergedUnit (places : ℕ) (c z : Chart) (it : Layout) (t : Tables) 
   pub pieces : List ℕ
   pub serial : ℕ
   pub free : IsFree t.places place
-  pub head_is : IsUnitHead (places - 4) u head.generation pieces
+  pub head_is : IsUnitHead (places - RESERVED_PLACES) u head.generation pieces
       (length (packs_in t (it.units u))) head
   pub new : t.next ≤ head.generation
   pub later : head.generation < serial

@@ -1,5 +1,6 @@
 -- Pages moved to another place, with the committed records applied.
 use Rattle.std.specs.Prelude.{ℕ, ◌≡◌, ◌<◌, Bool, List, slice_index, None}
+use Rattle.ipl_base.specs.declared.limits.TheConstants.{SLOTS}
 use Rattle.ipl_format.specs.Page.{Slots, IsPage, value_in}
 use Rattle.ipl_format.specs.Record.{Record}
 use Rattle.ipl_meaning.specs.Chart.{Chart}
@@ -11,7 +12,7 @@ use Rattle.merge_rules.specs.Pages.{HasPages}
 
 -- the slots have the values that the records of these numbers make of the base
 abbrev pub IsRebased : (ℕ → Bool) → List Record → ℕ → Slots → Slots → Type 0
-IsRebased committed records page base new = (slot : ℕ) → slot < 64
+IsRebased committed records page base new = (slot : ℕ) → slot < SLOTS
     → value_in new slot ≡ after_records committed page slot records (value_in base slot)
 
 -- where a unit is moved from: its place, its generation and how many base sectors each page has

@@ -1,6 +1,7 @@
 -- The log sectors that a merge writes: what it carries, packed.
 use Rattle.std.specs.Prelude.{ℕ, ◌≡◌, ◌<◌, ◌≤◌, ◌+◌, ◌==◌, Bool, List, [], ◌∷◌, map, slice_index_or, Some}
 use Rattle.std.specs.List.{list_any}
+use Rattle.ipl_base.specs.declared.limits.TheConstants.{FIRST_LOG_SECTOR}
 use Rattle.ipl_format.specs.Sector.{Sector}
 use Rattle.ipl_format.specs.Record.{Record, log_bytes}
 use Rattle.ipl_meaning.specs.Chart.{Chart}
@@ -40,12 +41,12 @@ entries_from p u generation s serial (records ∷ packs) =
 
 -- the spots of the first n log sectors
 abbrev pub IsLogSpotBelow : ℕ → ℕ → Type 0
-IsLogSpotBelow n s = (241 ≤ s) × (s < 241 + n)
+IsLogSpotBelow n s = (FIRST_LOG_SECTOR ≤ s) × (s < FIRST_LOG_SECTOR + n)
 
 -- the first n of these payloads stand in the log sectors of the place, under serials from one on,
 -- and elsewhere the chart is as it was
 pub record HasLogs (p u generation serial : ℕ) (payloads : List (List ℕ)) (n : ℕ)
     (c y : Chart) : Type 0 where
-  pub here : (i : ℕ) → i < n → y p (241 + i)
+  pub here : (i : ℕ) → i < n → y p (FIRST_LOG_SECTOR + i)
       ≡ Some (log_sector u generation (serial + i) (slice_index_or payloads i []))
   pub others : (q s : ℕ) → (q ≡ p → ¬ IsLogSpotBelow n s) → y q s ≡ c q s

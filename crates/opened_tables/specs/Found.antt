@@ -1,5 +1,6 @@
 -- The live log sectors in overflow places that an opening finds, by unit, and the places that hold them.
 use Rattle.std.specs.Prelude.{ℕ, ◌*◌, ◌==◌, ◌&&◌, Bool, List, Option, Some, None, if◌then◌else◌}
+use Rattle.ipl_base.specs.declared.limits.TheConstants.{SECTORS}
 use Rattle.ipl_meaning.specs.Chart.{Chart}
 use Rattle.opening_rules.specs.First.{all_below}
 use Rattle.opening_rules.specs.Chosen.{KeptHeader, Winner, header_at, current_at}
@@ -17,13 +18,13 @@ spots_below heads current c u k = all_below (λ j. spot_of u (mark_at heads curr
 
 -- all those of a chart
 abbrev pub spots_in : Chart → ℕ → ℕ → List (ℕ × ℕ)
-spots_in c places u = spots_below (header_at c places) (current_at c places) c u (places * 256)
+spots_in c places u = spots_below (header_at c places) (current_at c places) c u (places * SECTORS)
 
 -- a place that holds live log sectors, with no sector that is known clean
 abbrev pub overflow_at : (ℕ → Bool) → ℕ → Option (ℕ × ℕ)
-overflow_at holds p = if holds p then Some (p, 256) else None
+overflow_at holds p = if holds p then Some (p, SECTORS) else None
 
 -- the overflow places of a chart that hold live log sectors, in rising order
 abbrev pub overflows_in : Chart → ℕ → List (ℕ × ℕ)
 overflows_in c places =
-    all_below (overflow_at (holds_live (header_at c places) (marks_in c places (places * 256)))) places
+    all_below (overflow_at (holds_live (header_at c places) (marks_in c places (places * SECTORS)))) places

@@ -1,5 +1,6 @@
 -- What an opening makes of the tables.
 use Rattle.std.specs.Prelude.{ℕ, ◌≡◌, ◌≢◌, ◌↔◌, ◌<◌, ◌+◌, ◌-◌, ◌*◌, false, [], length, slice_index, slice_index_or, Some, Contains}
+use Rattle.ipl_base.specs.declared.limits.TheConstants.{SECTORS, RESERVED_PLACES, LOG_SECTORS}
 use Rattle.ipl_meaning.specs.Chart.{Chart}
 use Rattle.ipl_meaning.specs.Layout.{Laid}
 use Rattle.ipl_meaning.specs.Tables.{Places, IsFree, OverflowLists, Status, Tables}
@@ -12,27 +13,29 @@ use Rattle.opened_tables.specs.Found.{spots_in, overflows_in}
 
 -- the place is neither that of a unit, nor the status place, nor an overflow place that holds live log sectors
 pub record IsUnused (places : ℕ) (c : Chart) (p : ℕ) : Type 0 where
-  pub not_home : (u : ℕ) (winner : Winner) → u < places - 4 → current_at c places u ≡ Some winner
+  pub not_home : (u : ℕ) (winner : Winner) → u < places - RESERVED_PLACES
+      → current_at c places u ≡ Some winner
       → winner.place ≢ p
   pub not_status : (winner : Winner) → status_at c places ≡ Some winner → winner.place ≢ p
-  pub not_held : holds_live (header_at c places) (marks_in c places (places * 256)) p ≡ false
+  pub not_held : holds_live (header_at c places) (marks_in c places (places * SECTORS)) p ≡ false
 
 -- the directory has each unit's place, no log sector counts as clean, exactly the unused places are free, and the
 -- counter is the number after the greatest found
 pub record IsOpened (places : ℕ) (c : Chart) (directory : Places) (counter : ℕ) : Type 0 where
-  pub units : length directory.current ≡ places - 4
-  pub logs : length directory.written ≡ places - 4
+  pub units : length directory.current ≡ places - RESERVED_PLACES
+  pub logs : length directory.written ≡ places - RESERVED_PLACES
   pub all : length directory.in_use ≡ places
-  pub current : (u : ℕ) → u < places - 4
+  pub current : (u : ℕ) → u < places - RESERVED_PLACES
       → slice_index directory.current u ≡ place_of (current_at c places u)
-  pub written : (u : ℕ) → u < places - 4 → slice_index directory.written u ≡ 15
+  pub written : (u : ℕ) → u < places - RESERVED_PLACES
+      → slice_index directory.written u ≡ LOG_SECTORS
   pub free : (p : ℕ) → p < places → IsFree directory p ↔ IsUnused places c p
   pub number : counter ≡ greatest_found c places + 1
 
 -- the overflow lists have each unit's live log sectors in overflow places, and the places that hold them
 pub record IsOpenedOverflow (places : ℕ) (c : Chart) (overflow : OverflowLists) : Type 0 where
-  pub units : length overflow.spots ≡ places - 4
-  pub spots_are : (u : ℕ) → u < places - 4 → slice_index_or overflow.spots u [] ≡ spots_in c places u
+  pub units : length overflow.spots ≡ places - RESERVED_PLACES
+  pub spots_are : (u : ℕ) → u < places - RESERVED_PLACES → slice_index_or overflow.spots u [] ≡ spots_in c places u
   pub in_use_are : overflow.in_use ≡ overflows_in c places
 
 -- the status has the status place, its generation and its numbers, and no sector of it counts as clean
@@ -41,7 +44,7 @@ pub record IsOpenedStatus (places : ℕ) (c : Chart) (status : Status) : Type 0 
   pub generation_is : status.generation ≡ (layout_in c places).head.generation
   pub numbers_are : (tid : ℕ)
       → Contains status.numbers tid ↔ Contains (committed_numbers c (status_at c places)) tid
-  pub first_is : status.first ≡ 256
+  pub first_is : status.first ≡ SECTORS
 
 -- the tables with these parts, while no session is open
 abbrev pub tables_of : Places → OverflowLists → Status → ℕ → Tables

@@ -1,5 +1,6 @@
 -- What each fault says of a chart.
 use Rattle.std.specs.Prelude.{ℕ, ◌≡◌, ◌⊎◌, ◌<◌, ◌≤◌, ◌-◌, ◌/◌, ◌%◌, ◌^◌, false, true, Some}
+use Rattle.ipl_base.specs.declared.limits.TheConstants.{SECTORS, LEAST_PLACES, MOST_PLACES, RESERVED_PLACES, OVERFLOW_PLACES}
 use Rattle.ipl_base.specs.declared.fault.ChipFault.TheVariants.{ReadFault, Stopped, Damaged, Malformed}
 use Rattle.ipl_base.specs.declared.fault.ImageFault.{ImageFault}
 use Rattle.ipl_base.specs.declared.fault.ImageFault.TheVariants.{Geometry, NotFormatted, Missing, Chip, Spent, NoSpare}
@@ -15,20 +16,20 @@ use Rattle.opening_rules.specs.FaultLaws.{IsLeastMissing, IsFirstBadLog}
 abbrev pub HeaderCounts : Chart → ℕ → ℕ → Sector → Type 0
 HeaderCounts c places p head =
     IsChosen c places IsStatusHeader p head
-    ⊎ ((u : ℕ) × (u < places - 4) × IsChosen c places (IsDataHeader u) p head)
+    ⊎ ((u : ℕ) × (u < places - RESERVED_PLACES) × IsChosen c places (IsDataHeader u) p head)
 
 -- a header that counts was written for another number of units
 pub record HasOtherUnits (c : Chart) (places : ℕ) : Type 0 where
   pub place : ℕ
   pub head : Sector
   pub counts : HeaderCounts c places place head
-  pub other : begins_with_other_units (places - 4) head.payload ≡ true
+  pub other : begins_with_other_units (places - RESERVED_PLACES) head.payload ≡ true
 
 -- the header at this place counts, and its payload is not in the grammar of its kind
 pub record HasBadHeader (c : Chart) (places p : ℕ) : Type 0 where
   pub head : Sector
   pub counts : HeaderCounts c places p head
-  pub bad : is_head_payload (places - 4) head.kind head.payload ≡ false
+  pub bad : is_head_payload (places - RESERVED_PLACES) head.kind head.payload ≡ false
 
 -- this commit sector is the first of the status place whose payload is not in its grammar
 pub record IsFirstBadCommit (c : Chart) (places p s : ℕ) : Type 0 where
@@ -47,11 +48,12 @@ abbrev pub IsBadSector : Chart → ℕ → ℕ → ℕ → Type 0
 IsBadSector c places p s =
     ((s ≡ 0) × HasBadHeader c places p)
     ⊎ IsFirstBadCommit c places p s
-    ⊎ ((k : ℕ) × (p ≡ k / 256) × (s ≡ k % 256) × IsFirstBadLog c places k (malformed p s))
+    ⊎ ((k : ℕ) × (p ≡ k / SECTORS) × (s ≡ k % SECTORS) × IsFirstBadLog c places k (malformed p s))
 
 -- the cause of each fault; those of failed calls have none here
 abbrev pub IsCaused : Chart → ℕ → ImageFault → Type 0
-IsCaused c places Geometry = (places < 5) ⊎ (1028 < places) ⊎ HasOtherUnits c places
+IsCaused c places Geometry = (places < LEAST_PLACES) ⊎ (MOST_PLACES < places)
+    ⊎ HasOtherUnits c places
 IsCaused c places NotFormatted = (p : ℕ) (head : Sector) → p < places → c p 0 ≡ Some head → ¬ IsStatusHeader head
 IsCaused c places (Missing u) = IsLeastMissing c places u
 IsCaused c places (Chip ReadFault) = ⊥
@@ -59,7 +61,7 @@ IsCaused c places (Chip Stopped) = ⊥
 IsCaused c places (Chip (Damaged p s stored computed)) = ⊥
 IsCaused c places (Chip (Malformed p s)) = IsBadSector c places p s
 IsCaused c places Spent = 2 ^ 63 ≤ greatest_found c places
-IsCaused c places (NoSpare k) = (2 < k) × (k ≡ overflows_found c places)
+IsCaused c places (NoSpare k) = (OVERFLOW_PLACES < k) × (k ≡ overflows_found c places)
 
 -- each fault comes where its cause is
 abbrev pub FaultsAreCaused : Type 0

@@ -1,5 +1,6 @@
 -- What single faults say of a chart.
 use Rattle.std.specs.Prelude.{ℕ, ◌≡◌, ◌⊎◌, ◌<◌, ◌≤◌, ◌-◌, ◌*◌, ◌/◌, ◌%◌, ◌==◌, ◌&&◌, Bool, false, true, Some}
+use Rattle.ipl_base.specs.declared.limits.TheConstants.{SECTORS, LEAST_PLACES, MOST_PLACES, RESERVED_PLACES, OVERFLOW_SECTORS}
 use Rattle.ipl_base.specs.declared.fault.ImageFault.{ImageFault}
 use Rattle.ipl_base.specs.declared.fault.ImageFault.TheVariants.{NotFormatted, Missing}
 use Rattle.ipl_format.specs.Sector.{Sector}
@@ -13,7 +14,7 @@ use Rattle.opening_rules.specs.Faults.{malformed, is_log_well, first_log_fault, 
 -- a chip of the right size is not formatted exactly where no place has a status header
 abbrev pub NotFormattedIsExact : Type 0
 NotFormattedIsExact =
-    (c : Chart) (places : ℕ) → 5 ≤ places → places ≤ 1028
+    (c : Chart) (places : ℕ) → LEAST_PLACES ≤ places → places ≤ MOST_PLACES
     → (first_fault c places ≡ Some NotFormatted
     → (p : ℕ) (head : Sector) → p < places → c p 0 ≡ Some head → ¬ IsStatusHeader head)
     × (((p : ℕ) (head : Sector) → p < places → c p 0 ≡ Some head → ¬ IsStatusHeader head)
@@ -21,7 +22,7 @@ NotFormattedIsExact =
 
 -- the unit has no header, and all lower ones have one
 pub record IsLeastMissing (c : Chart) (places u : ℕ) : Type 0 where
-  pub low : u < places - 4
+  pub low : u < places - RESERVED_PLACES
   pub none : (p : ℕ) (head : Sector) → p < places → c p 0 ≡ Some head → ¬ IsDataHeader u head
   pub lower : (v : ℕ) → v < u → (p : ℕ) × (head : Sector) × IsChosen c places (IsDataHeader v) p head
 
@@ -50,8 +51,8 @@ pub record HasTwin (c : Chart) (places k : ℕ) (sector : Sector) : Type 0 where
 
 -- it stands in an overflow place, and 16 of its unit before it
 pub record IsBeyond16 (c : Chart) (places k : ℕ) (sector : Sector) : Type 0 where
-  pub in_overflow : IsOverflow c (k / 256)
-  pub many : 16 ≤ count_below (is_overflow_of c places sector.unit) k
+  pub in_overflow : IsOverflow c (k / SECTORS)
+  pub many : OVERFLOW_SECTORS ≤ count_below (is_overflow_of c places sector.unit) k
 
 -- why a live log sector is at fault: it holds no list of records, has a serial again, or is the 17th in overflow places
 abbrev pub HasCause : Chart → ℕ → ℕ → Sector → Type 0
@@ -60,11 +61,11 @@ HasCause c places k sector =
 
 -- the live log sector at this number is at fault, and all before it are well
 pub record IsFirstBadLog (c : Chart) (places k : ℕ) (fault : ImageFault) : Type 0 where
-  pub low : k < places * 256
+  pub low : k < places * SECTORS
   pub sector : Sector
   pub live : live_in c places k ≡ Some sector
   pub cause : HasCause c places k sector
-  pub named : fault ≡ malformed (k / 256) (k % 256)
+  pub named : fault ≡ malformed (k / SECTORS) (k % SECTORS)
   pub earlier : (j : ℕ) (other : Sector) → j < k → live_in c places j ≡ Some other
       → well_at c places j other ≡ true
 

@@ -1,6 +1,7 @@
 -- What is at fault on a chart, in the order in which it is told.
 use Rattle.std.specs.Prelude.{ℕ, ◌≡◌, ◌*◌, ◌-◌, ◌/◌, ◌%◌, ◌^◌, nat_lt, nat_le, ◌==◌, ◌&&◌, ◌||◌, not, Bool, true, false, List, [], ◌∷◌, max, Option, Some, None, if◌then◌else◌, Result, MatchResult}
 use Rattle.std.specs.List.{list_any, count_by}
+use Rattle.ipl_base.specs.declared.limits.TheConstants.{SECTORS, LEAST_PLACES, MOST_PLACES, RESERVED_PLACES, OVERFLOW_PLACES, OVERFLOW_SECTORS}
 use Rattle.ipl_base.specs.declared.fault.ChipFault.TheVariants.{ReadFault, Stopped, Damaged, Malformed}
 use Rattle.ipl_base.specs.declared.fault.ImageFault.{ImageFault}
 use Rattle.ipl_base.specs.declared.fault.ImageFault.TheVariants.{Geometry, NotFormatted, Missing, Chip, Spent, NoSpare}
@@ -20,7 +21,8 @@ malformed p s = Chip (Malformed p s)
 
 -- a chip has 5 to 1028 places
 abbrev pub size_fault : ℕ → Option ImageFault
-size_fault places = if nat_le 5 places && nat_le places 1028 then None else Some Geometry
+size_fault places =
+    if nat_le LEAST_PLACES places && nat_le places MOST_PLACES then None else Some Geometry
 
 -- ---- headers
 
@@ -57,7 +59,7 @@ header_tests units status current =
 
 -- the first fault of the headers
 abbrev pub header_fault : Chart → ℕ → Option ImageFault
-header_fault c places = first_of (header_tests (places - 4) (status_at c places) (current_at c places))
+header_fault c places = first_of (header_tests (places - RESERVED_PLACES) (status_at c places) (current_at c places))
 
 -- ---- commit sectors
 
@@ -87,7 +89,8 @@ shares_overflow mark other = other.in_overflow && (other.unit == mark.unit)
 
 -- it stands in an overflow place, as 16 of its unit already do
 abbrev pub is_full : Mark → List Mark → Bool
-is_full mark earlier = mark.in_overflow && nat_le 16 (count_by (shares_overflow mark) earlier)
+is_full mark earlier =
+    mark.in_overflow && nat_le OVERFLOW_SECTORS (count_by (shares_overflow mark) earlier)
 
 -- a live log sector is tested for its payload, and against those before it
 abbrev pub is_log_well : Mark → List Mark → List ℕ → Bool
@@ -98,7 +101,7 @@ is_log_well mark earlier payload =
 abbrev pub log_test : (ℕ → Option KeptHeader) → List Mark → ℕ → Option Sector → Option ImageFault
 log_test heads earlier k None = None
 log_test heads earlier k (Some sector) =
-    if is_log_well (mark_of heads k sector) earlier sector.payload then None else Some (malformed (k / 256) (k % 256))
+    if is_log_well (mark_of heads k sector) earlier sector.payload then None else Some (malformed (k / SECTORS) (k % SECTORS))
 
 -- the same, after all those before it
 abbrev pub log_fault : (ℕ → Option KeptHeader) → (ℕ → Option Winner) → Chart → ℕ → Option ImageFault
@@ -106,7 +109,7 @@ log_fault heads current c k = log_test heads (marks heads current c k) k (live_a
 
 -- the first log sector at fault
 abbrev pub first_log_fault : Chart → ℕ → Option ImageFault
-first_log_fault c places = first_below (log_fault (header_at c places) (current_at c places) c) (places * 256)
+first_log_fault c places = first_below (log_fault (header_at c places) (current_at c places) c) (places * SECTORS)
 
 -- ---- numbers found
 
@@ -142,7 +145,7 @@ abbrev pub greatest_found : Chart → ℕ → ℕ
 greatest_found c places =
     let heads = header_at c places in
     greatest_of_logs (greatest_of_commits (greatest_of_heads heads places) c (status_at c places) sectors)
-    heads (current_at c places) c (places * 256)
+    heads (current_at c places) c (places * SECTORS)
 
 -- numbers are used up
 abbrev pub spent : ℕ → Option ImageFault
@@ -161,11 +164,11 @@ holds_live heads live p = is_overflow_place (heads p) && list_any (is_in p) live
 -- how many overflow places of a chart hold live log sectors
 abbrev pub overflows_found : Chart → ℕ → ℕ
 overflows_found c places =
-    count_below (holds_live (header_at c places) (marks_in c places (places * 256))) places
+    count_below (holds_live (header_at c places) (marks_in c places (places * SECTORS))) places
 
 -- more than two hold them
 abbrev pub no_spare : ℕ → Option ImageFault
-no_spare n = if nat_le n 2 then None else Some (NoSpare n)
+no_spare n = if nat_le n OVERFLOW_PLACES then None else Some (NoSpare n)
 
 -- ---- all of it
 

@@ -1,6 +1,7 @@
 -- How a chart without a fault is laid out.
 use Rattle.std.specs.Prelude.{ℕ, zero, suc, ◌*◌, ◌/◌, ◌%◌, nat_lt, ◌==◌, Bool, List, [], ◌∷◌, Option, Some, None, if◌then◌else◌, unwrap_or}
 use Rattle.std.specs.List.{list_any}
+use Rattle.ipl_base.specs.declared.limits.TheConstants.{SECTORS}
 use Rattle.ipl_format.specs.Sector.{Sector}
 use Rattle.log_records.specs.Reading.{records_of}
 use Rattle.ipl_meaning.specs.Chart.{Chart}
@@ -48,7 +49,7 @@ abbrev pub entry_of : ℕ → ℕ → Option Sector → Option Entry
 entry_of u k None = None
 entry_of u k (Some sector) =
     if sector.unit == u
-    then Some (record { place = k / 256; number = k % 256; sector = sector; records = records_of sector.payload })
+    then Some (record { place = k / SECTORS; number = k % SECTORS; sector = sector; records = records_of sector.payload })
     else None
 
 -- that at the number k
@@ -57,7 +58,7 @@ entry_at c places u k = entry_of u k (live_in c places k)
 
 -- the unit's log
 abbrev pub log_in : Chart → ℕ → ℕ → List Entry
-log_in c places u = sorted_below (entry_at c places u) (places * 256)
+log_in c places u = sorted_below (entry_at c places u) (places * SECTORS)
 
 -- ---- all of it
 

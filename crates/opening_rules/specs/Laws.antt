@@ -1,5 +1,6 @@
 -- The laws of an opening: no fault is a chart that is laid out rightly, with numbers that are not used up.
 use Rattle.std.specs.Prelude.{ℕ, ◌≡◌, ◌<◌, ◌≤◌, ◌⊎◌, ◌+◌, ◌^◌, true, Some, None}
+use Rattle.ipl_base.specs.declared.limits.TheConstants.{SECTORS, LEAST_PLACES, MOST_PLACES}
 use Rattle.chip_trait.specs.Story.{Contents}
 use Rattle.ipl_base.specs.declared.fault.ImageFault.TheVariants.{Spent}
 use Rattle.ipl_format.specs.Numbers.{IsBytes}
@@ -22,14 +23,14 @@ MayBeRead places c p s =
 -- the payloads that an opening reads are bytes
 abbrev pub IsByteChart : ℕ → Chart → Type 0
 IsByteChart places c =
-    (p s : ℕ) (sector : Sector) → p < places → s < 256 → MayBeRead places c p s → c p s ≡ Some sector
+    (p s : ℕ) (sector : Sector) → p < places → s < SECTORS → MayBeRead places c p s → c p s ≡ Some sector
     → IsBytes sector.payload
 
 -- where the sectors that it reads are so, they are
 abbrev pub WholeSectorsMakeByteCharts : Type 0
 WholeSectorsMakeByteCharts =
     (x : Contents) (places : ℕ)
-    → ((p s : ℕ) → p < places → s < 256 → MayBeRead places (chart_of x) p s → IsWhole (x p s))
+    → ((p s : ℕ) → p < places → s < SECTORS → MayBeRead places (chart_of x) p s → IsWhole (x p s))
     → IsByteChart places (chart_of x)
 
 -- a chart without a fault is laid out
@@ -57,7 +58,7 @@ LaidIsFineOrSpent =
 
 -- a chip that was just formatted has none
 abbrev pub FormattedChipsHaveNoFault : Type 0
-FormattedChipsHaveNoFault = (places : ℕ) → 5 ≤ places → places ≤ 1028 → first_fault (formatted places) places ≡ None
+FormattedChipsHaveNoFault = (places : ℕ) → LEAST_PLACES ≤ places → places ≤ MOST_PLACES → first_fault (formatted places) places ≡ None
 
 -- no number found is above the greatest
 abbrev pub GreatestIsAbove : Type 0

@@ -2,6 +2,7 @@
 -- rising order of place and sector.
 use Rattle.std.specs.Prelude.{ℕ, ◌/◌, ◌%◌, nat_le, ◌==◌, ◌&&◌, ◌||◌, Bool, false, List, Option, Some, None, if◌then◌else◌}
 use Rattle.std.specs.Option.{option_map}
+use Rattle.ipl_base.specs.declared.limits.TheConstants.{SECTORS, FIRST_LOG_SECTOR}
 use Rattle.ipl_format.specs.Sector.{Sector}
 use Rattle.ipl_meaning.specs.Chart.{Chart}
 use Rattle.opening_rules.specs.First.{all_below}
@@ -9,7 +10,7 @@ use Rattle.opening_rules.specs.Chosen.{KeptHeader, Winner, is_overflow, header_a
 
 -- how many sectors a place has; the name doesn't compute, so that what is there below it isn't written out one by one
 unfoldable pub sectors : ℕ
-sectors = 256
+sectors = SECTORS
 
 -- the sector, where there is one and it passes
 abbrev pub kept : (Sector → Bool) → Option Sector → Option Sector
@@ -44,7 +45,7 @@ is_generation (Some winner) generation = winner.head.generation == generation
 abbrev pub is_log_spot_of : (ℕ → Option Winner) → ℕ → ℕ → Option KeptHeader → Bool
 is_log_spot_of current p s None = false
 is_log_spot_of current p s (Some head) =
-    (is_overflow head && nat_le 1 s) || ((head.kind == 1) && (nat_le 241 s && is_at (current head.unit) p))
+    (is_overflow head && nat_le 1 s) || ((head.kind == 1) && (nat_le FIRST_LOG_SECTOR s && is_at (current head.unit) p))
 
 -- in this place
 abbrev pub is_log_spot : (ℕ → Option KeptHeader) → (ℕ → Option Winner) → ℕ → ℕ → Bool
@@ -60,7 +61,7 @@ seen heads current c p s = if is_log_spot heads current p s then kept is_log (c 
 
 -- the same by the number k
 abbrev pub seen_at : (ℕ → Option KeptHeader) → (ℕ → Option Winner) → Chart → ℕ → Option Sector
-seen_at heads current c k = seen heads current c (k / 256) (k % 256)
+seen_at heads current c k = seen heads current c (k / SECTORS) (k % SECTORS)
 
 -- the place is an overflow place
 abbrev pub is_overflow_place : Option KeptHeader → Bool
@@ -79,7 +80,7 @@ is_live heads current p sector =
 
 -- the live log sector at the number k, where there is one
 abbrev pub live_at : (ℕ → Option KeptHeader) → (ℕ → Option Winner) → Chart → ℕ → Option Sector
-live_at heads current c k = kept (is_live heads current (k / 256)) (seen_at heads current c k)
+live_at heads current c k = kept (is_live heads current (k / SECTORS)) (seen_at heads current c k)
 
 -- what a table keeps of a live log sector
 pub record Mark : Type 0 where
@@ -93,11 +94,11 @@ pub record Mark : Type 0 where
 -- what is kept of the one at the number k
 abbrev pub mark_of : (ℕ → Option KeptHeader) → ℕ → Sector → Mark
 mark_of heads k sector = record {
-  place = k / 256;
-  number = k % 256;
+  place = k / SECTORS;
+  number = k % SECTORS;
   unit = sector.unit;
   serial = sector.serial;
-  in_overflow = is_overflow_place (heads (k / 256));
+  in_overflow = is_overflow_place (heads (k / SECTORS));
 }
 
 -- the mark of the number k

@@ -1,5 +1,6 @@
 -- The sectors that are found to count are those that count.
 use Rattle.std.specs.Prelude.{ℕ, ◌≡◌, ◌<◌, ◌/◌, ◌%◌, Some}
+use Rattle.ipl_base.specs.declared.limits.TheConstants.{SECTORS}
 use Rattle.ipl_format.specs.Sector.{Sector}
 use Rattle.ipl_meaning.specs.Chart.{Chart, IsLive}
 use Rattle.ipl_meaning.specs.Layout.{IsCommitSector}
@@ -13,7 +14,7 @@ SectorsAre256 = sectors ≡ 256
 -- what is found is a commit sector of the status place, and of its header's generation
 abbrev pub FoundCommitsCount : Type 0
 FoundCommitsCount =
-    (c : Chart) (status : Winner) (s : ℕ) (sector : Sector) → s < 256 → commit_at c (Some status) s ≡ Some sector
+    (c : Chart) (status : Winner) (s : ℕ) (sector : Sector) → s < SECTORS → commit_at c (Some status) s ≡ Some sector
     → IsCommitSector c status.place status.head.generation s sector
 
 -- each of these is found
@@ -32,11 +33,11 @@ pub record IsLiveAt (c : Chart) (places p s : ℕ) (sector : Sector) : Type 0 wh
 abbrev pub FoundLogsAreLive : Type 0
 FoundLogsAreLive =
     (c : Chart) (places k : ℕ) (sector : Sector) → live_in c places k ≡ Some sector
-    → IsLiveAt c places (k / 256) (k % 256) sector
+    → IsLiveAt c places (k / SECTORS) (k % SECTORS) sector
 
 -- what is live is found
 abbrev pub LiveLogsAreFound : Type 0
 LiveLogsAreFound =
     (c : Chart) (places k u : ℕ) (winner : Winner) (sector : Sector) → current_at c places u ≡ Some winner
-    → IsLive c places u winner.place winner.head.generation (k / 256) (k % 256) sector
+    → IsLive c places u winner.place winner.head.generation (k / SECTORS) (k % SECTORS) sector
     → live_in c places k ≡ Some sector

@@ -2,6 +2,7 @@
 use Rattle.std.specs.Prelude.{ℕ, zero, suc, ◌/◌, ◌%◌, ◌==◌, ◌&&◌, ◌||◌, not, nat_le, Bool, false, if◌then◌else◌, List, [], ◌∷◌, take, drop, length, slice_index, map}
 use Rattle.std.specs.List.{list_all}
 use Rattle.std.specs.Option.{option_map_or}
+use Rattle.ipl_base.specs.declared.limits.TheConstants.{PAGES, PAGE_SECTORS, CARRIED_SECTORS, COMMIT_NUMBERS}
 use Rattle.ipl_format.specs.Numbers.{word_at, long_at}
 use Rattle.ipl_format.specs.Record.{Record}
 use Rattle.log_records.specs.Reading.{record_at, records_of}
@@ -14,18 +15,18 @@ begins_with_other_units units payload = nat_le 4 (length payload) && not (word_a
 
 -- how many base sectors each page has
 abbrev pub pieces_in : List ℕ → List ℕ
-pieces_in payload = take 15 (drop 4 payload)
+pieces_in payload = take PAGES (drop 4 payload)
 
 -- a page has at most 16
 abbrev pub is_count : ℕ → Bool
-is_count pieces = nat_le pieces 16
+is_count pieces = nat_le pieces PAGE_SECTORS
 
 -- a data header's payload, on a chip of so many units: the number of units, a count for each of 15 pages, and at most
 -- 12 carried log sectors
 abbrev pub is_data_payload : ℕ → List ℕ → Bool
 is_data_payload units payload =
     (length payload == 20) && ((word_at 0 payload == units)
-    && (list_all is_count (pieces_in payload) && nat_le (slice_index payload 19) 12))
+    && (list_all is_count (pieces_in payload) && nat_le (slice_index payload 19) CARRIED_SECTORS))
 
 -- a status header's payload: the number of units
 abbrev pub is_status_payload : ℕ → List ℕ → Bool
@@ -45,7 +46,7 @@ numbers_in payload = numbers_within (length payload / 8) payload
 -- a commit sector's payload: 1 to 60 numbers of eight bytes, nothing left over
 abbrev pub is_commit_payload : List ℕ → Bool
 is_commit_payload payload =
-    (length payload % 8 == 0) && (nat_le 1 (length payload / 8) && nat_le (length payload / 8) 60)
+    (length payload % 8 == 0) && (nat_le 1 (length payload / 8) && nat_le (length payload / 8) COMMIT_NUMBERS)
 
 -- ---- log sectors
 

@@ -1,5 +1,6 @@
 -- What the calls on overflow places come to in the words of the tables.
 use Rattle.std.specs.Prelude.{ℕ, ◌≡◌, ◌≢◌, ◌<◌, ◌≤◌, ◌-◌, List, map, length, Some, None, All, AllPairs, Contains}
+use Rattle.ipl_base.specs.declared.limits.TheConstants.{SECTORS, RESERVED_PLACES}
 use Rattle.ipl_meaning.specs.Tables.{OverflowLists, Tables, place_of, overflow_places}
 use Rattle.ipl_meaning.specs.Mirrors.{AreApart}
 use Rattle.ipl_meaning.specs.TableSteps.{after_overflow_log}
@@ -9,11 +10,12 @@ use Rattle.overflow.specs.Lists.{empty_lists, after_add, after_drop, places_left
 -- The spot that is offered is the first clean sector of a place in use, no lower place has a clean
 -- sector, and none is offered exactly where no place has one.
 pub record OffersSpots (places : List (ℕ × ℕ)) : Type 0 where
-  pub some : (p s : ℕ) → first_spot None places ≡ Some (p, s) → Contains places (p, s) × (s < 256)
+  pub some : (p s : ℕ) → first_spot None places ≡ Some (p, s)
+      → Contains places (p, s) × (s < SECTORS)
   pub lowest : (p s : ℕ) → first_spot None places ≡ Some (p, s)
-      → (q first : ℕ) → Contains places (q, first) → first < 256 → p ≤ q
+      → (q first : ℕ) → Contains places (q, first) → first < SECTORS → p ≤ q
   pub none : first_spot None places ≡ None
-      → (p first : ℕ) → Contains places (p, first) → 256 ≤ first
+      → (p first : ℕ) → Contains places (p, first) → SECTORS ≤ first
 
 abbrev pub SpotsAreCleanOnes : Type 0
 SpotsAreCleanOnes = (places : List (ℕ × ℕ)) → OffersSpots places
@@ -53,4 +55,5 @@ DropsMove = (it : OverflowLists) (u : ℕ) → OverflowMoves it (after_drop it u
 
 -- an empty table is that of a formatted chip
 abbrev pub EmptyListsAreFirst : Type 0
-EmptyListsAreFirst = (places : ℕ) → empty_lists (places - 4) ≡ (first_tables places).overflow
+EmptyListsAreFirst = (places : ℕ)
+    → empty_lists (places - RESERVED_PLACES) ≡ (first_tables places).overflow

@@ -1,6 +1,7 @@
 -- What the calls on overflow places make of the table, and what always holds of it.
 use Rattle.std.specs.Prelude.{ℕ, ◌<◌, ◌≤◌, ◌+◌, ◌==◌, Bool, not, max, nat_le, List, [], ◌∷◌, ◌++◌, map, length, slice_index_or, slice_set, replicate, Option, Some, None, All, if◌then◌else◌}
 use Rattle.std.specs.List.{list_any, filter}
+use Rattle.ipl_base.specs.declared.limits.TheConstants.{SECTORS, RESERVED_PLACES, OVERFLOW_PLACES, OVERFLOW_SECTORS}
 use Rattle.ipl_base.specs.declared.spot.Spot.{Spot}
 use Rattle.overflow.specs.declared.places.PlaceInUse.{PlaceInUse}
 use Rattle.ipl_meaning.specs.Tables.{OverflowLists, place_of}
@@ -84,9 +85,9 @@ listed (Some p ∷ rest) = p ∷ listed rest
 
 -- the lower of two spots, by their places, where the second is clean
 abbrev pub lower_spot : Option (ℕ × ℕ) → ℕ × ℕ → Option (ℕ × ℕ)
-lower_spot None place = if nat_le 256 place.1 then None else Some place
+lower_spot None place = if nat_le SECTORS place.1 then None else Some place
 lower_spot (Some best) place =
-    if nat_le 256 place.1 then Some best
+    if nat_le SECTORS place.1 then Some best
     else if nat_le best.0 place.0 then Some best
     else Some place
 
@@ -100,15 +101,15 @@ first_spot best (place ∷ places) = first_spot (lower_spot best place) places
 
 -- a place's first clean sector is one of 1 to 255, or 256 where it has none
 abbrev pub IsFirst : ℕ × ℕ → Type 0
-IsFirst place = (1 ≤ place.1) × (place.1 ≤ 256)
+IsFirst place = (1 ≤ place.1) × (place.1 ≤ SECTORS)
 
 -- a unit has so few spots
 abbrev pub AreFew : List (ℕ × ℕ) → Type 0
-AreFew spots = length spots ≤ 16
+AreFew spots = length spots ≤ OVERFLOW_SECTORS
 
 -- a sector of a chip with so many places
 abbrev pub IsWithin : ℕ → ℕ × ℕ → Type 0
-IsWithin places spot = (spot.0 < places) × (spot.1 < 256)
+IsWithin places spot = (spot.0 < places) × (spot.1 < SECTORS)
 
 abbrev pub AreWithin : ℕ → List (ℕ × ℕ) → Type 0
 AreWithin places spots = All (IsWithin places) spots
@@ -122,7 +123,7 @@ IsPlaceOf places it = it.0 < places
 pub record IsSoundOverflow (it : OverflowLists) : Type 0 where
   pub units : length it.spots ≤ 1024
   pub few : All AreFew it.spots
-  pub two : length it.in_use ≤ 2
+  pub two : length it.in_use ≤ OVERFLOW_PLACES
   pub firsts : All IsFirst it.in_use
-  pub within : All (AreWithin (length it.spots + 4)) it.spots
-  pub placed : All (IsPlaceOf (length it.spots + 4)) it.in_use
+  pub within : All (AreWithin (length it.spots + RESERVED_PLACES)) it.spots
+  pub placed : All (IsPlaceOf (length it.spots + RESERVED_PLACES)) it.in_use

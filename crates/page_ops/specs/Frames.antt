@@ -1,6 +1,7 @@
 -- What a frame holds of a page: the committed values, and apart from them the pending changes.
 use Rattle.std.specs.Prelude.{ℕ, ◌≡◌, ◌<◌, List, Option, None, slice_index_or, slice_set, replicate}
 use Rattle.std.specs.Option.{option_map}
+use Rattle.ipl_base.specs.declared.limits.TheConstants.{SLOTS}
 use Rattle.ipl_format.specs.Page.{Slots, empty_page, value_in}
 use Rattle.ipl_format.specs.Record.{Record}
 use Rattle.ipl_meaning.specs.Values.{Values}
@@ -31,7 +32,7 @@ pending_in f slot = kept_pending (slice_index_or f.pending slot None)
 
 -- an empty page, of which nothing is pending
 abbrev pub empty_frame : FrameView
-empty_frame = record { page = empty_page; pending = replicate 64 None }
+empty_frame = record { page = empty_page; pending = replicate SLOTS None }
 
 -- the frame with this page as the committed one
 abbrev pub with_page : FrameView → Slots → FrameView
@@ -39,13 +40,13 @@ with_page f page = record f { page = page }
 
 -- the pending changes of this number became values, and all else is as it was
 pub record IsSettled (tid : ℕ) (old new : FrameView) : Type 0 where
-  pub values : (slot : ℕ) → slot < 64
+  pub values : (slot : ℕ) → slot < SLOTS
       → values_in new slot ≡ seen_by tid (values_in old slot) (pending_in old slot)
-  pub pending : (slot : ℕ) → slot < 64
+  pub pending : (slot : ℕ) → slot < SLOTS
       → pending_in new slot ≡ without_pending tid (pending_in old slot)
 
 -- the pending changes of this number were dropped, and all else is as it was
 pub record IsDropped (tid : ℕ) (old new : FrameView) : Type 0 where
   pub page : new.page ≡ old.page
-  pub pending : (slot : ℕ) → slot < 64
+  pub pending : (slot : ℕ) → slot < SLOTS
       → pending_in new slot ≡ without_pending tid (pending_in old slot)

@@ -1,5 +1,6 @@
 -- A page that is loaded from the chip into a frame.
 use Rattle.std.specs.Prelude.{ℕ, ◌≡◌, ◌⊎◌, ◌<◌, Bool, List, Option, None, slice_index}
+use Rattle.ipl_base.specs.declared.limits.TheConstants.{SLOTS, PAGE_SECTORS}
 use Rattle.chip_trait.specs.Story.{Contents}
 use Rattle.chip_trait.specs.Told.{Told}
 use Rattle.ipl_base.specs.declared.fault.ChipFault.{ChipFault}
@@ -26,12 +27,12 @@ use Rattle.page_rebuild.specs.Taken.{pending_of}
 pub record IsLoaded (c : Chart) (it : Layout) (active : ℕ → Bool) (u page : ℕ) (f : FrameView)
     : Type 0 where
   pub shows : Shows c it.committed u (it.units u) page (values_in f)
-  pub pending : (slot : ℕ) → slot < 64 → pending_in f slot
+  pub pending : (slot : ℕ) → slot < SLOTS → pending_in f slot
       ≡ pending_of (last_that (counts_for active page slot) (records_of (it.units u).log) None)
 
 -- the frame has the values of the map's page
 abbrev pub HasPageOf : Map → ℕ → ℕ → FrameView → Type 0
-HasPageOf m u page f = (slot : ℕ) → slot < 64 → values_in f slot ≡ page_in m u page slot
+HasPageOf m u page f = (slot : ℕ) → slot < SLOTS → values_in f slot ≡ page_in m u page slot
 
 -- ---- tables
 
@@ -59,7 +60,7 @@ IsBaseRead home page pieces p s = (p ≡ home) × IsPieceSpot page pieces s
 
 -- where a page may be read: where its unit's log may, and its base sectors
 abbrev pub IsLoadRead : ℕ → List (ℕ × ℕ) → ℕ → ℕ → ℕ → Type 0
-IsLoadRead home spots page p s = IsLogRead home spots p s ⊎ IsBaseRead home page 16 p s
+IsLoadRead home spots page p s = IsLogRead home spots p s ⊎ IsBaseRead home page PAGE_SECTORS p s
 
 -- why a page isn't loaded, whatever the chip tells: its unit's log isn't read, or its base page
 abbrev pub IsLoadCause : ℕ → List (ℕ × ℕ) → ℕ → ChipFault → Told → Told → Type 0

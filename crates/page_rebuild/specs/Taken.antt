@@ -1,6 +1,7 @@
 -- What the records of a page make of its frame.
 use Rattle.std.specs.Prelude.{ℕ, ◌≡◌, ◌<◌, Bool, List, Option, None}
 use Rattle.std.specs.Option.{option_map, option_or}
+use Rattle.ipl_base.specs.declared.limits.TheConstants.{SLOTS}
 use Rattle.ipl_format.specs.Record.{Record}
 use Rattle.ipl_meaning.specs.Values.{counts_for, after_records}
 use Rattle.ipl_meaning.specs.Last.{last_that}
@@ -21,7 +22,7 @@ pending_after active page slot records before =
 -- values, those of active numbers are pending.
 pub record AreTaken (committed active : ℕ → Bool) (page : ℕ) (records : List Record)
     (old new : FrameView) : Type 0 where
-  pub values : (slot : ℕ) → slot < 64
+  pub values : (slot : ℕ) → slot < SLOTS
       → values_in new slot ≡ after_records committed page slot records (values_in old slot)
-  pub pending : (slot : ℕ) → slot < 64
+  pub pending : (slot : ℕ) → slot < SLOTS
       → pending_in new slot ≡ pending_after active page slot records (pending_in old slot)

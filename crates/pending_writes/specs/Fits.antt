@@ -1,5 +1,6 @@
 -- When a store's memory and a chip together stand for a state.
 use Rattle.std.specs.Prelude.{ℕ, ◌≡◌, ◌+◌, ◌-◌, ◌==◌, not, Bool, [], ◌∷◌, ◌++◌, length, filter}
+use Rattle.ipl_base.specs.declared.limits.TheConstants.{RESERVED_PLACES, SESSIONS}
 use Rattle.chip_trait.specs.Story.{Contents, blank}
 use Rattle.chip_trait.specs.Told.{History}
 use Rattle.ipl_rules.specs.State.{State}
@@ -23,7 +24,7 @@ use Rattle.pending_writes.specs.Frames.{Frames, logs_of, AreFramesOf}
 -- what `Sessions` keeps: there are 32 slots, no name is written by two sessions, and at most 48 names of each unit are
 -- written
 pub record LocksHold (slots : Slots) : Type 0 where
-  pub all : length slots ≡ 32
+  pub all : length slots ≡ SESSIONS
   pub one_writer : OneWriter slots
   pub few : FewPending slots
 
@@ -59,9 +60,9 @@ pub record Fits (places : ℕ) (c : Chart) (it : Layout) (t : Tables) (frames : 
     (state : State) : Type 0 where
   pub mirrors : Mirrors places c it t
   pub none_lost : NoneIsLost places t
-  pub pending : HasPending (places - 4) it (logs_of frames) (number_of slots) state
+  pub pending : HasPending (places - RESERVED_PLACES) it (logs_of frames) (number_of slots) state
   pub active : AreActive (number_of slots) (is_active t)
-  pub framed : AreFramesOf (places - 4) c it (is_active t) frames
+  pub framed : AreFramesOf (places - RESERVED_PLACES) c it (is_active t) frames
   pub sessions : AreSessionsOf slots state
 
 -- and the chip's story rests on the map, with what is counted as clean being clean

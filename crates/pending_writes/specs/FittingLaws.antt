@@ -1,6 +1,7 @@
 -- What a store gives whose memory and chip stand for a state, and that there is one.
 use Rattle.std.specs.Prelude.{ℕ, ◌≡◌, ◌<◌, ◌≤◌, ◌-◌, replicate, Some, None}
 use Rattle.std.specs.FinMap.{empty}
+use Rattle.ipl_base.specs.declared.limits.TheConstants.{LEAST_PLACES, MOST_PLACES, RESERVED_PLACES, SLOTS, CARRIED_SECTORS, SESSIONS}
 use Rattle.chip_trait.specs.Story.{Contents}
 use Rattle.chip_trait.specs.Told.{History}
 use Rattle.ipl_rules.specs.State.{Map, State, at_rest}
@@ -36,7 +37,7 @@ SessionsAreSound = (slots : Slots) (state : State) → AreSessionsOf slots state
 abbrev pub MergesAreSmall : Type 0
 MergesAreSmall =
     (places : ℕ) (c : Chart) (it : Layout) (t : Tables) (frames : Frames) (slots : Slots) (state : State) (u : ℕ)
-    → Fits places c it t frames slots state → u < places - 4 → carried_count (is_active t) (it.units u).log ≤ 12
+    → Fits places c it t frames slots state → u < places - RESERVED_PLACES → carried_count (is_active t) (it.units u).log ≤ CARRIED_SECTORS
 
 -- where the story rests on a map the pages say it
 abbrev pub RestingPagesSay : Type 0
@@ -54,7 +55,7 @@ abbrev pub FittingFramesTell : Type 0
 FittingFramesTell =
     (places : ℕ) (h : History) (it : Layout) (t : Tables) (frames : Frames) (slots : Slots) (state : State)
     (u page slot : ℕ) (f : Frame)
-    → FitsStory places h it t frames slots state → frames u page ≡ Some f → slot < 64
+    → FitsStory places h it t frames slots state → frames u page ≡ Some f → slot < SLOTS
     → TellsSlot (number_of slots) state u page slot f.values f.pending
 
 -- so it does where the chip tells its contents and no story
@@ -62,17 +63,17 @@ abbrev pub FittingContentsTell : Type 0
 FittingContentsTell =
     (places : ℕ) (x : Contents) (it : Layout) (t : Tables) (frames : Frames) (slots : Slots) (state : State)
     (u page slot : ℕ) (f : Frame)
-    → FitsContents places x it t frames slots state → frames u page ≡ Some f → slot < 64
+    → FitsContents places x it t frames slots state → frames u page ≡ Some f → slot < SLOTS
     → TellsSlot (number_of slots) state u page slot f.values f.pending
 
 -- ---- that there is one
 
 -- with no session open the sessions are those of a state at rest
 abbrev pub EmptySlotsAreAtRest : Type 0
-EmptySlotsAreAtRest = (m : Map) → AreSessionsOf (replicate 32 None) (at_rest m)
+EmptySlotsAreAtRest = (m : Map) → AreSessionsOf (replicate SESSIONS None) (at_rest m)
 
 -- a chip that was just formatted, with its first tables
 abbrev pub FirstStoresFit : Type 0
-FirstStoresFit = (places : ℕ) → 5 ≤ places → places ≤ 1028
-    → Fits places (formatted places) (first_layout places) (first_tables places) (λ u page. None) (replicate 32 None)
+FirstStoresFit = (places : ℕ) → LEAST_PLACES ≤ places → places ≤ MOST_PLACES
+    → Fits places (formatted places) (first_layout places) (first_tables places) (λ u page. None) (replicate SESSIONS None)
     (at_rest empty)

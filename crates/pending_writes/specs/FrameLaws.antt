@@ -1,6 +1,7 @@
 -- What each step makes of the frame of a page.
 use Rattle.std.specs.Prelude.{ℕ, ◌≡◌, ◌<◌, ◌-◌, ◌∷◌, ◌++◌, Bool, List, [], Some, None}
 use Rattle.std.specs.FinMap.{get}
+use Rattle.ipl_base.specs.declared.limits.TheConstants.{RESERVED_PLACES, PAGES, SLOTS}
 use Rattle.ipl_rules.specs.State.{State, see}
 use Rattle.ipl_format.specs.Record.{Record}
 use Rattle.ipl_format.specs.Page.{Slots, value_in}
@@ -28,7 +29,7 @@ FramesTell =
     (units : ℕ) (c : Chart) (it : Layout) (logs : Logs) (numbers : Numbers) (state : State) (active : ℕ → Bool)
     (u page slot : ℕ) (values : Values) (pending : Pendings)
     → HasPending units it logs numbers state → StateHasOneWriter state → AreActive numbers active
-    → Shows c it.committed u (it.units u) page (page_in state.map u page) → u < units → page < 15 → slot < 64
+    → Shows c it.committed u (it.units u) page (page_in state.map u page) → u < units → page < PAGES → slot < SLOTS
     → IsFrameOf c it logs active u page values pending
     → TellsSlot numbers state u page slot values pending
 
@@ -40,9 +41,9 @@ LoadsMakeFrames =
     (c : Chart) (it : Layout) (logs : Logs) (active : ℕ → Bool) (u page : ℕ) (base : Slots) (values : Values)
     (pending : Pendings)
     → ReadsWell c u (it.units u) page base → logs u page ≡ []
-    → ((slot : ℕ) → slot < 64
+    → ((slot : ℕ) → slot < SLOTS
     → values slot ≡ after_records it.committed page slot (records_of (it.units u).log) (value_in base slot))
-    → ((slot : ℕ) → slot < 64
+    → ((slot : ℕ) → slot < SLOTS
     → pending slot ≡ pending_of (last_that (counts_for active page slot) (records_of (it.units u).log) None))
     → IsFrameOf c it logs active u page values pending
 
@@ -77,8 +78,8 @@ abbrev pub LogSectorsKeepFrames : Type 0
 LogSectorsKeepFrames =
     (places : ℕ) (c y : Chart) (it : Layout) (logs : Logs) (numbers : Numbers) (state : State) (active : ℕ → Bool)
     (u page v q : ℕ) (e : Entry) (values : Values) (pending : Pendings)
-    → HasPending (places - 4) it logs numbers state → e.records ≡ logs u page
-    → KeepsPages places c it y (with_log it u e) → v < places - 4 → q < 15
+    → HasPending (places - RESERVED_PLACES) it logs numbers state → e.records ≡ logs u page
+    → KeepsPages places c it y (with_log it u e) → v < places - RESERVED_PLACES → q < PAGES
     → IsFrameOf c it logs active v q values pending
     → IsFrameOf y (with_log it u e) (with_records logs u page []) active v q values pending
 
@@ -88,7 +89,7 @@ MergesKeepFrames =
     (places : ℕ) (c y : Chart) (it : Layout) (logs : Logs) (active : ℕ → Bool) (u v q : ℕ) (fresh : Shape)
     (values : Values) (pending : Pendings)
     → records_of fresh.log ≡ carried active (records_of (it.units u).log)
-    → KeepsPages places c it y (with_unit it u fresh) → v < places - 4 → q < 15
+    → KeepsPages places c it y (with_unit it u fresh) → v < places - RESERVED_PLACES → q < PAGES
     → IsFrameOf c it logs active v q values pending → IsFrameOf y (with_unit it u fresh) logs active v q values pending
 
 -- the status moves, perhaps after merges, or what doesn't count changes
@@ -96,7 +97,7 @@ abbrev pub OtherStepsKeepFrames : Type 0
 OtherStepsKeepFrames =
     (places : ℕ) (c y : Chart) (it new : Layout) (logs : Logs) (active : ℕ → Bool) (v q : ℕ) (values : Values)
     (pending : Pendings)
-    → IsSameOrMerged active (it.units v) (new.units v) → KeepsPages places c it y new → v < places - 4 → q < 15
+    → IsSameOrMerged active (it.units v) (new.units v) → KeepsPages places c it y new → v < places - RESERVED_PLACES → q < PAGES
     → IsFrameOf c it logs active v q values pending → IsFrameOf y new logs active v q values pending
 
 -- a session is committed, all its records being on the chip: its changes become values
@@ -104,10 +105,10 @@ abbrev pub CommitsKeepFrames : Type 0
 CommitsKeepFrames =
     (places : ℕ) (c y : Chart) (it : Layout) (logs : Logs) (numbers : Numbers) (state : State)
     (active rest after : ℕ → Bool) (s tid u page : ℕ) (values : Values) (pending : Pendings)
-    → HasPending (places - 4) it logs numbers state → StateHasOneWriter state → AreActive numbers active
+    → HasPending (places - RESERVED_PLACES) it logs numbers state → StateHasOneWriter state → AreActive numbers active
     → AreActive (with_number numbers s None) rest → numbers s ≡ Some tid → IsWrittenOut logs tid
     → NumberJoins it.committed tid after → KeepsPages places c (with_committed it after) y (with_committed it after)
-    → u < places - 4 → page < 15 → IsFrameOf c it logs active u page values pending
+    → u < places - RESERVED_PLACES → page < PAGES → IsFrameOf c it logs active u page values pending
     → IsFrameOf y (with_committed it after) logs rest u page
     (λ slot. seen_by tid (values slot) (pending slot)) (λ slot. without_pending tid (pending slot))
 
@@ -117,6 +118,6 @@ AbortsKeepFrames =
     (units : ℕ) (c : Chart) (it : Layout) (logs : Logs) (numbers : Numbers) (state : State) (active rest : ℕ → Bool)
     (s tid u page : ℕ) (values : Values) (pending : Pendings)
     → HasPending units it logs numbers state → StateHasOneWriter state → AreActive numbers active
-    → AreActive (with_number numbers s None) rest → numbers s ≡ Some tid → u < units → page < 15
+    → AreActive (with_number numbers s None) rest → numbers s ≡ Some tid → u < units → page < PAGES
     → IsFrameOf c it logs active u page values pending
     → IsFrameOf c it (without_number logs tid) rest u page values (λ slot. without_pending tid (pending slot))

@@ -1,6 +1,7 @@
 -- What the frame of a page has: its committed values, apart from them the pending changes, and its log in memory.
 use Rattle.std.specs.Prelude.{ℕ, ◌≡◌, ◌<◌, ◌++◌, ◌∷◌, ◌==◌, ◌&&◌, filter, List, [], Option, Some, None, if◌then◌else◌, Bool}
 use Rattle.std.specs.Option.{option_map, option_map_or}
+use Rattle.ipl_base.specs.declared.limits.TheConstants.{PAGES, SLOTS}
 use Rattle.ipl_format.specs.Record.{Record}
 use Rattle.ipl_meaning.specs.Chart.{Chart}
 use Rattle.ipl_meaning.specs.Values.{Values, counts_for}
@@ -43,12 +44,12 @@ with_frame_log f log = record { values = f.values; pending = f.pending; log = lo
 pub record IsFrameOf (c : Chart) (it : Layout) (logs : Logs) (active : ℕ → Bool) (u page : ℕ) (values : Values)
     (pending : Pendings) : Type 0 where
   pub shows : Shows c it.committed u (it.units u) page values
-  pub changes : (slot : ℕ) → slot < 64
+  pub changes : (slot : ℕ) → slot < SLOTS
       → pending slot ≡ pending_of (last_that (counts_for active page slot) (records_at it logs u page) None)
 
 -- each frame is of its page, which is one of the chip's
 pub record AreFramesOf (units : ℕ) (c : Chart) (it : Layout) (active : ℕ → Bool) (frames : Frames) : Type 0 where
-  pub within : (u page : ℕ) (f : Frame) → frames u page ≡ Some f → (u < units) × (page < 15)
+  pub within : (u page : ℕ) (f : Frame) → frames u page ≡ Some f → (u < units) × (page < PAGES)
   pub each : (u page : ℕ) (f : Frame) → frames u page ≡ Some f
       → IsFrameOf c it (logs_of frames) active u page f.values f.pending
 
@@ -56,20 +57,21 @@ pub record AreFramesOf (units : ℕ) (c : Chart) (it : Layout) (active : ℕ →
 
 -- a write came to it
 pub record IsWrittenFrame (r : Record) (a b : Frame) : Type 0 where
-  pub values : (slot : ℕ) → slot < 64 → b.values slot ≡ a.values slot
-  pub pending : (slot : ℕ) → slot < 64 → b.pending slot ≡ with_pending a.pending r.slot (r.tid, r.change) slot
+  pub values : (slot : ℕ) → slot < SLOTS → b.values slot ≡ a.values slot
+  pub pending : (slot : ℕ) → slot < SLOTS → b.pending slot ≡ with_pending a.pending r.slot (r.tid, r.change) slot
   pub log : b.log ≡ a.log ++ r ∷ []
 
 -- a session's changes became values
 pub record IsCommittedFrame (tid : ℕ) (a b : Frame) : Type 0 where
-  pub values : (slot : ℕ) → slot < 64 → b.values slot ≡ seen_by tid (a.values slot) (a.pending slot)
-  pub pending : (slot : ℕ) → slot < 64 → b.pending slot ≡ without_pending tid (a.pending slot)
+  pub values : (slot : ℕ) → slot < SLOTS
+      → b.values slot ≡ seen_by tid (a.values slot) (a.pending slot)
+  pub pending : (slot : ℕ) → slot < SLOTS → b.pending slot ≡ without_pending tid (a.pending slot)
   pub log : b.log ≡ a.log
 
 -- or were dropped
 pub record IsAbortedFrame (tid : ℕ) (a b : Frame) : Type 0 where
-  pub values : (slot : ℕ) → slot < 64 → b.values slot ≡ a.values slot
-  pub pending : (slot : ℕ) → slot < 64 → b.pending slot ≡ without_pending tid (a.pending slot)
+  pub values : (slot : ℕ) → slot < SLOTS → b.values slot ≡ a.values slot
+  pub pending : (slot : ℕ) → slot < SLOTS → b.pending slot ≡ without_pending tid (a.pending slot)
   pub log : b.log ≡ filter (is_other tid) a.log
 
 -- a page has a frame before and after, which changes so, or has none

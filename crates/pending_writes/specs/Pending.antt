@@ -1,6 +1,7 @@
 -- What open sessions wrote and haven't committed: log records on the chip, and behind them those in memory.
 use Rattle.std.specs.Prelude.{ℕ, ◌≡◌, ◌≢◌, ◌<◌, ◌≤◌, ◌+◌, ◌*◌, ◌==◌, ◌&&◌, not, Bool, false, List, ◌++◌, filter, Option, Some, None, is_some, All, if◌then◌else◌}
 use Rattle.std.specs.Option.{option_map}
+use Rattle.ipl_base.specs.declared.limits.TheConstants.{PAGES, SLOTS, UNIT_NAMES}
 use Rattle.ipl_rules.specs.State.{State, is_open, writes_of, last_write}
 use Rattle.ipl_format.specs.Record.{Record, Change, IsRecord}
 use Rattle.ipl_meaning.specs.Values.{counts_for}
@@ -37,7 +38,7 @@ with_number numbers s o t = if t == s then o else numbers t
 
 -- the name of a slot
 abbrev pub name_at : ℕ → ℕ → ℕ → ℕ
-name_at u page slot = 960 * u + 64 * page + slot
+name_at u page slot = UNIT_NAMES * u + SLOTS * page + slot
 
 -- the session wrote the name
 abbrev pub wrote : State → ℕ → ℕ → Bool
@@ -75,9 +76,10 @@ pub record HasPending (units : ℕ) (it : Layout) (logs : Logs) (numbers : Numbe
   pub opens : (s : ℕ) → is_some (numbers s) ≡ is_open state s
   pub apart : (s t tid : ℕ) → numbers s ≡ Some tid → numbers t ≡ Some tid → s ≡ t
   pub waits : (s tid : ℕ) → numbers s ≡ Some tid → it.committed tid ≡ false
-  pub last : (s tid u page slot : ℕ) → numbers s ≡ Some tid → u < units → page < 15 → slot < 64
+  pub last : (s tid u page slot : ℕ) → numbers s ≡ Some tid → u < units → page < PAGES
+      → slot < SLOTS
       → last_change tid (records_at it logs u page) page slot ≡ last_write (writes_of state s) (name_at u page slot)
-  pub nowhere_else : (s n : ℕ) → 960 * units ≤ n → last_write (writes_of state s) n ≡ None
+  pub nowhere_else : (s n : ℕ) → UNIT_NAMES * units ≤ n → last_write (writes_of state s) n ≡ None
   pub none_behind : (s tid u : ℕ) → numbers s ≡ Some tid → u < units
       → NoneIsBehind it.committed tid (records_of (it.units u).log)
   pub valid : (u : ℕ) → u < units → All IsRecord (records_of (it.units u).log)

@@ -1,5 +1,6 @@
 -- What each step makes of the records of open sessions.
 use Rattle.std.specs.Prelude.{ℕ, ◌≡◌, ◌≢◌, ◌↔◌, ◌⊎◌, ◌<◌, ◌≤◌, ◌-◌, ◌∷◌, ◌++◌, Bool, true, false, IsTrue, List, [], length, Some, None, All, Contains, if◌then◌else◌}
+use Rattle.ipl_base.specs.declared.limits.TheConstants.{RESERVED_PLACES, PAGES, SLOTS, PENDING_NAMES}
 use Rattle.ipl_rules.specs.State.{State, pending}
 use Rattle.ipl_rules.specs.Operations.{after_begin, after_share, after_write, after_commit, after_abort, after_restart}
 use Rattle.ipl_format.specs.Record.{Record, IsRecord}
@@ -18,7 +19,7 @@ StateHasOneWriter state = (s t n : ℕ) → wrote state s n ≡ true → wrote s
 
 -- at most 48 names of each unit are written
 abbrev pub StateHasFewPending : State → Type 0
-StateHasFewPending state = (u : ℕ) → pending state u ≤ 48
+StateHasFewPending state = (u : ℕ) → pending state u ≤ PENDING_NAMES
 
 -- the test passes exactly the numbers of open sessions
 abbrev pub AreActive : Numbers → (ℕ → Bool) → Type 0
@@ -123,7 +124,8 @@ abbrev pub CommitsSayWrites : Type 0
 CommitsSayWrites =
     (places : ℕ) (c : Chart) (it : Layout) (logs : Logs) (numbers : Numbers) (state : State) (s tid : ℕ)
     (after : ℕ → Bool)
-    → HasPending (places - 4) it logs numbers state → numbers s ≡ Some tid → IsWrittenOut logs tid
+    → HasPending (places - RESERVED_PLACES) it logs numbers state → numbers s ≡ Some tid
+    → IsWrittenOut logs tid
     → NumberJoins it.committed tid after → Says places c it state.map
     → Says places c (with_committed it after) (after_commit state s).map
 
@@ -154,7 +156,7 @@ abbrev pub ChangedPagesSuffice : Type 0
 ChangedPagesSuffice =
     (units : ℕ) (it : Layout) (logs : Logs) (numbers : Numbers) (state : State) (s tid : ℕ)
     → HasPending units it logs numbers state → numbers s ≡ Some tid
-    → ((u page slot : ℕ) → u < units → wrote state s (name_at u page slot) ≡ true → page < 15 → slot < 64
+    → ((u page slot : ℕ) → u < units → wrote state s (name_at u page slot) ≡ true → page < PAGES → slot < SLOTS
     → logs u page ≡ [])
     → ((u page : ℕ) → units ≤ u → logs u page ≡ [])
     → IsWrittenOut logs tid
@@ -164,6 +166,6 @@ abbrev pub FewArePending : Type 0
 FewArePending =
     (units : ℕ) (it : Layout) (logs : Logs) (numbers : Numbers) (state : State) (active : ℕ → Bool) (u : ℕ)
     → HasPending units it logs numbers state → StateHasFewPending state → AreActive numbers active → u < units
-    → (names : List ℕ) × (length names ≤ 48)
+    → (names : List ℕ) × (length names ≤ PENDING_NAMES)
     × ((page : ℕ) (r : Record) → Contains (records_at it logs u page) r → IsTrue (active r.tid)
     → Contains names (name_in_unit r))

@@ -1,5 +1,6 @@
 -- What each step of a store keeps: the memory and the chip stand for the state after it.
 use Rattle.std.specs.Prelude.{ℕ, ◌≡◌, ◌<◌, ◌≤◌, ◌-◌, Bool, false, [], length, Some, None, All}
+use Rattle.ipl_base.specs.declared.limits.TheConstants.{RESERVED_PLACES, PAGES}
 use Rattle.chip_trait.specs.Told.{History}
 use Rattle.ipl_rules.specs.State.{Map, State, at_rest}
 use Rattle.ipl_rules.specs.Operations as rules
@@ -40,7 +41,7 @@ abbrev pub WritesFit : Type 0
 WritesFit =
     (places : ℕ) (c : Chart) (it : Layout) (t : Tables) (frames : Frames) (slots : Slots) (state : State) (s u : ℕ)
     (r : Record) (f g : Frame)
-    → Fits places c it t frames slots state → s < length slots → number_of slots s ≡ Some r.tid → u < places - 4
+    → Fits places c it t frames slots state → s < length slots → number_of slots s ≡ Some r.tid → u < places - RESERVED_PLACES
     → IsRecord r → frames u r.page ≡ Some f → IsWrittenFrame r f g
     → LocksHold (after_write slots s (name_at u r.page r.slot))
     → Fits places c it t (with_frame_at frames u r.page (Some g)) (after_write slots s (name_at u r.page r.slot))
@@ -75,7 +76,7 @@ abbrev pub LoadsFit : Type 0
 LoadsFit =
     (places : ℕ) (c : Chart) (it : Layout) (t : Tables) (frames : Frames) (slots : Slots) (state : State) (u page : ℕ)
     (f : Frame)
-    → Fits places c it t frames slots state → u < places - 4 → page < 15 → frames u page ≡ None → f.log ≡ []
+    → Fits places c it t frames slots state → u < places - RESERVED_PLACES → page < PAGES → frames u page ≡ None → f.log ≡ []
     → IsFrameOf c it (logs_of frames) (is_active t) u page f.values f.pending
     → Fits places c it t (with_frame_at frames u page (Some f)) slots state
 
@@ -122,7 +123,7 @@ abbrev pub OtherStepsFit : Type 0
 OtherStepsFit =
     (places : ℕ) (c y : Chart) (it new : Layout) (t after : Tables) (frames : Frames) (slots : Slots) (state : State)
     → Fits places c it t frames slots state
-    → ((u : ℕ) → u < places - 4 → (new.units u).log ≡ (it.units u).log) → KeepsNumbers places it new.committed
+    → ((u : ℕ) → u < places - RESERVED_PLACES → (new.units u).log ≡ (it.units u).log) → KeepsNumbers places it new.committed
     → Mirrors places y new after → NoneIsLost places after → after.active ≡ t.active → KeepsPages places c it y new
     → Fits places y new after frames slots state
 
@@ -132,8 +133,9 @@ abbrev pub RenewalsFit : Type 0
 RenewalsFit =
     (places : ℕ) (h k : History) (it new : Layout) (t after : Tables) (frames : Frames) (slots : Slots) (state : State)
     → FitsStory places h it t frames slots state
-    → ((u : ℕ) → u < places - 4 → IsSameOrMerged (is_active t) (it.units u) (new.units u))
-    → ((u : ℕ) → u < places - 4
+    → ((u : ℕ) → u < places - RESERVED_PLACES
+    → IsSameOrMerged (is_active t) (it.units u) (new.units u))
+    → ((u : ℕ) → u < places - RESERVED_PLACES
     → All (λ r. new.committed r.tid ≡ it.committed r.tid) (records_of (new.units u).log))
     → StoryRests places state.map k → Agrees places k new after → NoneIsLost places after → after.active ≡ t.active
     → FitsStory places k new after frames slots state

@@ -2,6 +2,7 @@
 use Rattle.std.specs.Prelude.{◌≡◌, ℕ, ◌≤◌, ◌==◌, ◌/◌, Bool, true, [], ◌∷◌, length, Option, if◌then◌else◌}
 use Rattle.std.specs.List.{sum_by, count_by}
 use Rattle.std.specs.Option.{option_map_or}
+use Rattle.ipl_base.specs.declared.limits.TheConstants.{UNIT_NAMES, SESSIONS, PENDING_NAMES}
 use Rattle.ipl_base.specs.declared.fault.Refusal.{Refusal}
 use Rattle.ipl_rules.specs.State.{holder_for_share, holder_for_write, pending}
 use Rattle.ipl_rules.specs.Refusals.{first_of, already_open, not_open, conflict, writes_full, shares_full, pending_full}
@@ -38,7 +39,7 @@ OneWriter slots = (s t n : ℕ) → is_among n (written_of slots s) ≡ true →
 
 -- at most 48 names of each unit are pending
 abbrev pub FewPending : Slots → Type 0
-FewPending slots = (unit : ℕ) → pending (state_of slots) unit ≤ 48
+FewPending slots = (unit : ℕ) → pending (state_of slots) unit ≤ PENDING_NAMES
 
 -- how many of the names that the session in a slot wrote pass the test
 abbrev pub written_in : (ℕ → Bool) → Option Held → ℕ
@@ -50,6 +51,6 @@ total test slots = sum_by (written_in test) slots
 
 -- there are 32 slots, no name is written twice, and at most 48 names of each unit are written
 pub record AreSoundSlots (slots : Slots) : Type 0 where
-  pub all : length slots ≡ 32
+  pub all : length slots ≡ SESSIONS
   pub once : (n : ℕ) → total (λ k. k == n) slots ≤ 1
-  pub few : (unit : ℕ) → total (λ k. k / 960 == unit) slots ≤ 48
+  pub few : (unit : ℕ) → total (λ k. k / UNIT_NAMES == unit) slots ≤ PENDING_NAMES

@@ -2,6 +2,7 @@
 use Rattle.std.specs.Prelude.{◌≡◌, ℕ, ◌<◌, length, List, [], ◌∷◌, None, Option, replicate}
 use Rattle.std.specs.Option.{option_map}
 use Rattle.std.specs.FinMap.{get}
+use Rattle.ipl_base.specs.declared.limits.TheConstants.{SESSIONS}
 use Rattle.ipl_rules.specs.State.{Session, State, is_open, written_names, holder_for_share, holder_for_write, pending}
 use Rattle.ipl_rules.specs.Refusals.{first_of, already_open, not_open, conflict, writes_full, shares_full, pending_full}
 use Rattle.ipl_rules.specs.Operations as rules
@@ -50,7 +51,7 @@ pub record KeepsNames (slots : Slots) (state : State) (s : ℕ) : Type 0 where
   pub writes : (n : ℕ) (change : Option (List ℕ)) → SameNames (state_of (after_write slots s n)) (rules.after_write state s (n, change))
   pub commits : SameNames (state_of (after_end slots s)) (rules.after_commit state s)
   pub aborts : SameNames (state_of (after_end slots s)) (rules.after_abort state s)
-  pub restarts : SameNames (state_of (replicate 32 None)) (rules.after_restart state)
+  pub restarts : SameNames (state_of (replicate SESSIONS None)) (rules.after_restart state)
 
 -- the change of a call and that of its operation keep the names the same
 abbrev pub CallsKeepNames : Type 0

@@ -1,5 +1,6 @@
 -- A directory as an opening fills it, by the headers that count and the places that hold live log sectors.
 use Rattle.std.specs.Prelude.{ℕ, zero, suc, ◌≡◌, ◌<◌, ◌≤◌, ◌+◌, ◌==◌, ◌||◌, Bool, true, false, List, length, slice_index, slice_index_or, Option}
+use Rattle.ipl_base.specs.declared.limits.TheConstants.{LOG_SECTORS}
 use Rattle.ipl_meaning.specs.Tables.{Places}
 use Rattle.opening_rules.specs.Chosen.{Winner}
 use Rattle.opening_rules.specs.Live.{is_at}
@@ -27,4 +28,4 @@ pub record AreAdopted (current : ℕ → Option Winner) (n units : ℕ) (it : Pl
   pub logs_are : length it.written ≡ units
   pub current_is : (u : ℕ) → u < n → slice_index it.current u ≡ place_of (current u)
   pub later_are : (u : ℕ) → n ≤ u → slice_index it.current u ≡ 0
-  pub written_is : (u : ℕ) → u < units → slice_index it.written u ≡ 15
+  pub written_is : (u : ℕ) → u < units → slice_index it.written u ≡ LOG_SECTORS

@@ -1,5 +1,6 @@
 -- Where a unit is moved from, what is read of it, and why it isn't merged.
 use Rattle.std.specs.Prelude.{ℕ, ◌≡◌, ◌≢◌, ◌⊎◌, Bool, List, Option, Result, MatchResult, if◌then◌else◌}
+use Rattle.ipl_base.specs.declared.limits.TheConstants.{PAGES}
 use Rattle.chip_trait.specs.Told.{Told, Rose}
 use Rattle.ipl_base.specs.declared.fault.ChipFault.{ChipFault}
 use Rattle.ipl_base.specs.declared.fault.ChipFault.TheVariants.{ReadFault, Stopped, Damaged, Malformed}
@@ -54,14 +55,14 @@ abbrev pub MoveCause : ℕ → ChipFault → Told → Told → Type 0
 MoveCause place ReadFault old new = Rose old.read_faults new.read_faults
 MoveCause place Stopped old new = Rose old.write_faults new.write_faults
 MoveCause place (Damaged p s stored computed) old new =
-    (p ≡ place) × IsBaseSpotBelow 15 s × (stored ≢ computed)
-MoveCause place (Malformed p s) old new = (p ≡ place) × IsBaseSpotBelow 15 s
+    (p ≡ place) × IsBaseSpotBelow PAGES s × (stored ≢ computed)
+MoveCause place (Malformed p s) old new = (p ≡ place) × IsBaseSpotBelow PAGES s
 
 -- why it isn't merged: this, or its header or a sector where its log may be read is at fault
 abbrev pub MergeCause : ℕ → List (ℕ × ℕ) → ChipFault → Told → Told → Type 0
 MergeCause place spots ReadFault old new = Rose old.read_faults new.read_faults
 MergeCause place spots Stopped old new = Rose old.write_faults new.write_faults
 MergeCause place spots (Damaged p s stored computed) old new =
-    (p ≡ place) × IsBaseSpotBelow 15 s × (stored ≢ computed)
+    (p ≡ place) × IsBaseSpotBelow PAGES s × (stored ≢ computed)
 MergeCause place spots (Malformed p s) old new =
-    ((p ≡ place) × IsBaseSpotBelow 15 s) ⊎ IsLogRead place spots p s
+    ((p ≡ place) × IsBaseSpotBelow PAGES s) ⊎ IsLogRead place spots p s

@@ -1,5 +1,6 @@
 -- What a merge leaves.
 use Rattle.std.specs.Prelude.{ℕ, ◌≡◌, ◌<◌, ◌≤◌, ◌⊎◌, Result, MatchResult, IfErr}
+use Rattle.ipl_base.specs.declared.limits.TheConstants.{CARRIED_SECTORS}
 use Rattle.chip_trait.specs.Told.{History, Told}
 use Rattle.ipl_base.specs.declared.fault.ChipFault.{ChipFault}
 use Rattle.ipl_base.specs.declared.fault.ChipFault.TheVariants.{Malformed, ReadFault}
@@ -38,9 +39,9 @@ StaysMirrored places t after c y = (it : Layout) → Mirrors places c it t
 -- where so many log sectors are carried, they are at most 12 once it is done; where they are more and
 -- no read failed, sector 0 of this place is malformed, and only then
 abbrev pub CarriesFew : {T : Type 0} → ℕ → ℕ → Result T ChipFault → Type 0
-CarriesFew place n result = MatchResult result (λ done. n ≤ 12) (λ fault.
-    (fault ≡ Malformed place 0 → 12 < n)
-    × (12 < n → (fault ≡ ReadFault) ⊎ (fault ≡ Malformed place 0)))
+CarriesFew place n result = MatchResult result (λ done. n ≤ CARRIED_SECTORS) (λ fault.
+    (fault ≡ Malformed place 0 → CARRIED_SECTORS < n)
+    × (CARRIED_SECTORS < n → (fault ≡ ReadFault) ⊎ (fault ≡ Malformed place 0)))
 
 -- ---- why it fails over what the chip holds
 

@@ -1,5 +1,6 @@
 -- Where a log sector of a unit goes.
 use Rattle.std.specs.Prelude.{ℕ, ◌≡◌, ◌⊎◌, ◌<◌, ◌≤◌, length, slice_index, Contains}
+use Rattle.ipl_base.specs.declared.limits.TheConstants.{SECTORS, LOG_SECTORS, OVERFLOW_PLACES, OVERFLOW_SECTORS}
 use Rattle.ipl_meaning.specs.Tables.{IsFree, Tables, spots_of, first_log}
 use Rattle.ipl_meaning.specs.TableSteps.{taken, with_overflow}
 use Rattle.selective_merge.specs.declared.spots.OverflowChoice.{OverflowChoice}
@@ -9,7 +10,7 @@ use Rattle.selective_merge.specs.declared.spots.OverflowChoice.TheVariants.{Clea
 
 -- a log sector at the unit's home is known clean
 abbrev pub HasHomeSpot : Tables → ℕ → Type 0
-HasHomeSpot t u = slice_index t.places.written u < 15
+HasHomeSpot t u = slice_index t.places.written u < LOG_SECTORS
 
 -- the first clean log sector at the unit's home
 pub record IsHomeSpot (t : Tables) (u p s : ℕ) : Type 0 where
@@ -20,8 +21,8 @@ pub record IsHomeSpot (t : Tables) (u p s : ℕ) : Type 0 where
 -- the first clean sector of an overflow place, for a unit with fewer than 16 log sectors there
 pub record IsOverflowSpot (t : Tables) (u p s : ℕ) : Type 0 where
   pub first : Contains t.overflow.in_use (p, s)
-  pub within : (1 ≤ s) × (s < 256)
-  pub few : length (spots_of t u) < 16
+  pub within : (1 ≤ s) × (s < SECTORS)
+  pub few : length (spots_of t u) < OVERFLOW_SECTORS
 
 -- a log sector of the unit may go there
 abbrev pub IsSpotFor : Tables → ℕ → ℕ → ℕ → Type 0
@@ -31,17 +32,18 @@ IsSpotFor t u p s = IsHomeSpot t u p s ⊎ IsOverflowSpot t u p s
 
 -- a sector of an overflow place is known clean
 abbrev pub HasCleanSpot : Tables → Type 0
-HasCleanSpot t = (p s : ℕ) × Contains t.overflow.in_use (p, s) × (s < 256)
+HasCleanSpot t = (p s : ℕ) × Contains t.overflow.in_use (p, s) × (s < SECTORS)
 
 -- no lower overflow place has a clean sector
 abbrev pub IsLowest : Tables → ℕ → Type 0
-IsLowest t p = (q s : ℕ) → Contains t.overflow.in_use (q, s) → s < 256 → p ≤ q
+IsLowest t p = (q s : ℕ) → Contains t.overflow.in_use (q, s) → s < SECTORS → p ≤ q
 
 -- an overflow sector is to be had for the unit: it has fewer than 16, and one is clean or fewer than
 -- two overflow places are in use
 abbrev pub MayOverflow : Tables → ℕ → Type 0
 MayOverflow t u =
-    (length (spots_of t u) < 16) × (HasCleanSpot t ⊎ (length t.overflow.in_use < 2))
+    (length (spots_of t u) < OVERFLOW_SECTORS)
+    × (HasCleanSpot t ⊎ (length t.overflow.in_use < OVERFLOW_PLACES))
 
 -- the sector of an overflow place that the unit gets: a clean one, where there is one, and else the
 -- first of a new overflow place
@@ -55,7 +57,8 @@ pub record TakesOverflow (t after : Tables) (u p s : ℕ) : Type 0 where
 abbrev pub IsChoice : Tables → ℕ → OverflowChoice → Type 0
 IsChoice t u (Clean spot) = IsOverflowSpot t u spot.place spot.sector × IsLowest t spot.place
 IsChoice t u NewPlace =
-    (length (spots_of t u) < 16) × (¬ HasCleanSpot t) × (length t.overflow.in_use < 2)
+    (length (spots_of t u) < OVERFLOW_SECTORS) × (¬ HasCleanSpot t)
+    × (length t.overflow.in_use < OVERFLOW_PLACES)
 IsChoice t u Nothing = ¬ MayOverflow t u
 
 -- ---- the rules

@@ -1,5 +1,6 @@
 -- What the calls leave that write a unit to a place: page by page, sector by sector, and sealed.
 use Rattle.std.specs.Prelude.{ℕ, ◌≡◌, ◌≢◌, ◌⊎◌, ◌≤◌, ◌+◌, List, [], ◌++◌, length, Bool, true, None, Result}
+use Rattle.ipl_base.specs.declared.limits.TheConstants.{PAGES, PAGE_SECTORS, FIRST_LOG_SECTOR}
 use Rattle.chip_trait.specs.Chart.{with_sector}
 use Rattle.chip_trait.specs.Lawful.{Clean, age, IsLawful}
 use Rattle.chip_trait.specs.Story.{Story, pieces}
@@ -32,7 +33,7 @@ pub record Fills (p n : ℕ) (done : Bool) (added : Story) : Type 0 where
   pub lawful : (base : Story) → IsLawful base → IsLawful (added ++ base)
   pub others : (base : Story) (q s : ℕ) → q ≢ p → age base q s ≡ Clean
       → age (added ++ base) q s ≡ Clean
-  pub fresh : done ≡ true → (base : Story) (s : ℕ) → (s ≡ 0) ⊎ (241 + n ≤ s)
+  pub fresh : done ≡ true → (base : Story) (s : ℕ) → (s ≡ 0) ⊎ (FIRST_LOG_SECTOR + n ≤ s)
       → age (added ++ base) p s ≡ Clean
 
 -- ---- pages
@@ -41,17 +42,17 @@ pub record Fills (p n : ℕ) (done : Bool) (added : Story) : Type 0 where
 abbrev pub MovesOnePage : ℕ → Source → ℕ → ℕ → ℕ → Told → Result ℕ ChipFault → Told → Type 0
 MovesOnePage places from p generation page old result new = (m : Map) (h : History)
     → IsSteady h old → StoryRests places m h → now h p 0 ≡ None
-    → ((s : ℕ) → IsPieceSpot page 16 s → age h.story p s ≡ Clean)
-    → KeepsThroughout places m (Programs p (IsPieceSpot page 16))
+    → ((s : ℕ) → IsPieceSpot page PAGE_SECTORS s → age h.story p s ≡ Clean)
+    → KeepsThroughout places m (Programs p (IsPieceSpot page PAGE_SECTORS))
     (MovesPage from p generation page) (IsAside p) h result old new
 
 -- all pages
 abbrev pub MovesPages : ℕ → Source → ℕ → ℕ → Told → Result (List ℕ) ChipFault → Told → Type 0
 MovesPages places from p generation old result new = (m : Map) (h : History)
     → IsSteady h old → StoryRests places m h → now h p 0 ≡ None
-    → ((s : ℕ) → IsBaseSpotBelow 15 s → age h.story p s ≡ Clean)
-    → KeepsThroughout places m (Programs p (IsBaseSpotBelow 15))
-    (λ pieces. HasMoved from p generation pieces 15) (IsAside p) h result old new
+    → ((s : ℕ) → IsBaseSpotBelow PAGES s → age h.story p s ≡ Clean)
+    → KeepsThroughout places m (Programs p (IsBaseSpotBelow PAGES))
+    (λ pieces. HasMoved from p generation pieces PAGES) (IsAside p) h result old new
 
 -- ---- log sectors
 
@@ -111,7 +112,7 @@ WritesUnit places from p generation serial payloads old result new =
     (m : Map) (it : Layout) (t : Tables) (u : ℕ) (h : History)
     → IsSteady h old → StoryRests places m h
     → IsToMerge places (now h) it t u p generation serial from payloads
-    → KeepsThroughout places m (Rewrites p (241 + length payloads))
+    → KeepsThroughout places m (Rewrites p (FIRST_LOG_SECTOR + length payloads))
     (λ done c y. IsWritten places c y it t u p generation serial) (IsUnsealed p) h result old new
 
 -- whatever layout and tables asked for it

@@ -2,6 +2,7 @@
 use Rattle.std.specs.Prelude.{◌≡◌, ℕ, ◌-◌, ◌<◌, ◌==◌, Bool, true, false, List, [], ◌∷◌, ◌++◌, length, filter, slice_index, slice_index_or, slice_set, Option, None, is_some, if◌then◌else◌}
 use Rattle.std.specs.List.{range_with_len}
 use Rattle.std.specs.Option.{option_map_or, IfSome}
+use Rattle.ipl_base.specs.declared.limits.TheConstants.{SESSIONS}
 use Rattle.ipl_rules.specs.State.{State, Limits}
 use Rattle.ipl_model.specs.Step.{step, refusal_of}
 use Rattle.ipl_model.specs.declared.command.Command.{Command}
@@ -56,7 +57,7 @@ after_accepted t c = record {
 
 -- its session, where it has one, is below 32
 abbrev pub HasSlot : Command → Type 0
-HasSlot c = IfSome (session_of c) (λ s. s < 32)
+HasSlot c = IfSome (session_of c) (λ s. s < SESSIONS)
 
 -- what a table holds
 abbrev pub kept_of : TurnTable → KeptTurns

@@ -1,5 +1,6 @@
 -- What a pass over the units makes of a chip and of its tables.
 use Rattle.std.specs.Prelude.{ℕ, zero, suc, ◌≡◌, ◌≢◌, ◌⊎◌, ◌↔◌, ◌<◌, ◌≤◌, ◌-◌, ◌*◌, nat_le, Bool, false, IsTrue, List, [], length, Some, Result, MatchResult, if◌then◌else◌}
+use Rattle.ipl_base.specs.declared.limits.TheConstants.{RESERVED_PLACES, PAGES, FIRST_LOG_SECTOR, KEPT_NUMBERS}
 use Rattle.chip_trait.specs.Story.{Story, Contents}
 use Rattle.chip_trait.specs.Told.{History, Told, Rose}
 use Rattle.ipl_base.specs.declared.fault.ChipFault.{ChipFault}
@@ -29,7 +30,7 @@ use Rattle.status_renewal.specs.Keeps.{IsLoggedBelow, KeepsBelow}
 
 -- with the committed numbers of this log, those that are kept are at most 3,840
 abbrev pub fits : List ℕ → List Entry → List ℕ → Bool
-fits numbers log kept = nat_le (length (joined numbers (records_of log) kept)) 3840
+fits numbers log kept = nat_le (length (joined numbers (records_of log) kept)) KEPT_NUMBERS
 
 -- what is kept once the first n units were passed: the numbers of each join, unless they don't fit
 unfoldable pub kept_below : List ℕ → Layout → ℕ → List ℕ
@@ -48,13 +49,13 @@ has_room numbers it n = fits numbers (it.units n).log (kept_below numbers it n)
 -- the log is what a merge carries of the old one, packed in order
 pub record IsRepacked (active : List ℕ) (u : ℕ) (old new : Shape) : Type 0 where
   pub serial : ℕ
-  pub log_is : new.log ≡ entries_from new.home u new.head.generation 241 serial
+  pub log_is : new.log ≡ entries_from new.home u new.head.generation FIRST_LOG_SECTOR serial
       (packs_of active (records_of old.log))
 
 -- Of the first n units those whose numbers fit are as they were, and the others were merged; all
 -- units behind them are as they were.
 pub record ArePassed (places n : ℕ) (active numbers : List ℕ) (it now : Layout) : Type 0 where
-  pub same : (u : ℕ) → u < places - 4 → (n ≤ u) ⊎ IsTrue (has_room numbers it u)
+  pub same : (u : ℕ) → u < places - RESERVED_PLACES → (n ≤ u) ⊎ IsTrue (has_room numbers it u)
       → now.units u ≡ it.units u
   pub merged : (u : ℕ) → u < n → has_room numbers it u ≡ false
       → IsRepacked active u (it.units u) (now.units u)
@@ -113,10 +114,10 @@ pub record HasRenewed (places : ℕ) (c : Chart) (it : Layout) (t after : Tables
   pub now : Layout
   pub mirrors : Mirrors places y now after
   pub pages : KeepsPages places c it y now
-  pub passed : ArePassed places (places - 4) t.active t.status.numbers it now
-  pub committed : now.committed ≡ among (kept_below t.status.numbers it (places - 4))
+  pub passed : ArePassed places (places - RESERVED_PLACES) t.active t.status.numbers it now
+  pub committed : now.committed ≡ among (kept_below t.status.numbers it (places - RESERVED_PLACES))
   pub exact : (tid : ℕ) → IsTrue (now.committed tid)
-      ↔ (IsTrue (it.committed tid) × IsLoggedBelow (places - 4) now tid)
+      ↔ (IsTrue (it.committed tid) × IsLoggedBelow (places - RESERVED_PLACES) now tid)
 
 -- whatever layout the tables mirrored, the status was renewed
 abbrev pub RenewsAny : ℕ → Tables → Tables → Chart → Chart → Type 0
@@ -177,5 +178,5 @@ ErasesAtMost n added = Costs n 0 (3 * n) [] added
 abbrev pub RenewCause : ChipFault → Told → Told → Type 0
 RenewCause ReadFault old new = Rose old.read_faults new.read_faults
 RenewCause Stopped old new = Rose old.write_faults new.write_faults
-RenewCause (Damaged p s stored computed) old new = IsBaseSpotBelow 15 s × (stored ≢ computed)
+RenewCause (Damaged p s stored computed) old new = IsBaseSpotBelow PAGES s × (stored ≢ computed)
 RenewCause (Malformed p s) old new = Unit {0}

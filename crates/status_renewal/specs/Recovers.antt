@@ -1,5 +1,6 @@
 -- What an opening leaves that ends with a new status place.
 use Rattle.std.specs.Prelude.{ℕ, ◌≡◌, ◌≢◌, ◌⊎◌, ◌↔◌, ◌≤◌, ◌-◌, [], true, IsTrue, is_ok, Some, None, Result, MatchResult, IfErr}
+use Rattle.ipl_base.specs.declared.limits.TheConstants.{RESERVED_PLACES}
 use Rattle.chip_trait.specs.Story.{Contents}
 use Rattle.chip_trait.specs.Told.{History, Told, Rose}
 use Rattle.ipl_base.specs.declared.fault.ChipFault.{ChipFault}
@@ -36,7 +37,7 @@ pub record HasOpened (places : ℕ) (c : Chart) (after : Tables) (y : Chart) : T
   pub mirrors : Mirrors places y now after
   pub pages : KeepsPages places c (layout_in c places) y now
   pub exact : (tid : ℕ) → IsTrue (now.committed tid)
-      ↔ (IsTrue ((layout_in c places).committed tid) × IsLoggedBelow (places - 4) now tid)
+      ↔ (IsTrue ((layout_in c places).committed tid) × IsLoggedBelow (places - RESERVED_PLACES) now tid)
 
 -- the fault is the first one of the chart; or it has none, and a unit couldn't be merged
 abbrev pub IsOpeningFault : ℕ → Chart → ImageFault → Type 0

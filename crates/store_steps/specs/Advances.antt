@@ -1,6 +1,7 @@
 -- What each call of a store leaves: from each state that its memory fits, the next one.
 use Rattle.std.specs.Prelude.{ℕ, ◌≡◌, ◌<◌, ◌≤◌, ◌-◌, ◌*◌, None, All, Result, Ok, Err}
 use Rattle.std.specs.FinMap.{get}
+use Rattle.ipl_base.specs.declared.limits.TheConstants.{RESERVED_PLACES, PAGES, UNIT_NAMES}
 use Rattle.chip_trait.specs.Told.{History, Told}
 use Rattle.ipl_rules.specs.State.{Map, State}
 use Rattle.record_locks.specs.Held.{Slots}
@@ -46,10 +47,10 @@ MemoryFitsStory places h it memory state =
 -- has it. No name past the last page gets a record.
 pub record ShowsNext (places : ℕ) (c : Chart) (it : Layout) (m : Map) (y : Chart) (new : Layout)
     (n : Map) : Type 0 where
-  pub pages : (u page : ℕ) → u < places - 4 → page < 15
+  pub pages : (u page : ℕ) → u < places - RESERVED_PLACES → page < PAGES
       → Shows c it.committed u (it.units u) page (page_in m u page)
       → Shows y new.committed u (new.units u) page (page_in n u page)
-  pub nowhere_else : (name : ℕ) → 960 * (places - 4) ≤ name → get m name ≡ None
+  pub nowhere_else : (name : ℕ) → UNIT_NAMES * (places - RESERVED_PLACES) ≤ name → get m name ≡ None
       → get n name ≡ None
 
 -- In some layout the memory fits the new chart. The pages that showed the map before show that of
@@ -129,9 +130,9 @@ pub record KeepsTablesOn (places : ℕ) (c : Chart) (it : Layout) (t : Tables) (
   pub mirrors : Mirrors places y layout after
   pub none_lost : NoneIsLost places after
   pub active : after.active ≡ t.active
-  pub alike : (u : ℕ) → u < places - 4
+  pub alike : (u : ℕ) → u < places - RESERVED_PLACES
       → IsSameOrMerged (is_active t) (it.units u) (layout.units u)
-  pub kept : (u : ℕ) → u < places - 4
+  pub kept : (u : ℕ) → u < places - RESERVED_PLACES
       → All (λ r. layout.committed r.tid ≡ it.committed r.tid) (records_of (layout.units u).log)
   pub pages : KeepsPages places c it y layout
 

@@ -3,6 +3,7 @@ use Rattle.std.specs.Prelude.{ℕ, ◌≡◌, ◌≢◌, ◌<◌, ◌≤◌, ◌
 use Rattle.std.specs.Option.{option_map}
 use Rattle.std.specs.FinMap.{get}
 use Rattle.std.proofs.Common.{sym, ◌∙◌, subst, arith}
+use Rattle.ipl_base.specs.declared.limits.TheConstants.{RESERVED_PLACES, UNIT_NAMES, SESSIONS}
 use Rattle.chip_trait.specs.Chart.{says}
 use Rattle.chip_trait.specs.Moment.{Leaves}
 use Rattle.chip_trait.specs.Story.{Contents}
@@ -49,13 +50,13 @@ pub record View : Type 0 where
 
 -- 32 sessions, the names of all units, and as many units as the chip has
 abbrev pub limits_of : ℕ → Limits
-limits_of units = record { sessions = 32; names = 960 * units; units = units }
+limits_of units = record { sessions = SESSIONS; names = UNIT_NAMES * units; units = units }
 
 -- the memory fits what the chip holds, and the pages say the map
 pub record ShowsState (store : View) (state : State) (x : Contents) : Type 0 where
   pub layout : Layout
-  pub fits : MemoryFits (store.units + 4) (chart_of x) layout store.memory state
-  pub says : Says (store.units + 4) (chart_of x) layout state.map
+  pub fits : MemoryFits (store.units + RESERVED_PLACES) (chart_of x) layout store.memory state
+  pub says : Says (store.units + RESERVED_PLACES) (chart_of x) layout state.map
 
 -- What a store keeps that isn't down. The sessions are the state's; where the chip tells what it
 -- holds, that shows the state; and where it tells its history, what is counted as clean is clean.
@@ -67,7 +68,7 @@ pub record IsUp (store : View) (t : Told) (state : State) : Type 0 where
 -- no write has failed, and the story rests on the map
 pub record RestsOnMap (store : View) (t : Told) (m : Map) (h : History) : Type 0 where
   pub settled : t.settled ≡ true
-  pub rests : StoryRests (store.units + 4) m h
+  pub rests : StoryRests (store.units + RESERVED_PLACES) m h
 
 -- Where the chip tells its history, its story rests on the state's map; and a store that isn't down
 -- keeps the rest.
@@ -170,8 +171,8 @@ keeps_still limits store old new state still keeps = record {
       let before = said_before still.pieces old.history h (sym told ∙ still.history) in
       let on = keeps.story before.0 before.1 in record {
         settled = still.settled ∙ on.settled;
-        rests = subst (StoryRests (store.units + 4) state.map) (sym before.2)
-            (said_rests (store.units + 4) state.map still.pieces before.0 on.rests);
+        rests = subst (StoryRests (store.units + RESERVED_PLACES) state.map) (sym before.2)
+            (said_rests (store.units + RESERVED_PLACES) state.map still.pieces before.0 on.rests);
       };
   up = λ runs.
       let was = keeps.up runs in record {
@@ -186,24 +187,24 @@ keeps_still limits store old new state still keeps = record {
 
 pub keeps_each : (limits : Limits) (store : View) (t : Told) (state : State) (h : History)
     → KeepsStore limits store t state → t.history ≡ Some h
-    → Leaves (says sector_in) (λ x. Stands (limits.units + 4) (chart_of x) state.map) h []
+    → Leaves (says sector_in) (λ x. Stands (limits.units + RESERVED_PLACES) (chart_of x) state.map) h []
 keeps_each limits store t state h keeps told =
     subst (λ (l : Limits). Leaves (says sector_in)
-    (λ x. Stands (l.units + 4) (chart_of x) state.map) h []) (sym keeps.limits_are)
+    (λ x. Stands (l.units + RESERVED_PLACES) (chart_of x) state.map) h []) (sym keeps.limits_are)
     (keeps.story h told).rests.each
 
 -- ---- the seam
 
 -- the store is made for a chip of so many places, and isn't down
 pub record IsUpFor (store : View) (places : ℕ) : Type 0 where
-  pub places_are : store.units + 4 ≡ places
+  pub places_are : store.units + RESERVED_PLACES ≡ places
   pub up : store.down ≡ false
 
 -- such a store, as a run knows it
 abbrev pub store_keeping : Keeping View
 store_keeping = record {
   checks = says sector_in;
-  stands = λ limits x m. Stands (limits.units + 4) (chart_of x) m;
+  stands = λ limits x m. Stands (limits.units + RESERVED_PLACES) (chart_of x) m;
   holds = KeepsStore;
   suits = IsUpFor;
   clean = λ store p s. IsCountedClean store.memory.tables p s;
@@ -218,10 +219,10 @@ store_keeping = record {
 -- a store whose chip was opened keeps the state at rest of the map that the chip stands for
 abbrev pub OpenedStoresKeep : Type 0
 OpenedStoresKeep = (units : ℕ) (t : Tables) (slots : Slots) (told : Told) (m : Map)
-    → NoneIsLost (units + 4) t → t.active ≡ [] → ((s : ℕ) → number_of slots s ≡ None)
+    → NoneIsLost (units + RESERVED_PLACES) t → t.active ≡ [] → ((s : ℕ) → number_of slots s ≡ None)
     → AreSessionsOf slots (at_rest m)
-    → OfContents told (λ x. (it : Layout) × Mirrors (units + 4) (chart_of x) it t
-    × Says (units + 4) (chart_of x) it m)
+    → OfContents told (λ x. (it : Layout) × Mirrors (units + RESERVED_PLACES) (chart_of x) it t
+    × Says (units + RESERVED_PLACES) (chart_of x) it m)
     → ((h : History) → told.history ≡ Some h
     → RestsOnMap (opened_with units t slots) told m h × IsTidy h.story t)
     → KeepsStore (limits_of units) (opened_with units t slots) told (at_rest m)
@@ -242,7 +243,7 @@ DrawsFew n before old after = (state : State) → KeepsStore (limits_of before.u
 -- its excuse.
 abbrev pub LeadsAreWork : Type 0
 LeadsAreWork = (c : Command) (before after : View) (result : Result Reply Fault) (old new : Told)
-    → IsConsistent old → before.units + 4 ≡ old.places → after.units ≡ before.units
+    → IsConsistent old → before.units + RESERVED_PLACES ≡ old.places → after.units ≡ before.units
     → before.down ≡ false
     → LeadsTo (λ state. (step (limits_of before.units) state c).0) before.memory old result
     after.memory new
@@ -273,12 +274,12 @@ KeptFramesTell = (n : ℕ) (store : View) (t : Tables) (later : Frames) (f : Fra
 abbrev pub KeepersLookUp : Type 0
 KeepersLookUp = (n : ℕ) (before after : View) (result : Result (Option (List ℕ)) Fault)
     (old new : Told)
-    → IsConsistent old → before.units + 4 ≡ old.places → after.units ≡ before.units
+    → IsConsistent old → before.units + RESERVED_PLACES ≡ old.places → after.units ≡ before.units
     → before.down ≡ false → after.memory.slots ≡ before.memory.slots
     → KeepsState before.memory.tables before.memory.frames old result after.memory.tables
     after.memory.frames new
     → IfOk result (λ found. (state : State) → KeepsStore (limits_of before.units) before old state
-    → n < 960 * before.units → OfContents old (λ x. found ≡ get state.map n))
+    → n < UNIT_NAMES * before.units → OfContents old (λ x. found ≡ get state.map n))
     → after.memory.tables.next ≤ before.memory.tables.next + LOOK_UP_DRAWS
     → OnErr result (IsExcused LOOK_UP_DRAWS before old new)
     → LooksUp store_keeping n before old result after new
@@ -299,11 +300,11 @@ IdleFaultsLookUp = (n : ℕ) (store : View) (told : Told)
 -- few numbers and has its excuse
 abbrev pub FaultsThatLeaveDown : Type 0
 FaultsThatLeaveDown = (c : Command) (before after : View) (fault : Fault) (old new : Told)
-    → IsConsistent old → before.units + 4 ≡ old.places → after.units ≡ before.units
+    → IsConsistent old → before.units + RESERVED_PLACES ≡ old.places → after.units ≡ before.units
     → before.down ≡ false → after.down ≡ true
     → ((h : History) (it : Layout) (state : State) → IsSteady h old
-    → MemoryFitsStory (before.units + 4) h it before.memory state
-    → Preserves {T = Reply} (before.units + 4) state.map before.memory.tables after.memory.tables h
+    → MemoryFitsStory (before.units + RESERVED_PLACES) h it before.memory state
+    → Preserves {T = Reply} (before.units + RESERVED_PLACES) state.map before.memory.tables after.memory.tables h
     (Err fault) old new)
     → after.memory.tables.next ≤ before.memory.tables.next + WORK_DRAWS
     → IsExcused WORK_DRAWS before old new

@@ -1,5 +1,6 @@
 -- How what calls of a store leave is joined.
 use Rattle.std.specs.Prelude.{ℕ, ◌≡◌, ◌<◌, ◌-◌, [], List, length, Option, Some, None, Result, Ok, Err, All, is_ok}
+use Rattle.ipl_base.specs.declared.limits.TheConstants.{RESERVED_PLACES, PAGES, SLOTS}
 use Rattle.chip_trait.specs.Told.{History, Told, Counts, IsConsistent}
 use Rattle.ipl_base.specs.declared.fault.ChipFault.{ChipFault}
 use Rattle.ipl_rules.specs.State.{Map, State, at_rest}
@@ -64,7 +65,8 @@ ReadsKeepStates = (t : Tables) (frames : Frames) (result : Result (Unit {0}) Chi
 -- a page that was read into a frame, where it was in none
 abbrev pub LoadsKeepStates : Type 0
 LoadsKeepStates = (t : Tables) (frames : Frames) (u page : ℕ) (f : Frame) (old new : Told)
-    → ReadsAt Anywhere old new → u < old.places - 4 → page < 15 → frames u page ≡ None → f.log ≡ []
+    → ReadsAt Anywhere old new → u < old.places - RESERVED_PLACES → page < PAGES
+    → frames u page ≡ None → f.log ≡ []
     → OfContents old (λ x. (it : Layout) → Mirrors old.places (chart_of x) it t
     → IsFrameOf (chart_of x) it (logs_of frames) (is_active t) u page f.values f.pending)
     → KeepsState {T = Unit {0}} {E = ChipFault} t frames old (Ok tt) t
@@ -198,7 +200,7 @@ abbrev pub FramesTellState : Type 0
 FramesTellState = (places : ℕ) (c y : Chart) (it : Layout) (m : Map) (memory : Memory)
     (state : State) (u page slot : ℕ) (f : Frame) → FitsOn places c it m y memory state
     → Shows c it.committed u (it.units u) page (page_in m u page)
-    → memory.frames u page ≡ Some f → slot < 64
+    → memory.frames u page ≡ Some f → slot < SLOTS
     → TellsSlot (number_of memory.slots) state u page slot f.values f.pending
 
 -- ---- the end of a commit

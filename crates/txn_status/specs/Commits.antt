@@ -1,6 +1,7 @@
 -- Commit sectors, as they are written.
 use Rattle.std.specs.Prelude.{ℕ, ◌*◌, List, take, drop}
 use Rattle.std.specs.List.{flat_map}
+use Rattle.ipl_base.specs.declared.limits.TheConstants.{COMMIT_NUMBERS}
 use Rattle.ipl_format.specs.Numbers.{long}
 use Rattle.ipl_format.specs.Sector.{Sector}
 
@@ -21,4 +22,4 @@ commit_sector generation serial numbers = record {
 
 -- the numbers of the i-th of several commit sectors: 60, or fewer in the last one
 abbrev pub part_of : List ℕ → ℕ → List ℕ
-part_of numbers i = take 60 (drop (60 * i) numbers)
+part_of numbers i = take COMMIT_NUMBERS (drop (COMMIT_NUMBERS * i) numbers)

@@ -1,5 +1,6 @@
 -- What the commit sectors of a place make of the status.
 use Rattle.std.specs.Prelude.{ℕ, ◌≡◌, ◌≤◌, ◌<◌, ◌+◌, true, false, length, [], Option, Some, Result, MatchResult, Ok, Err, IfOk, OnOk}
+use Rattle.ipl_base.specs.declared.limits.TheConstants.{SECTORS}
 use Rattle.ipl_base.specs.declared.fault.ChipFault.{ChipFault}
 use Rattle.ipl_base.specs.declared.fault.ChipFault.TheVariants.{ReadFault}
 use Rattle.ipl_base.specs.declared.fault.ImageFault.{ImageFault}
@@ -22,11 +23,11 @@ IsAt place sector p s = (p ≡ place) × (s ≡ sector)
 
 -- where commit sectors may stand in a place
 abbrev pub IsCommitSpot : ℕ → ℕ → ℕ → Type 0
-IsCommitSpot place p s = (p ≡ place) × (1 ≤ s) × (s < 256)
+IsCommitSpot place p s = (p ≡ place) × (1 ≤ s) × (s < SECTORS)
 
 -- a sector of the place
 abbrev pub IsOfPlace : ℕ → ℕ → ℕ → Type 0
-IsOfPlace place p s = (p ≡ place) × (s < 256)
+IsOfPlace place p s = (p ≡ place) × (s < SECTORS)
 
 -- The commit sectors that count are those of this place with this generation. Of a header the rules
 -- of commit sectors look at no more.
@@ -66,7 +67,7 @@ status_in c place generation = record {
   place = place;
   generation = generation;
   numbers = with_numbers (committed_numbers c (under place generation)) [];
-  first = 256;
+  first = SECTORS;
 }
 
 -- a fault of a chip, as one of an image

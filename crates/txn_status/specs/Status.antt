@@ -1,15 +1,16 @@
 -- What the calls on the status make of it, and what always holds of it.
 use Rattle.std.specs.Prelude.{ℕ, ◌≤◌, ◌+◌, ◌-◌, ◌*◌, ◌/◌, List, [], length}
+use Rattle.ipl_base.specs.declared.limits.TheConstants.{SECTORS, COMMIT_NUMBERS}
 use Rattle.ipl_meaning.specs.Tables.{Status}
 use Rattle.number_set.specs.Numbers.{with_numbers, AreRising}
 
 -- no number is committed, and no sector of place 0 is known clean
 abbrev pub empty_status : Status
-empty_status = record { place = 0; generation = 0; numbers = []; first = 256 }
+empty_status = record { place = 0; generation = 0; numbers = []; first = SECTORS }
 
 -- how many sectors of the status place are known clean
 abbrev pub room_of : Status → ℕ
-room_of it = 256 - it.first
+room_of it = SECTORS - it.first
 
 -- a commit sector of these numbers was written
 abbrev pub after_add : Status → List ℕ → Status
@@ -18,7 +19,7 @@ after_add it numbers =
 
 -- how many commit sectors these numbers fill
 abbrev pub parts_of : List ℕ → ℕ
-parts_of numbers = (length numbers + 59) / 60
+parts_of numbers = (length numbers + (COMMIT_NUMBERS - 1)) / COMMIT_NUMBERS
 
 -- the status stands at a new place, with exactly these numbers
 abbrev pub switched_to : ℕ → ℕ → List ℕ → Status
@@ -30,5 +31,5 @@ switched_to place generation kept =
 pub record IsSoundStatus (it : Status) : Type 0 where
   pub rising : AreRising it.numbers
   pub least : 1 ≤ it.first
-  pub most : it.first ≤ 256
-  pub few : length it.numbers + 60 ≤ 60 * it.first
+  pub most : it.first ≤ SECTORS
+  pub few : length it.numbers + COMMIT_NUMBERS ≤ COMMIT_NUMBERS * it.first

@@ -1,5 +1,6 @@
 -- What a new status place makes of a chart, of the tables, and of what a power cut leaves.
 use Rattle.std.specs.Prelude.{ℕ, ◌≡◌, ◌<◌, ◌≤◌, ◌+◌, ◌-◌, List, Some, All, Contains, Result}
+use Rattle.ipl_base.specs.declared.limits.TheConstants.{RESERVED_PLACES}
 use Rattle.chip_trait.specs.Told.{History, Told}
 use Rattle.ipl_base.specs.declared.fault.ChipFault.{ChipFault}
 use Rattle.ipl_format.specs.Header.{SpellsUnits}
@@ -67,7 +68,7 @@ pub record IsSwitched (t after : Tables) (p generation : ℕ) (kept : List ℕ) 
 pub record Switched (places : ℕ) (c y : Chart) (it : Layout) (after : Tables)
     (p generation : ℕ) (kept : List ℕ) : Type 0 where
   pub head : Sector
-  pub is_head : IsStatusHead (places - 4) generation head
+  pub is_head : IsStatusHead (places - RESERVED_PLACES) generation head
   pub mirrors : Mirrors places y (with_status it p head (among kept)) after
   pub pages : KeepsNumbers places it (among kept)
       → KeepsPages places c it y (with_status it p head (among kept))
@@ -95,7 +96,7 @@ pub record IsReadyToSwitch (places : ℕ) (h : History) (it : Layout) (t : Table
 pub record RestsSwitched (places : ℕ) (m : Map) (it : Layout) (after : Tables)
     (p generation : ℕ) (kept : List ℕ) (k : History) : Type 0 where
   pub head : Sector
-  pub is_head : IsStatusHead (places - 4) generation head
+  pub is_head : IsStatusHead (places - RESERVED_PLACES) generation head
   pub stands : RestsAgreeing places m (with_status it p head (among kept)) after k
 
 -- At each moment a power cut leaves the map, and done, the story rests on it and the tables with

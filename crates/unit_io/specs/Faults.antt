@@ -2,6 +2,7 @@
 use Rattle.std.specs.Prelude.{ℕ, zero, suc, ◌≡◌, ◌≢◌, ◌<◌, ◌+◌, ◌*◌, ◌==◌, ◌&&◌, Bool, true, false, not, nat_lt, if◌then◌else◌, List, [], ◌∷◌, ◌++◌, length, drop, slice_index, Option, Some, None, Result, MatchResult}
 use Rattle.std.specs.List.{list_all}
 use Rattle.std.specs.Option.{option_or}
+use Rattle.ipl_base.specs.declared.limits.TheConstants.{PAYLOAD_LEN, PAGE_SECTORS}
 use Rattle.chip_trait.specs.Story.{Contents}
 use Rattle.chip_trait.specs.Told.{Told, Rose}
 use Rattle.ipl_base.specs.First.{first_below}
@@ -30,7 +31,7 @@ is_base u generation serial s = (s.kind == 4) && (s.unit == u) && (s.generation 
 
 -- a piece uses 480 bytes; the last one of a text any number but 0
 abbrev pub is_filled : Bool → ℕ → Bool
-is_filled last used = if last then nat_lt 0 used else used == 480
+is_filled last used = if last then nat_lt 0 used else used == PAYLOAD_LEN
 
 -- what a sector says is such a piece
 abbrev pub is_piece : ℕ → ℕ → ℕ → Bool → Option Sector → Bool
@@ -71,7 +72,7 @@ is_page_text bytes = is_text_from (length bytes) 0 bytes
 -- what is wrong with the i-th of so many pieces
 abbrev pub piece_fault_at : Contents → ℕ → ℕ → ℕ → ℕ → ℕ → ℕ → Option ChipFault
 piece_fault_at x place u generation page pieces i =
-    piece_fault place (base_sector_of page i) u generation (page * 16 + i) (i + 1 == pieces) (x place (base_sector_of page i))
+    piece_fault place (base_sector_of page i) u generation (page * PAGE_SECTORS + i) (i + 1 == pieces) (x place (base_sector_of page i))
 
 -- what is wrong with a text that has to be a page's
 abbrev pub text_fault : ℕ → ℕ → List ℕ → Option ChipFault
@@ -93,8 +94,8 @@ TellsChipFault fault result = MatchResult result (λ _. fault ≡ None) (λ e. e
 abbrev pub IsPageCause : ℕ → ℕ → ChipFault → Told → Told → Type 0
 IsPageCause place page ReadFault old new = Rose old.read_faults new.read_faults
 IsPageCause place page Stopped old new = ⊥
-IsPageCause place page (Damaged p s stored computed) old new = (p ≡ place) × IsPieceSpot page 16 s × (stored ≢ computed)
-IsPageCause place page (Malformed p s) old new = (p ≡ place) × IsPieceSpot page 16 s
+IsPageCause place page (Damaged p s stored computed) old new = (p ≡ place) × IsPieceSpot page PAGE_SECTORS s × (stored ≢ computed)
+IsPageCause place page (Malformed p s) old new = (p ≡ place) × IsPieceSpot page PAGE_SECTORS s
 
 -- the page's base sectors read well: they hold the text of these slots, cut into so many pieces
 pub record HoldsPage (c : Chart) (place u generation page pieces : ℕ) (slots : Slots) : Type 0 where

@@ -1,5 +1,6 @@
 -- Which sectors a call programs or erases, and in what order.
 use Rattle.std.specs.Prelude.{Bool, true, ℕ, ◌≡◌, ◌≢◌, ◌<◌, ◌≤◌, ◌+◌, ◌*◌, [], ◌++◌}
+use Rattle.ipl_base.specs.declared.limits.TheConstants.{PAGE_SECTORS}
 use Rattle.chip_trait.specs.Story.{Story, pieces}
 use Rattle.chip_trait.specs.Lawful.{Clean, age, IsLawful}
 
@@ -29,7 +30,7 @@ pub record Rewrites (p from : ℕ) (done : Bool) (added : Story) : Type 0 where
 
 -- the spots of the first n pieces of a page
 abbrev pub IsPieceSpot : ℕ → ℕ → ℕ → Type 0
-IsPieceSpot page n s = (1 + page * 16 ≤ s) × (s < 1 + page * 16 + n)
+IsPieceSpot page n s = (1 + page * PAGE_SECTORS ≤ s) × (s < 1 + page * PAGE_SECTORS + n)
 
 -- one spot
 abbrev pub IsSpot : ℕ → ℕ → Type 0

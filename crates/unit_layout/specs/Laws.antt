@@ -1,5 +1,6 @@
 -- Laws of the layout.
 use Rattle.std.specs.Prelude.{◌≡◌, ◌<◌, List, ℕ}
+use Rattle.ipl_base.specs.declared.limits.TheConstants.{PAGE_SECTORS}
 use Rattle.ipl_format.specs.Place.{base_sector_of}
 use Rattle.unit_layout.specs.declared.header.DataHeader.{DataHeader}
 use Rattle.unit_layout.specs.Header.{SpellsHeader}
@@ -10,5 +11,5 @@ HeadersReadBack = (h k : DataHeader) (payload : List ℕ) → SpellsHeader h pay
 
 -- no two pieces stand in one sector
 abbrev pub PiecesStandApart : Type 0
-PiecesStandApart = (page piece other last : ℕ) → piece < 16 → last < 16 → base_sector_of page piece ≡ base_sector_of other last
+PiecesStandApart = (page piece other last : ℕ) → piece < PAGE_SECTORS → last < PAGE_SECTORS → base_sector_of page piece ≡ base_sector_of other last
     → (page ≡ other) × (piece ≡ last)

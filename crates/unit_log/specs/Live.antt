@@ -1,5 +1,6 @@
 -- The live log sectors of a unit, read from the tables.
 use Rattle.std.specs.Prelude.{ℕ, zero, suc, ◌≡◌, ◌⊎◌, ◌+◌, ◌-◌, List, [], ◌∷◌, ◌++◌, map, Some, Result, MatchResult}
+use Rattle.ipl_base.specs.declared.limits.TheConstants.{FIRST_LOG_SECTOR}
 use Rattle.chip_trait.specs.Told.{Told}
 use Rattle.ipl_base.specs.declared.fault.ChipFault.{ChipFault}
 use Rattle.ipl_base.specs.declared.fault.ChipFault.TheVariants.{ReadFault}
@@ -22,7 +23,7 @@ spots_from p s (suc n) = (p, s) ∷ spots_from p (s + 1) n
 -- where log sectors of a unit may stand: in its place from sector 241 up to an end, and at these
 -- spots
 abbrev pub log_spots : ℕ → ℕ → List (ℕ × ℕ) → List (ℕ × ℕ)
-log_spots home end listed = spots_from home 241 (end - 241) ++ listed
+log_spots home end listed = spots_from home FIRST_LOG_SECTOR (end - FIRST_LOG_SECTOR) ++ listed
 
 -- The log sectors at the spots that are the unit's and of the generation are put into those that
 -- were

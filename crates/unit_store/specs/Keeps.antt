@@ -2,6 +2,7 @@
 use Rattle.std.specs.Prelude.{ℕ, ◌≡◌, ◌≤◌, ◌+◌, true, [], List, Option, Some, None, refl}
 use Rattle.std.specs.Option.{option_map}
 use Rattle.std.proofs.Common.{sym, ◌∙◌, subst, arith}
+use Rattle.ipl_base.specs.declared.limits.TheConstants.{RESERVED_PLACES, UNIT_NAMES}
 use Rattle.chip_trait.specs.Chart.{says}
 use Rattle.chip_trait.specs.Moment.{Leaves}
 use Rattle.chip_trait.specs.Told.{History, Told, Rose, adds_all}
@@ -21,16 +22,16 @@ use Rattle.unit_store.specs.OnChip.{OnChip, said_keeps}
 
 -- one session, the names of unit 0, and as many units as the chip has
 abbrev pub limits_of : ℕ → Limits
-limits_of units = record { sessions = 1; names = 960; units = units }
+limits_of units = record { sessions = 1; names = UNIT_NAMES; units = units }
 
 -- the store is made for a chip of so many places
 abbrev pub Suits : UnitStore → ℕ → Type 0
-Suits store places = store.units + 4 ≡ places
+Suits store places = store.units + RESERVED_PLACES ≡ places
 
 -- no write has failed, and the records stand on the chip
 pub record Stood (store : UnitStore) (t : Told) (state : State) (h : History) : Type 0 where
   pub settled : t.settled ≡ true
-  pub on : OnChip (store.units + 4) store.directory store.counter state.map h
+  pub on : OnChip (store.units + RESERVED_PLACES) store.directory store.counter state.map h
 
 -- The store's memory stands for the state; and where the chip tells its history, the records stand there.
 pub record KeepsUnit (limits : Limits) (store : UnitStore) (t : Told) (state : State) : Type 0 where
@@ -48,8 +49,8 @@ FaultCause (Image e) old new = ⊥
 FaultCause Spent old new = Unit {0}
 
 pub each_stands : (limits : Limits) (store : UnitStore) (t : Told) (state : State) (h : History) → KeepsUnit limits store t state → t.history ≡ Some h
-    → Leaves (says sector_in) (λ x. Stands (limits.units + 4) (chart_of x) state.map) h []
-each_stands limits store t state h keeps told = subst (λ (l : Limits). Leaves (says sector_in) (λ x. Stands (l.units + 4) (chart_of x) state.map) h []) (sym keeps.limits_are) ((keeps.chip h told).on.rests.each)
+    → Leaves (says sector_in) (λ x. Stands (limits.units + RESERVED_PLACES) (chart_of x) state.map) h []
+each_stands limits store t state h keeps told = subst (λ (l : Limits). Leaves (says sector_in) (λ x. Stands (l.units + RESERVED_PLACES) (chart_of x) state.map) h []) (sym keeps.limits_are) ((keeps.chip h told).on.rests.each)
 
 -- ---- what is said and what is read of a script
 
@@ -68,7 +69,7 @@ stays_still limits store old new state still keeps = record {
       let before = still_history still.pieces old.history h (sym told ∙ still.history) in
       let stood = keeps.chip before.0 before.1 in record {
         settled = still.settled ∙ stood.settled;
-        on = subst (OnChip (store.units + 4) store.directory store.counter state.map) (sym before.2) (said_keeps (store.units + 4) store.directory store.counter state.map still.pieces before.0 stood.on);
+        on = subst (OnChip (store.units + RESERVED_PLACES) store.directory store.counter state.map) (sym before.2) (said_keeps (store.units + RESERVED_PLACES) store.directory store.counter state.map still.pieces before.0 stood.on);
       };
 }
 
@@ -87,7 +88,7 @@ longer Spent first old new last before cause after = tt
 abbrev pub unit_keeping : Keeping UnitStore
 unit_keeping = record {
   checks = says sector_in;
-  stands = λ limits x m. Stands (limits.units + 4) (chart_of x) m;
+  stands = λ limits x m. Stands (limits.units + RESERVED_PLACES) (chart_of x) m;
   holds = KeepsUnit;
   suits = Suits;
   clean = λ store p s. ⊥;

@@ -1,5 +1,6 @@
 -- A unit's base pages, read into memory.
 use Rattle.std.specs.Prelude.{ℕ, ◌≡◌, ◌≢◌, ◌<◌, ◌+◌, ◌*◌, ◌/◌, List, slice_index, Option, Some}
+use Rattle.ipl_base.specs.declared.limits.TheConstants.{PAGES, SLOTS}
 use Rattle.chip_trait.specs.Story.{Contents}
 use Rattle.chip_trait.specs.Told.{Told, Rose}
 use Rattle.ipl_base.specs.declared.fault.ChipFault.{ChipFault}
@@ -32,12 +33,13 @@ page_fault_at x place u generation pieces page = page_fault x place u generation
 
 -- the first thing that is wrong with the unit's base pages, page by page
 unfoldable pub unit_fault : Contents → Shape → Option ChipFault
-unit_fault x it = first_below (page_fault_at x it.home it.head.unit it.head.generation it.pieces) 15
+unit_fault x it =
+    first_below (page_fault_at x it.home it.head.unit it.head.generation it.pieces) PAGES
 
 -- the records of the page's names are its slots, and all others are as they were
 pub record IsLoaded (page : ℕ) (slots : Slots) (old new : List (Option (List ℕ))) : Type 0 where
-  pub here : (slot : ℕ) → slot < 64 → record_of new (64 * page + slot) ≡ value_in slots slot
-  pub others : (name : ℕ) → name / 64 ≢ page → record_of new name ≡ record_of old name
+  pub here : (slot : ℕ) → slot < SLOTS → record_of new (SLOTS * page + slot) ≡ value_in slots slot
+  pub others : (name : ℕ) → name / SLOTS ≢ page → record_of new name ≡ record_of old name
 
 -- the page's base sectors read well, and what they hold was loaded
 pub record LoadsPage (c : Chart) (place u generation page pieces : ℕ) (old new : List (Option (List ℕ))) : Type 0 where
@@ -48,10 +50,10 @@ pub record LoadsPage (c : Chart) (place u generation page pieces : ℕ) (old new
 -- the records are those that the unit's base pages hold
 pub record ShowsPages (c : Chart) (it : Shape) (records : List (Option (List ℕ))) : Type 0 where
   pub slots : ℕ → Slots
-  pub held : (page : ℕ) → page < 15
+  pub held : (page : ℕ) → page < PAGES
       → HoldsPage c it.home it.head.unit it.head.generation page (slice_index it.pieces page) (slots page)
-  pub shown : (page slot : ℕ) → page < 15 → slot < 64
-      → record_of records (64 * page + slot) ≡ value_in (slots page) slot
+  pub shown : (page slot : ℕ) → page < PAGES → slot < SLOTS
+      → record_of records (SLOTS * page + slot) ≡ value_in (slots page) slot
 
 -- why a unit's pages aren't read, whatever the chip tells
 abbrev pub LoadCause : ℕ → ChipFault → Told → Told → Type 0

@@ -1,6 +1,7 @@
 -- The store of a chip that was opened.
 use Rattle.std.specs.Prelude.{ℕ, ◌≡◌, ◌≢◌, ◌<◌, ◌+◌, ◌-◌, ◌^◌, true, length, Option, Some, None, Result, MatchResult, Ok, Err}
 use Rattle.std.specs.Option.{option_or, option_map}
+use Rattle.ipl_base.specs.declared.limits.TheConstants.{RESERVED_PLACES}
 use Rattle.chip_trait.specs.Story.{Contents}
 use Rattle.chip_trait.specs.Told.{History, Told, Rose}
 use Rattle.ipl_base.specs.declared.fault.ChipFault.TheVariants.{ReadFault, Stopped, Damaged, Malformed}
@@ -59,7 +60,7 @@ OpenCause opening.OutOfMemory old new = new ≡ old
 -- what only an opening needs is made for so many places
 pub record AreForPlaces (places : ℕ) (it : OpeningTables) : Type 0 where
   pub scratch_is : it.scratch ≡ places
-  pub units_are : length it.overflow.spots + 4 ≡ places
+  pub units_are : length it.overflow.spots + RESERVED_PLACES ≡ places
 
 -- all that an opening finds out of what the chip holds: tables with this directory and this counter mirror it
 pub record IsFoundOut (places : ℕ) (x : Contents) (directory : Places) (counter : ℕ) (memory : MemoryStore) : Type 0 where
@@ -77,7 +78,7 @@ HoldsMap places x memory = (m : Map) → Stands places (chart_of x) m → HasNoL
 -- over a settled chip whose story rests on a map, and that has no log, the store keeps the map's records
 abbrev pub KeepsFound : Told → UnitStore → Told → Type 0
 KeepsFound old store new = (m : Map) (h : History) → old.settled ≡ true → old.history ≡ Some h → StoryRests old.places m h → HasNoLog old.places (now h)
-    → KeepsUnit (limits_of (old.places - 4)) store new (at_rest m)
+    → KeepsUnit (limits_of (old.places - RESERVED_PLACES)) store new (at_rest m)
 
 -- the contents stand for the map, and no number that is found is 2^63 or more
 pub record StandsWithNumbersLeft (places : ℕ) (x : Contents) (m : Map) : Type 0 where

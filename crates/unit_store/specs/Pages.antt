@@ -1,5 +1,6 @@
 -- The pages of a unit at a place.
 use Rattle.std.specs.Prelude.{ℕ, zero, suc, ◌≡◌, ◌<◌, ◌≤◌, ◌+◌, ◌*◌, List, [], ◌∷◌, slice_index, Option, Some}
+use Rattle.ipl_base.specs.declared.limits.TheConstants.{SLOTS, PAGE_SECTORS}
 use Rattle.ipl_format.specs.Page.{Slots, IsPage, IsCutInto, page_text}
 use Rattle.ipl_format.specs.Place.{base_sector_of}
 use Rattle.ipl_meaning.specs.Chart.{Chart}
@@ -17,11 +18,11 @@ slots_from values name (suc n) = values name ∷ slots_from values (suc name) n
 
 -- the slots of a page of unit 0
 unfoldable pub page_slots : Named → ℕ → Slots
-page_slots values page = slots_from values (64 * page) 64
+page_slots values page = slots_from values (SLOTS * page) SLOTS
 
 -- the spots of the base sectors of the first n pages
 abbrev pub IsBaseSpotBelow : ℕ → ℕ → Type 0
-IsBaseSpotBelow n s = (1 ≤ s) × (s < 1 + n * 16)
+IsBaseSpotBelow n s = (1 ≤ s) × (s < 1 + n * PAGE_SECTORS)
 
 -- the spot of a piece of one of the first n pages, of which each has so many
 pub record IsPieceBelow (pieces : List ℕ) (n s : ℕ) : Type 0 where
@@ -39,4 +40,4 @@ pub record HasPages (p u generation : ℕ) (slots : ℕ → Slots) (pieces : Lis
 
 -- each page has at most 16 base sectors
 abbrev pub IsFew : List ℕ → Type 0
-IsFew pieces = (page : ℕ) → slice_index pieces page ≤ 16
+IsFew pieces = (page : ℕ) → slice_index pieces page ≤ PAGE_SECTORS

@@ -1,6 +1,7 @@
 -- A unit written anew at a place that was free.
 use Rattle.std.specs.Prelude.{ℕ, ◌≡◌, ◌<◌, ◌≤◌, true, List, [], slice_set}
 use Rattle.std.specs.FinMap.{get}
+use Rattle.ipl_base.specs.declared.limits.TheConstants.{UNIT_NAMES}
 use Rattle.ipl_rules.specs.State.{Map}
 use Rattle.ipl_format.specs.Sector.{Sector}
 use Rattle.ipl_format.specs.Header.{SpellsDataHeader}
@@ -15,8 +16,8 @@ use Rattle.unit_store.specs.Pages.{Named}
 
 -- the records with these values for the names of unit 0, and the same for all others
 pub record IsRenamed (m n : Map) (values : Named) : Type 0 where
-  pub below : (name : ℕ) → name < 960 → get n name ≡ values name
-  pub above : (name : ℕ) → 960 ≤ name → get n name ≡ get m name
+  pub below : (name : ℕ) → name < UNIT_NAMES → get n name ≡ values name
+  pub above : (name : ℕ) → UNIT_NAMES ≤ name → get n name ≡ get m name
 
 -- the tables once unit 0 stands at a place that was taken, numbers being drawn up to this one
 abbrev pub after_move : Tables → ℕ → ℕ → Tables

@@ -1,5 +1,6 @@
 -- A chip on which nobody wrote a log, whatever a power cut leaves of it.
 use Rattle.std.specs.Prelude.{ℕ, ◌<◌, ◌≤◌, [], List}
+use Rattle.ipl_base.specs.declared.limits.TheConstants.{SECTORS, LEAST_PLACES, MOST_PLACES}
 use Rattle.chip_trait.specs.Chart.{says}
 use Rattle.chip_trait.specs.Image.{IsNamedValue, IsNoChanceImage}
 use Rattle.chip_trait.specs.Moment.{AtEachMoment}
@@ -17,7 +18,7 @@ use Rattle.unit_store.specs.Bare.{HasNoLog}
 -- no sector of the chip held a log sector or a commit sector at the last barrier (or the start), or after one of the later
 -- events
 abbrev pub IsUnlogged : ℕ → History → Type 0
-IsUnlogged places h = (p s : ℕ) (bytes : List ℕ) → p < places → s < 256 → IsNamedValue h.start h.story p s bytes → IsPlain bytes
+IsUnlogged places h = (p s : ℕ) (bytes : List ℕ) → p < places → s < SECTORS → IsNamedValue h.start h.story p s bytes → IsPlain bytes
 
 -- so it has no log
 abbrev pub UnloggedHasNoLog : Type 0
@@ -39,4 +40,4 @@ PlainEventsKeepUnlogged = (places : ℕ) (h : History) (added : Story) → IsUnl
 
 -- and a format makes it so, whatever the chip held
 abbrev pub FormatsAreUnlogged : Type 0
-FormatsAreUnlogged = (places : ℕ) (h : History) → 5 ≤ places → places ≤ 1028 → IsUnlogged places (adds_all (format_events places) h)
+FormatsAreUnlogged = (places : ℕ) (h : History) → LEAST_PLACES ≤ places → places ≤ MOST_PLACES → IsUnlogged places (adds_all (format_events places) h)
