@@ -2,6 +2,8 @@
 use Rattle.std.proofs.Common.{◌≡◌, ◌⊎◌, ◌≤◌, ◌-◌, ◌+◌, ℕ, Bool, true, false, [], ◌∷◌, List, ◌++◌, Option, Some, Result, Ok, Err, is_ok, inl, inr, refl, sym, ◌∙◌, ap, subst, arith, append_assoc}
 use Rattle.std.proofs.lemmas.List.{append-nil}
 use Rattle.std.specs.Option.{option_map}
+use Rattle.std.specs.List.{All}
+use Rattle.std.proofs.lemmas.List.Elements.{All-head, All-tail}
 use Rattle.std.specs.FinMap.{empty}
 use Rattle.chip_trait.specs.declared.event.Event.TheVariants.{Read, Program, Erase, Barrier, Said}
 use Rattle.chip_trait.specs.Story.{Story, pieces, said, joined}
@@ -37,8 +39,10 @@ use Rattle.script_run.proofs.RunLemmas.{says_none, says_prefix}
 use Rattle.store_trait.proofs.OnwardLemmas.{onward_counts, further_onward, unrisen_later}
 use Rattle.restart.specs.Events.{format_events}
 use Rattle.restart.specs.Fresh.{Formats, IsFresh}
-use Rattle.restart.specs.Looks.{OnlyReads, only_reads}
-use Rattle.restart.proofs.ReadingLemmas.{reads_rest, reads_hold, reads_say_nothing, reads_lawful, reads_leave}
+use Rattle.unit_io.specs.ReadsAt.{Anywhere, IsReadAt}
+use Rattle.unit_io.proofs.ReadsAtLemmas.{at_rests, at_now}
+use Rattle.restart.specs.Looks.{OnlyReads}
+use Rattle.restart.proofs.ReadingLemmas.{reads_say_nothing, reads_lawful, reads_leave}
 use Rattle.unit_store.specs.declared.store.UnitStore.{UnitStore}
 use Rattle.unit_store.specs.First.{IsFirstStore}
 use Rattle.unit_store.specs.Keeps.{KeepsUnit, limits_of, unit_keeping}
@@ -128,13 +132,13 @@ all_are_plain (Erase p ∷ older) all = (all.0, all_are_plain older all.1)
 all_are_plain (Barrier ∷ older) all = (all.0, all_are_plain older all.1)
 all_are_plain (Said piece ∷ older) all = (tt, all_are_plain older all.1)
 
-reads_are_plain : (added : Story) → only_reads added ≡ true → ArePlain added
-reads_are_plain [] is = tt
-reads_are_plain (Read p s ∷ older) is = (tt, reads_are_plain older is)
-reads_are_plain (Program p s bytes ∷ older) is = absurd cc
-reads_are_plain (Erase p ∷ older) is = absurd cc
-reads_are_plain (Barrier ∷ older) is = absurd cc
-reads_are_plain (Said piece ∷ older) is = absurd cc
+reads_are_plain : (added : Story) → All (IsReadAt Anywhere) added → ArePlain added
+reads_are_plain [] each = tt
+reads_are_plain (Read p s ∷ older) each = (tt, reads_are_plain older (All-tail (IsReadAt Anywhere) (Read p s) older each))
+reads_are_plain (Program p s bytes ∷ older) each = absurd (All-head (IsReadAt Anywhere) (Program p s bytes) older each)
+reads_are_plain (Erase p ∷ older) each = absurd (All-head (IsReadAt Anywhere) (Erase p) older each)
+reads_are_plain (Barrier ∷ older) each = absurd (All-head (IsReadAt Anywhere) (Barrier) older each)
+reads_are_plain (Said piece ∷ older) each = absurd (All-head (IsReadAt Anywhere) (Said piece) older each)
 
 -- ---- the run of the script
 
@@ -213,7 +217,7 @@ near_silent : (Q : State → Type 0) (limits : Limits) (state : State) (commands
 near_silent Q limits state [] holds = inl holds
 near_silent Q limits state (c ∷ commands) holds = rw (reply_shows limits state c) (inl holds)
 
-module _ (places : ℕ) (m : Map) (script : List ℕ) (h : History) (first : Story) (reads : only_reads first ≡ true) (rests : StoryRests places m h) (none : HasNoLog places (now h)) where
+module _ (places : ℕ) (m : Map) (script : List ℕ) (h : History) (first : Story) (reads : All (IsReadAt Anywhere) first) (rests : StoryRests places m h) (none : HasNoLog places (now h)) where
   abbrev Found : Story → Type 0
   Found e = Leaves (says sector_in) (StandsAbout places m script (said e)) h e
 
@@ -273,8 +277,8 @@ module _ (places : ℕ) (m : Map) (script : List ℕ) (h : History) (first : Sto
     lawful = λ base good. reads_lawful first base reads good;
     plain = reads_are_plain first reads;
     rests = λ unrisen. subst (IsAbout (λ s. StoryRests places s.map (adds_all first h)) places m script) (sym (ap joined silent))
-        (near_silent (λ s. StoryRests places s.map (adds_all first h)) (limits_of (places - 4)) (at_rest m) (commands_of script) (reads_rest places m h first reads rests));
-    bare = λ unrisen. subst (HasNoLog places) (sym (reads_hold h first reads)) none;
+        (near_silent (λ s. StoryRests places s.map (adds_all first h)) (limits_of (places - 4)) (at_rest m) (commands_of script) (at_rests Anywhere places m h first reads rests));
+    bare = λ unrisen. subst (HasNoLog places) (sym (at_now Anywhere h first reads)) none;
     read = [];
     unread = script;
     script_is = refl;
@@ -288,20 +292,20 @@ reads_told old mid reads h told = rw told at reads.history
 module _ (old mid new : Told) (store then : UnitStore) (s : StartsOpened old store mid) (counts : Counts old mid) where
   pub opened_ends : RunsScript unit_keeping store mid (Ok tt) then new → RunsOpened old new true
   opened_ends run = λ h script settled told left m rests none.
-      with_reads old.places m script h s.reads.added s.reads.reads rests none old new true
-      (runs_ended old mid new old.places m script h s.reads.added store then s.fits.0 counts.writes (λ base good. reads_lawful s.reads.added base s.reads.reads good)
+      with_reads old.places m script h s.reads.added s.reads.each rests none old new true
+      (runs_ended old mid new old.places m script h s.reads.added store then s.fits.0 counts.writes (λ base good. reads_lawful s.reads.added base s.reads.each good)
       (run (limits_of (old.places - 4)) (at_rest m) (adds_all s.reads.added h) (s.keeps m h settled told rests none) (reads_told old mid s.reads h told) script (left_counts old mid counts ∙ left)))
 
   pub opened_stops : (stop : Stop) → RunsScript unit_keeping store mid (Err stop) then new → RunsOpened old new false
   opened_stops stop run = λ h script settled told left m rests none.
-      with_reads old.places m script h s.reads.added s.reads.reads rests none old new false
-      (runs_stopped old mid new old.places m script h s.reads.added store then s.fits.0 counts.writes (λ base good. reads_lawful s.reads.added base s.reads.reads good) stop
+      with_reads old.places m script h s.reads.added s.reads.each rests none old new false
+      (runs_stopped old mid new old.places m script h s.reads.added store then s.fits.0 counts.writes (λ base good. reads_lawful s.reads.added base s.reads.each good) stop
       (run (limits_of (old.places - 4)) (at_rest m) (adds_all s.reads.added h) (s.keeps m h settled told rests none) (reads_told old mid s.reads h told) script (left_counts old mid counts ∙ left)))
 
 -- an opening that fails leaves the chip as it was
 pub runs_looked : (old new : Told) → OnlyReads old new → RunsOpened old new false
 runs_looked old new reads = λ h script settled told left m rests none.
-    runs_none old.places m script h reads.added reads.reads rests none old new (reads_told old new reads h told) (left_counts old new reads.counts ∙ left)
+    runs_none old.places m script h reads.added reads.each rests none old new (reads_told old new reads h told) (left_counts old new reads.counts ∙ left)
 
 pub only_looks : (old new : Told) → OnlyReads old new → OnlyLooks old new
 only_looks old new reads = record { read = new; reads = reads; noted = refl }

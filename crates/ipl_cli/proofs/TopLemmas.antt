@@ -1,5 +1,6 @@
 -- What the end of the program says.
 use Rattle.std.proofs.Common.{◌≡◌, ◌≢◌, ◌⊎◌, ◌<◌, ◌==◌, ℕ, Bool, true, false, [], List, ◌++◌, Option, Some, None, Result, Ok, Err, inl, inr, refl, sym, ◌∙◌, ap, subst, arith}
+use Rattle.std.proofs.lemmas.List.Elements.{All-nil}
 use Rattle.chip_trait.specs.Told.{History, Told, Counts, Rose, Grew}
 use Rattle.ipl_base.specs.Places.{IsGeometry}
 use Rattle.ipl_base.specs.declared.fault.ChipFault.TheVariants.{ReadFault, Stopped, Damaged, Malformed}
@@ -8,6 +9,7 @@ use Rattle.ipl_base.specs.declared.fault.ImageFault.TheVariants as image
 use Rattle.ipl_base.specs.declared.fault.FormatFault.{FormatFault}
 use Rattle.ipl_base.specs.declared.fault.FormatFault.TheVariants as format
 use Rattle.ipl_rules.specs.State.{Map}
+use Rattle.unit_io.specs.ReadsAt.{Anywhere, IsReadAt}
 use Rattle.restart.specs.Fresh.{Formats}
 use Rattle.unit_store.specs.declared.store.UnitStore.{UnitStore}
 use Rattle.restart.proofs.LookLemmas.{reads_none}
@@ -253,7 +255,7 @@ ends asked ending old mid new status cause leaves same status_is only noted = re
 
 untouched_runs : (old new : Told) → IsUntouched old new → RunsOpened old new false
 untouched_runs old new is = λ h script settled told left m rests none.
-    runs_none old.places m script h [] refl rests none old new (ap (λ (t : Told). t.history) is ∙ told) (ap (λ (t : Told). t.beside.left) is ∙ left)
+    runs_none old.places m script h [] (All-nil (IsReadAt Anywhere)) rests none old new (ap (λ (t : Told). t.history) is ∙ told) (ap (λ (t : Told). t.beside.left) is ∙ left)
 
 untouched_looks : (old new : Told) → IsUntouched old new → OnlyLooks old new
 untouched_looks old new is = record { read = old; reads = reads_none old; noted = is }

@@ -17,7 +17,7 @@ use Rattle.page_rebuild.specs.Loaded.{IsLoaded, IsLoadCause}
 use Rattle.pending_writes.specs.Frames.{Frame, Frames, logs_of, with_frame_at, IsFrameOf, pending_of}
 use Rattle.status_renewal.specs.Passes.{RenewCause}
 use Rattle.store_steps.specs.Advances.{KeepsState}
-use Rattle.store_steps.specs.Laws.{Anywhere}
+use Rattle.unit_io.specs.ReadsAt.{Anywhere}
 use Rattle.store_steps.specs.Views.{frame_of}
 use Rattle.store_steps.proofs.KeeperLemmas.{loads_anywhere_keep_states, reads_anywhere_keep_states}
 use Rattle.unit_io.specs.Reads.{OfContents}

@@ -6,7 +6,7 @@ ghost use Rattle.unit_io.specs.ReadsAt.{ReadsAt};
 ghost use Rattle.merge_rules.specs.Known.{Suits};
 ghost use Rattle.buffer_pool.specs.Holding.{KeepsPins};
 ghost use Rattle.pending_writes.specs.Frames.{logs_of};
-ghost use Rattle.store_steps.specs.Laws.{Anywhere};
+ghost use Rattle.unit_io.specs.ReadsAt.{Anywhere};
 ghost use Rattle.log_records.specs.View.{record_of};
 ghost use Rattle.page_writing.specs.Spending.{ErasesAndLogs};
 ghost use Rattle.frame_changes.specs.Changes.{MayPut};

@@ -1,12 +1,9 @@
 -- The commit sectors, as the status takes them in.
-use Rattle.std.proofs.Common.{◌≡◌, ◌-◌, ℕ, zero, suc, max, List, [], ◌∷◌, Option, Some, true, Result, Ok, Err, inl, inr, refl, sym, ◌∙◌, ap, subst, arith}
+use Rattle.std.proofs.Common.{◌≡◌, ◌-◌, ℕ, zero, suc, max, List, [], Option, Some, Result, Ok, Err, inl, inr, refl, sym, ◌∙◌, ap, subst, arith}
 use native.Mathlib.Numerals.{unary_clauses}
 use Rattle.std.specs.Result.{IsErrAnd}
-use Rattle.std.specs.List.{All, Contains}
-use Rattle.std.proofs.lemmas.List.Elements.{All-head, All-tail}
+use Rattle.std.specs.List.{Contains}
 use Rattle.std.proofs.lemmas.Option.{same_Some}
-use Rattle.chip_trait.specs.declared.event.Event.TheVariants.{Read, Program, Erase, Barrier, Said}
-use Rattle.chip_trait.specs.Story.{Story}
 use Rattle.chip_trait.specs.Told.{Told}
 use Rattle.ipl_base.specs.declared.fault.ChipFault.{ChipFault}
 use Rattle.ipl_base.specs.declared.fault.ChipFault.TheVariants.{ReadFault, Stopped, Damaged, Malformed}
@@ -15,7 +12,7 @@ use Rattle.ipl_base.specs.declared.fault.ImageFault.TheVariants.{Chip}
 use Rattle.ipl_meaning.specs.Chart.{Chart}
 use Rattle.ipl_meaning.specs.Layout.{Laid}
 use Rattle.ipl_meaning.specs.Tables.{Status}
-use Rattle.unit_io.specs.ReadsAt.{IsReadAt, ReadsAt, IsCauseAt}
+use Rattle.unit_io.specs.ReadsAt.{Anywhere, ReadsAt, IsCauseAt}
 use Rattle.ipl_base.specs.First.{first_below}
 use Rattle.opening_rules.specs.First.{greatest_below}
 use Rattle.opening_rules.specs.Chosen.{Winner, head_of, status_at}
@@ -27,28 +24,14 @@ use Rattle.number_set.specs.Numbers.{with_numbers}
 use Rattle.number_set.proofs.NumberLemmas.{numbers_are_a_union}
 use Rattle.txn_status.specs.ReadingIn.{under, status_in}
 use Rattle.opened_tables.specs.Opened.{IsOpenedStatus}
-use Rattle.restart.specs.Looks.{only_reads, OnlyReads, HasCause, Looks}
+use Rattle.unit_io.proofs.ReadsAtLemmas.{at_wider}
+use Rattle.restart.specs.Looks.{OnlyReads, HasCause, Looks}
 
 -- ---- what it does to the chip
 
-each_reads : (At : ℕ → ℕ → Type 0) (added : Story) → All (IsReadAt At) added → only_reads added ≡ true
-each_reads At [] each = refl
-each_reads At (Read p s ∷ added) each = each_reads At added (All-tail (IsReadAt At) (Read p s) added each)
-each_reads At (Program p s bytes ∷ added) each = absurd (All-head (IsReadAt At) (Program p s bytes) added each)
-each_reads At (Erase p ∷ added) each = absurd (All-head (IsReadAt At) (Erase p) added each)
-each_reads At (Barrier ∷ added) each = absurd (All-head (IsReadAt At) Barrier added each)
-each_reads At (Said piece ∷ added) each = absurd (All-head (IsReadAt At) (Said piece) added each)
-
 -- reads of some sectors are reads
 pub at_reads : (At : ℕ → ℕ → Type 0) (old new : Told) → ReadsAt At old new → OnlyReads old new
-at_reads At old new did = record {
-  settled = did.settled;
-  contents = did.contents;
-  added = did.added;
-  reads = each_reads At did.added did.each;
-  history = did.history;
-  counts = did.counts;
-}
+at_reads At old new = at_wider At Anywhere old new (λ p s is. tt)
 
 -- their fault is about what the chip holds, or a read failed
 at_cause : (At : ℕ → ℕ → Type 0) (e : ChipFault) (old new : Told) → IsCauseAt At e old new → HasCause (Chip e) old new

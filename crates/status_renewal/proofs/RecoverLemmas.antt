@@ -1,10 +1,7 @@
 -- An opening: reads, and then a new status place.
-use Rattle.std.proofs.Common.{◌≡◌, ◌≢◌, inl, inr, ℕ, ◌*◌, true, false, List, [], ◌∷◌, Some, None, Result, Ok, Err, sym, ◌∙◌, ap, subst, arith}
-use Rattle.std.specs.List.{All}
+use Rattle.std.proofs.Common.{◌≡◌, ◌≢◌, inl, inr, ℕ, ◌*◌, true, false, List, [], Some, None, Result, Ok, Err, sym, ◌∙◌, ap, subst, arith}
 use Rattle.std.proofs.lemmas.Bool.{cases_Bool, false≢true}
-use Rattle.std.proofs.lemmas.List.Elements.{All-nil, All-cons}
-use Rattle.chip_trait.specs.declared.event.Event.TheVariants.{Read, Program, Erase, Barrier, Said}
-use Rattle.chip_trait.specs.Story.{Story, Contents, held}
+use Rattle.chip_trait.specs.Story.{Contents, held}
 use Rattle.chip_trait.specs.Told.{History, Told, Counts, IsConsistent}
 use Rattle.ipl_base.specs.declared.fault.ChipFault.{ChipFault}
 use Rattle.ipl_base.specs.declared.fault.ChipFault.TheVariants.{ReadFault, Stopped}
@@ -22,42 +19,17 @@ use Rattle.opening_rules.specs.Chosen.{header_at}
 use Rattle.opening_rules.specs.Faults.{holds_live, is_image, first_fault}
 use Rattle.opening_rules.specs.LaidOut.{layout_in}
 use Rattle.opening_rules.specs.Live.{marks_in}
-use Rattle.restart.specs.Looks.{only_reads, OnlyReads, HasCause}
+use Rattle.restart.specs.Looks.{OnlyReads, HasCause}
 use Rattle.steps.specs.Laws.{Preserves}
 use Rattle.steps.specs.Steps.{Settled, TidyWork}
 use Rattle.steps.proofs.StepLemmas.{outcome_reads}
 use Rattle.steps.proofs.TidyLemmas.{tidy_reads}
 use Rattle.unit_io.specs.Leads.{IsSteady}
-use Rattle.unit_io.specs.ReadsAt.{IsReadAt, ReadsAt}
+use Rattle.unit_io.specs.ReadsAt.{Anywhere}
 use Rattle.unit_io.proofs.ReadsAtLemmas.{at_rests}
 use Rattle.status_renewal.specs.Passes.{HasRenewed, TellsChart, KeepsInSteps, RenewCause}
 use Rattle.status_renewal.specs.Recovers.{HasOpened, IsOpeningFault, LooksAtFaults, IsNowhere, RecoversInSteps, OpeningCause}
 use Rattle.status_renewal.proofs.PreserveLemmas.{held_told, agrees_of, reads_preserve, preserves_then}
-
--- ---- reads
-
--- some sector
-abbrev pub Anywhere : ℕ → ℕ → Type 0
-Anywhere p s = Unit {0}
-
-pub all_read : (added : Story) → only_reads added ≡ true → All (IsReadAt Anywhere) added
-all_read [] is = All-nil (IsReadAt Anywhere)
-all_read (Read p s ∷ older) is =
-    All-cons (IsReadAt Anywhere) (Read p s) older tt (all_read older is)
-all_read (Program p s bytes ∷ older) is = absurd (false≢true is)
-all_read (Erase p ∷ older) is = absurd (false≢true is)
-all_read (Barrier ∷ older) is = absurd (false≢true is)
-all_read (Said piece ∷ older) is = absurd (false≢true is)
-
-abbrev pub reads_anywhere : (old new : Told) → OnlyReads old new → ReadsAt Anywhere old new
-reads_anywhere old new did = record {
-  settled = did.settled;
-  contents = did.contents;
-  added = did.added;
-  each = all_read did.added did.reads;
-  history = did.history;
-  counts = did.counts;
-}
 
 -- ---- the tables
 
@@ -165,8 +137,7 @@ renewing_cause fault old mid new counts cause = record {
 -- only reads were made
 pub reads_recover : (places : ℕ) (old new : Told) (after : Tables) (e : ImageFault)
     → OnlyReads old new → RecoversInSteps places old (Err e) after new
-reads_recover places old new after e reads m h steady rests =
-    let did = reads_anywhere old new reads in
+reads_recover places old new after e did m h steady rests =
     let tidy = tidy_reads Anywhere IsNowhere (Unit {0}) old new did in
     outcome_reads Anywhere places m (TidyWork IsNowhere (IsCountedClean after) (false ≡ true))
     (Settled {T = Unit {0}} {E = ImageFault} (Err e) old new) (StoryRests places m) h old new
@@ -193,10 +164,9 @@ module _ (places : ℕ) (t after : Tables) (old mid new : Told)
     renews : (result : Result (Unit {0}) ChipFault) → KeepsInSteps places t after mid result new
         → Preserves places m t after h result old new
     renews result keeps =
-        let did = reads_anywhere old mid reads in
-        preserves_then places m h t t after old mid new result did.counts
+        preserves_then places m h t t after old mid new result reads.counts
         (λ p s counted. absurd (nowhere p s counted))
-        (reads_preserve Anywhere places m h t (Ok tt) old mid steady rests did)
+        (reads_preserve Anywhere places m h t (Ok tt) old mid steady rests reads)
         (λ k there resting tidy. keeps m (layout_in (now h) places) k there resting
         (agrees_of places k mid (held h.start h.story) (layout_in (now h) places) t law_mid there
         (reads.contents ∙ held_told h old law_old steady) both.1 tidy))

@@ -11,7 +11,7 @@ use Rattle.ipl_meaning.specs.Stands.{page_in}
 use Rattle.ipl_meaning.specs.Steps.{KeepsPages, with_log}
 use Rattle.ipl_meaning.specs.Tables.{Tables}
 use Rattle.unit_io.specs.Reads.{OfContents}
-use Rattle.unit_io.specs.ReadsAt.{ReadsAt}
+use Rattle.unit_io.specs.ReadsAt.{Anywhere, ReadsAt}
 use Rattle.unit_io.proofs.ReadsAtLemmas.{at_none}
 use Rattle.pending_writes.specs.Frames.{Frame, Frames, logs_of, with_frame_at, IsFrameOf}
 use Rattle.pending_writes.specs.Fits.{is_active, Fits}
@@ -23,7 +23,7 @@ use Rattle.pending_writes.proofs.RenewLemmas.{renewals_keep_pending}
 use Rattle.pending_writes.proofs.SameLemmas.{placed, frames_still}
 use Rattle.pending_writes.proofs.MemoryFitLemmas.{loads_fit, evictions_fit}
 use Rattle.store_steps.specs.Advances.{Memory, memory_of, MemoryFits, ShowsNext, KeepsTablesOn, state_then, KeepsMapOf, KeepsState}
-use Rattle.store_steps.specs.Laws.{Anywhere, NothingKeepsStates, KeepersAreJoined, FailedKeepersKeep, LookUpsAreAlike, ReadsKeepStates, LoadsKeepStates, EvictionsKeepStates, LogSectorsKeepStates, TableCallsKeepStates}
+use Rattle.store_steps.specs.Laws.{NothingKeepsStates, KeepersAreJoined, FailedKeepersKeep, LookUpsAreAlike, ReadsKeepStates, LoadsKeepStates, EvictionsKeepStates, LogSectorsKeepStates, TableCallsKeepStates}
 use Rattle.store_steps.proofs.AdvanceLemmas.{reads_advance, calls_advance, failures_advance, answers_advance}
 
 -- whatever is answered

@@ -19,7 +19,7 @@ use Rattle.ipl_meaning.specs.Agrees.{Agrees}
 use Rattle.unit_io.specs.Charts.{Charts}
 use Rattle.unit_io.specs.Leads.{IsSteady, IsStopped}
 use Rattle.unit_io.specs.Reads.{OfContents}
-use Rattle.unit_io.specs.ReadsAt.{ReadsAt}
+use Rattle.unit_io.specs.ReadsAt.{Anywhere, ReadsAt}
 use Rattle.steps.specs.Steps.{Settled}
 use Rattle.steps.specs.Laws.{Preserves}
 use Rattle.pending_writes.specs.Pending.{IsWrittenOut}
@@ -52,10 +52,6 @@ abbrev pub FailedKeepersKeep : Type 0
 FailedKeepersKeep = (t after : Tables) (frames later : Frames) (e f : ChipFault) (old new : Told)
     → KeepsState {T = ℕ} t frames old (Err e) after later new
     → KeepsState {T = Unit {0}} t frames old (Err f) after later new
-
--- any sector
-abbrev pub Anywhere : ℕ → ℕ → Type 0
-Anywhere p s = Unit {0}
 
 -- reads that change nothing in memory, done or not
 abbrev pub ReadsKeepStates : Type 0

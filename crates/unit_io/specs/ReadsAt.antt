@@ -8,6 +8,10 @@ use Rattle.chip_trait.specs.Told.{Told, Counts, Rose, adds_all}
 use Rattle.ipl_base.specs.declared.fault.ChipFault.{ChipFault}
 use Rattle.ipl_base.specs.declared.fault.ChipFault.TheVariants.{ReadFault, Stopped, Damaged, Malformed}
 
+-- any sector
+abbrev pub Anywhere : ℕ → ℕ → Type 0
+Anywhere p s = Unit {0}
+
 -- one of these sectors was read
 abbrev pub IsReadAt : (ℕ → ℕ → Type 0) → Event → Type 0
 IsReadAt At (Read p s) = At p s

@@ -1,5 +1,7 @@
 -- A unit's base pages, loaded one after another.
-use Rattle.std.proofs.Common.{◌≡◌, ◌<◌, ◌+◌, ◌*◌, ℕ, zero, suc, eqb, cond, true, List, [], slice_index, take, drop, Option, Some, None, Ok, Err, Result, inl, inr, refl, sym, ◌∙◌, ap, subst, arith}
+use Rattle.std.proofs.Common.{◌≡◌, ◌<◌, ◌+◌, ◌*◌, ℕ, zero, suc, eqb, cond, List, [], slice_index, take, drop, Option, Some, None, Ok, Err, Result, inl, inr, refl, sym, ◌∙◌, ap, subst, arith}
+use Rattle.std.specs.List.{All}
+use Rattle.std.proofs.lemmas.List.Elements.{All-nil, All-cons}
 use Rattle.std.proofs.lemmas.Bool.{cases_eq, eq-eqb, ne_eqb}
 use Rattle.chip_trait.specs.Story.{Contents}
 use Rattle.chip_trait.specs.Told.{Told, Counts}
@@ -15,27 +17,28 @@ use Rattle.sector_format.specs.Decode.{sector_of}
 use Rattle.unit_layout.specs.declared.header.DataHeader.{DataHeader}
 use Rattle.unit_layout.specs.Header.{SpellsHeader}
 use Rattle.unit_io.specs.Kinds.{header_only, sector_named}
+use Rattle.unit_io.specs.ReadsAt.{Anywhere, IsReadAt}
 use Rattle.unit_io.specs.Reads.{PageAsked, Reads, page_reads}
 use Rattle.ipl_base.specs.First.{first_below}
 use Rattle.unit_io.specs.Faults.{page_fault, HoldsPage}
 use Rattle.ipl_base.proofs.FirstLemmas.{first_more, first_found}
 use Rattle.memory_store.specs.Kept.{record_of}
-use Rattle.restart.specs.Looks.{only_reads, OnlyReads}
+use Rattle.restart.specs.Looks.{OnlyReads}
 use Rattle.unit_store.specs.Loads.{HasHead, IsHeadOf, LoadsPage, ShowsPages, page_fault_at, unit_fault}
 
 -- ---- reads
 
 -- the reads of a page are nothing else
-page_reads_read : (p page n : ℕ) → only_reads (page_reads p page n) ≡ true
-page_reads_read p page zero = refl
-page_reads_read p page (suc n) = page_reads_read p page n
+page_reads_read : (p page n : ℕ) → All (IsReadAt Anywhere) (page_reads p page n)
+page_reads_read p page zero = All-nil (IsReadAt Anywhere)
+page_reads_read p page (suc n) = All-cons (IsReadAt Anywhere) _ (page_reads p page n) tt (page_reads_read p page n)
 
 some_reads : (p page n : ℕ) {old new : Told} → Reads (page_reads p page n) old new → Counts old new → OnlyReads old new
 some_reads p page n reads counts = record {
   settled = reads.settled;
   contents = reads.contents;
   added = page_reads p page n;
-  reads = page_reads_read p page n;
+  each = page_reads_read p page n;
   history = reads.history;
   counts = counts;
 }

@@ -37,9 +37,10 @@ use Rattle.opening_rules.proofs.HeaderLemmas.{chosen_are_current}
 use Rattle.opening_rules.proofs.PayloadLemmas.{spelled_data_passes}
 use Rattle.opening_rules.proofs.LaidLemmas.{laid_is_fine_or_spent}
 use Rattle.opening_rules.proofs.CauseLemmas.{faults_are_caused}
+use Rattle.unit_io.specs.ReadsAt.{Anywhere}
+use Rattle.unit_io.proofs.ReadsAtLemmas.{at_rests, at_now}
 use Rattle.restart.specs.Looks.{OnlyReads, HasCause}
 use Rattle.unit_store.specs.Bare.{HasNoLog}
-use Rattle.restart.proofs.ReadingLemmas.{reads_rest, reads_hold}
 use Rattle.memory_store.specs.declared.store.MemoryStore.{MemoryStore}
 use Rattle.memory_store.specs.Kept.{record_of}
 use Rattle.memory_store.specs.Fits.{HasNoSession}
@@ -132,13 +133,13 @@ keeps_found old new store consistent reads sized idle found m h settled told res
         settled = reads.settled ∙ settled;
         on = subst (λ (q : ℕ). OnChip q store.directory store.counter m k) (sym sized)
             (subst (λ (g : History). OnChip old.places store.directory store.counter m g) (some_one (sym (reads_told old new reads h told) ∙ there)) (record {
-              rests = reads_rest old.places m h reads.added reads.reads rests;
+              rests = at_rests Anywhere old.places m h reads.added reads.each rests;
               layout = layout_in (now h) old.places;
               tables = it.tables;
               directory_is = it.directory_is;
               counter_is = it.counter_is;
-              mirrors = subst (λ (c : Chart). Mirrors old.places c (layout_in (now h) old.places) it.tables) (sym (reads_hold h reads.added reads.reads)) it.mirrors;
-              says = subst (λ (c : Chart). Says old.places c (layout_in (now h) old.places) m) (sym (reads_hold h reads.added reads.reads)) says;
+              mirrors = subst (λ (c : Chart). Mirrors old.places c (layout_in (now h) old.places) it.tables) (sym (at_now Anywhere h reads.added reads.each)) it.mirrors;
+              says = subst (λ (c : Chart). Says old.places c (layout_in (now h) old.places) m) (sym (at_now Anywhere h reads.added reads.each)) says;
               bare = none (layout_in (now h) old.places) it.mirrors.laid;
             }));
       };

@@ -4,9 +4,10 @@ use Rattle.ipl_meaning.specs.Chart.{chart_of}
 use Rattle.opening_rules.specs.LaidOut.{layout_in}
 use Rattle.selective_merge.specs.Moving.{tables_of}
 use Rattle.unit_io.specs.Costs.{Spends}
+use Rattle.unit_io.specs.ReadsAt.{Anywhere}
 use Rattle.status_renewal.specs.Passes.{RenewsTold, KeepsInSteps, CompletesRenewal, ErasesAtMost}
 use Rattle.status_renewal.proofs.CostLemmas.{reads_erase, reads_then_erase}
-use Rattle.status_renewal.proofs.RecoverLemmas.{Anywhere, reads_anywhere, of_parts, opened_parts, opens_told, opens_done, sound_looks, reads_recover, recovers_done, recovers_failed}
+use Rattle.status_renewal.proofs.RecoverLemmas.{of_parts, opened_parts, opens_told, opens_done, sound_looks, reads_recover, recovers_done, recovers_failed}
 use Rattle.status_renewal.proofs.CompleteLemmas.{all_mergeable, call_failed, reading_failed}
 use Rattle.status_renewal.proofs.recovering.recover.Goals as goal
 
@@ -35,7 +36,7 @@ returns-in_err-recover-clause-costs g c =
     let old = g.C.Chip.told c.args.chip.now in
     let mid = g.C.Chip.told c.recover.new.chip in
     reads_erase Anywhere (old.places - 3) old mid
-    (reads_anywhere old mid c.recover.ensures.looks.reads)
+    c.recover.ensures.looks.reads
 
 pub returns-in_err-renew-clause-looks : goal.returns-in_err-renew-clause-looks
 returns-in_err-renew-clause-looks g c =
@@ -73,7 +74,7 @@ returns-in_err-renew-clause-costs g c =
     let mid = g.C.Chip.told c.recover.new.chip in
     let new = g.C.Chip.told c.renew.new.chip in
     reads_then_erase Anywhere (old.places - 3) old mid new
-    (reads_anywhere old mid c.recover.ensures.looks.reads)
+    c.recover.ensures.looks.reads
     (subst (λ n. Spends (ErasesAtMost (n - 3)) mid new)
     c.recover.ensures.looks.reads.counts.places c.renew.ensures.costs)
 
@@ -133,7 +134,7 @@ returns-clause-costs g c =
     let mid = g.C.Chip.told c.recover.new.chip in
     let new = g.C.Chip.told c.renew.new.chip in
     reads_then_erase Anywhere (old.places - 3) old mid new
-    (reads_anywhere old mid c.recover.ensures.looks.reads)
+    c.recover.ensures.looks.reads
     (subst (λ n. Spends (ErasesAtMost (n - 3)) mid new)
     c.recover.ensures.looks.reads.counts.places c.renew.ensures.costs)
 
