@@ -1,5 +1,6 @@
 -- Laws of what is wrong with a unit that is to be merged.
 use Rattle.std.specs.Prelude.{ℕ, ◌≡◌, ◌<◌, ◌≤◌, ◌-◌, None}
+use Rattle.ipl_base.specs.declared.limits.TheConstants.{RESERVED_PLACES, CARRIED_SECTORS}
 use Rattle.chip_trait.specs.Story.{Contents}
 use Rattle.ipl_rules.specs.State.{Map}
 use Rattle.ipl_meaning.specs.Chart.{Chart, chart_of}
@@ -23,5 +24,5 @@ FaultsAreOfThePlace = (x y : Contents) (t : Tables) (it : Shape) (u : ℕ)
 -- where the pages say a map, each unit's pages read well
 abbrev pub SaidUnitsAreMergeable : Type 0
 SaidUnitsAreMergeable = (places : ℕ) (c : Chart) (it : Layout) (m : Map) (t : Tables) (u : ℕ)
-    → Says places c it m → u < places - 4 → carried_count (among t.active) (it.units u).log ≤ 12
+    → Says places c it m → u < places - RESERVED_PLACES → carried_count (among t.active) (it.units u).log ≤ CARRIED_SECTORS
     → IsMergeable c t (it.units u) u

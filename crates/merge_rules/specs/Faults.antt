@@ -1,5 +1,6 @@
 -- What is wrong with a unit that is to be merged, and why a merge fails.
 use Rattle.std.specs.Prelude.{ℕ, ◌≡◌, ◌≢◌, ◌⊎◌, ◌<◌, ◌≤◌, nat_le, slice_index, Option, Some, None, Result, MatchResult, IfErr, if◌then◌else◌}
+use Rattle.ipl_base.specs.declared.limits.TheConstants.{PAGES, CARRIED_SECTORS}
 use Rattle.chip_trait.specs.Story.{Contents}
 use Rattle.ipl_base.specs.First.{first_below}
 use Rattle.ipl_base.specs.declared.fault.ChipFault.{ChipFault}
@@ -23,12 +24,12 @@ page_fault_from x from page =
 
 -- what is wrong with the first such page
 abbrev pub pages_fault : Contents → Source → Option ChipFault
-pages_fault x from = first_below (page_fault_from x from) 15
+pages_fault x from = first_below (page_fault_from x from) PAGES
 
 -- what is wrong where so many log sectors would be carried: more than 12, or a page
 abbrev pub fault_with : Contents → Source → ℕ → Option ChipFault
 fault_with x from carried =
-    if nat_le carried 12 then pages_fault x from else Some (Malformed from.place 0)
+    if nat_le carried CARRIED_SECTORS then pages_fault x from else Some (Malformed from.place 0)
 
 -- what is wrong with a unit that is laid out so, where these tables are
 abbrev pub merge_fault : Contents → Tables → Shape → ℕ → Option ChipFault
@@ -36,8 +37,8 @@ merge_fault x t it u = fault_with x (source_of t it u) (carried_count (among t.a
 
 -- its pages read well, and at most 12 log sectors would be carried
 pub record IsMergeable (c : Chart) (t : Tables) (it : Shape) (u : ℕ) : Type 0 where
-  pub pages : (page : ℕ) → page < 15 → (slots : Slots) × ReadsWell c u it page slots
-  pub few : carried_count (among t.active) it.log ≤ 12
+  pub pages : (page : ℕ) → page < PAGES → (slots : Slots) × ReadsWell c u it page slots
+  pub few : carried_count (among t.active) it.log ≤ CARRIED_SECTORS
 
 -- ---- an answer
 

@@ -17,11 +17,10 @@ use Rattle.page_rebuild.specs.Loaded.{IsLoaded, IsLoadCause}
 use Rattle.pending_writes.specs.Frames.{Frame, Frames, logs_of, with_frame_at, IsFrameOf, pending_of}
 use Rattle.status_renewal.specs.Passes.{RenewCause}
 use Rattle.store_steps.specs.Advances.{KeepsState}
-use Rattle.unit_io.specs.ReadsAt.{Anywhere}
 use Rattle.store_steps.specs.Views.{frame_of}
 use Rattle.store_steps.proofs.KeeperLemmas.{loads_anywhere_keep_states, reads_anywhere_keep_states}
 use Rattle.unit_io.specs.Reads.{OfContents}
-use Rattle.unit_io.specs.ReadsAt.{ReadsAt}
+use Rattle.unit_io.specs.ReadsAt.{Anywhere, ReadsAt}
 use Rattle.frame_changes.proofs.FrameLemmas.{put_again, put_same}
 use Rattle.unit_io.specs.Accounts.{Accounts}
 use Rattle.merge_rules.specs.Known.{KnowsPlaces}

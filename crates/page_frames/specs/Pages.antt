@@ -1,5 +1,6 @@
 -- Pages in frames over the tables of a chip, as contracts see them, and what their calls leave.
 use Rattle.std.specs.Prelude.{ℕ, ◌≡◌, ◌≤◌, ◌<◌, ◌+◌, [], IsSome, Some, Result, Ok, Err, OnOk}
+use Rattle.ipl_base.specs.declared.limits.TheConstants.{RESERVED_PLACES}
 use Rattle.std.specs.Option.{option_map}
 use Rattle.chip_trait.specs.Told.{Told}
 use Rattle.ipl_base.specs.declared.fault.ChipFault.{ChipFault}
@@ -49,7 +50,7 @@ IsFresh pages u page = (f : Frame) × (frames_in pages u page ≡ Some f) × (f.
 -- there are frames.
 pub record IsReady (places : ℕ) (pages : Pages) : Type 0 where
   pub known : KnowsPlaces places (tables_in pages)
-  pub within : (u page : ℕ) (f : Frame) → frames_in pages u page ≡ Some f → u + 4 < places
+  pub within : (u page : ℕ) (f : Frame) → frames_in pages u page ≡ Some f → u + RESERVED_PLACES < places
   pub rest : IsAtRest pages.pool
 
 -- ---- causes

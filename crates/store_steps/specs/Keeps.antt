@@ -262,7 +262,7 @@ pub record TellsName (slots : Slots) (state : State) (n : ℕ) (f : Frame) : Typ
 -- after a call that keeps each state and was done, where the chip told what it held
 abbrev pub KeptFramesTell : Type 0
 KeptFramesTell = (n : ℕ) (store : View) (t : Tables) (later : Frames) (f : Frame) (state : State)
-    (old new : Told) → store.units + 4 ≡ old.places → store.down ≡ false
+    (old new : Told) → store.units + RESERVED_PLACES ≡ old.places → store.down ≡ false
     → KeepsState {T = Unit {0}} {E = ChipFault} store.memory.tables store.memory.frames old (Ok tt)
     t later new
     → later (home_of n).unit (home_of n).page ≡ Some f

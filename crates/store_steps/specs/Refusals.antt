@@ -1,5 +1,6 @@
 -- What a store refuses: its sessions tell it, as the model's state does.
 use Rattle.std.specs.Prelude.{ℕ, ◌≡◌, ◌<◌, ◌≤◌, ◌*◌, [], ◌∷◌, List, length, Some, None, Result, Ok}
+use Rattle.ipl_base.specs.declared.limits.TheConstants.{SESSIONS, UNIT_NAMES}
 use Rattle.chip_trait.specs.Told.{Told}
 use Rattle.ipl_base.specs.declared.fault.Refusal.{Refusal}
 use Rattle.ipl_rules.specs.Refusals.{refuses_begin, refuses_get, refuses_share, refuses_put, refuses_del, refuses_end, refuses_list, refuses_merge}
@@ -53,7 +54,7 @@ AcceptedLead = (units : ℕ) (c : Command) (before after : Memory) (result : Res
 
 -- the session is one of the 32, open under a number, and may be ended
 pub record IsOpenSession (slots : Slots) (s : ℕ) : Type 0 where
-  pub low : s < 32
+  pub low : s < SESSIONS
   pub number : ℕ
   pub number_is : number_of slots s ≡ Some number
   pub may_end : locks.refuses_end slots s ≡ None
@@ -61,7 +62,7 @@ pub record IsOpenSession (slots : Slots) (s : ℕ) : Type 0 where
 -- and the name is one of the units'
 pub record ReachesName (units : ℕ) (slots : Slots) (s n : ℕ) : Type 0 where
   pub session : IsOpenSession slots s
-  pub name : n < 960 * units
+  pub name : n < UNIT_NAMES * units
 
 -- and the locks let it be written
 pub record MayWriteName (units : ℕ) (slots : Slots) (s n : ℕ) : Type 0 where
@@ -72,7 +73,7 @@ pub record MayWriteName (units : ℕ) (slots : Slots) (s n : ℕ) : Type 0 where
 abbrev pub PassedBegins : Type 0
 PassedBegins = (units : ℕ) (slots : Slots) (s : ℕ)
     → refuses_begin (limits_of units) (state_of slots) s ≡ None
-    → (s < 32) × (number_of slots s ≡ None) × (locks.refuses_begin slots s ≡ None)
+    → (s < SESSIONS) × (number_of slots s ≡ None) × (locks.refuses_begin slots s ≡ None)
 
 -- a get
 abbrev pub PassedGets : Type 0
@@ -104,7 +105,7 @@ PassedEnds = (units : ℕ) (slots : Slots) (s : ℕ)
 -- a list: both names are the units'
 abbrev pub PassedLists : Type 0
 PassedLists = (units a b : ℕ) → refuses_list (limits_of units) a b ≡ None
-    → (a < 960 * units) × (b < 960 * units)
+    → (a < UNIT_NAMES * units) × (b < UNIT_NAMES * units)
 
 -- a merge: the unit is one of the chip's
 abbrev pub PassedMerges : Type 0
