@@ -1,4 +1,5 @@
 //! What a commit asks of a small chip, and what asks nothing.
+ghost use Rattle.std.specs.Prelude.{OnOk};
 ghost use Rattle.chip_trait.specs.Told.{Told};
 ghost use Rattle.store_trait.specs.Keeping.{IsSingle};
 ghost use Rattle.unit_store.specs.Keeps.{Suits};
@@ -26,28 +27,25 @@ fn named(event: &Event) -> (&'static str, u32, u32) {
 fn does<C: Chip>(store: &mut UnitStore, chip: &mut C, command: Command) -> Result<Reply, Fault>
     requires single { IsSingle command }
     requires suits { Suits store.old (C.told chip.old).places }
-    ensures { Suits store.new (C.told chip.new).places }
+    ensures { OnOk result (Suits store.new (C.told chip.new).places) }
 {
     store.work(chip, &command)
 }
 
 /// Opens session 0, writes a value under two names, and ends the session; whether all were answered ok.
-fn writes_two<C: Chip>(store: &mut UnitStore, chip: &mut C, is_kept: bool) -> bool
+fn writes_two<C: Chip>(store: &mut UnitStore, chip: &mut C, is_kept: bool) -> Result<bool, Fault>
     requires { Suits store.old (C.told chip.old).places }
-    ensures { Suits store.new (C.told chip.new).places }
+    ensures { OnOk result (Suits store.new (C.told chip.new).places) }
 {
-    let begun = does(store, chip, Command::Begin(0));
-    let first = does(store, chip, Command::Put(0, 5, PutBytes::of(b"hello")));
-    let second = does(store, chip, Command::Put(0, 70, PutBytes::of(b"again")));
+    let begun = does(store, chip, Command::Begin(0))?;
+    let first = does(store, chip, Command::Put(0, 5, PutBytes::of(b"hello")))?;
+    let second = does(store, chip, Command::Put(0, 70, PutBytes::of(b"again")))?;
     let ended = if is_kept {
-        does(store, chip, Command::Commit(0))
+        does(store, chip, Command::Commit(0))?
     } else {
-        does(store, chip, Command::Abort(0))
+        does(store, chip, Command::Abort(0))?
     };
-    begun == Ok(Reply::Ok)
-        && first == Ok(Reply::Ok)
-        && second == Ok(Reply::Ok)
-        && ended == Ok(Reply::Ok)
+    Ok(begun == Reply::Ok && first == Reply::Ok && second == Reply::Ok && ended == Reply::Ok)
 }
 
 #[test]
@@ -58,17 +56,19 @@ fn a_commit_writes_the_unit_at_the_lowest_free_place(rt: HostRuntime) -> Result<
     };
     let mut store = UnitStore::formatted(rt.alloc(), geometry)?;
     // An abort asks nothing of the chip, and neither does a commit with no write.
-    assert!(rt; writes_two(&mut store, &mut chip, false));
-    assert_eq!(rt;
-        does(&mut store, &mut chip, Command::Begin(0)),
-        Ok(Reply::Ok)
-    );
-    assert_eq!(rt;
-        does(&mut store, &mut chip, Command::Commit(0)),
-        Ok(Reply::Ok)
-    );
+    let Ok(true) = writes_two(&mut store, &mut chip, false) else {
+        return Err(Fail::from("an aborted session wasn't answered"));
+    };
+    let Ok(Reply::Ok) = does(&mut store, &mut chip, Command::Begin(0)) else {
+        return Err(Fail::from("a begin wasn't answered"));
+    };
+    let Ok(Reply::Ok) = does(&mut store, &mut chip, Command::Commit(0)) else {
+        return Err(Fail::from("a commit of nothing wasn't answered"));
+    };
     assert_eq!(rt; chip.events().len(), 0);
-    assert!(rt; writes_two(&mut store, &mut chip, true));
+    let Ok(true) = writes_two(&mut store, &mut chip, true) else {
+        return Err(Fail::from("a committed session wasn't answered"));
+    };
     // Unit 0 has place 0, and the status place 1. Names 5 and 70 are of pages 0 and 1.
     let cases = [
         ("erase", 2, 0),
@@ -83,10 +83,9 @@ fn a_commit_writes_the_unit_at_the_lowest_free_place(rt: HostRuntime) -> Result<
     for (event, case) in chip.events().iter().zip(cases) {
         assert_eq!(rt; named(event), case);
     }
-    assert_eq!(rt;
-        does(&mut store, &mut chip, Command::Begin(0)),
-        Ok(Reply::Ok)
-    );
+    let Ok(Reply::Ok) = does(&mut store, &mut chip, Command::Begin(0)) else {
+        return Err(Fail::from("a begin wasn't answered"));
+    };
     let Some(value) = Value::of(b"hello") else {
         return Err(Fail::from("too long"));
     };
