@@ -10,5 +10,6 @@ mod commits;
 mod numbers;
 mod sessions;
 mod transactions;
+mod writes;
 
 pub use transactions::Transactions;

@@ -1,0 +1,54 @@
+use Rattle.std.proofs.Common.{refl, sym, ◌∙◌, arith}
+use Rattle.std.proofs.lemmas.Option.{none-some}
+use Rattle.std.proofs.lemmas.Result.{err_from_is_err_and}
+use Rattle.ipl_rules.specs.Operations.{after_write}
+use Rattle.log_records.specs.View.{change_of, record_of}
+use Rattle.record_locks.specs.Locks.{refuses_write}
+use Rattle.transactions.proofs.OpenLemmas.{writes_numbered, unrefused_done}
+use Rattle.transactions.proofs.SessionLemmas.{locks_of}
+use Rattle.transactions.proofs.TurnLemmas.{upheld_no_more}
+use Rattle.transactions.proofs.WriteLemmas.{was_written}
+use Rattle.transactions.proofs.transactions.Transactions.write.Goals as goal
+
+pub unreachable-requires : goal.unreachable-requires
+unreachable-requires g c =
+    let mine = writes_numbered c.args.self.now.sessions c.args.s c.args.name.0
+    c.requires.unrefused in
+    none-some mine.0 (sym c.in_default.is ∙ c.number.ensures ∙ mine.1)
+
+pub returns-in_err-prepare-clause-turns : goal.returns-in_err-prepare-clause-turns
+returns-in_err-prepare-clause-turns g c =
+    let old = c.args.self.now in
+    let e = err_from_is_err_and c.from_residual.result c.from_residual.ensures.1 in
+    rw (e.1, e.2)
+    (upheld_no_more
+    (λ state. after_write state c.args.s (c.args.name.0, change_of c.args.change)) 14 old
+    (record { pages = c.prepare.new.self; sessions = old.sessions })
+    c.in_err-prepare.field-0.0 (g.C.Chip.told c.args.chip.now) (g.C.Chip.told c.prepare.new.chip)
+    c.requires.order c.in_err-prepare.ensures.upholds refl)
+
+pub returns-clause-turns : goal.returns-clause-turns
+returns-clause-turns g c =
+    let old = c.args.self.now in
+    let s = c.args.s in
+    let name = c.args.name.0 in
+    let at = c.home-home.result in
+    let did = unrefused_done c.write.result (refuses_write old.sessions s name)
+    c.write.ensures.refusal c.requires.unrefused c.write.ensures.ok in
+    was_written s name at.unit
+    (record {
+      page = at.page;
+      slot = at.slot;
+      tid = c.in-Some.tid;
+      change = change_of c.args.change;
+    })
+    old
+    (record {
+      pages = record { parts = c.prepare.new.self.parts; pool = c.put_record.new.pool };
+      sessions = c.write.new.self;
+    }) c.prepare.new.self (g.C.Chip.told c.args.chip.now) (g.C.Chip.told c.prepare.new.chip)
+    (g.met.C.Chip.consistent c.args.chip.now) (g.met.C.Chip.consistent c.prepare.new.chip)
+    c.requires.order c.requires.session (sym c.number.ensures ∙ c.in-Some.is) c.requires.name
+    c.home-home.ensures.exact c.has_spelling.ensures c.in_ok-prepare.ensures.upholds did
+    (locks_of c.write.new.self c.facts.ensures.all c.facts.ensures.one_writer c.facts.ensures.few)
+    refl c.put_record.ensures.put c.put_record.ensures.pins

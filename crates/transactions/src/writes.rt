@@ -1,0 +1,75 @@
+//! A name is changed.
+ghost use Rattle.std.specs.Prelude.{◌≡◌, ◌<◌, ◌+◌, ◌-◌, ◌*◌, ◌^◌, ◌≤◌, length, None};
+ghost use Rattle.unit_io.specs.Costs.{Spends};
+ghost use Rattle.ipl_format.specs.Record.{IsRecord, value_of};
+ghost use Rattle.log_records.specs.View.{change_of, record_of};
+ghost use Rattle.ipl_rules.specs.Operations.{after_write};
+ghost use Rattle.record_locks.specs.Locks.{refuses_write};
+ghost use Rattle.page_writing.specs.Spending.{ErasesAndLogs};
+ghost use Rattle.transactions.specs.Turns.{IsInOrder, Turns};
+
+use crate::Transactions;
+use chip_trait::Chip;
+use frame_changes::put_record;
+use ipl_base::{ChipFault, Name, home};
+use log_records::{Change, Record};
+
+impl Transactions {
+    /// Puts or deletes a name of the chip for a session (0 to 31), which no lock keeps it from. The
+    /// page of the name is in a frame then, with the change pending and its record in memory.
+    pub fn write<C: Chip>(
+        &mut self,
+        chip: &mut C,
+        s: u32,
+        name: Name,
+        change: Change,
+    ) -> Result<(), ChipFault>
+        requires order { IsInOrder (C.told chip.old).places self.old }
+        requires session { s < 32 }
+        requires name { name.0 < 960 * ((C.told chip.old).places - 4) }
+        requires unrefused { refuses_write self.old.sessions s name.0 ≡ None }
+        requires left { self.old.pages.parts.counter + 14 < 2 ^ 64 }
+        ensures turns { Turns (λ state. after_write state s (name.0, change_of change)) 14
+            self.old (C.told chip.old) result self.new (C.told chip.new) }
+        ensures costs { Spends (ErasesAndLogs self.old.pages.parts.directory)
+            (C.told chip.old) (C.told chip.new) }
+    {
+        let home = home(name);
+        let Some(tid) = self.sessions.number(s) else {
+            unreachable!("the session is open");
+        };
+        let record = Record {
+            page: home.page,
+            slot: home.slot,
+            tid,
+            change,
+        };
+        has_spelling(&record);
+        self.pages.prepare(chip, home.unit, &record)?;
+        put_record(&mut self.pages.pool, home.unit, &record);
+        let _ = self.sessions.write(s, name);
+        self.sessions.facts();
+        Ok(())
+    }
+}
+
+// A record of page 0 to 14 and slot 0 to 63 has a spelling.
+fn has_spelling(rec: &Record)
+    requires page { rec.now.page < 15 }
+    requires slot { rec.now.slot < 64 }
+    ensures { IsRecord (record_of rec.now) }
+{
+    let _ = rec.tid.to_be_bytes();
+    let _ = value_len(&rec.change);
+}
+
+// How many bytes the value of a change has, at most 108.
+fn value_len(change: &Change) -> usize
+    ensures len { result ≡ length (value_of (change_of change.now)) }
+    ensures short { result ≤ 108 }
+{
+    match change {
+        Change::Put(value) => value.bytes().len(),
+        Change::Delete => 0,
+    }
+}
