@@ -5,3 +5,4 @@ pub mod SessionLemmas
 pub mod CommitLemmas
 pub mod TurnLemmas
 pub mod WriteLemmas
+pub mod CostLemmas

@@ -1,8 +1,8 @@
-use Rattle.std.proofs.Common.{refl, sym, ◌∙◌, arith}
+use Rattle.std.proofs.Common.{refl, sym, ◌∙◌}
 use Rattle.std.proofs.lemmas.Option.{none-some}
 use Rattle.std.proofs.lemmas.Result.{err_from_is_err_and}
 use Rattle.ipl_rules.specs.Operations.{after_write}
-use Rattle.log_records.specs.View.{change_of, record_of}
+use Rattle.log_records.specs.View.{change_of}
 use Rattle.record_locks.specs.Locks.{refuses_write}
 use Rattle.transactions.proofs.OpenLemmas.{writes_numbered, unrefused_done}
 use Rattle.transactions.proofs.SessionLemmas.{locks_of}

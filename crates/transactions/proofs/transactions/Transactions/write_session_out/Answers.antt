@@ -1,0 +1,29 @@
+use Rattle.std.proofs.Common.{ℕ, ◌+◌, ◌*◌, ◌^◌, List, Err, OnOk, subst, arith}
+use Rattle.std.specs.List.{All}
+use Rattle.std.proofs.lemmas.Result.{err_from_is_err_and}
+use Rattle.store_steps.specs.Numbers.{IsOut}
+use Rattle.page_frames.specs.Pages.{frames_in}
+use Rattle.page_frames.proofs.UpholdLemmas.{upholds_then, upholds_weaker}
+use Rattle.transactions.proofs.transactions.Transactions.write_session_out.Goals as goal
+
+pub returns-in_err-ready_status-clause-upholds : goal.returns-in_err-ready_status-clause-upholds
+returns-in_err-ready_status-clause-upholds g c =
+    let e = err_from_is_err_and c.from_residual.result c.from_residual.ensures.1 in
+    rw (e.1, e.2)
+    (upholds_weaker (2 ^ 14) (2 ^ 14 + 14 * 64) c.args.self.now.pages c.ready_status.new.self
+    (Err c.in_err-ready_status.field-0.0) (g.C.Chip.told c.args.chip.now)
+    (g.C.Chip.told c.ready_status.new.chip) (omega arith) c.in_err-ready_status.ensures.upholds)
+
+pub returns-clause-upholds : goal.returns-clause-upholds
+returns-clause-upholds g c =
+    upholds_then (2 ^ 14) (14 * 64) c.args.self.now.pages c.ready_status.new.self
+    c.write_names_out.new.self c.write_names_out.result (g.C.Chip.told c.args.chip.now)
+    (g.C.Chip.told c.ready_status.new.chip) (g.C.Chip.told c.write_names_out.new.chip)
+    (g.met.C.Chip.consistent c.args.chip.now) (g.met.C.Chip.consistent c.ready_status.new.chip)
+    c.in_ok-ready_status.ensures.upholds c.write_names_out.ensures.upholds
+
+pub returns-clause-out : goal.returns-clause-out
+returns-clause-out g c =
+    subst (λ (l : List ℕ). OnOk c.write_names_out.result
+    (All (IsOut (frames_in c.write_names_out.new.self)) l)) c.written.ensures.names
+    c.write_names_out.ensures.out
