@@ -2,7 +2,7 @@
 ghost use Rattle.std.specs.Prelude.{◌≡◌, ◌<◌, ◌+◌, ◌^◌, None};
 ghost use Rattle.ipl_rules.specs.Operations.{after_begin, after_share, after_abort};
 ghost use Rattle.pending_writes.specs.Fits.{LocksHold};
-ghost use Rattle.record_locks.specs.Held.{after_end, numbers_in};
+ghost use Rattle.record_locks.specs.Held.{after_end, number_of, numbers_in};
 ghost use Rattle.record_locks.specs.Locks.{refuses_begin, refuses_share, refuses_end};
 ghost use Rattle.transactions.specs.Turns.{TurnsInMemory, IsSameButActive};
 
@@ -31,7 +31,8 @@ impl Transactions {
         requires session { s < 32 }
         requires unrefused { refuses_share self.old.sessions s name.0 ≡ None }
         ensures turns { TurnsInMemory (λ state. after_share state s name.0) self.old self.new }
-        ensures drawn { self.new.pages.parts.counter ≡ self.old.pages.parts.counter }
+        ensures pages { self.new.pages ≡ self.old.pages }
+        ensures same { number_of self.new.sessions s ≡ number_of self.old.sessions s }
     {
         let _ = self.sessions.share(s, name);
         self.sessions.facts();
