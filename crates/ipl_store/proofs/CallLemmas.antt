@@ -1,29 +1,28 @@
 -- What calls of a store leave.
-use Rattle.std.proofs.Common.{◌≡◌, ℕ, ◌+◌, ◌≤◌, ◌||◌, nat_lt, Bool, true, false, List, length, Option, Some, None, Result, Ok, Err, IfErr, is_ok, if◌then◌else◌, refl, sym, ◌∙◌, ap, subst, arith}
+use Rattle.std.proofs.Common.{◌≡◌, inl, inr, ℕ, ◌+◌, ◌≤◌, ◌||◌, nat_lt, Bool, true, false, List, length, Option, Some, None, Result, Ok, Err, IfErr, OnOk, is_ok, if◌then◌else◌, refl, sym, ◌∙◌, ap, subst, arith}
 use Rattle.std.proofs.lemmas.Bool.Decides.{nat_tests}
-use Rattle.chip_trait.specs.Told.{Told, Counts}
+use Rattle.chip_trait.specs.Told.{History, Told, IsConsistent}
+use Rattle.chip_trait.proofs.CountsLemmas.{counts_none}
 use Rattle.ipl_base.specs.declared.fault.ChipFault.{ChipFault}
 use Rattle.ipl_base.specs.declared.fault.Refusal.{Refusal}
 use Rattle.ipl_base.specs.declared.fault.StoreFault.{StoreFault}
 use Rattle.ipl_base.specs.declared.fault.StoreFault.TheVariants.{Down, Spent, Refused, Chip}
 use Rattle.ipl_rules.specs.State.{State}
+use Rattle.buffer_pool.specs.Holding.{KeepsPins}
 use Rattle.store_trait.specs.Keeping.{LAST_NUMBER}
 use Rattle.unit_io.specs.Accounts.{Accounts}
 use Rattle.store_steps.specs.Advances.{TurnsMapOf, LeadsTo}
-use Rattle.store_steps.proofs.AdvanceLemmas.{answers_advance}
+use Rattle.store_steps.proofs.AdvanceLemmas.{answers_advance, calls_advance, failures_advance}
+use Rattle.store_steps.proofs.KeeperLemmas.{nothing_keeps_states}
 use Rattle.store_steps.proofs.LeadLemmas.{keepers_lead_still}
 use Rattle.page_frames.specs.declared.pages.Pages.{Pages}
 use Rattle.page_frames.specs.Pages.{PageCause, Upholds}
 use Rattle.transactions.specs.declared.transactions.Transactions.{Transactions}
 use Rattle.transactions.specs.Turns.{memory_in, IsInOrder, Turns, TurnsInMemory}
 use Rattle.ipl_store.specs.declared.store.Store.{Store}
-use Rattle.ipl_store.specs.Calls.{memory_of_store, counter_of, IsMade, IsSound, early_fault, entry_fault, down_fault, is_stopped, EndsAs, EndsFor, Calls}
+use Rattle.ipl_store.specs.Calls.{memory_of_store, counter_of, IsMade, IsSound, early_fault, entry_fault, down_fault, is_stopped, EndsAs, EndsFor, KeepsHolds, Calls}
 
 -- ---- before anything is done
-
-pub counts_still : (told : Told) → Counts told told
-counts_still told =
-    record { places = refl; reads = omega arith; writes = omega arith; beside = refl }
 
 pub calls_refused : {T : Type 0} (early : Option StoreFault) (next : State → State) (most : ℕ)
     (store : Store) (told : Told) (result : Result T StoreFault) (fault : StoreFault)
@@ -35,7 +34,7 @@ calls_refused early next most store told result fault is answer sound = record {
       let one : fault ≡ first = cc same in (answer ∙ ap Err one, refl, refl);
   serves = λ none. let no : Some fault ≡ None = sym is ∙ none in absurd (cc no);
   sound = sound;
-  counts = counts_still told;
+  counts = counts_none told;
 }
 
 -- what is known where a call is let in
@@ -103,7 +102,7 @@ memory_moves next most old new told did order least drawn = record {
   limit = did.pins.limit;
   least = least;
   drawn = drawn;
-  accounts = record { counts = counts_still told; cause = tt };
+  accounts = record { counts = counts_none told; cause = tt };
 }
 
 -- one that knows the pages alone
@@ -203,3 +202,117 @@ memory_calls next most old t told early sound up did least drawn none =
     up sound
     (memory_moves next most old.transactions t told did (sound.order up) least drawn) refl
     (refl, refl) early none
+
+-- ---- which pages are held, and which sessions are open
+
+pub kept_holds : (old new : Store) (t : Transactions) (kept : List ℕ)
+    → new ≡ record old { transactions = t; kept = kept; down = new.down }
+    → KeepsPins old.transactions.pages.pool t.pages.pool → KeepsHolds old new
+kept_holds old new t kept rest pins =
+    subst (λ (it : Transactions). KeepsPins old.transactions.pages.pool it.pages.pool)
+    (sym (ap (λ (s : Store). s.transactions) rest)) pins
+
+-- ---- a call that is let in
+
+pub let_in_calls : {T : Type 0} (early : Option StoreFault) (next : State → State) (most : ℕ)
+    (old : Store) (before : Told) (result : Result T StoreFault) (new : Store) (after : Told)
+    → early ≡ None → Calls None next most old before result new after
+    → Calls early next most old before result new after
+let_in_calls early next most old before result new after none calls = record {
+  refuses = λ fault is. let no : None ≡ Some fault = sym none ∙ is in absurd (cc no);
+  serves = λ let_in. calls.serves refl;
+  sound = calls.sound;
+  counts = calls.counts;
+}
+
+-- ---- a call that does nothing
+
+pub idle_calls : (most : ℕ) (store : Store) (told : Told) (early : Option StoreFault)
+    → IsSound told.places store → store.down ≡ false → early ≡ None
+    → Calls {T = Unit {0}} early (λ state. state) most store told (Ok tt) store told
+idle_calls most store told early sound up none =
+    moved_calls (λ state. state) most store store.transactions store.kept told told (Ok tt) (Ok tt)
+    store up sound (record {
+      leads = keepers_lead_still (memory_in store.transactions)
+          (memory_in store.transactions).tables (memory_in store.transactions).frames (Ok tt) told
+          told (nothing_keeps_states (memory_in store.transactions).tables
+          (memory_in store.transactions).frames told);
+      order = sound.order up;
+      limit = refl;
+      least = omega arith;
+      drawn = omega arith;
+      accounts = record { counts = counts_none told; cause = tt };
+    }) refl (refl, refl) early none
+
+-- what holds where the work was done holds where the call was
+pub done_ends : (P : Type 0) (done : Result (Unit {0}) ChipFault) (was is : Bool)
+    (result : Result (Unit {0}) StoreFault) → EndsAs done was result is → OnOk done P
+    → OnOk result P
+done_ends P (Ok v) was is result ends did =
+    subst (λ (r : Result (Unit {0}) StoreFault). OnOk r P) (sym ends.0) did
+done_ends P (Err e) was is result ends did =
+    subst (λ (r : Result (Unit {0}) StoreFault). OnOk r P) (sym ends.0) tt
+
+-- ---- a call that keeps each state, and then one in memory
+
+-- what leaves the map leaves one of two
+kept_either : (next : State → State) (places : ℕ) (state : State) (k : History)
+    → TurnsMapOf (λ same. same) places state k → TurnsMapOf next places state k
+kept_either next places state k each x image = elim (each x image) [
+  | inl is ↦ inl is
+  | inr is ↦ inl is
+]
+
+pub calls_joined : (early : Option StoreFault) (next : State → State) (most : ℕ)
+    (old mid : Store) (t : Transactions) (before after : Told) → early ≡ None
+    → IsConsistent before → IsConsistent after → mid.down ≡ false
+    → Calls {T = Unit {0}} None (λ state. state) most old before (Ok tt) mid after
+    → TurnsInMemory next mid.transactions t → t.pages.parts.counter ≡ counter_of mid
+    → Calls {T = Unit {0}} early next most old before (Ok tt) (record mid { transactions = t }) after
+calls_joined early next most old mid t before after none law then_law up first did drawn = record {
+  refuses = λ fault is. let no : None ≡ Some fault = sym none ∙ is in absurd (cc no);
+  serves = λ let_in. record {
+    leads = calls_advance {T = Unit {0}} {U = Unit {0}} {E = StoreFault} {F = StoreFault}
+        (TurnsMapOf (λ state. state)) (TurnsMapOf next) (TurnsMapOf next) next
+        (memory_of_store old) (memory_of_store mid)
+        (memory_of_store (record mid { transactions = t })) tt (Ok tt) before after after
+        (kept_either next) (λ places state k is. is) law then_law first.counts
+        (first.serves refl).leads (second.serves refl).leads;
+    ends = up;
+    least = omega (arith, (first.serves refl).least, drawn);
+    drawn = omega (arith, (first.serves refl).drawn, drawn);
+  };
+  sound = subst (λ (n : ℕ). IsSound n (record mid { transactions = t })) first.counts.places
+      second.sound;
+  counts = first.counts;
+}
+  where
+    second : Calls {T = Unit {0}} None next 0 mid after (Ok tt) (record mid { transactions = t })
+        after
+    second = memory_calls next 0 mid t after None
+        (subst (λ (n : ℕ). IsSound n mid) (sym first.counts.places) first.sound) up did
+        (omega (arith, drawn)) (omega (arith, drawn)) refl
+
+-- a call that failed, where nothing else is done then
+pub failed_calls : (early : Option StoreFault) (next : State → State) (most : ℕ) (old : Store)
+    (before : Told) (fault : StoreFault) (new : Store) (after : Told) → early ≡ None
+    → Calls {T = Unit {0}} None (λ state. state) most old before (Err fault) new after
+    → Calls {T = Unit {0}} early next most old before (Err fault) new after
+failed_calls early next most old before fault new after none calls = record {
+  refuses = λ first is. let no : None ≡ Some first = sym none ∙ is in absurd (cc no);
+  serves = λ let_in.
+      let did = calls.serves refl in record {
+        leads = failures_advance {T = Unit {0}} {U = Unit {0}} (TurnsMapOf (λ state. state))
+            (TurnsMapOf next) (memory_of_store old) (memory_of_store new) (λ state. state) next
+            fault fault before after (kept_either next) did.leads;
+        ends = did.ends;
+        least = did.least;
+        drawn = did.drawn;
+      };
+  sound = calls.sound;
+  counts = calls.counts;
+}
+
+pub on_ok : {T : Type 0} {P : Type 0} (result : Result T StoreFault) → P → OnOk result P
+on_ok (Ok v) is = is
+on_ok (Err e) is = tt

@@ -15,7 +15,7 @@ alike false false there back = refl
 
 module _ (buffers : Slab Buffer) (tells : TellsBuffers buffers) (u page : ℕ) where
   -- a buffer with a pin holds its page
-  pinned_held : (o : Option Buffer) → buffer_of buffers u page ≡ o → is_pinned o ≡ true
+  pub pinned_held : (o : Option Buffer) → buffer_of buffers u page ≡ o → is_pinned o ≡ true
       → IsHeld buffers u page
   pinned_held None there pinned = absurd (false≢true pinned)
   pinned_held (Some b) there pinned =
@@ -29,7 +29,7 @@ module _ (buffers : Slab Buffer) (tells : TellsBuffers buffers) (u page : ℕ) w
         pinned = grind (arith, nat_tests);
       }
 
-  held_pinned : IsHeld buffers u page → is_pinned (buffer_of buffers u page) ≡ true
+  pub held_pinned : IsHeld buffers u page → is_pinned (buffer_of buffers u page) ≡ true
   held_pinned held =
       let found = tells.found u page held.key held.buffer held.stored held.unit_is held.page_is in
       let pins : nat_lt 0 held.buffer.pins ≡ true = grind (arith, nat_tests) in

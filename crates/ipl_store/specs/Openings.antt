@@ -19,7 +19,7 @@ use Rattle.unit_io.specs.Costs.{Spends}
 use Rattle.unit_io.specs.Leads.{IsSteady}
 use Rattle.unit_io.specs.Reads.{OfContents}
 use Rattle.status_renewal.specs.Passes.{ErasesAtMost}
-use Rattle.status_renewal.specs.Recovers.{CompletesOpening, RecoversTold, RecoversInSteps, OpeningCause}
+use Rattle.status_renewal.specs.Recovers.{CompletesOpening, RecoversTold, LooksAtFaults, RecoversInSteps, OpeningCause}
 use Rattle.store_steps.specs.Advances.{Memory, LeadsTo}
 use Rattle.store_steps.specs.Keeps.{limits_of, ShowsState, KeepsStore}
 use Rattle.page_frames.specs.Pages.{tables_in}
@@ -50,11 +50,13 @@ Restarts before old after new = LeadsTo {T = Unit {0}} {E = ChipFault}
     (λ state. after_restart state) before old (Ok tt) after new
 
 -- What an opening does to the chip, which fails so or leaves these tables: what it tells, what a
--- power cut leaves, when it may fail, how many erases it makes, and why it fails.
+-- power cut leaves, that a faulty chip is only read, when it may fail, how many erases it makes, and
+-- why it fails.
 pub record Tries (places : ℕ) (old : Told) (result : Result (Unit {0}) ImageFault) (t : Tables)
     (new : Told) : Type 0 where
   pub tells : RecoversTold places old result t new
   pub steps : RecoversInSteps places old result t new
+  pub looks : LooksAtFaults places old new
   pub complete : CompletesOpening places result old
   pub costs : Spends (ErasesAtMost (places - 3)) old new
   pub accounts : Accounts OpeningCause result old new

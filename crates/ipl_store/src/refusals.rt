@@ -1,5 +1,6 @@
 //! When calls are refused, by the sessions alone.
-ghost use Rattle.std.specs.Prelude.{◌≡◌, ◌<◌, ◌≤◌};
+ghost use Rattle.std.specs.Prelude.{◌≡◌, ◌<◌, ◌≤◌, ◌↔◌, IsTrue, IfNone};
+ghost use Rattle.buffer_pool.specs.Holding.{IsHeld};
 ghost use Rattle.record_locks.specs.Standing.{state_of};
 ghost use Rattle.ipl_rules.specs.Refusals.{
   refuses_begin,
@@ -170,7 +171,10 @@ impl Store {
 
     /// Why a release is refused, if it is.
     pub(crate) fn refuses_release(&self, unit: u32, page: u32) -> Option<Refusal>
-        ensures { result ≡ refuses_release self.now.units self.now.transactions.pages.pool unit page }
+        ensures test { result ≡ refuses_release self.now.units self.now.transactions.pages.pool
+            unit page }
+        ensures held { IfNone result
+            ((page < 15) × IsHeld self.now.transactions.pages.pool.buffers unit page) }
     {
         if let Some(refusal) = self.refuses_page(unit, page) {
             return Some(refusal);
@@ -185,7 +189,8 @@ impl Store {
 /// Whether a page (0 to 14 of a unit) is held.
 pub(crate) fn is_held(pool: &Pool, unit: u32, page: u32) -> bool
     requires { page < 15 }
-    ensures { result ≡ is_held pool.now unit page }
+    ensures test { result ≡ is_held pool.now unit page }
+    ensures held { IsTrue result ↔ IsHeld pool.now.buffers unit page }
 {
     pool.facts();
     pool_laws();

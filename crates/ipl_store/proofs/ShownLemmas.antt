@@ -1,0 +1,210 @@
+-- What a store's frames tell of a name, after a call that kept each state.
+use Rattle.std.proofs.Common.{◌≡◌, ◌+◌, ℕ, List, Option, Some, None, Result, Ok, Err, IsSome, OnOk, refl, sym, ◌∙◌, ap, subst, arith}
+use Rattle.std.specs.FinMap.{get}
+use Rattle.chip_trait.specs.Story.{Contents}
+use Rattle.chip_trait.specs.Told.{Told, IsConsistent}
+use Rattle.ipl_base.specs.declared.fault.ChipFault.{ChipFault}
+use Rattle.ipl_base.specs.declared.fault.StoreFault.{StoreFault}
+use Rattle.ipl_base.specs.Places.{home_of}
+use Rattle.ipl_rules.specs.State.{State, see}
+use Rattle.ipl_meaning.specs.Chart.{chart_of}
+use Rattle.ipl_meaning.specs.Tables.{Tables}
+use Rattle.unit_io.specs.Reads.{OfContents}
+use Rattle.pending_writes.specs.Pending.{name_at}
+use Rattle.pending_writes.specs.Frames.{Frame, Frames}
+use Rattle.store_steps.specs.Advances.{TurnsMapOf, KeepsState}
+use Rattle.store_steps.specs.Keeps.{View, ShowsState, TellsName}
+use Rattle.store_steps.proofs.AdvanceLemmas.{answers_advance}
+use Rattle.store_steps.proofs.ViewLemmas.{frames_tell_state}
+use Rattle.record_locks.specs.Held.{number_of}
+use Rattle.page_ops.specs.Pending.{seen_by}
+use Rattle.buffer_pool.proofs.HoldingLemmas.{nothing_keeps, both_keep}
+use Rattle.page_frames.specs.declared.pages.Pages.{Pages}
+use Rattle.page_frames.specs.Pages.{tables_in, frames_in, IsFramed}
+use Rattle.page_frames.proofs.SpendLemmas.{nothing_spent, logs_of_reads}
+use Rattle.transactions.specs.declared.transactions.Transactions.{Transactions}
+use Rattle.transactions.specs.Turns.{TurnsInMemory}
+use Rattle.ipl_store.specs.declared.store.Store.{Store}
+use Rattle.ipl_store.specs.Calls.{memory_of_store, view_of, IsSound}
+use Rattle.ipl_store.proofs.CallLemmas.{calls_refused, let_in_calls, failed_calls, calls_joined}
+use Rattle.ipl_store.specs.Shown.{FramesName, IsSeen, IsCommitted, Fetches, answered, AsksFor, Looks}
+
+name_of_home : (n : ℕ) → name_at (home_of n).unit (home_of n).page (home_of n).slot ≡ n
+name_of_home n = omega arith
+
+pub shown_frames_tell : {T E : Type 0} (v : T) (n : ℕ) (store : View) (t : Tables)
+    (later : Frames) (f : Frame) (old new : Told) → store.units + 4 ≡ old.places
+    → KeepsState {T = T} {E = E} store.memory.tables store.memory.frames old (Ok v) t later new
+    → later (home_of n).unit (home_of n).page ≡ Some f
+    → (state : State) → OfContents old (λ x. ShowsState store state x
+    → TellsName store.memory.slots state n f)
+shown_frames_tell v n store t later f old new suits keeper there state x told shown =
+    let places = store.units + 4 in
+    let home = home_of n in
+    let (y, told_then, had) = (keeper store.memory.slots).fits places (sym suits) tt x told in
+    let on = had shown.layout state shown.fits in
+    let (low, few) = on.fits.framed.within home.unit home.page f there in
+    let tells = frames_tell_state places (chart_of x) (chart_of y) shown.layout state.map
+    (record { tables = t; frames = later; slots = store.memory.slots }) state home.unit home.page
+    home.slot f on (shown.says.pages home.unit home.page low few) there (omega arith) in
+    let same = name_of_home n in record {
+      committed = tells.committed ∙ ap (get state.map) same;
+      seen = λ s tid mine. tells.seen s tid mine ∙ ap (see state s) same;
+    }
+
+-- ---- the name of a page that was brought in
+
+some_is : {A : Type 0} (o : Option A) → IsSome o → (x : A) × (o ≡ Some x)
+some_is None some = absurd (cc some)
+some_is (Some x) some = (x, refl)
+
+pub names_told : (n : ℕ) (old : Store) (pages : Pages) (before after : Told)
+    (done : Result (Unit {0}) ChipFault) (new : Store) → old.units + 4 ≡ before.places
+    → new.transactions.pages ≡ pages
+    → KeepsState (tables_in old.transactions.pages) (frames_in old.transactions.pages) before done
+    (tables_in pages) (frames_in pages) after
+    → OnOk done (IsFramed pages (home_of n).unit (home_of n).page)
+    → OnOk done (FramesName n old before new)
+names_told n old pages before after (Ok v) new suits is keeps framed =
+    let (f, there) = some_is (frames_in pages (home_of n).unit (home_of n).page) framed in
+    record {
+      frame = f;
+      there = ap (λ (p : Pages). frames_in p (home_of n).unit (home_of n).page) is ∙ there;
+      tells = shown_frames_tell v n (view_of old) (tables_in pages) (frames_in pages) f before after
+          suits keeps there;
+    }
+names_told n old pages before after (Err e) new suits is keeps framed = tt
+
+-- ---- what is lent of it
+
+-- a call that answers where another one was done, and fails as it does
+pub looks_as : {U : Type 0} (early : Option StoreFault) (next : State → State) (n : ℕ)
+    (old : Store) (before : Told) (v : U) (new : Store) (after : Told)
+    → Fetches early next n old before (Ok tt) new after
+    → Looks early next n old before (Ok v) new after
+looks_as early next n old before v new after did = record {
+  calls = record {
+    refuses = λ fault is.
+        let no : Ok tt ≡ Err fault = (did.calls.refuses fault is).0 in absurd (cc no);
+    serves = λ none.
+        let serves = did.calls.serves none in record {
+          leads = answers_advance (TurnsMapOf next) next (memory_of_store old)
+              (memory_of_store new) (Ok tt) (Ok v) before after refl serves.leads;
+          ends = serves.ends;
+          least = serves.least;
+          drawn = serves.drawn;
+        };
+    sound = did.calls.sound;
+    counts = did.calls.counts;
+  };
+  holds = did.holds;
+  framed = subst IsSome (sym did.names.there) refl;
+}
+
+looks_fail : {U : Type 0} (early : Option StoreFault) (next : State → State) (n : ℕ)
+    (old : Store) (before : Told) (fault : StoreFault) (new : Store) (after : Told)
+    → Fetches early next n old before (Err fault) new after
+    → Looks {T = U} early next n old before (Err fault) new after
+looks_fail {U} early next n old before fault new after did = record {
+  calls = record {
+    refuses = λ first is.
+        let (answer, same, idle) = did.calls.refuses first is in
+        let which : fault ≡ first = cc answer in (ap Err which, same, idle);
+    serves = λ none.
+        let serves = did.calls.serves none in record {
+          leads = answers_advance (TurnsMapOf next) next (memory_of_store old)
+              (memory_of_store new) (Err fault) (Err fault) before after refl serves.leads;
+          ends = serves.ends;
+          least = serves.least;
+          drawn = serves.drawn;
+        };
+    sound = did.calls.sound;
+    counts = did.calls.counts;
+  };
+  holds = did.holds;
+  framed = tt;
+}
+
+pub looks_answered : {U : Type 0} (early : Option StoreFault) (next : State → State) (n : ℕ)
+    (old : Store) (before : Told) (result : Result (Unit {0}) StoreFault) (new : Store)
+    (after : Told) → Fetches early next n old before result new after → (found : U)
+    → Looks early next n old before (answered result found) new after
+looks_answered early next n old before (Ok v) new after did found =
+    looks_as early next n old before found new after did
+looks_answered early next n old before (Err e) new after did found =
+    looks_fail early next n old before e new after did
+
+-- a call that was let in
+pub let_in_fetches : (early : Option StoreFault) (next : State → State) (n : ℕ) (old : Store)
+    (before : Told) (result : Result (Unit {0}) StoreFault) (new : Store) (after : Told)
+    → early ≡ None → Fetches None next n old before result new after
+    → Fetches early next n old before result new after
+let_in_fetches early next n old before result new after none did = record {
+  calls = let_in_calls early next 14 old before result new after none did.calls;
+  holds = did.holds;
+  names = did.names;
+}
+
+-- one that was refused
+pub refused_fetches : (early : Option StoreFault) (next : State → State) (n : ℕ) (store : Store)
+    (told : Told) (fault : StoreFault) → early ≡ Some fault → IsSound told.places store
+    → Fetches early next n store told (Err fault) store told
+refused_fetches early next n store told fault is sound = record {
+  calls = calls_refused early next 14 store told (Err fault) fault is refl sound;
+  holds = nothing_keeps store.transactions.pages.pool;
+  names = tt;
+}
+
+-- which asks nothing
+pub asks_nothing : (n : ℕ) (store : Store) (told : Told) → AsksFor n store told told
+asks_nothing n store told = record {
+  idle = λ framed. refl;
+  free = λ room. nothing_spent told;
+  costs = logs_of_reads store.transactions.pages.parts.directory told told (nothing_spent told);
+}
+
+-- what the frame tells is what the session sees
+pub seen_told : (s n tid : ℕ) (old : Store) (before : Told) (new : Store)
+    (found : Option (List ℕ)) (names : FramesName n old before new)
+    → number_of old.transactions.sessions s ≡ Some tid
+    → found ≡ seen_by tid (names.frame.values (home_of n).slot)
+    (names.frame.pending (home_of n).slot)
+    → IsSeen s n old before found
+seen_told s n tid old before new found names mine is state x told shown =
+    is ∙ (names.tells state x told shown).seen s tid mine
+
+pub committed_told : (n : ℕ) (old : Store) (before : Told) (new : Store)
+    (found : Option (List ℕ)) (names : FramesName n old before new)
+    → found ≡ names.frame.values (home_of n).slot → IsCommitted n old before found
+committed_told n old before new found names is state x told shown =
+    is ∙ (names.tells state x told shown).committed
+
+pub failed_fetches : (early : Option StoreFault) (next : State → State) (n : ℕ) (old : Store)
+    (before : Told) (fault : StoreFault) (new : Store) (after : Told) → early ≡ None
+    → Fetches None (λ state. state) n old before (Err fault) new after
+    → Fetches early next n old before (Err fault) new after
+failed_fetches early next n old before fault new after none did = record {
+  calls = failed_calls early next 14 old before fault new after none did.calls;
+  holds = did.holds;
+  names = tt;
+}
+
+-- the page was brought, and then something was done in memory that leaves all pages
+pub shared_fetches : (early : Option StoreFault) (next : State → State) (n : ℕ) (old mid : Store)
+    (t : Transactions) (before after : Told) → early ≡ None → IsConsistent before
+    → IsConsistent after → Fetches None (λ state. state) n old before (Ok tt) mid after
+    → TurnsInMemory next mid.transactions t → t.pages ≡ mid.transactions.pages
+    → Fetches early next n old before (Ok tt) (record mid { transactions = t }) after
+shared_fetches early next n old mid t before after none law then_law did turns same = record {
+  calls = calls_joined early next 14 old mid t before after none law then_law
+      (did.calls.serves refl).ends did.calls turns
+      (ap (λ (p : Pages). p.parts.counter) same);
+  holds = both_keep old.transactions.pages.pool mid.transactions.pages.pool t.pages.pool did.holds
+      turns.pins;
+  names = record {
+    frame = did.names.frame;
+    there = ap (λ (p : Pages). frames_in p (home_of n).unit (home_of n).page) same
+        ∙ did.names.there;
+    tells = did.names.tells;
+  };
+}

@@ -1,0 +1,44 @@
+use Rattle.std.proofs.Common.{◌≡◌, None, OnOk, refl, sym, ap, subst}
+use Rattle.ipl_base.specs.declared.spot.Home.{Home}
+use Rattle.page_frames.specs.Pages.{IsFramed}
+use Rattle.ipl_store.specs.declared.store.Store.{Store}
+use Rattle.ipl_store.specs.Shown.{FramesName}
+use Rattle.ipl_store.proofs.CallLemmas.{pages_move, moved_calls, kept_holds, done_ends}
+use Rattle.ipl_store.proofs.ShownLemmas.{names_told}
+use Rattle.ipl_store.proofs.store.Store.bring.Goals as goal
+
+pub returns-clause-fetches : goal.returns-clause-fetches
+returns-clause-fetches g c =
+    let store = c.args.self.now in
+    let old = g.C.Chip.told c.args.chip.now in
+    let after = g.C.Chip.told c.bring-done.new.chip in
+    let pages = c.bring-done.new.self in
+    let rest = c.end.ensures.rest in record {
+      calls = moved_calls (λ state. state) 14 store
+          (record store.transactions { pages = pages }) store.kept old after c.bring-done.result
+          c.end.result c.end.new.self c.requires.up c.requires.sound
+          (pages_move 14 store.transactions pages old after c.bring-done.result
+          (c.requires.sound.order c.requires.up) c.bring-done.ensures.upholds) rest
+          c.end.ensures.ends None refl;
+      holds = kept_holds store c.end.new.self (record store.transactions { pages = pages })
+          store.kept rest c.bring-done.ensures.upholds.pins;
+      names = done_ends (FramesName c.args.n store old c.end.new.self) c.bring-done.result store.down
+          c.end.new.self.down c.end.result c.end.ensures.ends
+          (names_told c.args.n store pages old after c.bring-done.result c.end.new.self
+          c.requires.sound.made.units (ap (λ (s : Store). s.transactions.pages) rest)
+          c.bring-done.ensures.upholds.keeps
+          (subst (λ (h : Home). OnOk c.bring-done.result (IsFramed pages h.unit h.page))
+          c.home-home.ensures.home c.bring-done.ensures.there));
+    }
+
+pub returns-clause-sessions : goal.returns-clause-sessions
+returns-clause-sessions g c = ap (λ (s : Store). s.transactions.sessions) c.end.ensures.rest
+
+pub returns-clause-asks : goal.returns-clause-asks
+returns-clause-asks g c =
+    let pages = c.args.self.now.transactions.pages in record {
+      idle = λ framed. (c.bring-done.ensures.idle (subst (λ (h : Home). IsFramed pages h.unit h.page)
+          (sym c.home-home.ensures.home) framed)).1;
+      free = c.bring-done.ensures.free;
+      costs = c.bring-done.ensures.costs;
+    }

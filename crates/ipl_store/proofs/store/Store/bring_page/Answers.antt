@@ -1,0 +1,33 @@
+use Rattle.std.proofs.Common.{None, OnOk, refl, sym, ap, subst}
+use Rattle.page_frames.specs.declared.pages.Pages.{Pages}
+use Rattle.page_frames.specs.Pages.{IsFramed}
+use Rattle.ipl_store.specs.declared.store.Store.{Store}
+use Rattle.ipl_store.proofs.CallLemmas.{pages_move, moved_calls, kept_holds, done_ends}
+use Rattle.ipl_store.proofs.store.Store.bring_page.Goals as goal
+
+pub returns-clause-calls : goal.returns-clause-calls
+returns-clause-calls g c =
+    let store = c.args.self.now in
+    let old = g.C.Chip.told c.args.chip.now in
+    let pages = c.bring-done.new.self in
+    moved_calls (λ state. state) 14 store (record store.transactions { pages = pages }) store.kept
+    old (g.C.Chip.told c.bring-done.new.chip) c.bring-done.result c.end.result c.end.new.self
+    c.requires.up c.requires.sound
+    (pages_move 14 store.transactions pages old (g.C.Chip.told c.bring-done.new.chip)
+    c.bring-done.result (c.requires.sound.order c.requires.up) c.bring-done.ensures.upholds)
+    c.end.ensures.rest c.end.ensures.ends None refl
+
+pub returns-clause-holds : goal.returns-clause-holds
+returns-clause-holds g c =
+    let store = c.args.self.now in
+    kept_holds store c.end.new.self (record store.transactions { pages = c.bring-done.new.self })
+    store.kept c.end.ensures.rest c.bring-done.ensures.upholds.pins
+
+pub returns-clause-framed : goal.returns-clause-framed
+returns-clause-framed g c =
+    let store = c.args.self.now in
+    done_ends (IsFramed c.end.new.self.transactions.pages c.args.unit c.args.page)
+    c.bring-done.result store.down c.end.new.self.down c.end.result c.end.ensures.ends
+    (subst (λ (p : Pages). OnOk c.bring-done.result (IsFramed p c.args.unit c.args.page))
+    (sym (ap (λ (s : Store). s.transactions.pages) c.end.ensures.rest))
+    c.bring-done.ensures.there)

@@ -1,0 +1,29 @@
+use Rattle.std.proofs.Common.{◌≡◌, ◌∙◌, ◌^◌, None, sym, ap}
+use Rattle.ipl_rules.specs.Operations.{after_commit}
+use Rattle.ipl_rules.specs.Refusals.{refuses_end}
+use Rattle.record_locks.specs.Standing.{state_of}
+use Rattle.store_steps.specs.Keeps.{limits_of}
+use Rattle.ipl_store.specs.Calls.{early_fault, entry_fault}
+use Rattle.ipl_store.proofs.CallLemmas.{let_in, turns_move, moved_calls, kept_holds}
+use Rattle.ipl_store.proofs.store.Store.commit.Goals as goal
+
+pub returns-clause-calls : goal.returns-clause-calls
+returns-clause-calls g c =
+    let store = c.args.self.now in
+    let old = g.C.Chip.told c.args.chip.now in
+    let after = g.C.Chip.told c.commit-done.new.chip in
+    let refusal = refuses_end (limits_of store.units) (state_of store.transactions.sessions) c.args.s
+    in
+    let early = early_fault (entry_fault store) refusal in
+    let none : early ≡ None =
+    ap (early_fault (entry_fault store)) (sym c.refuses_end.ensures) ∙ sym c.in_ok-admit.ensures in
+    let (up, few, free) = let_in store refusal none in
+    moved_calls (λ state. after_commit state c.args.s) (2 ^ 15) store c.commit-done.new.self
+    c.commit-done.new.kept old after c.commit-done.result c.end.result c.end.new.self up
+    c.requires.sound (turns_move (λ state. after_commit state c.args.s) (2 ^ 15)
+    store.transactions c.commit-done.new.self old after c.commit-done.result
+    c.commit-done.ensures.turns) c.end.ensures.rest c.end.ensures.ends early none
+
+pub returns-clause-holds : goal.returns-clause-holds
+returns-clause-holds g c = kept_holds c.args.self.now c.end.new.self c.commit-done.new.self
+    c.commit-done.new.kept c.end.ensures.rest c.commit-done.ensures.turns.pins

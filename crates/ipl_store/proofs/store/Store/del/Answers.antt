@@ -1,0 +1,29 @@
+use Rattle.std.proofs.Common.{◌≡◌, ◌∙◌, List, ℕ, Some, None, sym, ap, subst}
+use Rattle.ipl_rules.specs.Operations.{after_write}
+use Rattle.ipl_rules.specs.Refusals.{refuses_del}
+use Rattle.record_locks.specs.Standing.{state_of}
+use Rattle.store_steps.specs.Keeps.{limits_of}
+use Rattle.ipl_store.specs.Calls.{early_fault, entry_fault}
+use Rattle.ipl_store.proofs.CallLemmas.{let_in, turns_move, moved_calls, kept_holds}
+use Rattle.ipl_store.proofs.store.Store.del.Goals as goal
+
+pub returns-clause-calls : goal.returns-clause-calls
+returns-clause-calls g c =
+    let store = c.args.self.now in
+    let old = g.C.Chip.told c.args.chip.now in
+    let after = g.C.Chip.told c.write-done.new.chip in
+    let refusal = refuses_del (limits_of store.units) (state_of store.transactions.sessions) c.args.s c.args.n in
+    let early = early_fault (entry_fault store) refusal in
+    let none : early ≡ None =
+    ap (early_fault (entry_fault store)) (sym c.refuses_del.ensures) ∙ sym c.in_ok-admit.ensures in
+    let (up, few, free) = let_in store refusal none in
+    moved_calls (λ state. after_write state c.args.s (c.args.n, None)) 14 store
+    c.write-done.new.self store.kept old after c.write-done.result c.end.result c.end.new.self up
+    c.requires.sound
+    (turns_move (λ state. after_write state c.args.s (c.args.n, None)) 14 store.transactions
+    c.write-done.new.self old after c.write-done.result c.write-done.ensures.turns)
+    c.end.ensures.rest c.end.ensures.ends early none
+
+pub returns-clause-holds : goal.returns-clause-holds
+returns-clause-holds g c = kept_holds c.args.self.now c.end.new.self c.write-done.new.self
+    c.args.self.now.kept c.end.ensures.rest c.write-done.ensures.turns.pins

@@ -1,0 +1,76 @@
+use Rattle.std.proofs.Common.{◌≡◌, ◌∙◌, None, Ok, Err, sym, ap, subst, arith, IsSome}
+use Rattle.std.proofs.lemmas.Bool.{false≢true}
+use Rattle.std.proofs.lemmas.Result.{err_from_is_err_and}
+use Rattle.buffer_pool.proofs.HoldingLemmas.{as_many}
+use Rattle.pending_writes.specs.Frames.{Frames}
+use Rattle.ipl_store.specs.Calls.{early_fault, entry_fault, refuses_hold}
+use Rattle.ipl_store.proofs.CallLemmas.{let_in, let_in_calls, idle_calls}
+use Rattle.ipl_store.proofs.HoldLemmas.{holds_again, holds_then, held_before, passed_hold, repooled_calls}
+use Rattle.ipl_store.proofs.store.Store.hold.Goals as goal
+
+pub returns-then-is_held-clause-calls : goal.returns-then-is_held-clause-calls
+returns-then-is_held-clause-calls g c =
+    let store = c.args.self.now in
+    let pool = store.transactions.pages.pool in
+    let refusal = refuses_hold store.units pool c.args.unit c.args.page in
+    let early = early_fault (entry_fault store) refusal in
+    let none : early ≡ None =
+    ap (early_fault (entry_fault store)) (sym c.refuses_hold.ensures) ∙ sym c.in_ok-admit.ensures in
+    let (up, few, free) = let_in store refusal none in
+    idle_calls 14 store (g.C.Chip.told c.args.chip.now) early c.requires.sound up none
+
+pub returns-in_err-bring_page-clause-calls : goal.returns-in_err-bring_page-clause-calls
+returns-in_err-bring_page-clause-calls g c =
+    let store = c.args.self.now in
+    let pool = store.transactions.pages.pool in
+    let refusal = refuses_hold store.units pool c.args.unit c.args.page in
+    let early = early_fault (entry_fault store) refusal in
+    let none : early ≡ None =
+    ap (early_fault (entry_fault store)) (sym c.refuses_hold.ensures) ∙ sym c.in_ok-admit.ensures in
+    let e = err_from_is_err_and c.from_residual-in_err-bring_page.result
+    c.from_residual-in_err-bring_page.ensures.1 in
+    rw (e.1 ∙ ap Err e.2) (let_in_calls early (λ state. state) 14 store
+    (g.C.Chip.told c.args.chip.now) (Err c.in_err-bring_page.field-0.0) c.bring_page.new.self
+    (g.C.Chip.told c.bring_page.new.chip) none c.in_err-bring_page.ensures.calls)
+
+pub returns-clause-calls : goal.returns-clause-calls
+returns-clause-calls g c =
+    let store = c.args.self.now in
+    let pool = store.transactions.pages.pool in
+    let refusal = refuses_hold store.units pool c.args.unit c.args.page in
+    let early = early_fault (entry_fault store) refusal in
+    let none : early ≡ None =
+    ap (early_fault (entry_fault store)) (sym c.refuses_hold.ensures) ∙ sym c.in_ok-admit.ensures in
+    repooled_calls early (λ state. state) 14 store (g.C.Chip.told c.args.chip.now)
+    c.bring_page.new.self c.keep.new.self (g.C.Chip.told c.bring_page.new.chip) none
+    c.keep.ensures.pool (let_in_calls early (λ state. state) 14 store
+    (g.C.Chip.told c.args.chip.now) (Ok tt) c.bring_page.new.self
+    (g.C.Chip.told c.bring_page.new.chip) none c.in_ok-bring_page.ensures.calls)
+
+pub returns-clause-holds : goal.returns-clause-holds
+returns-clause-holds g c = holds_then c.args.self.now c.bring_page.new.self c.keep.new.self
+    c.args.unit c.args.page c.bring_page.ensures.holds c.keep.ensures.holds
+
+pub returns-clause-framed : goal.returns-clause-framed
+returns-clause-framed g c = subst (λ (f : Frames). IsSome (f c.args.unit c.args.page))
+    (sym c.keep.ensures.pool.frames) c.in_ok-bring_page.ensures.framed
+
+pub keep-requires-clause-free : goal.keep-requires-clause-free
+keep-requires-clause-free g c = λ held. absurd (false≢true (c.if-is_held.ensures.held.1
+    (held_before c.args.self.now.transactions.pages.pool
+    c.bring_page.new.self.transactions.pages.pool c.bring_page.ensures.holds c.args.unit
+    c.args.page held)))
+
+pub keep-requires-clause-few : goal.keep-requires-clause-few
+keep-requires-clause-few g c =
+    let store = c.args.self.now in
+    let pool = store.transactions.pages.pool in
+    let made = c.requires.sound.made in
+    let refusal = refuses_hold store.units pool c.args.unit c.args.page in
+    let none : early_fault (entry_fault store) refusal ≡ None =
+    ap (early_fault (entry_fault store)) (sym c.refuses_hold.ensures) ∙ sym c.in_ok-admit.ensures in
+    let room = passed_hold store.units pool c.args.unit c.args.page
+    (omega (arith, made.frames, made.two)) (let_in store refusal none).2
+    (sym c.if-is_held.ensures.test) in
+    omega (arith, room, c.bring_page.ensures.holds.limit,
+    as_many pool c.bring_page.new.self.transactions.pages.pool c.bring_page.ensures.holds)

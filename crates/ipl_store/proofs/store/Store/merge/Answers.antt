@@ -1,0 +1,29 @@
+use Rattle.std.proofs.Common.{◌≡◌, ◌∙◌, None, sym, ap}
+use Rattle.ipl_rules.specs.Refusals.{refuses_merge}
+use Rattle.store_steps.specs.Keeps.{limits_of}
+use Rattle.ipl_store.specs.Calls.{early_fault, entry_fault}
+use Rattle.ipl_store.proofs.CallLemmas.{let_in, pages_move, moved_calls, kept_holds}
+use Rattle.ipl_store.proofs.store.Store.merge.Goals as goal
+
+pub returns-clause-calls : goal.returns-clause-calls
+returns-clause-calls g c =
+    let store = c.args.self.now in
+    let old = g.C.Chip.told c.args.chip.now in
+    let after = g.C.Chip.told c.merge-done.new.chip in
+    let refusal = refuses_merge (limits_of store.units) c.args.unit in
+    let none : early_fault (entry_fault store) refusal ≡ None =
+    ap (early_fault (entry_fault store)) (sym c.refuses_merge.ensures) ∙ sym c.in_ok-admit.ensures
+    in
+    let (up, few, free) = let_in store refusal none in
+    moved_calls (λ state. state) 13 store
+    (record store.transactions { pages = c.merge-done.new.self }) store.kept old after c.merge-done.result
+    c.end.result c.end.new.self up c.requires.sound
+    (pages_move 13 store.transactions c.merge-done.new.self old after c.merge-done.result
+    (c.requires.sound.order up) c.merge-done.ensures.upholds)
+    c.end.ensures.rest c.end.ensures.ends (early_fault (entry_fault store) refusal) none
+
+pub returns-clause-holds : goal.returns-clause-holds
+returns-clause-holds g c =
+    let store = c.args.self.now in
+    kept_holds store c.end.new.self (record store.transactions { pages = c.merge-done.new.self })
+    store.kept c.end.ensures.rest c.merge-done.ensures.upholds.pins

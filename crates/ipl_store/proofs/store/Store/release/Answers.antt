@@ -1,0 +1,18 @@
+use Rattle.std.proofs.Common.{◌≡◌, ◌∙◌, None, sym, ap}
+use Rattle.ipl_store.specs.Calls.{early_fault, down_fault, refuses_release}
+use Rattle.ipl_store.proofs.CallLemmas.{let_in_down, idle_calls}
+use Rattle.ipl_store.proofs.HoldLemmas.{repooled_calls}
+use Rattle.ipl_store.proofs.store.Store.release.Goals as goal
+
+pub returns-clause-calls : goal.returns-clause-calls
+returns-clause-calls g c =
+    let store = c.args.self.now in
+    let pool = store.transactions.pages.pool in
+    let refusal = refuses_release store.units pool c.args.unit c.args.page in
+    let early = early_fault (down_fault store) refusal in
+    let none : early ≡ None =
+    ap (early_fault (down_fault store)) (sym c.refuses_release.ensures.test) ∙ sym c.in_ok-admit_end.ensures in
+    let told = g.C.Chip.told c.args._chip.now in
+    let (up, free) = let_in_down store refusal none in
+    repooled_calls early (λ state. state) 0 store told store c.let_go.new.self told none
+    c.let_go.ensures.pool (idle_calls 0 store told early c.requires.sound up none)

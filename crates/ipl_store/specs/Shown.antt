@@ -1,0 +1,94 @@
+-- What a store's frames tell of a name, and which pages are held.
+use Rattle.std.specs.Prelude.{ℕ, ◌≡◌, ◌⊎◌, ◌↔◌, Option, Some, List, [], Result, Ok, Err, OnOk}
+use Rattle.std.specs.FinMap.{get}
+use Rattle.chip_trait.specs.Told.{Told}
+use Rattle.ipl_base.specs.declared.fault.StoreFault.{StoreFault}
+use Rattle.ipl_base.specs.Places.{home_of}
+use Rattle.ipl_rules.specs.State.{State, see}
+use Rattle.unit_io.specs.Costs.{Costs, Spends}
+use Rattle.unit_io.specs.Reads.{OfContents}
+use Rattle.pending_writes.specs.Frames.{Frame}
+use Rattle.buffer_pool.specs.Pools.{PoolView}
+use Rattle.buffer_pool.specs.Holding.{IsHeld, IsPage, IsAtRest}
+use Rattle.store_steps.specs.Keeps.{ShowsState, TellsName}
+use Rattle.page_writing.specs.Spending.{ErasesAndLogs}
+use Rattle.page_frames.specs.Pages.{frames_in, IsFramed, HasFreeFrame}
+use Rattle.ipl_store.specs.declared.store.Store.{Store}
+use Rattle.ipl_store.specs.Calls.{view_of, KeepsHolds, Calls}
+
+-- ---- names
+
+-- The page of the name is in a frame. That tells the name as each state has it that the store before
+-- and the chip's contents showed.
+pub record FramesName (n : ℕ) (old : Store) (before : Told) (new : Store) : Type 0 where
+  pub frame : Frame
+  pub there : frames_in new.transactions.pages (home_of n).unit (home_of n).page ≡ Some frame
+  pub tells : (state : State) → OfContents before (λ x. ShowsState (view_of old) state x
+      → TellsName old.transactions.sessions state n frame)
+
+-- what a session sees of a name in each state that the store and the chip's contents show
+abbrev pub IsSeen : ℕ → ℕ → Store → Told → Option (List ℕ) → Type 0
+IsSeen s n store told found = (state : State)
+    → OfContents told (λ x. ShowsState (view_of store) state x → found ≡ see state s n)
+
+-- the record of a name
+abbrev pub IsCommitted : ℕ → Store → Told → Option (List ℕ) → Type 0
+IsCommitted n store told found = (state : State)
+    → OfContents told (λ x. ShowsState (view_of store) state x → found ≡ get state.map n)
+
+-- ---- pages
+
+-- the pages that were held are, and this one
+abbrev pub HoldsAlso : Store → ℕ → ℕ → Store → Type 0
+HoldsAlso old u page new = (v q : ℕ) → IsHeld new.transactions.pages.pool.buffers v q
+    ↔ (IsHeld old.transactions.pages.pool.buffers v q ⊎ IsPage u page v q)
+
+-- the pages that were held are, but not this one
+abbrev pub HoldsBut : Store → ℕ → ℕ → Store → Type 0
+HoldsBut old u page new = (v q : ℕ) → IsHeld new.transactions.pages.pool.buffers v q
+    ↔ (IsHeld old.transactions.pages.pool.buffers v q × ¬ IsPage u page v q)
+
+-- the store with another pool
+abbrev pub with_pool : Store → PoolView → Store
+with_pool store pool = record store {
+  transactions = record store.transactions {
+    pages = record store.transactions.pages { pool = pool };
+  };
+}
+
+-- the pool alone changed: its frames are as they were, and it is at rest
+pub record IsRepooled (old new : Store) : Type 0 where
+  pub rest : new ≡ with_pool old new.transactions.pages.pool
+  pub frames : frames_in new.transactions.pages ≡ frames_in old.transactions.pages
+  pub limit : new.transactions.pages.pool.limit ≡ old.transactions.pages.pool.limit
+  pub at_rest : IsAtRest new.transactions.pages.pool
+
+-- ---- calls that bring a name's page into a frame
+
+-- such a call; done, the frame tells the name
+pub record Fetches (early : Option StoreFault) (next : State → State) (n : ℕ) (old : Store)
+    (before : Told) (result : Result (Unit {0}) StoreFault) (new : Store) (after : Told)
+    : Type 0 where
+  pub calls : Calls early next 14 old before result new after
+  pub holds : KeepsHolds old new
+  pub names : OnOk result (FramesName n old before new)
+
+-- What is asked of the chip for it: nothing where the page is in a frame, only reads where a frame is
+-- free, and else what writes the records of one page out.
+pub record AsksFor (n : ℕ) (store : Store) (before after : Told) : Type 0 where
+  pub idle : IsFramed store.transactions.pages (home_of n).unit (home_of n).page → after ≡ before
+  pub free : HasFreeFrame store.transactions.pages → Spends (Costs 0 0 0 []) before after
+  pub costs : Spends (ErasesAndLogs store.transactions.pages.parts.directory) before after
+
+-- its answer, where one that lends what it found does all else
+abbrev pub answered : {U : Type 0} → Result (Unit {0}) StoreFault → U → Result U StoreFault
+answered (Ok v) found = Ok found
+answered (Err e) found = Err e
+
+-- a call that lends what the frame has of the name; done, the page is in a frame
+pub record Looks {T : Type 0} (early : Option StoreFault) (next : State → State) (n : ℕ)
+    (old : Store) (before : Told) (result : Result T StoreFault) (new : Store) (after : Told)
+    : Type 0 where
+  pub calls : Calls early next 14 old before result new after
+  pub holds : KeepsHolds old new
+  pub framed : OnOk result (IsFramed new.transactions.pages (home_of n).unit (home_of n).page)

@@ -1,0 +1,87 @@
+//! Sessions change names, and are committed.
+ghost use Rattle.std.specs.Prelude.{◌≡◌, ◌<◌, ◌^◌, [], Some, None};
+ghost use Rattle.unit_io.specs.Costs.{Spends};
+ghost use Rattle.txn_status.specs.Status.{room_of};
+ghost use Rattle.ipl_rules.specs.Operations.{after_write, after_commit};
+ghost use Rattle.ipl_rules.specs.Refusals.{refuses_put, refuses_del, refuses_end};
+ghost use Rattle.record_locks.specs.Held.{written_of};
+ghost use Rattle.record_locks.specs.Standing.{state_of};
+ghost use Rattle.store_steps.specs.Keeps.{limits_of};
+ghost use Rattle.page_writing.specs.Spending.{ErasesAndLogs};
+ghost use Rattle.transactions.specs.Costs.{framed_pages, CommitCosts};
+ghost use Rattle.ipl_store.specs.Calls.{IsSound, KeepsHolds, Calls, early_fault, entry_fault};
+
+use crate::Store;
+use chip_trait::Chip;
+use ipl_base::{Name, StoreFault, Value};
+use log_records::Change;
+use store_steps::passing_laws;
+
+impl Store {
+    /// Puts a value of at most 108 bytes at a name, for a session. It counts once that is committed.
+    pub fn put<C: Chip>(
+        &mut self,
+        chip: &mut C,
+        s: u32,
+        n: u32,
+        value: &[u8],
+    ) -> Result<(), StoreFault>
+        requires sound { IsSound (C.told chip.old).places self.old }
+        ensures calls { Calls (early_fault (entry_fault self.old)
+            (refuses_put (limits_of self.old.units) (state_of self.old.transactions.sessions)
+            s n value.now)) (λ state. after_write state s (n, Some value.now)) 14
+            self.old (C.told chip.old) result self.new (C.told chip.new) }
+        ensures holds { KeepsHolds self.old self.new }
+        ensures costs { Spends (ErasesAndLogs self.old.transactions.pages.parts.directory)
+            (C.told chip.old) (C.told chip.new) }
+    {
+        self.admit(self.refuses_put(s, n, value))?;
+        passing_laws();
+        let Some(value) = Value::of(value) else {
+            unreachable!("it has at most 108 bytes");
+        };
+        let done = self
+            .transactions
+            .write(chip, s, Name(n), Change::Put(value));
+        self.end(done)
+    }
+
+    /// Deletes the record of a name, where it has one, for a session.
+    pub fn del<C: Chip>(&mut self, chip: &mut C, s: u32, n: u32) -> Result<(), StoreFault>
+        requires sound { IsSound (C.told chip.old).places self.old }
+        ensures calls { Calls (early_fault (entry_fault self.old)
+            (refuses_del (limits_of self.old.units) (state_of self.old.transactions.sessions) s n))
+            (λ state. after_write state s (n, None)) 14
+            self.old (C.told chip.old) result self.new (C.told chip.new) }
+        ensures holds { KeepsHolds self.old self.new }
+        ensures costs { Spends (ErasesAndLogs self.old.transactions.pages.parts.directory)
+            (C.told chip.old) (C.told chip.new) }
+    {
+        self.admit(self.refuses_del(s, n))?;
+        passing_laws();
+        let done = self.transactions.write(chip, s, Name(n), Change::Delete);
+        self.end(done)
+    }
+
+    /// Commits a session: once it answers, its writes last, all of them, and it is closed. A power cut
+    /// before leaves all of them or none.
+    pub fn commit<C: Chip>(&mut self, chip: &mut C, s: u32) -> Result<(), StoreFault>
+        requires sound { IsSound (C.told chip.old).places self.old }
+        ensures calls { Calls (early_fault (entry_fault self.old)
+            (refuses_end (limits_of self.old.units) (state_of self.old.transactions.sessions) s))
+            (λ state. after_commit state s) (2 ^ 15)
+            self.old (C.told chip.old) result self.new (C.told chip.new) }
+        ensures holds { KeepsHolds self.old self.new }
+        ensures idle { written_of self.old.transactions.sessions s ≡ []
+            → C.told chip.new ≡ C.told chip.old }
+        // Where the status place has a clean sector.
+        ensures costs { 0 < room_of self.old.transactions.pages.parts.status
+            → Spends (CommitCosts (framed_pages self.old.transactions))
+            (C.told chip.old) (C.told chip.new) }
+    {
+        self.admit(self.refuses_end(s))?;
+        passing_laws();
+        let done = self.transactions.commit(chip, &mut self.kept, s);
+        self.end(done)
+    }
+}

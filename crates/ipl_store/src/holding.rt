@@ -1,0 +1,126 @@
+//! Pages that stay in their frames.
+ghost use Rattle.std.specs.Prelude.{◌≡◌, ◌<◌, ◌≤◌, ◌+◌, [], true, false, None, OnOk, OnErr};
+ghost use Rattle.unit_io.specs.Costs.{Costs, Spends};
+ghost use Rattle.buffer_pool.specs.Holding.{pinned_count, IsHeld, IsAtRest};
+ghost use Rattle.store_trait.specs.Keeping.{LAST_NUMBER};
+ghost use Rattle.page_writing.specs.Spending.{ErasesAndLogs};
+ghost use Rattle.page_frames.specs.Pages.{IsFramed, HasFreeFrame};
+ghost use Rattle.ipl_store.specs.Calls.{
+  counter_of,
+  IsSound,
+  KeepsHolds,
+  Calls,
+  early_fault,
+  entry_fault,
+  down_fault,
+  is_held,
+  refuses_hold,
+  refuses_release,
+};
+ghost use Rattle.ipl_store.specs.Shown.{HoldsAlso, HoldsBut, IsRepooled};
+
+use crate::Store;
+use crate::refusals::is_held;
+use buffer_pool::pool_laws;
+use chip_trait::Chip;
+use frame_changes::buffer_laws;
+use ipl_base::StoreFault;
+
+impl Store {
+    /// Holds a page of a unit in a frame: a `get` of a name there makes no chip call until it is
+    /// released. A second hold changes nothing.
+    pub fn hold<C: Chip>(&mut self, chip: &mut C, unit: u32, page: u32) -> Result<(), StoreFault>
+        requires sound { IsSound (C.told chip.old).places self.old }
+        ensures calls { Calls (early_fault (entry_fault self.old)
+            (refuses_hold self.old.units self.old.transactions.pages.pool unit page))
+            (λ state. state) 14 self.old (C.told chip.old) result self.new (C.told chip.new) }
+        ensures holds { OnOk result (HoldsAlso self.old unit page self.new) }
+        ensures framed { OnOk result (IsFramed self.new.transactions.pages unit page) }
+        ensures same { OnErr result (KeepsHolds self.old self.new) }
+        ensures again { is_held self.old.transactions.pages.pool unit page ≡ true
+            → (self.new ≡ self.old) × (C.told chip.new ≡ C.told chip.old) }
+        ensures free { HasFreeFrame self.old.transactions.pages
+            → Spends (Costs 0 0 0 []) (C.told chip.old) (C.told chip.new) }
+        ensures costs { Spends (ErasesAndLogs self.old.transactions.pages.parts.directory)
+            (C.told chip.old) (C.told chip.new) }
+    {
+        self.admit(self.refuses_hold(unit, page))?;
+        if is_held(&self.transactions.pages.pool, unit, page) {
+            return Ok(());
+        }
+        self.bring_page(chip, unit, page)?;
+        self.keep(unit, page);
+        Ok(())
+    }
+
+    /// Releases a page that is held. The chip isn't asked.
+    pub fn release<C: Chip>(
+        &mut self,
+        _chip: &mut C,
+        unit: u32,
+        page: u32,
+    ) -> Result<(), StoreFault>
+        requires sound { IsSound (C.told _chip.old).places self.old }
+        ensures calls { Calls (early_fault (down_fault self.old)
+            (refuses_release self.old.units self.old.transactions.pages.pool unit page))
+            (λ state. state) 0 self.old (C.told _chip.old) result self.new (C.told _chip.new) }
+        ensures holds { OnOk result (HoldsBut self.old unit page self.new) }
+        ensures idle { C.told _chip.new ≡ C.told _chip.old }
+    {
+        self.admit_end(self.refuses_release(unit, page))?;
+        self.let_go(unit, page);
+        Ok(())
+    }
+
+    /// Brings a page (0 to 14 of a unit) of the chip into a frame. The store isn't down, and has numbers
+    /// left.
+    fn bring_page<C: Chip>(&mut self, chip: &mut C, unit: u32, page: u32) -> Result<(), StoreFault>
+        requires sound { IsSound (C.told chip.old).places self.old }
+        requires up { self.old.down ≡ false }
+        requires unit { unit < self.old.units }
+        requires page { page < 15 }
+        requires left { counter_of self.old ≤ LAST_NUMBER }
+        ensures calls { Calls None (λ state. state) 14
+            self.old (C.told chip.old) result self.new (C.told chip.new) }
+        ensures holds { KeepsHolds self.old self.new }
+        ensures framed { OnOk result (IsFramed self.new.transactions.pages unit page) }
+        ensures free { HasFreeFrame self.old.transactions.pages
+            → Spends (Costs 0 0 0 []) (C.told chip.old) (C.told chip.new) }
+        ensures costs { Spends (ErasesAndLogs self.old.transactions.pages.parts.directory)
+            (C.told chip.old) (C.told chip.new) }
+    {
+        let done = self.transactions.pages.bring(chip, unit, page);
+        self.end(done)
+    }
+
+    /// Holds a page (0 to 14 of a unit) that is in a frame, and isn't held, where one more may be held.
+    fn keep(&mut self, unit: u32, page: u32)
+        requires page { page < 15 }
+        requires there { IsFramed self.old.transactions.pages unit page }
+        requires free { ¬ IsHeld self.old.transactions.pages.pool.buffers unit page }
+        requires few { pinned_count self.old.transactions.pages.pool.buffers + 1
+            < self.old.transactions.pages.pool.limit }
+        requires rest { IsAtRest self.old.transactions.pages.pool }
+        ensures holds { HoldsAlso self.old unit page self.new }
+        ensures pool { IsRepooled self.old self.new }
+    {
+        self.transactions.pages.pool.facts();
+        pool_laws();
+        buffer_laws();
+        self.transactions.pages.pool.hold(unit, page);
+    }
+
+    /// Ends the hold of a page (0 to 14 of a unit).
+    fn let_go(&mut self, unit: u32, page: u32)
+        requires page { page < 15 }
+        requires held { IsHeld self.old.transactions.pages.pool.buffers unit page }
+        requires rest { IsAtRest self.old.transactions.pages.pool }
+        ensures holds { HoldsBut self.old unit page self.new }
+        ensures pool { IsRepooled self.old self.new }
+    {
+        self.transactions.pages.pool.facts();
+        pool_laws();
+        buffer_laws();
+        self.transactions.pages.pool.release(unit, page);
+    }
+}

@@ -1,0 +1,40 @@
+//! A merge that is asked for.
+ghost use Rattle.std.specs.Prelude.{◌≤◌, slice_index, is_ok, OnOk};
+ghost use Rattle.unit_io.specs.Costs.{Spends};
+ghost use Rattle.ipl_rules.specs.Refusals.{refuses_merge};
+ghost use Rattle.selective_merge.specs.Spending.{ErasesFor};
+ghost use Rattle.store_steps.specs.Keeps.{limits_of};
+ghost use Rattle.ipl_store.specs.Calls.{
+  IsSound,
+  KeepsHolds,
+  Calls,
+  early_fault,
+  entry_fault,
+};
+
+use crate::Store;
+use chip_trait::Chip;
+use ipl_base::StoreFault;
+use store_steps::passing_laws;
+
+impl Store {
+    /// Merges a unit at once, whatever is carried.
+    pub fn merge<C: Chip>(&mut self, chip: &mut C, unit: u32) -> Result<(), StoreFault>
+        requires sound { IsSound (C.told chip.old).places self.old }
+        ensures calls { Calls (early_fault (entry_fault self.old)
+            (refuses_merge (limits_of self.old.units) unit)) (λ state. state) 13
+            self.old (C.told chip.old) result self.new (C.told chip.new) }
+        ensures holds { KeepsHolds self.old self.new }
+        // Done, three log sectors of the unit's place at least are clean.
+        ensures room { OnOk result
+            (slice_index self.new.transactions.pages.parts.directory.written unit ≤ 12) }
+        ensures costs { Spends (ErasesFor self.old.transactions.pages.parts.directory
+            (slice_index self.new.transactions.pages.parts.directory.current unit) (is_ok result))
+            (C.told chip.old) (C.told chip.new) }
+    {
+        self.admit(self.refuses_merge(unit))?;
+        passing_laws();
+        let done = self.transactions.pages.merge(chip, unit);
+        self.end(done)
+    }
+}

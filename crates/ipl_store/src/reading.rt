@@ -1,0 +1,189 @@
+//! What sessions see, and what is committed.
+ghost use Rattle.std.specs.Prelude.{◌≡◌, ◌<◌, ◌≤◌, ◌*◌, ℕ, List, Option, false, Some, None, IfOk, OnOk, option_map};
+ghost use Rattle.std.specs.Borrow.{sem, Bor};
+ghost use Rattle.std.specs.Io.BufRead.{Rests};
+ghost use Rattle.ipl_base.specs.Places.{home_of};
+ghost use Rattle.ipl_rules.specs.Operations.{after_share};
+ghost use Rattle.ipl_rules.specs.Refusals.{refuses_get, refuses_share};
+ghost use Rattle.record_locks.specs.Held.{number_of};
+ghost use Rattle.record_locks.specs.Standing.{state_of};
+ghost use Rattle.store_trait.specs.Keeping.{LAST_NUMBER};
+ghost use Rattle.store_steps.specs.Keeps.{limits_of};
+ghost use Rattle.store_steps.specs.Refusals.{IsOpenSession};
+ghost use Rattle.page_ops.specs.Pending.{seen_by};
+ghost use Rattle.pending_writes.specs.Frames.{Frame};
+ghost use Rattle.page_frames.specs.Pages.{frames_in};
+ghost use Rattle.ipl_store.specs.contracts.store.Store.{the_row};
+ghost use Rattle.ipl_store.specs.Calls.{
+  counter_of,
+  IsSound,
+  early_fault,
+  entry_fault,
+  refuses_name,
+};
+ghost use Rattle.ipl_store.specs.Shown.{answered, AsksFor, Fetches, IsSeen, IsCommitted, Looks};
+
+use crate::Store;
+use chip_trait::Chip;
+use frame_changes::{committed_value, seen_value};
+use ipl_base::{Name, StoreFault, home};
+use store_steps::passing_laws;
+
+impl Store {
+    /// Brings the page of a name of the chip into a frame. The store isn't down, and has numbers left.
+    fn bring<C: Chip>(&mut self, chip: &mut C, n: u32) -> Result<(), StoreFault>
+        requires sound { IsSound (C.told chip.old).places self.old }
+        requires up { self.old.down ≡ false }
+        requires name { n < 960 * self.old.units }
+        requires left { counter_of self.old ≤ LAST_NUMBER }
+        ensures fetches { Fetches None (λ state. state) n
+            self.old (C.told chip.old) result self.new (C.told chip.new) }
+        ensures sessions { self.new.transactions.sessions ≡ self.old.transactions.sessions }
+        ensures asks { AsksFor n self.old (C.told chip.old) (C.told chip.new) }
+    {
+        let home = home(Name(n));
+        let done = self.transactions.pages.bring(chip, home.unit, home.page);
+        self.end(done)
+    }
+
+    /// What a session (0 to 31) sees of a name whose page is in a frame.
+    fn seen(&self, s: u32, n: u32) -> Option<&[u8]>
+        requires session { s < 32 }
+        ensures seen { (f : Frame) (tid : ℕ) → number_of self.now.transactions.sessions s ≡ Some tid
+            → frames_in self.now.transactions.pages (home_of n).unit (home_of n).page ≡ Some f
+            → option_map (λ b. b.now) result
+            ≡ seen_by tid (f.values (home_of n).slot) (f.pending (home_of n).slot) }
+    {
+        let tid = self.transactions.sessions.number(s)?;
+        let home = home(Name(n));
+        seen_value(&self.transactions.pages.pool, home.unit, home.page, home.slot, tid)
+    }
+
+    /// The page of a name that a session looks up, in a frame.
+    fn fetch<C: Chip>(&mut self, chip: &mut C, s: u32, n: u32) -> Result<(), StoreFault>
+        requires sound { IsSound (C.told chip.old).places self.old }
+        ensures fetches { Fetches (early_fault (entry_fault self.old)
+            (refuses_get (limits_of self.old.units) (state_of self.old.transactions.sessions) s n))
+            (λ state. state) n
+            self.old (C.told chip.old) result self.new (C.told chip.new) }
+        ensures looks { (found : Option (Bor (List ℕ))) → Looks (early_fault (entry_fault self.old)
+            (refuses_get (limits_of self.old.units) (state_of self.old.transactions.sessions) s n))
+            (λ state. state) n
+            self.old (C.told chip.old) (answered result found) self.new (C.told chip.new) }
+        ensures asks { AsksFor n self.old (C.told chip.old) (C.told chip.new) }
+        ensures session { OnOk result (IsOpenSession self.old.transactions.sessions s) }
+        ensures numbers { OnOk result (number_of self.new.transactions.sessions s
+            ≡ number_of self.old.transactions.sessions s) }
+    {
+        self.admit(self.refuses_get(s, n))?;
+        passing_laws();
+        self.bring(chip, n)
+    }
+
+    /// What a session sees of a name: its own last write there, or else the committed record. It takes
+    /// no lock. The slice is lent from the page's frame.
+    pub fn get<C: Chip>(
+        &mut self,
+        chip: &mut C,
+        s: u32,
+        n: u32,
+    ) -> Result<Option<&[u8]>, StoreFault>
+        requires sound { IsSound (C.told chip.old).places self.old }
+        ensures* looks { sem 𝓛 (Rests the_row self.entry (λ new.
+            Looks (early_fault (entry_fault self.old) (refuses_get (limits_of self.old.units)
+            (state_of self.old.transactions.sessions) s n)) (λ state. state) n
+            self.old (C.told chip.old) result new (C.told chip.new))) }
+        ensures seen { IfOk result (λ found. IsSeen s n self.old (C.told chip.old)
+            (option_map (λ b. b.now) found)) }
+        ensures asks { AsksFor n self.old (C.told chip.old) (C.told chip.new) }
+    {
+        self.fetch(chip, s, n)?;
+        Ok(self.seen(s, n))
+    }
+}
+
+impl Store {
+    /// The page of a name that a session shares, in a frame; the session shares it then.
+    fn fetch_shared<C: Chip>(&mut self, chip: &mut C, s: u32, n: u32) -> Result<(), StoreFault>
+        requires sound { IsSound (C.told chip.old).places self.old }
+        ensures fetches { Fetches (early_fault (entry_fault self.old)
+            (refuses_share (limits_of self.old.units) (state_of self.old.transactions.sessions)
+            s n)) (λ state. after_share state s n) n
+            self.old (C.told chip.old) result self.new (C.told chip.new) }
+        ensures looks { (found : Option (Bor (List ℕ))) → Looks (early_fault (entry_fault self.old)
+            (refuses_share (limits_of self.old.units) (state_of self.old.transactions.sessions)
+            s n)) (λ state. after_share state s n) n
+            self.old (C.told chip.old) (answered result found) self.new (C.told chip.new) }
+        ensures asks { AsksFor n self.old (C.told chip.old) (C.told chip.new) }
+        ensures session { OnOk result (IsOpenSession self.old.transactions.sessions s) }
+        ensures numbers { OnOk result (number_of self.new.transactions.sessions s
+            ≡ number_of self.old.transactions.sessions s) }
+    {
+        self.admit(self.refuses_share(s, n))?;
+        passing_laws();
+        self.bring(chip, n)?;
+        self.transactions.share(s, Name(n));
+        Ok(())
+    }
+
+    /// What a session sees of a name, which it shares until it ends. The slice is lent from the page's
+    /// frame.
+    pub fn share<C: Chip>(
+        &mut self,
+        chip: &mut C,
+        s: u32,
+        n: u32,
+    ) -> Result<Option<&[u8]>, StoreFault>
+        requires sound { IsSound (C.told chip.old).places self.old }
+        ensures* looks { sem 𝓛 (Rests the_row self.entry (λ new.
+            Looks (early_fault (entry_fault self.old) (refuses_share (limits_of self.old.units)
+            (state_of self.old.transactions.sessions) s n)) (λ state. after_share state s n) n
+            self.old (C.told chip.old) result new (C.told chip.new))) }
+        ensures seen { IfOk result (λ found. IsSeen s n self.old (C.told chip.old)
+            (option_map (λ b. b.now) found)) }
+        ensures asks { AsksFor n self.old (C.told chip.old) (C.told chip.new) }
+    {
+        self.fetch_shared(chip, s, n)?;
+        Ok(self.seen(s, n))
+    }
+
+    /// The page of a name, in a frame.
+    fn fetch_name<C: Chip>(&mut self, chip: &mut C, n: u32) -> Result<(), StoreFault>
+        requires sound { IsSound (C.told chip.old).places self.old }
+        ensures fetches { Fetches (early_fault (entry_fault self.old)
+            (refuses_name (limits_of self.old.units) n)) (λ state. state) n
+            self.old (C.told chip.old) result self.new (C.told chip.new) }
+        ensures looks { (found : Option (Bor (List ℕ))) → Looks (early_fault (entry_fault self.old)
+            (refuses_name (limits_of self.old.units) n)) (λ state. state) n
+            self.old (C.told chip.old) (answered result found) self.new (C.told chip.new) }
+        ensures asks { AsksFor n self.old (C.told chip.old) (C.told chip.new) }
+    {
+        self.admit(self.refuses_name(n))?;
+        self.bring(chip, n)
+    }
+
+    /// The committed record of a name whose page is in a frame.
+    fn committed_in(&self, n: u32) -> Option<&[u8]>
+        ensures committed { (f : Frame)
+            → frames_in self.now.transactions.pages (home_of n).unit (home_of n).page ≡ Some f
+            → option_map (λ b. b.now) result ≡ f.values (home_of n).slot }
+    {
+        let home = home(Name(n));
+        committed_value(&self.transactions.pages.pool, home.unit, home.page, home.slot)
+    }
+
+    /// The committed record of a name, where it has one. The slice is lent from the page's frame.
+    pub fn committed<C: Chip>(&mut self, chip: &mut C, n: u32) -> Result<Option<&[u8]>, StoreFault>
+        requires sound { IsSound (C.told chip.old).places self.old }
+        ensures* looks { sem 𝓛 (Rests the_row self.entry (λ new.
+            Looks (early_fault (entry_fault self.old) (refuses_name (limits_of self.old.units) n))
+            (λ state. state) n
+            self.old (C.told chip.old) result new (C.told chip.new))) }
+        ensures committed { IfOk result (λ found. IsCommitted n self.old (C.told chip.old)
+            (option_map (λ b. b.now) found)) }
+        ensures asks { AsksFor n self.old (C.told chip.old) (C.told chip.new) }
+    {
+        self.fetch_name(chip, n)?;
+        Ok(self.committed_in(n))
+    }
+}
