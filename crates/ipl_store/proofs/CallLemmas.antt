@@ -6,7 +6,7 @@ use Rattle.chip_trait.proofs.CountsLemmas.{counts_none}
 use Rattle.ipl_base.specs.declared.fault.ChipFault.{ChipFault}
 use Rattle.ipl_base.specs.declared.fault.Refusal.{Refusal}
 use Rattle.ipl_base.specs.declared.fault.StoreFault.{StoreFault}
-use Rattle.ipl_base.specs.declared.fault.StoreFault.TheVariants.{Down, Spent, Refused, Chip}
+use Rattle.ipl_base.specs.declared.fault.StoreFault.TheVariants.{Down, Spent}
 use Rattle.ipl_rules.specs.State.{State}
 use Rattle.buffer_pool.specs.Holding.{KeepsPins}
 use Rattle.store_trait.specs.Keeping.{LAST_NUMBER}
@@ -138,9 +138,12 @@ ends_for (Ok v) was result new before after up cause ends =
     subst (λ (r : Result (Unit {0}) StoreFault). EndsFor before r new after) (sym ends.0)
     (ends.1 ∙ up)
 ends_for (Err e) was result new before after up cause ends =
-    subst (λ (r : Result (Unit {0}) StoreFault). EndsFor before r new after) (sym ends.0)
-    (e, refl, cause,
-    ends.1 ∙ ap (λ (b : Bool). is_stopped e || b) up ∙ not_down (is_stopped e))
+    subst (λ (r : Result (Unit {0}) StoreFault). EndsFor before r new after) (sym ends.0) (
+      e,
+      refl,
+      cause,
+      ends.1 ∙ ap (λ (b : Bool). is_stopped e || b) up ∙ not_down (is_stopped e),
+    )
 
 module _ (next : State → State) (most : ℕ) (old : Store) (t : Transactions) (kept : List ℕ)
     (before after : Told) (done : Result (Unit {0}) ChipFault)
@@ -268,7 +271,8 @@ pub calls_joined : (early : Option StoreFault) (next : State → State) (most : 
     → IsConsistent before → IsConsistent after → mid.down ≡ false
     → Calls {T = Unit {0}} None (λ state. state) most old before (Ok tt) mid after
     → TurnsInMemory next mid.transactions t → t.pages.parts.counter ≡ counter_of mid
-    → Calls {T = Unit {0}} early next most old before (Ok tt) (record mid { transactions = t }) after
+    → Calls {T = Unit {0}} early next most old before (Ok tt) (record mid { transactions = t })
+    after
 calls_joined early next most old mid t before after none law then_law up first did drawn = record {
   refuses = λ fault is. let no : None ≡ Some fault = sym none ∙ is in absurd (cc no);
   serves = λ let_in. record {

@@ -1,5 +1,5 @@
 -- A page is held exactly where its buffer has a pin.
-use Rattle.std.proofs.Common.{◌≡◌, ◌↔◌, ◌<◌, ℕ, nat_lt, Bool, true, false, Option, Some, None, refl, sym, ◌∙◌, ap, arith, IsTrue}
+use Rattle.std.proofs.Common.{◌≡◌, ◌↔◌, ℕ, nat_lt, Bool, true, false, Option, Some, None, refl, sym, ◌∙◌, ap, arith, IsTrue}
 use Rattle.std.proofs.lemmas.Bool.{false≢true}
 use Rattle.std.proofs.lemmas.Bool.Decides.{nat_tests}
 use Rattle.slab.specs.Slab.{Slab}
@@ -38,4 +38,5 @@ module _ (buffers : Slab Buffer) (tells : TellsBuffers buffers) (u page : ℕ) w
   pub held_is : (result : Bool) → IsTrue result ↔ IsHeld buffers u page
       → result ≡ is_pinned (buffer_of buffers u page)
   held_is result is = alike result (is_pinned (buffer_of buffers u page))
-      (λ yes. held_pinned (is.0 yes)) (λ yes. is.1 (pinned_held (buffer_of buffers u page) refl yes))
+      (λ yes. held_pinned (is.0 yes))
+      (λ yes. is.1 (pinned_held (buffer_of buffers u page) refl yes))

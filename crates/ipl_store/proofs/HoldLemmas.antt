@@ -1,5 +1,5 @@
 -- What a hold and its end leave of a store.
-use Rattle.std.proofs.Common.{◌≡◌, ◌⊎◌, ◌↔◌, inl, inr, ℕ, ◌-◌, nat_le, ◌<◌, ◌≤◌, ◌+◌, Bool, true, false, not, ◌&&◌, ◌||◌, [], ◌∷◌, List, Option, Some, None, Result, Ok, refl, sym, ◌∙◌, ap, subst, arith, IsSome}
+use Rattle.std.proofs.Common.{◌≡◌, inl, inr, ℕ, ◌-◌, nat_le, ◌<◌, ◌≤◌, ◌+◌, Bool, true, false, not, ◌&&◌, ◌||◌, [], ◌∷◌, List, Option, Some, None, Ok, refl, sym, ◌∙◌, ap, subst, arith, IsSome}
 use Rattle.std.proofs.lemmas.Bool.{false≢true}
 use Rattle.std.proofs.lemmas.Bool.Decides.{nat_tests}
 use Rattle.std.specs.Option.{option_map}
@@ -11,7 +11,7 @@ use Rattle.record_locks.proofs.CallLemmas.{passed}
 use Rattle.slab.specs.Slab.{Slab}
 use Rattle.buffer_pool.specs.declared.pool.Buffer.{Buffer}
 use Rattle.buffer_pool.specs.Pools.{PoolView, IsThere}
-use Rattle.buffer_pool.specs.Holding.{pinned_count, IsHeld, IsPage, HasPins, KeepsPins}
+use Rattle.buffer_pool.specs.Holding.{pinned_count, IsHeld, KeepsPins}
 use Rattle.buffer_pool.specs.Laws.{buffer_of, TellsBuffers}
 use Rattle.pending_writes.specs.Frames.{Frames}
 use Rattle.store_steps.specs.Advances.{memory_of, LeadsTo}
@@ -19,7 +19,7 @@ use Rattle.frame_changes.specs.Views.{frame_in}
 use Rattle.page_frames.specs.Pages.{tables_in, frames_in}
 use Rattle.ipl_store.specs.declared.store.Store.{Store}
 use Rattle.ipl_store.specs.Calls.{memory_of_store, is_held, bad_page, holds_full, not_held, refuses_hold, refuses_release, KeepsHolds, Calls}
-use Rattle.ipl_store.specs.Shown.{with_pool, HoldsAlso, IsRepooled}
+use Rattle.ipl_store.specs.Shown.{HoldsAlso, IsRepooled}
 
 -- ---- frames
 
@@ -82,17 +82,20 @@ holds_then old mid new u page keeps also v q =
 -- a page that is held already
 pub holds_again : (store : Store) (u page : ℕ)
     → IsHeld store.transactions.pages.pool.buffers u page → HoldsAlso store u page store
-holds_again store u page held v q = (λ is. inl is, λ either. elim either [
-  | inl is ↦ is
-  | inr (unit, its_page) ↦ record {
-    key = held.key;
-    buffer = held.buffer;
-    stored = held.stored;
-    unit_is = held.unit_is ∙ sym unit;
-    page_is = held.page_is ∙ sym its_page;
-    pinned = held.pinned;
-  }
-])
+holds_again store u page held v q = (
+  λ is. inl is,
+  λ either. elim either [
+    | inl is ↦ is
+    | inr (unit, its_page) ↦ record {
+      key = held.key;
+      buffer = held.buffer;
+      stored = held.stored;
+      unit_is = held.unit_is ∙ sym unit;
+      page_is = held.page_is ∙ sym its_page;
+      pinned = held.pinned;
+    }
+  ],
+)
 
 -- ---- what isn't refused
 
@@ -101,7 +104,8 @@ neither true b fine = absurd (false≢true (sym fine))
 neither false b fine = (refl, fine)
 
 -- there is such a page
-pub passed_page : (units u page : ℕ) (rest : List Test) → first_of (bad_page units u page ∷ rest) ≡ None
+pub passed_page : (units u page : ℕ) (rest : List Test)
+    → first_of (bad_page units u page ∷ rest) ≡ None
     → (u < units) × (page < 15) × (first_of rest ≡ None)
 passed_page units u page rest none =
     let (fine, then) = passed (bad_page units u page) rest none in

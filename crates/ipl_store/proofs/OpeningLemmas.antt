@@ -97,9 +97,12 @@ module _ (places : ℕ) (t : Tables) (old new : Told)
       let (z, there, is) = tells x told in
       let said = layouts_say places (chart_of x) (layout_in (chart_of x) places) m is.laid stands in
       subst (λ (v : Contents). (it : Layout) × Mirrors places (chart_of v) it t
-      × Says places (chart_of v) it m) (same_held z y new there then)
-      (is.now, is.mirrors, says_kept places (chart_of x) (chart_of z)
-      (layout_in (chart_of x) places) is.now m is.pages said)
+      × Says places (chart_of v) it m) (same_held z y new there then) (
+        is.now,
+        is.mirrors,
+        says_kept places (chart_of x) (chart_of z)
+            (layout_in (chart_of x) places) is.now m is.pages said,
+      )
 
   -- it leads to the state without sessions
   pub opened_leads : (before : Memory) → old.places ≡ places
@@ -112,15 +115,19 @@ module _ (places : ℕ) (t : Tables) (old new : Told)
           × (new.contents ≡ Some y) × ((it : Layout) → Laid places (chart_of x) it
           → IsReopened places (chart_of x) it (chart_of y) t)
       reopened x told =
-          let (y, there, is) = tells x told in (y, there, λ it laid. record {
-            layout = is.now;
-            mirrors = is.mirrors;
-            none_lost = holds.known.none_lost;
-            pages = λ u page values low few shows. is.pages u page values low few
-                (shows_as places (chart_of x) it (layout_in (chart_of x) places) u page values
-                (laid_once places (chart_of x) it (layout_in (chart_of x) places) laid is.laid)
-                low shows);
-          })
+          let (y, there, is) = tells x told in (
+            y,
+            there,
+            λ it laid. record {
+              layout = is.now;
+              mirrors = is.mirrors;
+              none_lost = holds.known.none_lost;
+              pages = λ u page values low few shows. is.pages u page values low few
+                  (shows_as places (chart_of x) it (layout_in (chart_of x) places) u page values
+                  (laid_once places (chart_of x) it (layout_in (chart_of x) places) laid is.laid)
+                  low shows);
+            },
+          )
 
       opens : (all : ℕ) → old.places ≡ all → Charts (λ c y. (it : Layout) → Laid all c it
           → IsReopened all c it y t) old new
@@ -183,9 +190,10 @@ module _ (units : ℕ) (t : Tables) (old new : Told)
       let did = steps m h steady rests in
       let same = same_history (adds_all did.added h) k new did.history then in
       subst (λ (j : History). RestsOnMap (opened_with units t (replicate 32 None)) new m j
-      × IsTidy j.story t) same
-      (record { settled = did.settled tt; rests = did.ends tt },
-      did.does.clean refl h.story (λ p s nowhere. absurd nowhere)))
+      × IsTidy j.story t) same (
+        record { settled = did.settled tt; rests = did.ends tt },
+        did.does.clean refl h.story (λ p s nowhere. absurd nowhere),
+      ))
 
 -- ---- as its fields have it
 

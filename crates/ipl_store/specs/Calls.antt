@@ -112,19 +112,20 @@ is_stopped (Damaged p s stored computed) = false
 is_stopped (Malformed p s) = false
 
 -- the answer of work on the chip; a fault is handed on, and a failed write leaves the store down
-abbrev pub EndsAs : Result (Unit {0}) ChipFault → Bool → Result (Unit {0}) StoreFault → Bool → Type 0
+abbrev pub EndsAs : Result (Unit {0}) ChipFault → Bool → Result (Unit {0}) StoreFault → Bool
+    → Type 0
 EndsAs (Ok v) was result is = (result ≡ Ok v) × (is ≡ was)
 EndsAs (Err e) was result is = (result ≡ Err (Chip e)) × (is ≡ (is_stopped e || was))
 
--- done, the store isn't down; else a fault of the chip ended the call, for its cause, and the store is
--- down exactly where a write failed
+-- done, the store isn't down; else a fault of the chip ended the call, for its cause, and the store
+-- is down exactly where a write failed
 abbrev pub EndsFor : {T : Type 0} → Told → Result T StoreFault → Store → Told → Type 0
 EndsFor before result new after = MatchResult result (λ v. new.down ≡ false)
     (λ fault. (e : ChipFault) × (fault ≡ Chip e) × PageCause e before after
     × (new.down ≡ is_stopped e))
 
--- A call that is let in. It leads from each state that memory and chip stand for to the next one, and
--- at most so many numbers were drawn.
+-- A call that is let in. It leads from each state that memory and chip stand for to the next one,
+-- and at most so many numbers were drawn.
 pub record Serves {T : Type 0} (next : State → State) (most : ℕ) (old : Store) (before : Told)
     (result : Result T StoreFault) (new : Store) (after : Told) : Type 0 where
   pub leads : LeadsTo next (memory_of_store old) before result (memory_of_store new) after
@@ -136,8 +137,8 @@ pub record Serves {T : Type 0} (next : State → State) (most : ℕ) (old : Stor
 abbrev pub KeepsHolds : Store → Store → Type 0
 KeepsHolds old new = KeepsPins old.transactions.pages.pool new.transactions.pages.pool
 
--- A call of a store: it ends early with this fault, and nothing was done; or it does what it is for.
--- The store is sound either way.
+-- A call of a store: it ends early with this fault, and nothing was done; or it does what it is
+-- for. The store is sound either way.
 pub record Calls {T : Type 0} (early : Option StoreFault) (next : State → State) (most : ℕ)
     (old : Store) (before : Told) (result : Result T StoreFault) (new : Store) (after : Told)
     : Type 0 where

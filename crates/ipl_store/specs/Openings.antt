@@ -1,5 +1,5 @@
 -- What an opening of a chip leaves of a store.
-use Rattle.std.specs.Prelude.{ℕ, ◌≡◌, ◌⊎◌, ◌≤◌, ◌+◌, ◌-◌, ◌^◌, false, true, [], replicate, None, Result, Ok, Err, is_ok, MatchResult}
+use Rattle.std.specs.Prelude.{ℕ, ◌≡◌, ◌⊎◌, ◌≤◌, ◌+◌, ◌-◌, ◌^◌, false, true, [], replicate, None, Result, Ok, Err, MatchResult}
 use Rattle.chip_trait.specs.Told.{History, Told}
 use Rattle.ipl_base.specs.declared.fault.ChipFault.{ChipFault}
 use Rattle.ipl_base.specs.declared.fault.ImageFault.{ImageFault}
@@ -50,8 +50,8 @@ Restarts before old after new = LeadsTo {T = Unit {0}} {E = ChipFault}
     (λ state. after_restart state) before old (Ok tt) after new
 
 -- What an opening does to the chip, which fails so or leaves these tables: what it tells, what a
--- power cut leaves, that a faulty chip is only read, when it may fail, how many erases it makes, and
--- why it fails.
+-- power cut leaves, that a faulty chip is only read, when it may fail, how many erases it makes,
+-- and why it fails.
 pub record Tries (places : ℕ) (old : Told) (result : Result (Unit {0}) ImageFault) (t : Tables)
     (new : Told) : Type 0 where
   pub tells : RecoversTold places old result t new

@@ -18,8 +18,8 @@ use Rattle.ipl_store.specs.Calls.{view_of, KeepsHolds, Calls}
 
 -- ---- names
 
--- The page of the name is in a frame. That tells the name as each state has it that the store before
--- and the chip's contents showed.
+-- The page of the name is in a frame. That tells the name as each state has it that the store
+-- before and the chip's contents showed.
 pub record FramesName (n : ℕ) (old : Store) (before : Told) (new : Store) : Type 0 where
   pub frame : Frame
   pub there : frames_in new.transactions.pages (home_of n).unit (home_of n).page ≡ Some frame
@@ -73,8 +73,8 @@ pub record Fetches (early : Option StoreFault) (next : State → State) (n : ℕ
   pub holds : KeepsHolds old new
   pub names : OnOk result (FramesName n old before new)
 
--- What is asked of the chip for it: nothing where the page is in a frame, only reads where a frame is
--- free, and else what writes the records of one page out.
+-- What is asked of the chip for it: nothing where the page is in a frame, only reads where a frame
+-- is free, and else what writes the records of one page out.
 pub record AsksFor (n : ℕ) (store : Store) (before after : Told) : Type 0 where
   pub idle : IsFramed store.transactions.pages (home_of n).unit (home_of n).page → after ≡ before
   pub free : HasFreeFrame store.transactions.pages → Spends (Costs 0 0 0 []) before after

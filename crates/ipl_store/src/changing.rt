@@ -18,7 +18,8 @@ use log_records::Change;
 use store_steps::passing_laws;
 
 impl Store {
-    /// Puts a value of at most 108 bytes at a name, for a session. It counts once that is committed.
+    /// Puts a value of at most 108 bytes at a name, for a session. It counts once that is
+    /// committed.
     pub fn put<C: Chip>(
         &mut self,
         chip: &mut C,
@@ -63,8 +64,8 @@ impl Store {
         self.end(done)
     }
 
-    /// Commits a session: once it answers, its writes last, all of them, and it is closed. A power cut
-    /// before leaves all of them or none.
+    /// Commits a session: once it answers, its writes last, all of them, and it is closed. A power
+    /// cut before leaves all of them or none.
     pub fn commit<C: Chip>(&mut self, chip: &mut C, s: u32) -> Result<(), StoreFault>
         requires sound { IsSound (C.told chip.old).places self.old }
         ensures calls { Calls (early_fault (entry_fault self.old)

@@ -72,8 +72,8 @@ impl Store {
         Ok(())
     }
 
-    /// Brings a page (0 to 14 of a unit) of the chip into a frame. The store isn't down, and has numbers
-    /// left.
+    /// Brings a page (0 to 14 of a unit) of the chip into a frame. The store isn't down, and has
+    /// numbers left.
     fn bring_page<C: Chip>(&mut self, chip: &mut C, unit: u32, page: u32) -> Result<(), StoreFault>
         requires sound { IsSound (C.told chip.old).places self.old }
         requires up { self.old.down ≡ false }
@@ -93,7 +93,8 @@ impl Store {
         self.end(done)
     }
 
-    /// Holds a page (0 to 14 of a unit) that is in a frame, and isn't held, where one more may be held.
+    /// Holds a page (0 to 14 of a unit) that is in a frame, and isn't held, where one more may be
+    /// held.
     fn keep(&mut self, unit: u32, page: u32)
         requires page { page < 15 }
         requires there { IsFramed self.old.transactions.pages unit page }

@@ -73,8 +73,9 @@ impl Store {
         Ok(())
     }
 
-    /// Opens a chip of 5 to 1,028 places, with 2 to 64 frames for pages. The store has the records for
-    /// which the chip's contents stand, and no session is open. Memory is taken before the first read.
+    /// Opens a chip of 5 to 1,028 places, with 2 to 64 frames for pages. The store has the records
+    /// for which the chip's contents stand, and no session is open. Memory is taken before the
+    /// first read.
     pub fn open<C: Chip>(alloc: Global, chip: &mut C, frames: u32) -> Result<Store, OpenFault>
         requires two { 2 ≤ frames }
         requires few { frames ≤ 64 }
@@ -91,8 +92,8 @@ impl Store {
         Ok(store)
     }
 
-    /// Opens the chip again, or what is left of it: all sessions are dropped, and all holds. Where that
-    /// fails the store is down.
+    /// Opens the chip again, or what is left of it: all sessions are dropped, and all holds. Where
+    /// that fails the store is down.
     pub fn reopen<C: Chip>(mut self, chip: &mut C) -> (Store, Result<(), ImageFault>)
         requires sound { IsSound (C.told chip.old).places self }
         ensures sound { IsSound (C.told chip.old).places result.0 }

@@ -30,7 +30,8 @@ use ipl_base::{Name, StoreFault, home};
 use store_steps::passing_laws;
 
 impl Store {
-    /// Brings the page of a name of the chip into a frame. The store isn't down, and has numbers left.
+    /// Brings the page of a name of the chip into a frame. The store isn't down, and has numbers
+    /// left.
     fn bring<C: Chip>(&mut self, chip: &mut C, n: u32) -> Result<(), StoreFault>
         requires sound { IsSound (C.told chip.old).places self.old }
         requires up { self.old.down ≡ false }
@@ -56,7 +57,13 @@ impl Store {
     {
         let tid = self.transactions.sessions.number(s)?;
         let home = home(Name(n));
-        seen_value(&self.transactions.pages.pool, home.unit, home.page, home.slot, tid)
+        seen_value(
+            &self.transactions.pages.pool,
+            home.unit,
+            home.page,
+            home.slot,
+            tid,
+        )
     }
 
     /// The page of a name that a session looks up, in a frame.
@@ -80,8 +87,8 @@ impl Store {
         self.bring(chip, n)
     }
 
-    /// What a session sees of a name: its own last write there, or else the committed record. It takes
-    /// no lock. The slice is lent from the page's frame.
+    /// What a session sees of a name: its own last write there, or else the committed record. It
+    /// takes no lock. The slice is lent from the page's frame.
     pub fn get<C: Chip>(
         &mut self,
         chip: &mut C,
@@ -126,8 +133,8 @@ impl Store {
         Ok(())
     }
 
-    /// What a session sees of a name, which it shares until it ends. The slice is lent from the page's
-    /// frame.
+    /// What a session sees of a name, which it shares until it ends. The slice is lent from the
+    /// page's frame.
     pub fn share<C: Chip>(
         &mut self,
         chip: &mut C,
@@ -169,7 +176,12 @@ impl Store {
             → option_map (λ b. b.now) result ≡ f.values (home_of n).slot }
     {
         let home = home(Name(n));
-        committed_value(&self.transactions.pages.pool, home.unit, home.page, home.slot)
+        committed_value(
+            &self.transactions.pages.pool,
+            home.unit,
+            home.page,
+            home.slot,
+        )
     }
 
     /// The committed record of a name, where it has one. The slice is lent from the page's frame.

@@ -13,7 +13,8 @@ returns-clause-calls g c =
     let slots = store.transactions.sessions in
     let refusal = refuses_end (limits_of store.units) (state_of slots) c.args.s in
     let none : early_fault (down_fault store) refusal ≡ None =
-    ap (early_fault (down_fault store)) (sym c.refuses_end.ensures) ∙ sym c.in_ok-admit_end.ensures in
+    ap (early_fault (down_fault store)) (sym c.refuses_end.ensures)
+    ∙ sym c.in_ok-admit_end.ensures in
     let (up, free) = let_in_down store refusal none in
     memory_calls (λ state. after_abort state c.args.s) 0 store c.abort.new.self
     (g.C.Chip.told c.args._chip.now) (early_fault (down_fault store) refusal) c.requires.sound up

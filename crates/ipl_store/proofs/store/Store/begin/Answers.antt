@@ -13,7 +13,8 @@ returns-clause-calls g c =
     let slots = store.transactions.sessions in
     let refusal = refuses_begin (limits_of store.units) (state_of slots) c.args.s in
     let none : early_fault (entry_fault store) refusal ≡ None =
-    ap (early_fault (entry_fault store)) (sym c.refuses_begin.ensures) ∙ sym c.in_ok-admit.ensures in
+    ap (early_fault (entry_fault store)) (sym c.refuses_begin.ensures)
+    ∙ sym c.in_ok-admit.ensures in
     let (up, few, free) = let_in store refusal none in
     memory_calls (λ state. after_begin state c.args.s) 1 store c.begin.new.self
     (g.C.Chip.told c.args._chip.now) (early_fault (entry_fault store) refusal) c.requires.sound up

@@ -1,4 +1,4 @@
-use Rattle.std.proofs.Common.{◌≡◌, None, OnOk, refl, sym, ap, subst}
+use Rattle.std.proofs.Common.{None, OnOk, refl, sym, ap, subst}
 use Rattle.ipl_base.specs.declared.spot.Home.{Home}
 use Rattle.page_frames.specs.Pages.{IsFramed}
 use Rattle.ipl_store.specs.declared.store.Store.{Store}
@@ -22,7 +22,8 @@ returns-clause-fetches g c =
           c.end.ensures.ends None refl;
       holds = kept_holds store c.end.new.self (record store.transactions { pages = pages })
           store.kept rest c.bring-done.ensures.upholds.pins;
-      names = done_ends (FramesName c.args.n store old c.end.new.self) c.bring-done.result store.down
+      names = done_ends (FramesName c.args.n store old c.end.new.self) c.bring-done.result
+          store.down
           c.end.new.self.down c.end.result c.end.ensures.ends
           (names_told c.args.n store pages old after c.bring-done.result c.end.new.self
           c.requires.sound.made.units (ap (λ (s : Store). s.transactions.pages) rest)
@@ -37,7 +38,8 @@ returns-clause-sessions g c = ap (λ (s : Store). s.transactions.sessions) c.end
 pub returns-clause-asks : goal.returns-clause-asks
 returns-clause-asks g c =
     let pages = c.args.self.now.transactions.pages in record {
-      idle = λ framed. (c.bring-done.ensures.idle (subst (λ (h : Home). IsFramed pages h.unit h.page)
+      idle = λ framed. (c.bring-done.ensures.idle (subst (λ (h : Home). IsFramed pages h.unit
+          h.page)
           (sym c.home-home.ensures.home) framed)).1;
       free = c.bring-done.ensures.free;
       costs = c.bring-done.ensures.costs;

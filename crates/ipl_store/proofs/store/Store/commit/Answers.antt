@@ -12,7 +12,8 @@ returns-clause-calls g c =
     let store = c.args.self.now in
     let old = g.C.Chip.told c.args.chip.now in
     let after = g.C.Chip.told c.commit-done.new.chip in
-    let refusal = refuses_end (limits_of store.units) (state_of store.transactions.sessions) c.args.s
+    let refusal = refuses_end (limits_of store.units) (state_of store.transactions.sessions)
+    c.args.s
     in
     let early = early_fault (entry_fault store) refusal in
     let none : early ≡ None =

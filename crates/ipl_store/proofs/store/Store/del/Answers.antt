@@ -1,4 +1,4 @@
-use Rattle.std.proofs.Common.{◌≡◌, ◌∙◌, List, ℕ, Some, None, sym, ap, subst}
+use Rattle.std.proofs.Common.{◌≡◌, ◌∙◌, None, sym, ap}
 use Rattle.ipl_rules.specs.Operations.{after_write}
 use Rattle.ipl_rules.specs.Refusals.{refuses_del}
 use Rattle.record_locks.specs.Standing.{state_of}
@@ -12,7 +12,8 @@ returns-clause-calls g c =
     let store = c.args.self.now in
     let old = g.C.Chip.told c.args.chip.now in
     let after = g.C.Chip.told c.write-done.new.chip in
-    let refusal = refuses_del (limits_of store.units) (state_of store.transactions.sessions) c.args.s c.args.n in
+    let refusal = refuses_del (limits_of store.units) (state_of store.transactions.sessions)
+    c.args.s c.args.n in
     let early = early_fault (entry_fault store) refusal in
     let none : early ≡ None =
     ap (early_fault (entry_fault store)) (sym c.refuses_del.ensures) ∙ sym c.in_ok-admit.ensures in

@@ -1,11 +1,7 @@
-use Rattle.std.proofs.Common.{◌≡◌, ◌∙◌, None, Some, Ok, Err, sym, ap}
+use Rattle.std.proofs.Common.{◌≡◌, ◌∙◌, None, Some, Err, sym, ap}
 use Rattle.std.proofs.lemmas.Result.{err_from_is_err_and}
-use Rattle.ipl_rules.specs.Operations.{after_share}
-
-use Rattle.record_locks.specs.Standing.{state_of}
 use Rattle.store_steps.specs.Keeps.{limits_of}
 use Rattle.ipl_store.specs.Calls.{early_fault, entry_fault, refuses_name}
-use Rattle.ipl_store.specs.Shown.{Fetches}
 use Rattle.ipl_store.proofs.ShownLemmas.{looks_answered, let_in_fetches, refused_fetches, asks_nothing}
 use Rattle.ipl_store.proofs.store.Store.fetch_name.Goals as goal
 
@@ -17,7 +13,8 @@ returns-in_err-admit-clause-fetches g c =
     let early = early_fault (entry_fault store) refusal in
     let fault = c.in_err-admit.field-0.0 in
     let is : early ≡ Some fault =
-    ap (early_fault (entry_fault store)) (sym c.refuses_name.ensures) ∙ sym c.in_err-admit.ensures in
+    ap (early_fault (entry_fault store)) (sym c.refuses_name.ensures)
+    ∙ sym c.in_err-admit.ensures in
     let e = err_from_is_err_and c.from_residual.result c.from_residual.ensures.1 in
     rw (e.1 ∙ ap Err e.2)
     (refused_fetches early (λ state. state) c.args.n store old fault is c.requires.sound)
@@ -30,9 +27,11 @@ returns-in_err-admit-clause-looks g c = λ found.
     let early = early_fault (entry_fault store) refusal in
     let fault = c.in_err-admit.field-0.0 in
     let is : early ≡ Some fault =
-    ap (early_fault (entry_fault store)) (sym c.refuses_name.ensures) ∙ sym c.in_err-admit.ensures in
+    ap (early_fault (entry_fault store)) (sym c.refuses_name.ensures)
+    ∙ sym c.in_err-admit.ensures in
     let e = err_from_is_err_and c.from_residual.result c.from_residual.ensures.1 in
-    rw (e.1 ∙ ap Err e.2) (looks_answered early (λ state. state) c.args.n store old (Err fault) store old
+    rw (e.1 ∙ ap Err e.2) (looks_answered early (λ state. state) c.args.n store old (Err fault)
+    store old
     (refused_fetches early (λ state. state) c.args.n store old fault is c.requires.sound) found)
 
 pub returns-in_err-admit-clause-asks : goal.returns-in_err-admit-clause-asks

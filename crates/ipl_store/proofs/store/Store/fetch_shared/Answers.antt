@@ -6,8 +6,7 @@ use Rattle.record_locks.specs.Held.{Slots, number_of}
 use Rattle.record_locks.specs.Locks as locks
 use Rattle.record_locks.specs.Standing.{state_of}
 use Rattle.store_steps.specs.Keeps.{limits_of}
-use Rattle.ipl_store.specs.Calls.{early_fault, entry_fault, refuses_name}
-use Rattle.ipl_store.specs.Shown.{Fetches}
+use Rattle.ipl_store.specs.Calls.{early_fault, entry_fault}
 use Rattle.store_steps.proofs.RefusalLemmas.{passed_shares}
 use Rattle.ipl_store.proofs.CallLemmas.{let_in}
 use Rattle.ipl_store.proofs.ShownLemmas.{looks_answered, refused_fetches, failed_fetches, shared_fetches, asks_nothing}
@@ -22,10 +21,12 @@ returns-in_err-admit-clause-fetches g c =
     let early = early_fault (entry_fault store) refusal in
     let fault = c.in_err-admit.field-0.0 in
     let is : early ≡ Some fault =
-    ap (early_fault (entry_fault store)) (sym c.refuses_share.ensures) ∙ sym c.in_err-admit.ensures in
+    ap (early_fault (entry_fault store)) (sym c.refuses_share.ensures)
+    ∙ sym c.in_err-admit.ensures in
     let e = err_from_is_err_and c.from_residual.result c.from_residual.ensures.1 in
     rw (e.1 ∙ ap Err e.2)
-    (refused_fetches early (λ state. after_share state c.args.s c.args.n) c.args.n store old fault is c.requires.sound)
+    (refused_fetches early (λ state. after_share state c.args.s c.args.n) c.args.n store old
+    fault is c.requires.sound)
 
 pub returns-in_err-admit-clause-looks : goal.returns-in_err-admit-clause-looks
 returns-in_err-admit-clause-looks g c = λ found.
@@ -36,10 +37,13 @@ returns-in_err-admit-clause-looks g c = λ found.
     let early = early_fault (entry_fault store) refusal in
     let fault = c.in_err-admit.field-0.0 in
     let is : early ≡ Some fault =
-    ap (early_fault (entry_fault store)) (sym c.refuses_share.ensures) ∙ sym c.in_err-admit.ensures in
+    ap (early_fault (entry_fault store)) (sym c.refuses_share.ensures)
+    ∙ sym c.in_err-admit.ensures in
     let e = err_from_is_err_and c.from_residual.result c.from_residual.ensures.1 in
-    rw (e.1 ∙ ap Err e.2) (looks_answered early (λ state. after_share state c.args.s c.args.n) c.args.n store old (Err fault) store old
-    (refused_fetches early (λ state. after_share state c.args.s c.args.n) c.args.n store old fault is c.requires.sound) found)
+    rw (e.1 ∙ ap Err e.2) (looks_answered early (λ state. after_share state c.args.s c.args.n)
+    c.args.n store old (Err fault) store old
+    (refused_fetches early (λ state. after_share state c.args.s c.args.n) c.args.n store old
+    fault is c.requires.sound) found)
 
 pub returns-in_err-admit-clause-asks : goal.returns-in_err-admit-clause-asks
 returns-in_err-admit-clause-asks g c =
@@ -53,11 +57,13 @@ returns-in_err-bring-clause-fetches g c =
     c.args.s c.args.n in
     let early = early_fault (entry_fault store) refusal in
     let none : early ≡ None =
-    ap (early_fault (entry_fault store)) (sym c.refuses_share.ensures) ∙ sym c.in_ok-admit.ensures in
+    ap (early_fault (entry_fault store)) (sym c.refuses_share.ensures)
+    ∙ sym c.in_ok-admit.ensures in
     let after = g.C.Chip.told c.bring.new.chip in
     let e = err_from_is_err_and c.from_residual-in_err-bring.result
     c.from_residual-in_err-bring.ensures.1 in
-    rw (e.1 ∙ ap Err e.2) (failed_fetches early (λ state. after_share state c.args.s c.args.n) c.args.n store old
+    rw (e.1 ∙ ap Err e.2) (failed_fetches early (λ state. after_share state c.args.s c.args.n)
+    c.args.n store old
     c.in_err-bring.field-0.0 c.bring.new.self after none c.in_err-bring.ensures.fetches)
 
 pub returns-in_err-bring-clause-looks : goal.returns-in_err-bring-clause-looks
@@ -68,7 +74,8 @@ returns-in_err-bring-clause-looks g c = λ found.
     c.args.s c.args.n in
     let early = early_fault (entry_fault store) refusal in
     let none : early ≡ None =
-    ap (early_fault (entry_fault store)) (sym c.refuses_share.ensures) ∙ sym c.in_ok-admit.ensures in
+    ap (early_fault (entry_fault store)) (sym c.refuses_share.ensures)
+    ∙ sym c.in_ok-admit.ensures in
     let after = g.C.Chip.told c.bring.new.chip in
     let e = err_from_is_err_and c.from_residual-in_err-bring.result
     c.from_residual-in_err-bring.ensures.1 in
@@ -85,7 +92,8 @@ share-requires-clause-unrefused g c =
     c.args.s c.args.n in
     let early = early_fault (entry_fault store) refusal in
     let none : early ≡ None =
-    ap (early_fault (entry_fault store)) (sym c.refuses_share.ensures) ∙ sym c.in_ok-admit.ensures in
+    ap (early_fault (entry_fault store)) (sym c.refuses_share.ensures)
+    ∙ sym c.in_ok-admit.ensures in
     ap (λ (slots : Slots). locks.refuses_share slots c.args.s c.args.n) c.bring.ensures.sessions
     ∙ (passed_shares store.units store.transactions.sessions c.args.s c.args.n
     (let_in store refusal none).2).1
@@ -98,7 +106,8 @@ returns-clause-fetches g c =
     c.args.s c.args.n in
     let early = early_fault (entry_fault store) refusal in
     let none : early ≡ None =
-    ap (early_fault (entry_fault store)) (sym c.refuses_share.ensures) ∙ sym c.in_ok-admit.ensures in
+    ap (early_fault (entry_fault store)) (sym c.refuses_share.ensures)
+    ∙ sym c.in_ok-admit.ensures in
     let after = g.C.Chip.told c.bring.new.chip in
     shared_fetches early (λ state. after_share state c.args.s c.args.n) c.args.n store
     c.bring.new.self c.share.new.self old after none (g.met.C.Chip.consistent c.args.chip.now)
@@ -113,7 +122,8 @@ returns-clause-looks g c = λ found.
     c.args.s c.args.n in
     let early = early_fault (entry_fault store) refusal in
     let none : early ≡ None =
-    ap (early_fault (entry_fault store)) (sym c.refuses_share.ensures) ∙ sym c.in_ok-admit.ensures in
+    ap (early_fault (entry_fault store)) (sym c.refuses_share.ensures)
+    ∙ sym c.in_ok-admit.ensures in
     let after = g.C.Chip.told c.bring.new.chip in
     looks_answered early (λ state. after_share state c.args.s c.args.n) c.args.n store old (Ok tt)
     (record c.bring.new.self { transactions = c.share.new.self }) after
@@ -130,7 +140,8 @@ returns-clause-session g c =
     c.args.s c.args.n in
     let early = early_fault (entry_fault store) refusal in
     let none : early ≡ None =
-    ap (early_fault (entry_fault store)) (sym c.refuses_share.ensures) ∙ sym c.in_ok-admit.ensures in
+    ap (early_fault (entry_fault store)) (sym c.refuses_share.ensures)
+    ∙ sym c.in_ok-admit.ensures in
     (passed_shares store.units store.transactions.sessions c.args.s c.args.n
     (let_in store refusal none).2).0.session
 

@@ -5,7 +5,7 @@ use Rattle.buffer_pool.proofs.HoldingLemmas.{as_many}
 use Rattle.pending_writes.specs.Frames.{Frames}
 use Rattle.ipl_store.specs.Calls.{early_fault, entry_fault, refuses_hold}
 use Rattle.ipl_store.proofs.CallLemmas.{let_in, let_in_calls, idle_calls}
-use Rattle.ipl_store.proofs.HoldLemmas.{holds_again, holds_then, held_before, passed_hold, repooled_calls}
+use Rattle.ipl_store.proofs.HoldLemmas.{holds_then, held_before, passed_hold, repooled_calls}
 use Rattle.ipl_store.proofs.store.Store.hold.Goals as goal
 
 pub returns-then-is_held-clause-calls : goal.returns-then-is_held-clause-calls
@@ -72,5 +72,9 @@ keep-requires-clause-few g c =
     let room = passed_hold store.units pool c.args.unit c.args.page
     (omega (arith, made.frames, made.two)) (let_in store refusal none).2
     (sym c.if-is_held.ensures.test) in
-    omega (arith, room, c.bring_page.ensures.holds.limit,
-    as_many pool c.bring_page.new.self.transactions.pages.pool c.bring_page.ensures.holds)
+    omega (
+      arith,
+      room,
+      c.bring_page.ensures.holds.limit,
+      as_many pool c.bring_page.new.self.transactions.pages.pool c.bring_page.ensures.holds,
+    )

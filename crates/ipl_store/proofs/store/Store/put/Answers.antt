@@ -13,7 +13,8 @@ returns-clause-calls g c =
     let store = c.args.self.now in
     let old = g.C.Chip.told c.args.chip.now in
     let after = g.C.Chip.told c.write-done.new.chip in
-    let refusal = refuses_put (limits_of store.units) (state_of store.transactions.sessions) c.args.s c.args.n c.args.value.now in
+    let refusal = refuses_put (limits_of store.units) (state_of store.transactions.sessions)
+    c.args.s c.args.n c.args.value.now in
     let early = early_fault (entry_fault store) refusal in
     let none : early ≡ None =
     ap (early_fault (entry_fault store)) (sym c.refuses_put.ensures) ∙ sym c.in_ok-admit.ensures in
@@ -25,7 +26,8 @@ returns-clause-calls g c =
     moved_calls (λ state. after_write state c.args.s (c.args.n, Some c.args.value.now)) 14 store
     c.write-done.new.self store.kept old after c.write-done.result c.end.result c.end.new.self up
     c.requires.sound
-    (turns_move (λ state. after_write state c.args.s (c.args.n, Some c.args.value.now)) 14 store.transactions
+    (turns_move (λ state. after_write state c.args.s (c.args.n, Some c.args.value.now)) 14
+    store.transactions
     c.write-done.new.self old after c.write-done.result turns)
     c.end.ensures.rest c.end.ensures.ends early none
 

@@ -11,7 +11,8 @@ returns-clause-calls g c =
     let refusal = refuses_release store.units pool c.args.unit c.args.page in
     let early = early_fault (down_fault store) refusal in
     let none : early ≡ None =
-    ap (early_fault (down_fault store)) (sym c.refuses_release.ensures.test) ∙ sym c.in_ok-admit_end.ensures in
+    ap (early_fault (down_fault store)) (sym c.refuses_release.ensures.test)
+    ∙ sym c.in_ok-admit_end.ensures in
     let told = g.C.Chip.told c.args._chip.now in
     let (up, free) = let_in_down store refusal none in
     repooled_calls early (λ state. state) 0 store told store c.let_go.new.self told none
