@@ -9,3 +9,4 @@ pub mod LeaveLemmas
 pub mod LoadLemmas
 pub mod BringLemmas
 pub mod OutAllLemmas
+pub mod CompleteLemmas

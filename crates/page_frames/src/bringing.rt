@@ -10,6 +10,7 @@ ghost use Rattle.log_records.specs.View.{record_of};
 ghost use Rattle.page_writing.specs.Spending.{ErasesAndLogs};
 ghost use Rattle.frame_changes.specs.Changes.{MayPut};
 ghost use Rattle.page_frames.specs.Frames.{IsUnheld};
+ghost use Rattle.page_frames.specs.Complete.{Completes, CompletesLoad};
 ghost use Rattle.page_frames.specs.Pages.{
   tables_in,
   frames_in,
@@ -40,6 +41,7 @@ impl Pages {
         requires unheld { IsUnheld self.old.pool unit page }
         requires left { self.old.parts.counter + 14 < 2 ^ 64 }
         ensures upholds { Upholds 14 self.old (C.told chip.old) result self.new (C.told chip.new) }
+        ensures complete { Completes self.old result (C.told chip.old) }
         ensures room { OnOk result (HasFreeFrame self.new) }
         ensures absent { (u q : ℕ) → frames_in self.old u q ≡ None → frames_in self.new u q ≡ None }
         ensures status { self.new.parts.status ≡ self.old.parts.status }
@@ -59,6 +61,7 @@ impl Pages {
         requires ready { IsReady (C.told chip.old).places self.old }
         requires left { self.old.parts.counter + 14 < 2 ^ 64 }
         ensures upholds { Upholds 14 self.old (C.told chip.old) result self.new (C.told chip.new) }
+        ensures complete { Completes self.old result (C.told chip.old) }
         ensures room { OnOk result (HasFreeFrame self.new) }
         ensures absent { (u q : ℕ) → frames_in self.old u q ≡ None → frames_in self.new u q ≡ None }
         ensures idle { HasFreeFrame self.old
@@ -84,6 +87,8 @@ impl Pages {
         requires empty { logs_of (frames_in self.old) unit page ≡ [] }
         ensures loads { LoadsFrame result (C.told chip.old) (tables_in self.old) unit page
             (frames_in self.old) (frames_in self.new) }
+        ensures complete { CompletesLoad (tables_in self.old) unit page result
+            (C.told chip.old) }
         ensures tables { tables_in self.new ≡ tables_in self.old }
         ensures unheld { IsUnheld self.new.pool unit page }
         ensures pins { KeepsPins self.old.pool self.new.pool }
@@ -116,6 +121,7 @@ impl Pages {
         requires absent { frames_in self.old unit page ≡ None }
         requires free { HasFreeFrame self.old }
         ensures upholds { Upholds 0 self.old (C.told chip.old) result self.new (C.told chip.new) }
+        ensures complete { Completes self.old result (C.told chip.old) }
         ensures brings { BringsPage result unit page (frames_in self.old) (frames_in self.new) }
         ensures tables { tables_in self.new ≡ tables_in self.old }
         ensures status { self.new.parts.status ≡ self.old.parts.status }
@@ -139,6 +145,7 @@ impl Pages {
         requires absent { frames_in self.old unit page ≡ None }
         requires left { self.old.parts.counter + 14 < 2 ^ 64 }
         ensures upholds { Upholds 14 self.old (C.told chip.old) result self.new (C.told chip.new) }
+        ensures complete { Completes self.old result (C.told chip.old) }
         ensures fresh { OnOk result (IsFresh self.new unit page) }
         ensures idle { HasFreeFrame self.old
             → Spends (Costs 0 0 0 []) (C.told chip.old) (C.told chip.new) }
@@ -157,6 +164,7 @@ impl Pages {
         requires page { page < 15 }
         requires left { self.old.parts.counter + 14 < 2 ^ 64 }
         ensures upholds { Upholds 14 self.old (C.told chip.old) result self.new (C.told chip.new) }
+        ensures complete { Completes self.old result (C.told chip.old) }
         ensures there { OnOk result (IsFramed self.new unit page) }
         ensures idle { IsFramed self.old unit page
             → (self.new ≡ self.old) × (C.told chip.new ≡ C.told chip.old) }
@@ -185,6 +193,7 @@ impl Pages {
         requires page { logged.now.page < 15 }
         requires left { self.old.parts.counter + 14 < 2 ^ 64 }
         ensures upholds { Upholds 14 self.old (C.told chip.old) result self.new (C.told chip.new) }
+        ensures complete { Completes self.old result (C.told chip.old) }
         ensures room { OnOk result (MayPut (frames_in self.new) unit (record_of logged.now)) }
         ensures idle { MayPut (frames_in self.old) unit (record_of logged.now)
             → C.told chip.new ≡ C.told chip.old }

@@ -7,6 +7,7 @@ ghost use Rattle.selective_merge.specs.Merging.{Merges, StaysMirrored};
 ghost use Rattle.selective_merge.specs.Spending.{ErasesFor};
 ghost use Rattle.selective_merge.specs.Throughout.{ChartsThroughout};
 ghost use Rattle.status_renewal.specs.Passes.{ErasesAtMost};
+ghost use Rattle.page_frames.specs.Complete.{Completes};
 ghost use Rattle.page_frames.specs.Pages.{tables_in, IsReady, Upholds};
 
 use crate::Pages;
@@ -26,6 +27,7 @@ impl Pages {
         requires left { self.old.parts.counter + 2 ^ 14 < 2 ^ 64 }
         ensures upholds { Upholds (2 ^ 14) self.old (C.told chip.old)
             result self.new (C.told chip.new) }
+        ensures complete { Completes self.old result (C.told chip.old) }
         ensures room { OnOk result (0 < room_of self.new.parts.status) }
         ensures frames { self.new.pool ≡ self.old.pool }
         ensures idle { 0 < room_of self.old.parts.status
@@ -45,6 +47,7 @@ impl Pages {
         requires unit { unit + 4 < (C.told chip.old).places }
         requires left { self.old.parts.counter + 13 < 2 ^ 64 }
         ensures upholds { Upholds 13 self.old (C.told chip.old) result self.new (C.told chip.new) }
+        ensures complete { Completes self.old result (C.told chip.old) }
         ensures tells { ChartsThroughout
             (λ done. Merges (C.told chip.old).places unit (tables_in self.old) (tables_in self.new))
             (StaysMirrored (C.told chip.old).places (tables_in self.old) (tables_in self.new))

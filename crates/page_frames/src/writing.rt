@@ -3,6 +3,7 @@ ghost use Rattle.std.specs.Prelude.{◌≡◌, ◌<◌, ◌≤◌, ◌+◌, ◌^
 ghost use Rattle.unit_io.specs.Costs.{Spends};
 ghost use Rattle.pending_writes.specs.Frames.{logs_of};
 ghost use Rattle.page_writing.specs.Spending.{ErasesAndLogs};
+ghost use Rattle.page_frames.specs.Complete.{Completes};
 ghost use Rattle.page_frames.specs.Pages.{frames_in, IsReady, Upholds, frames_after};
 
 use crate::Pages;
@@ -26,6 +27,7 @@ impl Pages {
         requires page { page < 15 }
         requires left { self.old.parts.counter + 14 < 2 ^ 64 }
         ensures upholds { Upholds 14 self.old (C.told chip.old) result self.new (C.told chip.new) }
+        ensures complete { Completes self.old result (C.told chip.old) }
         ensures frames { frames_in self.new ≡ frames_after result (frames_in self.old) unit page }
         ensures order { self.new.pool.order ≡ self.old.pool.order }
         ensures status { self.new.parts.status ≡ self.old.parts.status }

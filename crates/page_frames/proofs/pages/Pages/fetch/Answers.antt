@@ -1,6 +1,8 @@
+use Rattle.std.proofs.lemmas.Result.{err_from_is_err_and}
 use Rattle.page_frames.proofs.BringLemmas.{brings_fresh}
 use Rattle.page_frames.proofs.SpendLemmas.{logs_then_reads}
 use Rattle.page_frames.proofs.UpholdLemmas.{upholds_then}
+use Rattle.page_frames.proofs.CompleteLemmas.{completes_then}
 use Rattle.page_frames.proofs.pages.Pages.fetch.Goals as goal
 
 pub returns-clause-upholds : goal.returns-clause-upholds
@@ -21,3 +23,15 @@ returns-clause-costs g c =
     logs_then_reads c.args.self.now.parts.directory (g.C.Chip.told c.args.chip.now)
     (g.C.Chip.told c.make_room.new.chip) (g.C.Chip.told c.load.new.chip)
     c.in_ok-make_room.ensures.costs c.load.ensures.costs
+
+pub returns-clause-complete : goal.returns-clause-complete
+returns-clause-complete g c =
+    let made = c.in_ok-make_room.ensures.upholds in
+    completes_then c.args.self.now c.make_room.new.self c.load.result
+    (g.C.Chip.told c.args.chip.now) (g.C.Chip.told c.make_room.new.chip) made.accounts.counts.places
+    made.keeps c.load.ensures.complete
+
+pub returns-in_err-make_room-clause-complete : goal.returns-in_err-make_room-clause-complete
+returns-in_err-make_room-clause-complete g c =
+    let e = err_from_is_err_and c.from_residual.result c.from_residual.ensures.1 in
+    rw (e.1, e.2) c.in_err-make_room.ensures.complete

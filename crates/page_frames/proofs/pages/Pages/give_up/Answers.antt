@@ -1,4 +1,5 @@
 use Rattle.std.proofs.Common.{refl, ◌∙◌, ap}
+use Rattle.std.proofs.lemmas.Result.{err_from_is_err_and}
 use Rattle.pending_writes.specs.Frames.{Frames, logs_of}
 use Rattle.frame_changes.specs.Views.{frame_in}
 use Rattle.page_frames.specs.Pages.{frames_in}
@@ -44,3 +45,8 @@ returns-clause-absent g c = λ u q none.
     ∙ evicted_none (frames_in c.write_out.new.self) c.args.unit c.args.page u q
     (ap (λ (F : Frames). F u q) c.in_ok-write_out.ensures.frames
     ∙ emptied_none (frames_in c.args.self.now) c.args.unit c.args.page u q none)
+
+pub returns-in_err-write_out-clause-complete : goal.returns-in_err-write_out-clause-complete
+returns-in_err-write_out-clause-complete g c =
+    let e = err_from_is_err_and c.from_residual.result c.from_residual.ensures.1 in
+    rw (e.1, e.2) c.in_err-write_out.ensures.complete

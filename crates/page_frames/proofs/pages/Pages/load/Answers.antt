@@ -1,4 +1,4 @@
-use Rattle.std.proofs.Common.{[], refl, ◌∙◌, ap}
+use Rattle.std.proofs.Common.{[], refl, ◌∙◌, ap, Err}
 use Rattle.buffer_pool.proofs.HoldingLemmas.{both_keep}
 use Rattle.page_ops.specs.Frames.{empty_frame}
 use Rattle.pending_writes.specs.Frames.{Frames, logs_of}
@@ -9,6 +9,7 @@ use Rattle.page_frames.specs.Pages.{frames_in}
 use Rattle.page_frames.proofs.HeldLemmas.{taken_log}
 use Rattle.page_frames.proofs.LoadLemmas.{loaded_then, freed_then, load_upholds, fail_upholds}
 use Rattle.page_frames.proofs.SpendLemmas.{reads_alone}
+use Rattle.page_frames.proofs.CompleteLemmas.{loaded_completes}
 use Rattle.page_frames.proofs.pages.Pages.load.Goals as goal
 
 pub load_frame-requires-clause-empty : goal.load_frame-requires-clause-empty
@@ -83,3 +84,8 @@ pub returns-in-Err-clause-costs : goal.returns-in-Err-clause-costs
 returns-in-Err-clause-costs g c =
     reads_alone Anywhere (g.C.Chip.told c.args.chip.now) (g.C.Chip.told c.load_frame.new.chip)
     c.in-Err.ensures.reads
+
+pub returns-in-Err-clause-complete : goal.returns-in-Err-clause-complete
+returns-in-Err-clause-complete g c =
+    loaded_completes {T = Unit {0}} c.args.unit c.args.page c.args.self.now (Err c.in-Err.fault)
+    (g.C.Chip.told c.args.chip.now) c.requires.unit c.requires.page c.in-Err.ensures.complete

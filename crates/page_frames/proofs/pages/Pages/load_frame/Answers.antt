@@ -11,6 +11,7 @@ use Rattle.pending_writes.specs.Frames.{with_frame_at}
 use Rattle.store_steps.specs.Views.{frame_of}
 use Rattle.page_frames.specs.Pages.{tables_in, frames_in}
 use Rattle.page_frames.proofs.HeldLemmas.{unheld_page, has_log}
+use Rattle.page_frames.proofs.CompleteLemmas.{load_completes}
 use Rattle.page_frames.proofs.pages.Pages.load_frame.Goals as goal
 
 pub unreachable-requires : goal.unreachable-requires
@@ -62,3 +63,8 @@ pub returns-clause-pins : goal.returns-clause-pins
 returns-clause-pins g c =
     frame_pins c.args.self.now.pool c.args.unit c.args.page c.in-Some.key c.facts.ensures.once
     c.in-Some.ensures.found c.load.new.frame
+
+pub returns-clause-complete : goal.returns-clause-complete
+returns-clause-complete g c =
+    load_completes (tables_in c.args.self.now) c.args.unit c.args.page c.load.result
+    (g.C.Chip.told c.args.chip.now) c.load.ensures.fault

@@ -1,6 +1,7 @@
 use Rattle.std.proofs.Common.{slice_index, refl}
 use Rattle.overflow.specs.Lists.{spots_in}
 use Rattle.page_frames.proofs.TableLemmas.{merge_upholds}
+use Rattle.page_frames.proofs.CompleteLemmas.{merge_completes}
 use Rattle.page_frames.proofs.pages.Pages.merge.Goals as goal
 
 pub returns-clause-upholds : goal.returns-clause-upholds
@@ -11,3 +12,8 @@ returns-clause-upholds g c =
     (g.C.Chip.told c.args.chip.now) (g.C.Chip.told c.merge.new.chip) c.requires.ready refl is.holds
     is.tells is.steps is.draws (slice_index c.args.self.now.parts.directory.current c.args.unit)
     (spots_in c.args.self.now.parts.overflow c.args.unit) is.accounts
+
+pub returns-clause-complete : goal.returns-clause-complete
+returns-clause-complete g c =
+    merge_completes c.args.unit c.args.self.now c.merge.result (g.C.Chip.told c.args.chip.now)
+    c.requires.unit c.merge.ensures.complete

@@ -1,6 +1,7 @@
 use Rattle.std.proofs.Common.{◌^◌, refl}
 use Rattle.page_frames.proofs.TableLemmas.{renew_upholds}
 use Rattle.page_frames.proofs.UpholdLemmas.{upholds_none}
+use Rattle.page_frames.proofs.CompleteLemmas.{renew_completes}
 use Rattle.page_frames.proofs.pages.Pages.ready_status.Goals as goal
 
 pub returns-then-room-gt0-clause-upholds : goal.returns-then-room-gt0-clause-upholds
@@ -13,3 +14,8 @@ returns-clause-upholds g c =
     renew_upholds c.args.self.now (record { parts = c.renew.new.parts; pool = c.args.self.now.pool })
     c.renew.result (g.C.Chip.told c.args.chip.now) (g.C.Chip.told c.renew.new.chip) c.requires.ready
     refl is.holds is.tells is.steps is.draws is.accounts
+
+pub returns-clause-complete : goal.returns-clause-complete
+returns-clause-complete g c =
+    renew_completes c.args.self.now c.renew.result (g.C.Chip.told c.args.chip.now)
+    c.renew.ensures.complete

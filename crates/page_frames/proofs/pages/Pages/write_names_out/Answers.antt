@@ -1,7 +1,8 @@
-use Rattle.std.proofs.Common.{◌*◌, ◌∷◌, [], ℕ, arith, map, sym, ◌∙◌, subst}
+use Rattle.std.proofs.Common.{◌*◌, ◌∷◌, [], ℕ, arith, map, sym, ◌∙◌, subst, Err}
 use Rattle.std.proofs.lemmas.Result.{err_from_is_err_and}
 use Rattle.unit_io.specs.Costs.{Costs, Spends}
 use Rattle.page_frames.proofs.OutAllLemmas.{none_out, passed_out, written_out, unwritten_upholds, unwritten_costs, framed_unit, names_out}
+use Rattle.page_frames.proofs.CompleteLemmas.{completes_then}
 use Rattle.page_frames.proofs.pages.Pages.write_names_out.Goals.{then-has_page+in_ok-write_out, else-has_page}
 use Rattle.page_frames.proofs.pages.Pages.write_names_out.Goals as goal
 
@@ -60,3 +61,12 @@ returns-clause-out g c =
     (omega (arith, c.loop-i-test.false, c.loop-i.auto.i-end, c.len-i-end.ensures.all))
     c.facts-2.ensures.once (λ u page few. (c.facts-2.ensures.listed u page few).1)
     c.loop-i.invariant
+
+pub returns-in_err-write_out-clause-complete : goal.returns-in_err-write_out-clause-complete
+returns-in_err-write_out-clause-complete g c =
+    let e = err_from_is_err_and c.from_residual.result c.from_residual.ensures.1 in
+    let done = c.loop-i.invariant.upholds in
+    rw (e.1, e.2) (completes_then {T = Unit {0}} c.args.self.now c.loop-i.self
+    (Err c.in_err-write_out.field-0.0) (g.C.Chip.told c.args.chip.now)
+    (g.C.Chip.told c.loop-i.chip) done.accounts.counts.places done.keeps
+    c.in_err-write_out.ensures.complete)

@@ -1,9 +1,10 @@
-use Rattle.std.proofs.Common.{refl, sym, slice_index}
+use Rattle.std.proofs.Common.{refl, sym, slice_index, Err}
 use Rattle.std.proofs.lemmas.Result.{err_from_is_err_and}
 use Rattle.page_frames.specs.Pages.{frames_in}
 use Rattle.page_frames.proofs.FrameLemmas.{emptied_same}
 use Rattle.page_frames.proofs.OutLemmas.{out_failed, cleared_frames, out_done}
 use Rattle.page_frames.proofs.UpholdLemmas.{upholds_none}
+use Rattle.page_frames.proofs.CompleteLemmas.{merge_completes}
 use Rattle.page_frames.proofs.pages.Pages.write_out.Goals as goal
 
 pub returns-then-not-has_records-clause-upholds : goal.returns-then-not-has_records-clause-upholds
@@ -47,3 +48,10 @@ returns-clause-frames g c =
 
 pub returns-clause-idle : goal.returns-clause-idle
 returns-clause-idle g c = λ none. absurd (c.if-not-has_records.ensures.full refl none)
+
+pub returns-in_err-write_out-clause-complete : goal.returns-in_err-write_out-clause-complete
+returns-in_err-write_out-clause-complete g c =
+    let e = err_from_is_err_and c.from_residual.result c.from_residual.ensures.1 in
+    rw (e.1, e.2) (merge_completes {T = Unit {0}} c.args.unit c.args.self.now
+    (Err c.in_err-write_out.field-0.0) (g.C.Chip.told c.args.chip.now) c.requires.unit
+    c.in_err-write_out.ensures.complete)

@@ -1,0 +1,104 @@
+-- Calls over contents that stand for a state fail only where a call of the chip failed.
+use Rattle.std.proofs.Common.{◌≡◌, ◌<◌, ◌+◌, ◌-◌, ℕ, Option, None, Result, Ok, Err, IfErr, refl, sym, subst, arith}
+use Rattle.chip_trait.specs.Story.{Contents}
+use Rattle.chip_trait.specs.Told.{Told}
+use Rattle.ipl_base.specs.declared.fault.ChipFault.{ChipFault}
+use Rattle.ipl_rules.specs.State.{State}
+use Rattle.record_locks.specs.Held.{Slots}
+use Rattle.ipl_meaning.specs.Chart.{Chart, chart_of}
+use Rattle.ipl_meaning.specs.Layout.{Layout}
+use Rattle.ipl_meaning.specs.Stands.{Shows, Says, page_in}
+use Rattle.ipl_meaning.specs.Tables.{Tables}
+use Rattle.ipl_meaning.specs.Values.{Values}
+use Rattle.unit_io.specs.Faults.{TellsChipFault}
+use Rattle.unit_io.proofs.HeldLemmas.{sound_pages_are_held, held_pages_read_well}
+use Rattle.merge_rules.specs.Faults.{IsMergeable, IsTheFault}
+use Rattle.merge_rules.proofs.FaultLemmas.{said_units_are_mergeable, by_chip_alone}
+use Rattle.selective_merge.specs.Merging.{CompletesMerge}
+use Rattle.status_renewal.specs.Passes.{CompletesRenewal}
+use Rattle.page_rebuild.specs.Loaded.{OfTables, base_fault}
+use Rattle.pending_writes.specs.Frames.{Frames}
+use Rattle.pending_writes.proofs.FitLemmas.{merges_are_small}
+use Rattle.store_steps.specs.Advances.{memory_of, MemoryFits, KeepsState}
+use Rattle.page_frames.specs.declared.pages.Pages.{Pages}
+use Rattle.page_frames.specs.Pages.{tables_in, frames_in}
+use Rattle.page_frames.specs.Complete.{Completes, CompletesLoad}
+
+-- ---- merges
+
+-- where a state is stood for, each unit may be merged
+all_mergeable : (places : ℕ) (c : Chart) (it : Layout) (t : Tables) (frames : Frames)
+    (slots : Slots) (state : State) (u : ℕ)
+    → MemoryFits places c it (memory_of t frames slots) state → Says places c it state.map
+    → u < places - 4 → IsMergeable c t (it.units u) u
+all_mergeable places c it t frames slots state u fits says low =
+    said_units_are_mergeable places c it state.map t u says low
+    (merges_are_small places c it t frames slots state u fits low)
+
+pub merge_completes : {T : Type 0} (u : ℕ) (pages : Pages) (result : Result T ChipFault)
+    (told : Told) → u + 4 < told.places
+    → CompletesMerge told.places (tables_in pages) u result told → Completes pages result told
+merge_completes u pages result told low complete x there slots it state fits says =
+    complete x there it fits.mirrors
+    (all_mergeable told.places (chart_of x) it (tables_in pages) (frames_in pages) slots state u fits
+    says (omega (arith, low)))
+
+pub renew_completes : (pages : Pages) (result : Result (Unit {0}) ChipFault) (told : Told)
+    → CompletesRenewal told.places (tables_in pages) result told → Completes pages result told
+renew_completes pages result told complete x there slots it state fits says =
+    complete x there it fits.mirrors (λ u low.
+    all_mergeable told.places (chart_of x) it (tables_in pages) (frames_in pages) slots state u fits
+    says low)
+
+-- ---- loads
+
+-- a page that shows something has no fault
+no_base_fault : (x : Contents) (it : Layout) (u page : ℕ) (now : Values)
+    → Shows (chart_of x) it.committed u (it.units u) page now → base_fault x it u page ≡ None
+no_base_fault x it u page now shows =
+    (sound_pages_are_held x (it.units u).home u (it.units u).head.generation page _).1
+    (shows.base, (held_pages_read_well (chart_of x) u (it.units u) page shows.base).1 shows.reads)
+
+fault_told : {T : Type 0} (fault : Option ChipFault) (result : Result T ChipFault)
+    → TellsChipFault fault result → IfErr result (IsTheFault fault)
+fault_told fault (Ok v) tells = tt
+fault_told fault (Err e) tells = λ read stopped. tells read
+
+pub load_completes : {T : Type 0} (t : Tables) (u page : ℕ) (result : Result T ChipFault)
+    (told : Told)
+    → OfTables told t.places t.overflow t.status
+    (λ x it. TellsChipFault (base_fault x it u page) result)
+    → CompletesLoad t u page result told
+load_completes t u page result told tells x there it now mirrors shows =
+    by_chip_alone (base_fault x it u page) result (no_base_fault x it u page now shows)
+    (fault_told (base_fault x it u page) result (tells x there it t (record {
+      mirrored = record { mirrors = mirrors; directory_is = refl; overflow_is = refl };
+      status_is = refl;
+    })))
+
+-- where a state is stood for, the page shows its values
+pub loaded_completes : {T : Type 0} (u page : ℕ) (pages : Pages) (result : Result T ChipFault)
+    (told : Told) → u + 4 < told.places → page < 15
+    → CompletesLoad (tables_in pages) u page result told → Completes pages result told
+loaded_completes u page pages result told low few complete x there slots it state fits says =
+    complete x there it (page_in state.map u page) fits.mirrors
+    (says.pages u page (omega (arith, low)) few)
+
+-- ---- two calls
+
+-- after one that keeps each state and was done, the state is stood for still
+pub completes_then : {T : Type 0} (first between : Pages) (result : Result T ChipFault)
+    (old mid : Told) → mid.places ≡ old.places
+    → KeepsState {T = Unit {0}} {E = ChipFault} (tables_in first) (frames_in first) old (Ok tt)
+    (tables_in between) (frames_in between) mid
+    → Completes between result mid → Completes first result old
+completes_then first between result old mid sized keeps complete x there slots it state fits says =
+    let (y, now, had) = (keeps slots).fits old.places refl tt x there in
+    let on = had it state fits in
+    complete y now slots on.layout state
+    (subst (λ (n : ℕ). MemoryFits n (chart_of y) on.layout
+    (memory_of (tables_in between) (frames_in between) slots) state) (sym sized) on.fits)
+    (subst (λ (n : ℕ). Says n (chart_of y) on.layout state.map) (sym sized) (record {
+      pages = λ u page low few. on.shows.pages u page low few (says.pages u page low few);
+      nowhere_else = λ n high. on.shows.nowhere_else n high (says.nowhere_else n high);
+    }))

@@ -1,0 +1,32 @@
+-- When calls on pages fail, over contents that stand for a state.
+use Rattle.std.specs.Prelude.{ℕ, Result}
+use Rattle.chip_trait.specs.Told.{Told}
+use Rattle.ipl_base.specs.declared.fault.ChipFault.{ChipFault}
+use Rattle.ipl_rules.specs.State.{State}
+use Rattle.record_locks.specs.Held.{Slots}
+use Rattle.ipl_meaning.specs.Chart.{chart_of}
+use Rattle.ipl_meaning.specs.Layout.{Layout}
+use Rattle.ipl_meaning.specs.Mirrors.{Mirrors}
+use Rattle.ipl_meaning.specs.Stands.{Shows, Says}
+use Rattle.ipl_meaning.specs.Tables.{Tables}
+use Rattle.ipl_meaning.specs.Values.{Values}
+use Rattle.unit_io.specs.Reads.{OfContents}
+use Rattle.merge_rules.specs.Faults.{FailsByChipAlone}
+use Rattle.store_steps.specs.Advances.{memory_of, MemoryFits}
+use Rattle.page_frames.specs.declared.pages.Pages.{Pages}
+use Rattle.page_frames.specs.Pages.{tables_in, frames_in}
+
+-- Where the chip tells what it holds, and that with the tables, the frames and whatever sessions
+-- stands for a state, the call fails only where a call of the chip failed.
+abbrev pub Completes : {T : Type 0} → Pages → Result T ChipFault → Told → Type 0
+Completes pages result told = OfContents told (λ x. (slots : Slots) (it : Layout) (state : State)
+    → MemoryFits told.places (chart_of x) it
+    (memory_of (tables_in pages) (frames_in pages) slots) state
+    → Says told.places (chart_of x) it state.map → FailsByChipAlone result)
+
+-- where the tables mirror what the chip holds, and the page shows some values, it fails only where a
+-- call of the chip failed
+abbrev pub CompletesLoad : {T : Type 0} → Tables → ℕ → ℕ → Result T ChipFault → Told → Type 0
+CompletesLoad t u page result told = OfContents told (λ x. (it : Layout) (now : Values)
+    → Mirrors told.places (chart_of x) it t
+    → Shows (chart_of x) it.committed u (it.units u) page now → FailsByChipAlone result)
