@@ -5,7 +5,9 @@ ghost use Rattle.txn_status.specs.Status.{room_of};
 ghost use Rattle.ipl_rules.specs.Operations.{after_commit};
 ghost use Rattle.record_locks.specs.Held.{number_of, written_of};
 ghost use Rattle.record_locks.specs.Locks.{refuses_end};
+ghost use Rattle.merge_rules.specs.Faults.{FailsByChipAlone};
 ghost use Rattle.store_steps.specs.Numbers.{IsOut};
+ghost use Rattle.page_frames.specs.Complete.{Completes};
 ghost use Rattle.page_frames.specs.Pages.{frames_in, Upholds};
 ghost use Rattle.transactions.specs.Turns.{IsInOrder, Turns};
 ghost use Rattle.transactions.specs.Costs.{framed_pages, PagesOut, CommitCosts};
@@ -31,6 +33,7 @@ impl Transactions {
         requires left { self.old.pages.parts.counter + 2 ^ 14 + 14 * 64 < 2 ^ 64 }
         ensures upholds { Upholds (2 ^ 14 + 14 * 64) self.old.pages (C.told chip.old)
             result self.new.pages (C.told chip.new) }
+        ensures complete { Completes self.old.pages result (C.told chip.old) }
         ensures room { OnOk result (0 < room_of self.new.pages.parts.status) }
         ensures out { OnOk result (All (IsOut (frames_in self.new.pages))
             (written_of self.old.sessions s)) }
@@ -53,6 +56,7 @@ impl Transactions {
         requires left { self.old.pages.parts.counter + 1 < 2 ^ 64 }
         ensures turns { Turns (λ state. after_commit state s) 1
             self.old (C.told chip.old) result self.new (C.told chip.new) }
+        ensures complete { FailsByChipAlone result }
         ensures costs { Spends (ProgramsAt self.old.pages.parts.status.place 1 2 6)
             (C.told chip.old) (C.told chip.new) }
     {
@@ -77,6 +81,7 @@ impl Transactions {
         requires left { self.old.pages.parts.counter + 2 ^ 15 < 2 ^ 64 }
         ensures turns { Turns (λ state. after_commit state s) (2 ^ 15)
             self.old (C.told chip.old) result self.new (C.told chip.new) }
+        ensures complete { Completes self.old.pages result (C.told chip.old) }
         ensures idle { written_of self.old.sessions s ≡ [] → C.told chip.new ≡ C.told chip.old }
         ensures costs { 0 < room_of self.old.pages.parts.status
             → Spends (CommitCosts (framed_pages self.old)) (C.told chip.old) (C.told chip.new) }

@@ -6,6 +6,7 @@ ghost use Rattle.log_records.specs.View.{change_of, record_of};
 ghost use Rattle.ipl_rules.specs.Operations.{after_write};
 ghost use Rattle.record_locks.specs.Locks.{refuses_write};
 ghost use Rattle.page_writing.specs.Spending.{ErasesAndLogs};
+ghost use Rattle.page_frames.specs.Complete.{Completes};
 ghost use Rattle.transactions.specs.Turns.{IsInOrder, Turns};
 
 use crate::Transactions;
@@ -31,6 +32,7 @@ impl Transactions {
         requires left { self.old.pages.parts.counter + 14 < 2 ^ 64 }
         ensures turns { Turns (λ state. after_write state s (name.0, change_of change)) 14
             self.old (C.told chip.old) result self.new (C.told chip.new) }
+        ensures complete { Completes self.old.pages result (C.told chip.old) }
         ensures costs { Spends (ErasesAndLogs self.old.pages.parts.directory)
             (C.told chip.old) (C.told chip.new) }
     {

@@ -66,3 +66,13 @@ returns-clause-costs g c = λ room.
     c.write_session_out.new.self.pages.parts.status.place (g.C.Chip.told c.args.chip.now)
     (g.C.Chip.told c.write_session_out.new.chip) (g.C.Chip.told c.commit_number.new.chip)
     (c.in_ok-write_session_out.ensures.costs room) c.commit_number.ensures.costs
+
+pub returns-in_err-write_session_out-clause-complete :
+    goal.returns-in_err-write_session_out-clause-complete
+returns-in_err-write_session_out-clause-complete g c =
+    let e = err_from_is_err_and c.from_residual.result c.from_residual.ensures.1 in
+    rw (e.1, e.2) c.in_err-write_session_out.ensures.complete
+
+pub returns-clause-complete : goal.returns-clause-complete
+returns-clause-complete g c =
+    λ x there slots it state fits says. c.commit_number.ensures.complete

@@ -1,4 +1,4 @@
-use Rattle.std.proofs.Common.{refl}
+use Rattle.std.proofs.Common.{inr, refl}
 use Rattle.std.proofs.lemmas.Result.{err_from_is_err_and}
 use Rattle.store_steps.proofs.SessionLemmas.{open_sessions_may_end}
 use Rattle.transactions.proofs.CommitLemmas.{number_added, number_not_added}
@@ -43,3 +43,8 @@ returns-clause-turns g c =
     c.requires.session c.requires.number c.requires.out says.adds says.steps refl refl says.added
     says.drawn c.written.ensures.names c.settle_names.ensures.settled c.settle_names.ensures.pins
     c.end.ensures.rest c.end.ensures.sessions c.end.ensures.active c.end.ensures.locks says.accounts
+
+pub returns-in_err-add_number-clause-complete : goal.returns-in_err-add_number-clause-complete
+returns-in_err-add_number-clause-complete g c =
+    let e = err_from_is_err_and c.from_residual.result c.from_residual.ensures.1 in
+    rw (e.1, e.2) (inr c.in_err-add_number.ensures.accounts.cause.0)

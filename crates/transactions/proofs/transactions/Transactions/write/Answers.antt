@@ -52,3 +52,8 @@ returns-clause-turns g c =
     c.home-home.ensures.exact c.has_spelling.ensures c.in_ok-prepare.ensures.upholds did
     (locks_of c.write.new.self c.facts.ensures.all c.facts.ensures.one_writer c.facts.ensures.few)
     refl c.put_record.ensures.put c.put_record.ensures.pins
+
+pub returns-in_err-prepare-clause-complete : goal.returns-in_err-prepare-clause-complete
+returns-in_err-prepare-clause-complete g c =
+    let e = err_from_is_err_and c.from_residual.result c.from_residual.ensures.1 in
+    rw (e.1, e.2) c.in_err-prepare.ensures.complete

@@ -4,6 +4,7 @@ use Rattle.std.proofs.lemmas.Result.{err_from_is_err_and}
 use Rattle.store_steps.specs.Numbers.{IsOut}
 use Rattle.page_frames.specs.Pages.{frames_in}
 use Rattle.page_frames.proofs.UpholdLemmas.{upholds_then, upholds_weaker}
+use Rattle.page_frames.proofs.CompleteLemmas.{completes_then}
 use Rattle.transactions.proofs.transactions.Transactions.write_session_out.Goals as goal
 
 pub returns-in_err-ready_status-clause-upholds : goal.returns-in_err-ready_status-clause-upholds
@@ -27,3 +28,15 @@ returns-clause-out g c =
     subst (λ (l : List ℕ). OnOk c.write_names_out.result
     (All (IsOut (frames_in c.write_names_out.new.self)) l)) c.written.ensures.names
     c.write_names_out.ensures.out
+
+pub returns-in_err-ready_status-clause-complete : goal.returns-in_err-ready_status-clause-complete
+returns-in_err-ready_status-clause-complete g c =
+    let e = err_from_is_err_and c.from_residual.result c.from_residual.ensures.1 in
+    rw (e.1, e.2) c.in_err-ready_status.ensures.complete
+
+pub returns-clause-complete : goal.returns-clause-complete
+returns-clause-complete g c =
+    let did = c.in_ok-ready_status.ensures.upholds in
+    completes_then c.args.self.now.pages c.ready_status.new.self c.write_names_out.result
+    (g.C.Chip.told c.args.chip.now) (g.C.Chip.told c.ready_status.new.chip)
+    did.accounts.counts.places did.keeps c.write_names_out.ensures.complete
