@@ -50,8 +50,9 @@ impl Store {
         self.transactions.pages.parts.active = Active::none();
     }
 
-    /// Opens the chip, whatever the memory has. Where that fails the store is down.
-    fn open_chip<C: Chip>(&mut self, chip: &mut C) -> Result<(), ImageFault>
+    /// Opens the chip, or what is left of it, whatever the memory has: all sessions are dropped, and
+    /// all holds. Where that fails the store is down.
+    pub fn open_chip<C: Chip>(&mut self, chip: &mut C) -> Result<(), ImageFault>
         requires sound { IsSound (C.told chip.old).places self.old }
         ensures sound { IsSound (C.told chip.old).places self.new }
         ensures opens { Reopens (C.told chip.old).places (C.told chip.old) result self.new

@@ -1,5 +1,5 @@
 //! What sessions see, and what is committed.
-ghost use Rattle.std.specs.Prelude.{◌≡◌, ◌<◌, ◌≤◌, ◌*◌, ℕ, List, Option, false, Some, None, IfOk, OnOk, option_map};
+ghost use Rattle.std.specs.Prelude.{◌≡◌, ◌<◌, ◌≤◌, ◌*◌, ℕ, List, Option, false, Some, None, IfOk, IfSome, OnOk, length, option_map};
 ghost use Rattle.std.specs.Borrow.{sem, Bor};
 ghost use Rattle.std.specs.Io.BufRead.{Rests};
 ghost use Rattle.ipl_base.specs.Places.{home_of};
@@ -47,13 +47,14 @@ impl Store {
         self.end(done)
     }
 
-    /// What a session (0 to 31) sees of a name whose page is in a frame.
+    /// What a session (0 to 31) sees of a name whose page is in a frame, at most 108 bytes.
     fn seen(&self, s: u32, n: u32) -> Option<&[u8]>
         requires session { s < 32 }
         ensures seen { (f : Frame) (tid : ℕ) → number_of self.now.transactions.sessions s ≡ Some tid
             → frames_in self.now.transactions.pages (home_of n).unit (home_of n).page ≡ Some f
             → option_map (λ b. b.now) result
             ≡ seen_by tid (f.values (home_of n).slot) (f.pending (home_of n).slot) }
+        ensures short { IfSome result (λ b. length b.now ≤ 108) }
     {
         let tid = self.transactions.sessions.number(s)?;
         let home = home(Name(n));
@@ -88,7 +89,7 @@ impl Store {
     }
 
     /// What a session sees of a name: its own last write there, or else the committed record. It
-    /// takes no lock. The slice is lent from the page's frame.
+    /// takes no lock. The slice, of at most 108 bytes, is lent from the page's frame.
     pub fn get<C: Chip>(
         &mut self,
         chip: &mut C,
@@ -102,6 +103,7 @@ impl Store {
             self.old (C.told chip.old) result new (C.told chip.new))) }
         ensures seen { IfOk result (λ found. IsSeen s n self.old (C.told chip.old)
             (option_map (λ b. b.now) found)) }
+        ensures short { IfOk result (λ found. IfSome found (λ b. length b.now ≤ 108)) }
         ensures asks { AsksFor n self.old (C.told chip.old) (C.told chip.new) }
     {
         self.fetch(chip, s, n)?;
@@ -148,6 +150,7 @@ impl Store {
             self.old (C.told chip.old) result new (C.told chip.new))) }
         ensures seen { IfOk result (λ found. IsSeen s n self.old (C.told chip.old)
             (option_map (λ b. b.now) found)) }
+        ensures short { IfOk result (λ found. IfSome found (λ b. length b.now ≤ 108)) }
         ensures asks { AsksFor n self.old (C.told chip.old) (C.told chip.new) }
     {
         self.fetch_shared(chip, s, n)?;
@@ -174,6 +177,7 @@ impl Store {
         ensures committed { (f : Frame)
             → frames_in self.now.transactions.pages (home_of n).unit (home_of n).page ≡ Some f
             → option_map (λ b. b.now) result ≡ f.values (home_of n).slot }
+        ensures short { IfSome result (λ b. length b.now ≤ 108) }
     {
         let home = home(Name(n));
         committed_value(
@@ -184,7 +188,8 @@ impl Store {
         )
     }
 
-    /// The committed record of a name, where it has one. The slice is lent from the page's frame.
+    /// The committed record of a name, where it has one. The slice, of at most 108 bytes, is
+    /// lent from the page's frame.
     pub fn committed<C: Chip>(&mut self, chip: &mut C, n: u32) -> Result<Option<&[u8]>, StoreFault>
         requires sound { IsSound (C.told chip.old).places self.old }
         ensures* looks { sem 𝓛 (Rests the_row self.entry (λ new.
@@ -193,6 +198,7 @@ impl Store {
             self.old (C.told chip.old) result new (C.told chip.new))) }
         ensures committed { IfOk result (λ found. IsCommitted n self.old (C.told chip.old)
             (option_map (λ b. b.now) found)) }
+        ensures short { IfOk result (λ found. IfSome found (λ b. length b.now ≤ 108)) }
         ensures asks { AsksFor n self.old (C.told chip.old) (C.told chip.new) }
     {
         self.fetch_name(chip, n)?;

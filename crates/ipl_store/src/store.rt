@@ -1,4 +1,6 @@
 //! What a store has in memory.
+ghost use Rattle.std.specs.Prelude.{◌≡◌};
+
 use restart::Scratch;
 use status_renewal::KeptNumbers;
 use transactions::Transactions;
@@ -17,4 +19,13 @@ pub struct Store {
     pub(crate) frames: u32,
     // A write failed or the chip wasn't opened again: nothing is done until it is.
     pub(crate) down: bool,
+}
+
+impl Store {
+    /// The units of its chip.
+    pub fn units(&self) -> u32
+        ensures { result ≡ self.now.units }
+    {
+        self.units
+    }
 }

@@ -8,7 +8,7 @@ returns-in_err-fetch_name g c =
     let e = err_from_is_err_and c.from_residual.result c.from_residual.ensures.1 in
     rw (e.1 ∙ ap Err e.2) (
       (refl, λ _. tt, c.in_err-fetch_name.ensures.looks None),
-      record { looks = tt; committed = tt; asks = c.in_err-fetch_name.ensures.asks },
+      record { looks = tt; committed = tt; short = tt; asks = c.in_err-fetch_name.ensures.asks },
     )
 
 pub returns : goal.returns
@@ -20,6 +20,7 @@ returns g c =
         committed = committed_told c.args.n c.args.self.now (g.C.Chip.told c.args.chip.now)
             c.fetch_name.new.self (option_map (λ b. b.now) c.committed_in.result) names
             (c.committed_in.ensures.committed names.frame names.there);
+        short = c.committed_in.ensures.short;
         asks = c.in_ok-fetch_name.ensures.asks;
       },
     )

@@ -8,7 +8,7 @@ returns-in_err-fetch g c =
     let e = err_from_is_err_and c.from_residual.result c.from_residual.ensures.1 in
     rw (e.1 ∙ ap Err e.2) (
       (refl, λ _. tt, c.in_err-fetch.ensures.looks None),
-      record { looks = tt; seen = tt; asks = c.in_err-fetch.ensures.asks },
+      record { looks = tt; seen = tt; short = tt; asks = c.in_err-fetch.ensures.asks },
     )
 
 pub returns : goal.returns
@@ -23,6 +23,7 @@ returns g c =
             (option_map (λ b. b.now) c.seen.result) names session.number_is
             (c.seen.ensures.seen names.frame session.number
             (c.in_ok-fetch.ensures.numbers ∙ session.number_is) names.there);
+        short = c.seen.ensures.short;
         asks = c.in_ok-fetch.ensures.asks;
       },
     )
