@@ -26,6 +26,11 @@ page_fault_from x from page =
 abbrev pub pages_fault : Contents → Source → Option ChipFault
 pages_fault x from = first_below (page_fault_from x from) PAGES
 
+-- the same of a unit as it is laid out
+abbrev pub unit_fault : Contents → Shape → ℕ → Option ChipFault
+unit_fault x it u = first_below
+    (λ page. page_fault x it.home u it.head.generation page (slice_index it.pieces page)) PAGES
+
 -- what is wrong where so many log sectors would be carried: more than 12, or a page
 abbrev pub fault_with : Contents → Source → ℕ → Option ChipFault
 fault_with x from carried =

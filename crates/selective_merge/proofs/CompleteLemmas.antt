@@ -1,11 +1,12 @@
 -- Why a merge fails over what the chip holds, and the calls that make room by one.
-use Rattle.std.proofs.Common.{◌≡◌, ℕ, List, length, Result, IfErr, ◌∙◌, subst}
+use Rattle.std.proofs.Common.{◌≡◌, ℕ, List, length, Result, Ok, Err, OnOk, IfErr, sym, ◌∙◌, subst}
 use Rattle.chip_trait.specs.Story.{Contents}
 use Rattle.chip_trait.specs.Told.{Told}
 use Rattle.ipl_base.specs.declared.fault.ChipFault.{ChipFault}
 use Rattle.ipl_format.specs.Record.{Record}
 use Rattle.ipl_meaning.specs.Layout.{Shape}
-use Rattle.ipl_meaning.specs.Tables.{Tables}
+use Rattle.ipl_meaning.specs.Tables.{IsFree, Places, Tables}
+use Rattle.unit_io.specs.Charts.{Spares}
 use Rattle.merge_rules.specs.Faults.{fault_with, merge_fault, TellsTheFault}
 use Rattle.merge_rules.specs.Merged.{source_of}
 use Rattle.merge_rules.specs.Moved.{Source}
@@ -14,6 +15,7 @@ use Rattle.merge_rules.proofs.FaultLemmas.{tells_fault, mergeable_units_have_no_
 use Rattle.selective_merge.specs.declared.home.Home.{Home}
 use Rattle.selective_merge.specs.Homes.{from_home, IsHomeOf}
 use Rattle.selective_merge.specs.Merging.{TellsMergeFault, FailsAsMerge, CompletesMerge}
+use Rattle.selective_merge.specs.Spending.{SparesUsed}
 use Rattle.selective_merge.proofs.WholeLemmas.{source_is}
 
 -- what was read of the unit is what it is merged from
@@ -47,3 +49,26 @@ pub fails_behind : {T : Type 0} (t : Tables) (u : ℕ) (old mid : Told) (result 
     → FailsAsMerge mid.places t u result mid → FailsAsMerge old.places t u result old
 fails_behind t u old mid result sized same fails x told =
     subst (λ (n : ℕ). FailsAsMerge n t u result mid) sized fails x (same ∙ told)
+
+-- ---- the bytes of places in use
+
+-- what is written to a place that was free
+pub used_spared : (before : Places) (p : ℕ) (old new : Told) → IsFree before p → Spares p old new
+    → SparesUsed before old new
+used_spared before p old new free spares x told =
+    let (y, told_y, same) = spares x told in
+    (y, told_y, λ q s used. same q s (λ at. used (subst (IsFree before) (sym at) free)))
+
+-- a call behind reads
+pub spared_behind : {T : Type 0} (before : Places) (old mid new : Told)
+    (result : Result T ChipFault) → mid.contents ≡ old.contents
+    → OnOk result (SparesUsed before mid new) → OnOk result (SparesUsed before old new)
+spared_behind before old mid new (Ok v) same spares = λ x told. spares x (same ∙ told)
+spared_behind before old mid new (Err e) same spares = tt
+
+-- ---- the fault alone
+
+pub merge_fails_so : {T : Type 0} (places : ℕ) (t : Tables) (u : ℕ) (result : Result T ChipFault)
+    (told : Told) → TellsMergeFault places t u result told → FailsAsMerge places t u result told
+merge_fails_so places t u result told tells x is it mirrors =
+    tells_fault (merge_fault x t (it.units u) u) result (tells x is it mirrors)

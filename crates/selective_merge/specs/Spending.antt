@@ -1,6 +1,7 @@
 -- What calls erase and program.
-use Rattle.std.specs.Prelude.{ℕ, ◌≡◌, Bool, true, []}
-use Rattle.chip_trait.specs.Story.{Story}
+use Rattle.std.specs.Prelude.{ℕ, ◌≡◌, Bool, true, [], Some}
+use Rattle.chip_trait.specs.Story.{Story, Contents}
+use Rattle.chip_trait.specs.Told.{Told}
 use Rattle.ipl_meaning.specs.Tables.{Places, IsFree}
 use Rattle.unit_io.specs.Costs.{Costs, is_erased}
 
@@ -9,6 +10,13 @@ use Rattle.unit_io.specs.Costs.{Costs, is_erased}
 pub record ErasesFree (before : Places) (added : Story) : Type 0 where
   pub costs : Costs 1 0 3 [] added
   pub free : (p : ℕ) → is_erased added p ≡ true → IsFree before p
+
+-- a chip that tells its contents goes on telling them, and each place that was in use has the bytes it
+-- had
+abbrev pub SparesUsed : Places → Told → Told → Type 0
+SparesUsed before old new = (x : Contents) → old.contents ≡ Some x
+    → (y : Contents) × (new.contents ≡ Some y)
+    × ((q s : ℕ) → ¬ IsFree before q → y q s ≡ x q s)
 
 -- A place that was free is erased for what is written there, at most once, and no other one. Done,
 -- this place was erased.

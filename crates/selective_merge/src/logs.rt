@@ -1,7 +1,7 @@
 //! The log sectors of a merge.
 ghost use Rattle.std.specs.Prelude.{◌≡◌, ◌<◌, ◌≤◌, ◌+◌, ◌^◌, length, OnOk};
 ghost use Rattle.unit_io.specs.Accounts.{Accounts};
-ghost use Rattle.unit_io.specs.Charts.{Charts, Gains};
+ghost use Rattle.unit_io.specs.Charts.{Charts, Spares, Gains};
 ghost use Rattle.unit_io.specs.Costs.{ProgramsAt, Spends};
 ghost use Rattle.unit_io.specs.Leads.{IsStopped};
 ghost use Rattle.merge_rules.specs.Packs.{log_sector, HasLogs};
@@ -32,6 +32,7 @@ fn write_log<C: Chip>(
     ensures tells { OnOk result (Charts (Gains place (241 + i)
         (log_sector head.now.unit head.now.generation counter.old payload.now))
         (C.told chip.old) (C.told chip.new)) }
+    ensures spares { OnOk result (Spares place (C.told chip.old) (C.told chip.new)) }
     ensures drawn { counter.new ≡ counter.old + 1 }
     ensures costs { Spends (ProgramsAt place 1 0 5) (C.told chip.old) (C.told chip.new) }
     ensures accounts { Accounts IsStopped result (C.told chip.old) (C.told chip.new) }
@@ -63,6 +64,7 @@ pub fn write_logs<C: Chip>(
     ensures tells { OnOk result (Charts
         (HasLogs place head.now.unit head.now.generation counter.old payloads.now
         (length payloads.now)) (C.told chip.old) (C.told chip.new)) }
+    ensures spares { OnOk result (Spares place (C.told chip.old) (C.told chip.new)) }
     ensures drawn { OnOk result (counter.new ≡ counter.old + length payloads.now) }
     ensures draws { (counter.old ≤ counter.new)
         × (counter.new ≤ counter.old + length payloads.now) }

@@ -25,7 +25,7 @@ ghost use Rattle.selective_merge.specs.Merging.{
   TellsMergeFault,
   CompletesMerge,
 };
-ghost use Rattle.selective_merge.specs.Spending.{ErasesFor};
+ghost use Rattle.selective_merge.specs.Spending.{ErasesFor, SparesUsed};
 ghost use Rattle.selective_merge.specs.Throughout.{ChartsThroughout};
 
 use crate::Parts;
@@ -64,10 +64,14 @@ fn merge_packed<C: Chip>(
         result (C.told chip.old) (C.told chip.new) }
     ensures fault { OfContents (C.told chip.old) (λ x. TellsTheFault
         (pages_fault x (from_home home.now parts.old.status.numbers parts.old.scratch.log)) result) }
+    ensures spares { OnOk result (SparesUsed parts.old.directory
+        (C.told chip.old) (C.told chip.new)) }
     ensures few { length (packs_of parts.old.active parts.old.scratch.log) ≤ 12 }
     ensures room { OnOk result (slice_index parts.new.directory.written unit ≤ 12) }
     ensures holds { Holds (C.told chip.old).places (tables_of parts.old) (tables_of parts.new) }
     ensures free { free_count parts.old.directory.in_use ≤ free_count parts.new.directory.in_use }
+    ensures drawn { OnOk result (parts.new.counter
+        ≡ parts.old.counter + 1 + slice_index parts.new.directory.written unit) }
     ensures draws { (parts.old.counter ≤ parts.new.counter)
         × (parts.new.counter ≤ parts.old.counter + 13) }
     ensures costs { Spends (ErasesFor parts.old.directory
@@ -132,11 +136,15 @@ fn merge_known<C: Chip>(
     ensures fault { OfContents (C.told chip.old) (λ x. TellsTheFault
         (fault_with x (from_home home.now parts.old.status.numbers parts.old.scratch.log)
         (length (packs_of parts.old.active parts.old.scratch.log))) result) }
+    ensures spares { OnOk result (SparesUsed parts.old.directory
+        (C.told chip.old) (C.told chip.new)) }
     ensures few { CarriesFew home.now.place
         (length (packs_of parts.old.active parts.old.scratch.log)) result }
     ensures room { OnOk result (slice_index parts.new.directory.written unit ≤ 12) }
     ensures holds { Holds (C.told chip.old).places (tables_of parts.old) (tables_of parts.new) }
     ensures free { free_count parts.old.directory.in_use ≤ free_count parts.new.directory.in_use }
+    ensures drawn { OnOk result (parts.new.counter
+        ≡ parts.old.counter + 1 + slice_index parts.new.directory.written unit) }
     ensures draws { (parts.old.counter ≤ parts.new.counter)
         × (parts.new.counter ≤ parts.old.counter + 13) }
     ensures costs { Spends (ErasesFor parts.old.directory
@@ -165,6 +173,8 @@ fn merge_known<C: Chip>(
 /// all as before but for the numbers that were drawn, at most 13. It erases one place, which was free,
 /// and programs nothing elsewhere.
 ///
+/// Done, it drew a generation and a serial for each log sector that it wrote.
+///
 /// It fails where a read or a write failed, where a base sector of a page is damaged or malformed, or
 /// where the log isn't what it must be. Over contents that the tables mirror it tells exactly what is
 /// wrong with the unit: that more than 12 log sectors would be carried, which is Malformed at sector 0
@@ -186,6 +196,8 @@ pub fn merge<C: Chip>(chip: &mut C, parts: &mut Parts, unit: u32) -> Result<(), 
         → Mirrors (C.told chip.old).places (chart_of x) it (tables_of parts.old)
         → CarriesFew (slice_index parts.old.directory.current unit)
         (carried_count (among parts.old.active) (it.units unit).log) result) }
+    ensures spares { OnOk result (SparesUsed parts.old.directory
+        (C.told chip.old) (C.told chip.new)) }
 
     // Why it fails over what the chip holds: where the unit's pages read well and few log sectors
     // would be carried, only where a call of the chip failed.
@@ -198,6 +210,8 @@ pub fn merge<C: Chip>(chip: &mut C, parts: &mut Parts, unit: u32) -> Result<(), 
     ensures room { OnOk result (slice_index parts.new.directory.written unit ≤ 12) }
     ensures holds { Holds (C.told chip.old).places (tables_of parts.old) (tables_of parts.new) }
     ensures free { free_count parts.old.directory.in_use ≤ free_count parts.new.directory.in_use }
+    ensures drawn { OnOk result (parts.new.counter
+        ≡ parts.old.counter + 1 + slice_index parts.new.directory.written unit) }
     ensures draws { (parts.old.counter ≤ parts.new.counter)
         × (parts.new.counter ≤ parts.old.counter + 13) }
     ensures costs { Spends (ErasesFor parts.old.directory

@@ -1,7 +1,7 @@
 //! A unit written to a place that was free.
 ghost use Rattle.std.specs.Prelude.{◌≡◌, ◌≢◌, ◌<◌, ◌≤◌, ◌+◌, ◌^◌, length, is_ok, IfOk, OnOk};
 ghost use Rattle.unit_io.specs.Accounts.{Accounts};
-ghost use Rattle.unit_io.specs.Charts.{Charts};
+ghost use Rattle.unit_io.specs.Charts.{Charts, Spares};
 ghost use Rattle.unit_io.specs.Costs.{ErasesOnce, ProgramsAt, Spends};
 ghost use Rattle.unit_io.specs.Leads.{IsStopped};
 ghost use Rattle.unit_io.specs.Reads.{OfContents};
@@ -53,6 +53,7 @@ fn fill<C: Chip>(
         (IsUnsealed place) result (C.told chip.old) (C.told chip.new) }
     ensures fault { OfContents (C.told chip.old) (λ x. TellsTheFault
         (pages_fault x (from_home home.now status.now.numbers log.now)) result) }
+    ensures spares { OnOk result (Spares place (C.told chip.old) (C.told chip.new)) }
     ensures few { IfOk result IsFew }
     ensures drawn { OnOk result (counter.new ≡ counter.old + length payloads.now) }
     ensures draws { (counter.old ≤ counter.new)
@@ -88,6 +89,7 @@ fn seal_unit<C: Chip>(
     ensures tells { OnOk result (Charts
         (IsSealed place units head.now.unit head.now.generation pieces carried)
         (C.told chip.old) (C.told chip.new)) }
+    ensures spares { OnOk result (Spares place (C.told chip.old) (C.told chip.new)) }
     ensures costs { Spends (ProgramsAt place 1 2 1) (C.told chip.old) (C.told chip.new) }
     ensures accounts { Accounts IsStopped result (C.told chip.old) (C.told chip.new) }
 {
@@ -138,6 +140,7 @@ pub fn write_unit<C: Chip>(
         (IsUnsealed place) result (C.told chip.old) (C.told chip.new) }
     ensures fault { OfContents (C.told chip.old) (λ x. TellsTheFault
         (pages_fault x (from_home home.now status.now.numbers log.now)) result) }
+    ensures spares { OnOk result (Spares place (C.told chip.old) (C.told chip.new)) }
     ensures drawn { OnOk result (counter.new ≡ counter.old + length payloads.now) }
     ensures draws { (counter.old ≤ counter.new)
         × (counter.new ≤ counter.old + length payloads.now) }

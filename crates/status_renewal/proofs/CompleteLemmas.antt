@@ -75,7 +75,7 @@ written_alone old new (Err e) stopped = inr stopped.0
 -- ---- an opening
 
 -- where no session is open nothing is carried
-carried_none : (records : List Record) → carried (among []) records ≡ []
+pub carried_none : (records : List Record) → carried (among []) records ≡ []
 carried_none [] = refl
 carried_none (r ∷ records) = carried_none records
 

@@ -14,3 +14,4 @@ pub mod RestLemmas
 pub mod CostLemmas
 pub mod RecoverLemmas
 pub mod CompleteLemmas
+pub mod FaultLemmas

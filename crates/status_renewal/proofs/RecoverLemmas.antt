@@ -90,10 +90,10 @@ opens_done places c t after new none laid (y, told, is) = (
 )
 
 -- a fault of the reading
-pub opens_told : (places : ℕ) (c : Chart) (e : ImageFault) (old new : Told)
-    → (is_image e ≡ true → first_fault c places ≡ Some e) → HasCause e old new
-    → e ≢ Chip ReadFault → IsOpeningFault places c e
-opens_told places c e old new tells cause no_read = elim (cases_Bool (is_image e)) [
+pub opens_told : (places : ℕ) (x : Contents) (e : ImageFault) (old new : Told)
+    → (is_image e ≡ true → first_fault (chart_of x) places ≡ Some e) → HasCause e old new
+    → e ≢ Chip ReadFault → IsOpeningFault places x e
+opens_told places x e old new tells cause no_read = elim (cases_Bool (is_image e)) [
   | inl image ↦ inl (tells image)
   | inr other ↦ absurd (no_read (cause other).fault)
 ]

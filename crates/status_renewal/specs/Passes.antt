@@ -1,5 +1,5 @@
 -- What a pass over the units makes of a chip and of its tables.
-use Rattle.std.specs.Prelude.{ℕ, zero, suc, ◌≡◌, ◌≢◌, ◌⊎◌, ◌↔◌, ◌<◌, ◌≤◌, ◌-◌, ◌*◌, nat_le, Bool, false, IsTrue, List, [], length, Some, Result, MatchResult, if◌then◌else◌}
+use Rattle.std.specs.Prelude.{ℕ, zero, suc, ◌≡◌, ◌≢◌, ◌⊎◌, ◌↔◌, ◌<◌, ◌≤◌, ◌-◌, ◌*◌, nat_le, Bool, false, IsTrue, List, [], length, Some, Result, MatchResult, IfErr, if◌then◌else◌}
 use Rattle.ipl_base.specs.declared.limits.TheConstants.{RESERVED_PLACES, PAGES, FIRST_LOG_SECTOR, KEPT_NUMBERS}
 use Rattle.chip_trait.specs.Story.{Story, Contents}
 use Rattle.chip_trait.specs.Told.{History, Told, Rose}
@@ -13,7 +13,7 @@ use Rattle.ipl_meaning.specs.Mirrors.{Mirrors}
 use Rattle.ipl_meaning.specs.Rests.{StoryRests}
 use Rattle.ipl_meaning.specs.Steps.{KeepsPages}
 use Rattle.ipl_meaning.specs.Tables.{Tables}
-use Rattle.merge_rules.specs.Faults.{IsMergeable, FailsByChipAlone}
+use Rattle.merge_rules.specs.Faults.{merge_fault, IsMergeable, FailsByChipAlone}
 use Rattle.merge_rules.specs.Known.{KnowsPlaces}
 use Rattle.merge_rules.specs.Pages.{IsBaseSpotBelow}
 use Rattle.merge_rules.specs.Packs.{among, packs_of, entries_from}
@@ -152,6 +152,29 @@ pub record HoldsRenewed (places : ℕ) (before : Tables) (result : Result (Unit 
       (λ _. 191 ≤ room_of after.status) (λ _. after.status ≡ before.status)
 
 -- ---- why it fails over what the chip holds
+
+-- each unit from the n-th on has the bytes that it had
+abbrev pub SparesUnits : ℕ → ℕ → Contents → Layout → Told → Type 0
+SparesUnits places n x it new = (y : Contents) → new.contents ≡ Some y
+    → (u : ℕ) → u < places - RESERVED_PLACES → n ≤ u
+    → (s : ℕ) → y (it.units u).home s ≡ x (it.units u).home s
+
+-- this is wrong with a unit whose numbers don't fit: a page, or how many log sectors would be carried
+pub record IsRenewalFault (places : ℕ) (x : Contents) (it : Layout) (t : Tables)
+    (e : ChipFault) : Type 0 where
+  pub unit : ℕ
+  pub low : unit < places - RESERVED_PLACES
+  pub full : has_room t.status.numbers it unit ≡ false
+  pub fault : merge_fault x t (it.units unit) unit ≡ Some e
+
+-- it is such a fault, unless a call of the chip failed
+abbrev pub FailsAsPass : ℕ → Contents → Layout → Tables → ChipFault → Type 0
+FailsAsPass places x it t e = e ≢ ReadFault → e ≢ Stopped → IsRenewalFault places x it t e
+
+-- over contents that the tables mirror it fails so alone
+abbrev pub FailsAsRenewal : ℕ → Tables → Result (Unit {0}) ChipFault → Told → Type 0
+FailsAsRenewal places t result told = OfContents told (λ x. (it : Layout)
+    → Mirrors places (chart_of x) it t → IfErr result (FailsAsPass places x it t))
 
 -- each unit's pages read well, and at most 12 log sectors of it would be carried
 abbrev pub AreMergeable : ℕ → Chart → Layout → Tables → Type 0

@@ -1,5 +1,5 @@
 -- What an opening leaves that ends with a new status place.
-use Rattle.std.specs.Prelude.{ℕ, ◌≡◌, ◌≢◌, ◌⊎◌, ◌↔◌, ◌≤◌, ◌-◌, [], true, IsTrue, is_ok, Some, None, Result, MatchResult, IfErr}
+use Rattle.std.specs.Prelude.{ℕ, ◌≡◌, ◌≢◌, ◌⊎◌, ◌↔◌, ◌<◌, ◌≤◌, ◌-◌, [], true, IsTrue, is_ok, Some, None, Result, MatchResult, IfErr}
 use Rattle.ipl_base.specs.declared.limits.TheConstants.{RESERVED_PLACES}
 use Rattle.chip_trait.specs.Story.{Contents}
 use Rattle.chip_trait.specs.Told.{History, Told, Rose}
@@ -15,6 +15,7 @@ use Rattle.ipl_meaning.specs.Rests.{EachStands, StoryRests}
 use Rattle.ipl_meaning.specs.Stands.{Says}
 use Rattle.ipl_meaning.specs.Steps.{KeepsPages}
 use Rattle.ipl_meaning.specs.Tables.{Tables, IsCountedClean}
+use Rattle.merge_rules.specs.Faults.{unit_fault}
 use Rattle.merge_rules.specs.Known.{KnowsPlaces}
 use Rattle.opening_rules.specs.Faults.{first_fault}
 use Rattle.opening_rules.specs.LaidOut.{layout_in}
@@ -39,17 +40,25 @@ pub record HasOpened (places : ℕ) (c : Chart) (after : Tables) (y : Chart) : T
   pub exact : (tid : ℕ) → IsTrue (now.committed tid)
       ↔ (IsTrue ((layout_in c places).committed tid) × IsLoggedBelow (places - RESERVED_PLACES) now tid)
 
--- the fault is the first one of the chart; or it has none, and a unit couldn't be merged
-abbrev pub IsOpeningFault : ℕ → Chart → ImageFault → Type 0
-IsOpeningFault places c e =
-    (first_fault c places ≡ Some e)
-    ⊎ ((first_fault c places ≡ None) × (fault : ChipFault) × (e ≡ Chip fault))
+-- it is what is wrong with the first page of a unit that doesn't read well
+pub record IsPageFault (places : ℕ) (x : Contents) (e : ImageFault) : Type 0 where
+  pub fault : ChipFault
+  pub is : e ≡ Chip fault
+  pub unit : ℕ
+  pub low : unit < places - RESERVED_PLACES
+  pub page : unit_fault x ((layout_in (chart_of x) places).units unit) unit ≡ Some fault
+
+-- the fault is the first one of the chart; or it has none, and it is that of a page of a unit
+abbrev pub IsOpeningFault : ℕ → Contents → ImageFault → Type 0
+IsOpeningFault places x e =
+    (first_fault (chart_of x) places ≡ Some e)
+    ⊎ ((first_fault (chart_of x) places ≡ None) × IsPageFault places x e)
 
 -- over contents that are told: opened, or this fault, unless a call failed
 abbrev pub RecoversTold : ℕ → Told → Result (Unit {0}) ImageFault → Tables → Told → Type 0
 RecoversTold places old result after new = (x : Contents) → old.contents ≡ Some x
     → MatchResult result (λ _. TellsChart (HasOpened places (chart_of x) after) new)
-    (λ e. e ≢ Chip ReadFault → e ≢ Chip Stopped → IsOpeningFault places (chart_of x) e)
+    (λ e. e ≢ Chip ReadFault → e ≢ Chip Stopped → IsOpeningFault places x e)
 
 -- a chip whose contents have a fault was only read
 abbrev pub LooksAtFaults : ℕ → Told → Told → Type 0

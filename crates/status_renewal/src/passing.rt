@@ -1,5 +1,5 @@
 //! The pass over the units, which finds the numbers that a new status place keeps.
-ghost use Rattle.std.specs.Prelude.{◌≡◌, ◌<◌, ◌≤◌, ◌+◌, ◌*◌, ◌-◌, ◌^◌, ℕ, Some};
+ghost use Rattle.std.specs.Prelude.{◌≡◌, ◌<◌, ◌≤◌, ◌+◌, ◌*◌, ◌-◌, ◌^◌, ℕ, Some, IfErr, OnOk};
 ghost use Rattle.chip_trait.specs.Story.{Contents};
 ghost use Rattle.ipl_meaning.specs.Chart.{Chart, chart_of};
 ghost use Rattle.ipl_meaning.specs.Layout.{Layout};
@@ -10,7 +10,7 @@ ghost use Rattle.merge_rules.specs.Known.{KnowsPlaces};
 ghost use Rattle.selective_merge.specs.Moving.{tables_of, Holds};
 ghost use Rattle.unit_io.specs.Accounts.{Accounts};
 ghost use Rattle.unit_io.specs.Costs.{Spends};
-ghost use Rattle.status_renewal.specs.Passes.{HasPassed, PassEnds, GoesOnTelling, KeepsInSteps, AreMergeable, CompletesRenewal, ErasesAtMost, RenewCause};
+ghost use Rattle.status_renewal.specs.Passes.{HasPassed, PassEnds, GoesOnTelling, KeepsInSteps, SparesUnits, FailsAsPass, FailsAsRenewal, AreMergeable, CompletesRenewal, ErasesAtMost, RenewCause};
 
 use crate::kept::KeptNumbers;
 use chip_trait::Chip;
@@ -35,6 +35,16 @@ fn take_unit<C: Chip>(
         → PassEnds places c it t result (C.told chip.new) (tables_of parts.new)
         (HasPassed places (unit + 1) c it t kept.new (C.told chip.new) (tables_of parts.new)) }
     ensures goes_on { GoesOnTelling result (C.told chip.old) (C.told chip.new) }
+    ensures spares { (places : ℕ) (x : Contents) (it : Layout) (t : Tables)
+        → (C.told chip.old).places ≡ places
+        → HasPassed places unit (chart_of x) it t kept.old (C.told chip.old) (tables_of parts.old)
+        → SparesUnits places unit x it (C.told chip.old)
+        → OnOk result (SparesUnits places (unit + 1) x it (C.told chip.new)) }
+    ensures fault { (places : ℕ) (x : Contents) (it : Layout) (t : Tables)
+        → (C.told chip.old).places ≡ places → Holds places t (tables_of parts.old)
+        → HasPassed places unit (chart_of x) it t kept.old (C.told chip.old) (tables_of parts.old)
+        → SparesUnits places unit x it (C.told chip.old)
+        → IfErr result (FailsAsPass places x it t) }
     ensures complete { (places : ℕ) (c : Chart) (it : Layout) (t : Tables)
         → (C.told chip.old).places ≡ places → Holds places t (tables_of parts.old)
         → HasPassed places unit c it t kept.old (C.told chip.old) (tables_of parts.old)
@@ -79,6 +89,8 @@ pub fn pass<C: Chip>(
         (HasPassed places (places - 4) (chart_of x) it (tables_of parts.old) kept.new
         (C.told chip.new) (tables_of parts.new)) }
     ensures goes_on { GoesOnTelling result (C.told chip.old) (C.told chip.new) }
+    ensures fault { FailsAsRenewal (C.told chip.old).places (tables_of parts.old) result
+        (C.told chip.old) }
     ensures complete { CompletesRenewal (C.told chip.old).places (tables_of parts.old) result
         (C.told chip.old) }
     ensures steps { (places : ℕ) → (C.told chip.old).places ≡ places

@@ -21,9 +21,9 @@ use selective_merge::Parts;
 /// records still have. No session is open.
 ///
 /// Whatever a power cut leaves at any moment stands for the map on which the story rested. It fails
-/// with the first fault of the chip, which was only read then; or where it has none, where a unit
-/// can't be merged; or where a call of the chip failed. Where no write failed, the story rests on the
-/// map still.
+/// with the first fault of the chip, which was only read then; or where it has none, with that of a
+/// page of a unit that had to be merged; or where a call of the chip failed. Where no write failed,
+/// the story rests on the map still.
 pub fn recover<C: Chip>(
     chip: &mut C,
     scratch: &mut Scratch,

@@ -4,7 +4,7 @@ ghost use Rattle.merge_rules.specs.Known.{KnowsPlaces};
 ghost use Rattle.selective_merge.specs.Moving.{tables_of};
 ghost use Rattle.unit_io.specs.Accounts.{Accounts};
 ghost use Rattle.unit_io.specs.Costs.{Spends};
-ghost use Rattle.status_renewal.specs.Passes.{RenewsTold, HoldsRenewed, KeepsInSteps, CompletesRenewal, ErasesAtMost, RenewCause};
+ghost use Rattle.status_renewal.specs.Passes.{RenewsTold, HoldsRenewed, KeepsInSteps, FailsAsRenewal, CompletesRenewal, ErasesAtMost, RenewCause};
 
 use crate::kept::KeptNumbers;
 use crate::passing::pass;
@@ -35,8 +35,11 @@ pub fn renew<C: Chip>(
     ensures steps { KeepsInSteps (C.told chip.old).places (tables_of parts.old)
         (tables_of parts.new) (C.told chip.old) result (C.told chip.new) }
 
-    // Why it fails over what the chip holds: where all units' pages read well and few log sectors of
-    // each would be carried, only where a call of the chip failed.
+    // Why it fails over what the chip holds: it tells what is wrong with a unit that had to be merged;
+    // and where all units' pages read well and few log sectors of each would be carried, only
+    // where a call of the chip failed.
+    ensures fault { FailsAsRenewal (C.told chip.old).places (tables_of parts.old) result
+        (C.told chip.old) }
     ensures complete { CompletesRenewal (C.told chip.old).places (tables_of parts.old) result
         (C.told chip.old) }
 

@@ -10,3 +10,6 @@ returns-clause-writes g c =
     c.program_log.result refl c.log_sector-sector.ensures.sector
     (same_log head.unit head.generation _ _ c.args.payload.now c.args.payload.now
     c.draw.ensures.drawn refl) c.program_log.ensures.aside
+
+pub returns-clause-spares : goal.returns-clause-spares
+returns-clause-spares g c = c.program_log.ensures.spares

@@ -11,6 +11,7 @@ use Rattle.merge_rules.specs.Packs.{log_sector, HasLogs}
 use Rattle.selective_merge.specs.Writing.{KeepsLogs}
 use Rattle.selective_merge.proofs.ThroughoutLemmas.{charts_none, charts_then}
 use Rattle.selective_merge.proofs.WriteLemmas.{logs_none, logs_more, keeps_none, keeps_more, keeps_failed, log_named, same_log}
+use Rattle.unit_io.proofs.SparesLemmas.{spares_none, spares_then}
 use Rattle.selective_merge.proofs.logs.write_logs.Goals as goal
 
 pub loop-i-init : goal.loop-i-init
@@ -26,6 +27,7 @@ loop-i-init g c =
           (logs_none c.args.place head.unit head.generation c.args.counter.now payloads);
       costs = spends_none (ProgramsAt c.args.place 0 0 5) told (nothing_at c.args.place 0 0 5);
       counts = counts_none told;
+      spares = spares_none c.args.place told told refl;
       drawn = omega arith;
     }
 
@@ -57,6 +59,7 @@ loop-i-preserved g c =
           (λ x y z one two. logs_more p head.unit head.generation serial payloads i x y z one two);
       costs = spends_at_then p i 1 0 0 5 old mid new so.costs says.costs;
       counts = counts_then old mid new so.counts says.accounts.counts;
+      spares = spares_then p old mid new so.spares says.spares;
       drawn = omega (arith, so.drawn, says.drawn);
     }
 
@@ -109,3 +112,6 @@ returns-clause-costs g c =
     let done : i ≡ length c.args.payloads.now = omega arith in
     spends_at_most c.args.place i (length c.args.payloads.now) 0 0 5 (g.C.Chip.told c.args.chip.now)
     (g.C.Chip.told c.loop-i.chip) (omega (arith, done)) (omega arith) c.loop-i.invariant.costs
+
+pub returns-clause-spares : goal.returns-clause-spares
+returns-clause-spares g c = c.loop-i.invariant.spares

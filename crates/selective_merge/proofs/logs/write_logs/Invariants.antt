@@ -3,7 +3,7 @@ use Rattle.chip_trait.specs.Lawful.{Clean, age}
 use Rattle.chip_trait.specs.Told.{Told, History, Counts}
 use Rattle.ipl_rules.specs.State.{Map}
 use Rattle.ipl_meaning.specs.Rests.{now, StoryRests}
-use Rattle.unit_io.specs.Charts.{Charts}
+use Rattle.unit_io.specs.Charts.{Charts, Spares}
 use Rattle.unit_io.specs.Costs.{ProgramsAt, Spends}
 use Rattle.unit_io.specs.Leads.{IsSteady}
 use Rattle.merge_rules.specs.Packs.{IsLogSpotBelow, HasLogs}
@@ -20,6 +20,7 @@ pub record AreWritten (first t : Told) (p u generation serial : ℕ) (payloads :
   pub tells : Charts (HasLogs p u generation serial payloads n) first t
   pub costs : Spends (ProgramsAt p n 0 5) first t
   pub counts : Counts first t
+  pub spares : Spares p first t
   pub drawn : counter ≡ serial + n
 
 abbrev pub invariant-loop-i : goal.invariant-loop-i

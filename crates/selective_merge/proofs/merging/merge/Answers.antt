@@ -13,7 +13,7 @@ use Rattle.selective_merge.proofs.FewLemmas.{few_unread}
 use Rattle.selective_merge.proofs.SpendLemmas.{for_read, erases_for_behind}
 use Rattle.selective_merge.proofs.WholeLemmas.{merge_behind, merged_told, merge_unread, told_unread}
 use Rattle.merge_rules.proofs.FaultLemmas.{fault_unread}
-use Rattle.selective_merge.proofs.CompleteLemmas.{merge_told, merge_completes}
+use Rattle.selective_merge.proofs.CompleteLemmas.{merge_told, merge_completes, spared_behind}
 use Rattle.selective_merge.proofs.merging.merge.Goals as goal
 
 pub returns-in_err-home-clause-steps : goal.returns-in_err-home-clause-steps
@@ -129,3 +129,9 @@ returns-clause-complete g c =
     let old = g.C.Chip.told c.args.chip.now in
     merge_completes old.places (tables_of c.args.parts.now) c.args.unit c.merge_known.result old
     (returns-clause-fault g c)
+
+pub returns-clause-spares : goal.returns-clause-spares
+returns-clause-spares g c =
+    spared_behind (tables_of c.args.parts.now).places (g.C.Chip.told c.args.chip.now)
+    (g.C.Chip.told c.learn.new.chip) (g.C.Chip.told c.merge_known.new.chip) c.merge_known.result
+    c.in_ok-home.ensures.looks.reads.contents c.merge_known.ensures.spares

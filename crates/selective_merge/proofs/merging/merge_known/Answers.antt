@@ -51,3 +51,6 @@ returns-clause-fault g c = λ x told.
     c.args.parts.now.scratch.log in
     subst (λ (o : Option ChipFault). TellsTheFault o c.merge_packed.result)
     (sym (fault_with_few x from _ c.merge_packed.ensures.few)) (c.merge_packed.ensures.fault x told)
+
+pub returns-clause-spares : goal.returns-clause-spares
+returns-clause-spares g c = c.merge_packed.ensures.spares

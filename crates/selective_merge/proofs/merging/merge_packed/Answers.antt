@@ -13,6 +13,7 @@ use Rattle.selective_merge.proofs.SpendLemmas.{for_unit, for_nobody}
 use Rattle.selective_merge.proofs.MovingLemmas.{moved_from}
 use Rattle.selective_merge.proofs.HeldLemmas.{given_back, taken_but, held_back, held_moved, home_used, more_free}
 use Rattle.selective_merge.proofs.MergedLemmas.{to_merge, many_packs, merged_there, merged_steps, merge_failed, stays_mirrored}
+use Rattle.selective_merge.proofs.CompleteLemmas.{used_spared}
 use Rattle.selective_merge.proofs.merging.merge_packed.Goals as goal
 
 pub take_free-place-requires : goal.take_free-place-requires
@@ -295,3 +296,19 @@ returns-in-Ok-clause-fault g c = λ x told. c.in-Ok.ensures.fault x told
 
 pub returns-in-Err-clause-fault : goal.returns-in-Err-clause-fault
 returns-in-Err-clause-fault g c = λ x told. c.in-Err.ensures.fault x told
+
+pub returns-in-Ok-clause-spares : goal.returns-in-Ok-clause-spares
+returns-in-Ok-clause-spares g c =
+    used_spared (tables_of c.args.parts.now).places c.take_free-place.result
+    (g.C.Chip.told c.args.chip.now) (g.C.Chip.told c.write_unit.new.chip)
+    c.take_free-place.ensures.free c.in-Ok.ensures.spares
+
+pub returns-in-Ok-clause-drawn : goal.returns-in-Ok-clause-drawn
+returns-in-Ok-clause-drawn g c =
+    omega (
+      arith,
+      c.in-Ok.ensures.drawn,
+      c.draw-generation.ensures.next,
+      c.move_unit.ensures.counter,
+      c.move_unit.ensures.room,
+    )

@@ -8,6 +8,7 @@ use Rattle.selective_merge.proofs.FillLemmas.{erase_failed, pages_failed, logged
 use Rattle.ipl_base.specs.declared.fault.ChipFault.{ChipFault}
 use Rattle.merge_rules.specs.Faults.{IsTheFault}
 use Rattle.merge_rules.proofs.FaultLemmas.{fault_as, fault_stopped, pages_from_alike}
+use Rattle.unit_io.proofs.SparesLemmas.{spares_then}
 use Rattle.selective_merge.proofs.places.fill.Goals as goal
 
 pub returns-in_err-begin_unit-clause-fills : goal.returns-in_err-begin_unit-clause-fills
@@ -187,3 +188,13 @@ returns-clause-fault g c = λ x told.
     let (y, told_y, same) = c.in_ok-begin_unit.ensures.spares x told in
     sym (pages_from_alike x y from c.args.place c.requires.another same)
     ∙ c.in_ok-pieces.ensures.fault y told_y
+
+pub returns-clause-spares : goal.returns-clause-spares
+returns-clause-spares g c =
+    let old = g.C.Chip.told c.args.chip.now in
+    let mid = g.C.Chip.told c.begin_unit.new.chip in
+    let late = g.C.Chip.told c.move_pages.new.chip in
+    let new = g.C.Chip.told c.write_logs.new.chip in
+    spares_then c.args.place old late new
+    (spares_then c.args.place old mid late c.in_ok-begin_unit.ensures.spares
+    c.in_ok-pieces.ensures.spares) c.in_ok-write_logs.ensures.spares

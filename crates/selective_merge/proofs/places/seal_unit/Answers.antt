@@ -37,3 +37,6 @@ returns-clause-tells g c =
           c.write_data_header.ensures.0.bytes;
       counts = c.write_data_header.ensures.0;
     }) c.seal.ensures.tells
+
+pub returns-clause-spares : goal.returns-clause-spares
+returns-clause-spares g c = c.seal.ensures.spares

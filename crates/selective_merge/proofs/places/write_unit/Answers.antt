@@ -8,6 +8,7 @@ use Rattle.selective_merge.specs.Writing.{SealsUnit}
 use Rattle.selective_merge.proofs.SealLemmas.{unit_written, written_told, fill_failed}
 use Rattle.merge_rules.specs.Faults.{pages_fault}
 use Rattle.merge_rules.proofs.FaultLemmas.{fault_as, tells_written}
+use Rattle.unit_io.proofs.SparesLemmas.{spares_behind}
 use Rattle.selective_merge.proofs.places.write_unit.Goals as goal
 
 pub returns-in_err-pieces-clause-writes : goal.returns-in_err-pieces-clause-writes
@@ -73,3 +74,9 @@ returns-clause-fault g c = λ x told.
     tells_written (pages_fault x from) (g.C.Chip.told c.fill.new.chip)
     (g.C.Chip.told c.seal_unit.new.chip) c.seal_unit.result (c.in_ok-pieces.ensures.fault x told)
     c.seal_unit.ensures.accounts.cause
+
+pub returns-clause-spares : goal.returns-clause-spares
+returns-clause-spares g c =
+    spares_behind c.args.place (g.C.Chip.told c.args.chip.now) (g.C.Chip.told c.fill.new.chip)
+    (g.C.Chip.told c.seal_unit.new.chip) c.seal_unit.result c.in_ok-pieces.ensures.spares
+    c.seal_unit.ensures.spares

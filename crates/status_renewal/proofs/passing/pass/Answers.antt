@@ -9,6 +9,7 @@ use Rattle.status_renewal.proofs.CostLemmas.{erases_none, erases_more, erases_th
 use Rattle.status_renewal.proofs.PassLemmas.{passed_none}
 use Rattle.status_renewal.proofs.PreserveLemmas.{passed_then}
 use Rattle.status_renewal.proofs.TellingLemmas.{goes_on_same, goes_on_then}
+use Rattle.status_renewal.proofs.FaultLemmas.{spared_none}
 use Rattle.status_renewal.proofs.passing.pass.Goals as goal
 
 pub loop-unit-init : goal.loop-unit-init
@@ -24,6 +25,7 @@ loop-unit-init g c =
           subst (λ (kept : List ℕ). HasPassed places 0 (chart_of x) it t kept told t)
           (sym c.clear.ensures) (passed_none places (chart_of x) it t x told refl is mirrors);
       goes_on = goes_on_same (Ok tt) told told refl;
+      spares = λ places x it same is mirrors. spared_none places 0 x it told is;
       steps = λ places same m it h steady rests agrees. nothing_keeps places m t h told steady rests;
     }
 
@@ -85,6 +87,9 @@ loop-unit-preserved g c =
           it t (so_far.counts.places ∙ same) (subst (λ n. Holds n t between) same so_far.holds)
           (so_far.passes places x it same is mirrors);
       goes_on = goes_on_then (Ok tt) old mid new so_far.goes_on c.in_ok-take_unit.ensures.goes_on;
+      spares = λ places x it same is mirrors. c.in_ok-take_unit.ensures.spares places x it t
+          (so_far.counts.places ∙ same) (so_far.passes places x it same is mirrors)
+          (so_far.spares places x it same is mirrors);
       steps = λ places same m it h steady rests agrees. passed_then places m h it t between after
           old mid new (Ok tt) c.loop-unit.unit c.loop-unit.kept so_far.counts
           (g.met.C.Chip.consistent c.args.chip.now) (g.met.C.Chip.consistent c.loop-unit.chip)
@@ -133,3 +138,12 @@ returns-in_err-take_unit-clause-complete g c = λ x told it mirrors all.
     rw (e.1 ∙ ap Err e.2) (c.in_err-take_unit.ensures.complete old.places (chart_of x) it
     (tables_of c.args.parts.now) so_far.counts.places so_far.holds
     (so_far.passes old.places x it refl told mirrors) all)
+
+pub returns-in_err-take_unit-clause-fault : goal.returns-in_err-take_unit-clause-fault
+returns-in_err-take_unit-clause-fault g c = λ x told it mirrors.
+    let so_far = c.loop-unit.invariant in
+    let places = (g.C.Chip.told c.args.chip.now).places in
+    let e = err_from_is_err_and c.from_residual.result c.from_residual.ensures.1 in
+    rw (e.1 ∙ ap Err e.2) (c.in_err-take_unit.ensures.fault places x it
+    (tables_of c.args.parts.now) so_far.counts.places so_far.holds
+    (so_far.passes places x it refl told mirrors) (so_far.spares places x it refl told mirrors))

@@ -6,7 +6,7 @@ use Rattle.ipl_meaning.specs.Layout.{Layout}
 use Rattle.ipl_meaning.specs.Mirrors.{Mirrors}
 use Rattle.selective_merge.specs.Moving.{tables_of, Holds}
 use Rattle.unit_io.specs.Costs.{Spends}
-use Rattle.status_renewal.specs.Passes.{HasPassed, GoesOnTelling, KeepsInSteps, ErasesAtMost}
+use Rattle.status_renewal.specs.Passes.{HasPassed, GoesOnTelling, SparesUnits, KeepsInSteps, ErasesAtMost}
 use Rattle.status_renewal.proofs.passing.pass.Given as goal
 
 abbrev pub invariant-loop-unit : goal.invariant-loop-unit
@@ -22,6 +22,10 @@ invariant-loop-unit g l = record {
       → HasPassed places l.unit (chart_of x) it (tables_of l.fn.parts) l.kept
       (g.C.Chip.told l.chip) (tables_of l.parts);
   goes_on : GoesOnTelling (Ok tt) (g.C.Chip.told l.fn.chip) (g.C.Chip.told l.chip);
+  spares : (places : ℕ) (x : Contents) (it : Layout) → (g.C.Chip.told l.fn.chip).places ≡ places
+      → (g.C.Chip.told l.fn.chip).contents ≡ Some x
+      → Mirrors places (chart_of x) it (tables_of l.fn.parts)
+      → SparesUnits places l.unit x it (g.C.Chip.told l.chip);
   steps : (places : ℕ) → (g.C.Chip.told l.fn.chip).places ≡ places
       → KeepsInSteps places (tables_of l.fn.parts) (tables_of l.parts)
       (g.C.Chip.told l.fn.chip) (Ok tt) (g.C.Chip.told l.chip);

@@ -20,6 +20,9 @@ use Rattle.status_renewal.proofs.UnitLemmas.{records_are_logged}
 use Rattle.status_renewal.proofs.PreserveLemmas.{reads_preserve, steps_preserve, read_then}
 use Rattle.status_renewal.proofs.CompleteLemmas.{merge_is_complete}
 use Rattle.status_renewal.proofs.TellingLemmas.{goes_on_same, goes_on_then, goes_on_from}
+use Rattle.merge_rules.specs.Known.{KnowsPlaces}
+use Rattle.selective_merge.proofs.CompleteLemmas.{merge_fails_so}
+use Rattle.status_renewal.proofs.FaultLemmas.{spared_read, spared_merged, merge_fails}
 use Rattle.status_renewal.proofs.passing.take_unit.Goals as goal
 
 pub returns-in_err-read_live-clause-passes : goal.returns-in_err-read_live-clause-passes
@@ -203,3 +206,57 @@ returns-clause-complete g c = λ places chart it t same holds was all.
     (g.C.Chip.told c.args.chip.now) (g.C.Chip.told c.read_live.new.chip)
     (tables_of c.args.parts.now) c.merge.result (omega (arith, c.requires.unit, same)) holds.active
     (reads.counts.places ∙ same) reads.contents was all c.merge.ensures.complete
+
+pub returns-in_err-read_live-clause-fault : goal.returns-in_err-read_live-clause-fault
+returns-in_err-read_live-clause-fault g c = λ places x it t same holds was spared.
+    let parts = tables_of c.args.parts.now in
+    let e = err_from_is_err_and c.from_residual.result c.from_residual.ensures.1 in
+    rw (e.1 ∙ ap Err e.2) (λ read stopped. absurd (read
+    (c.in_err-read_live.ensures.exact was.contents was.told was.now parts
+    (record {
+      mirrors = subst (λ n. Mirrors n (chart_of was.contents) was.now parts) (sym same) was.mirrors;
+      directory_is = refl;
+      overflow_is = refl;
+    }))))
+
+pub returns-then-join-clause-spares : goal.returns-then-join-clause-spares
+returns-then-join-clause-spares g c = λ places x it t same was spared.
+    spared_read places c.args.unit x it (g.C.Chip.told c.args.chip.now)
+    (g.C.Chip.told c.read_live.new.chip) c.read_live.ensures.looks.reads.contents spared
+
+pub returns-clause-spares : goal.returns-clause-spares
+returns-clause-spares g c = λ places x it t same was spared.
+    let reads = c.read_live.ensures.looks.reads in
+    let parts = tables_of c.args.parts.now in
+    spared_merged places c.args.unit x it t c.args.kept.now (g.C.Chip.told c.args.chip.now)
+    (g.C.Chip.told c.read_live.new.chip) parts
+    (subst (λ n. KnowsPlaces n parts) same c.requires.known) was spared reads.contents
+    c.merge.result (g.C.Chip.told c.merge.new.chip) c.merge.ensures.spares
+
+pub returns-clause-fault : goal.returns-clause-fault
+returns-clause-fault g c = λ places x it t same holds was spared.
+    let parts = c.args.parts.now in
+    let unit = c.args.unit in
+    let mid = g.C.Chip.told c.read_live.new.chip in
+    let reads = c.read_live.ensures.looks.reads in
+    let low : unit < places - 4 = omega (arith, c.requires.unit, same) in
+    let live = c.in_ok-read_live.ensures.exact was.contents was.told was.now (tables_of parts)
+    (record {
+      mirrors = subst (λ n. Mirrors n (chart_of was.contents) was.now (tables_of parts)) (sym same)
+          was.mirrors;
+      directory_is = refl;
+      overflow_is = refl;
+    }) in
+    let log = (was.now.units unit).log in
+    let records : records_kept c.sectors.result.now ≡ records_of log =
+    ap records_kept (c.sectors.ensures.sectors ∙ live.log)
+    ∙ records_are_logged (chart_of was.contents) places unit (was.now.units unit).home
+    (was.now.units unit).head.generation log (was.mirrors.laid.each unit low).log.each in
+    let many : 3840 < length (joined parts.status.numbers (records_of log) c.args.kept.now) =
+    subst (λ (rs : List Record). 3840 < length (joined parts.status.numbers rs c.args.kept.now))
+    records (too_many c.join.result _ c.join.ensures.fits c.if-join.false) in
+    merge_fails places unit x it t c.args.kept.now (g.C.Chip.told c.args.chip.now) mid
+    (tables_of parts) (subst (λ n. KnowsPlaces n (tables_of parts)) same c.requires.known) was
+    spared reads.contents low holds.active holds.status c.merge.result many
+    (reads.counts.places ∙ same)
+    (merge_fails_so mid.places (tables_of parts) unit c.merge.result mid c.merge.ensures.fault)

@@ -5,17 +5,19 @@ use Rattle.opening_rules.specs.LaidOut.{layout_in}
 use Rattle.selective_merge.specs.Moving.{tables_of}
 use Rattle.unit_io.specs.Costs.{Spends}
 use Rattle.unit_io.specs.ReadsAt.{Anywhere}
-use Rattle.status_renewal.specs.Passes.{RenewsTold, KeepsInSteps, CompletesRenewal, ErasesAtMost}
+use Rattle.status_renewal.specs.Passes.{RenewsTold, KeepsInSteps, FailsAsRenewal, CompletesRenewal, ErasesAtMost}
 use Rattle.status_renewal.proofs.CostLemmas.{reads_erase, reads_then_erase}
 use Rattle.status_renewal.proofs.RecoverLemmas.{of_parts, opened_parts, opens_told, opens_done, sound_looks, reads_recover, recovers_done, recovers_failed}
 use Rattle.status_renewal.proofs.CompleteLemmas.{all_mergeable, call_failed, reading_failed}
+use Rattle.ipl_base.specs.declared.fault.ImageFault.TheVariants.{Chip}
+use Rattle.status_renewal.proofs.FaultLemmas.{opening_fault}
 use Rattle.status_renewal.proofs.recovering.recover.Goals as goal
 
 pub returns-in_err-recover-clause-tells : goal.returns-in_err-recover-clause-tells
 returns-in_err-recover-clause-tells g c = λ x told.
     let old = g.C.Chip.told c.args.chip.now in
     let e = err_from_is_err_and c.from_residual.result c.from_residual.ensures.1 in
-    rw (e.1 ∙ ap Err e.2) (λ no_read no_stop. opens_told old.places (chart_of x)
+    rw (e.1 ∙ ap Err e.2) (λ no_read no_stop. opens_told old.places x
     c.in_err-recover.field-0.0 old (g.C.Chip.told c.recover.new.chip)
     (c.in_err-recover.ensures.fault x told) c.in_err-recover.ensures.looks.cause no_read)
 
@@ -165,3 +167,24 @@ returns-in_err-renew-clause-complete g c = λ x told m none says.
     (subst (λ n. CompletesRenewal n t (Err fault) mid) reads.counts.places
     c.in_err-renew.ensures.complete x (reads.contents ∙ told) it parts.1
     (all_mergeable old.places (chart_of x) it m t says c.requires.active)))
+
+pub returns-in_err-renew-clause-tells : goal.returns-in_err-renew-clause-tells
+returns-in_err-renew-clause-tells g c = λ x told.
+    let old = g.C.Chip.told c.args.chip.now in
+    let mid = g.C.Chip.told c.recover.new.chip in
+    let active = c.args.parts.now.active in
+    let t = of_parts c.recover.new.directory c.recover.new.overflow c.recover.new.status
+    c.recover.new.counter active in
+    let fault = c.in_err-renew.field-0.0 in
+    let reads = c.recover.ensures.looks.reads in
+    let e = err_from_is_err_and c.from_residual-in_err-renew.result
+    c.from_residual-in_err-renew.ensures.1 in
+    let it = layout_in (chart_of x) old.places in
+    let parts = opened_parts old.places (chart_of x) c.recover.new.directory
+    c.recover.new.overflow c.recover.new.status c.recover.new.counter active c.requires.active
+    (c.in_ok-recover.ensures.opened x told) (c.in_ok-recover.ensures.mirrors x told) in
+    rw (e.1 ∙ ap Err e.2) (λ no_read no_stop. opening_fault old.places x t fault c.requires.active
+    (c.in_ok-recover.ensures.fault x told)
+    (subst (λ n. FailsAsRenewal n t (Err fault) mid) reads.counts.places
+    c.in_err-renew.ensures.fault x (reads.contents ∙ told) it parts.1
+    (λ is. no_read (ap Chip is)) (λ is. no_stop (ap Chip is))))

@@ -14,6 +14,7 @@ use Rattle.status_renewal.proofs.PreserveLemmas.{passed_then, steps_preserve}
 use Rattle.status_renewal.proofs.RenewLemmas.{may_renew, renew_ends, status_ends}
 use Rattle.status_renewal.proofs.CompleteLemmas.{written_alone}
 use Rattle.status_renewal.proofs.TellingLemmas.{goes_on_then, goes_on_where, renews_told}
+use Rattle.status_renewal.proofs.FaultLemmas.{pass_written}
 use Rattle.status_renewal.proofs.renewing.renew.Goals as goal
 
 pub returns-in_err-pass-clause-tells : goal.returns-in_err-pass-clause-tells
@@ -149,3 +150,14 @@ pub renew_place-requires-clause-placed : goal.renew_place-requires-clause-placed
 renew_place-requires-clause-placed g c =
     let known = c.in_ok-pass.ensures.holds.known in
     omega (arith, known.status_placed, c.pass.ensures.accounts.counts.places)
+
+pub returns-in_err-pass-clause-fault : goal.returns-in_err-pass-clause-fault
+returns-in_err-pass-clause-fault g c = λ x told it mirrors.
+    let e = err_from_is_err_and c.from_residual.result c.from_residual.ensures.1 in
+    rw (e.1 ∙ ap Err e.2) (c.in_err-pass.ensures.fault x told it mirrors)
+
+pub returns-clause-fault : goal.returns-clause-fault
+returns-clause-fault g c = λ x told it mirrors.
+    pass_written (g.C.Chip.told c.args.chip.now).places x it (tables_of c.args.parts.now)
+    (g.C.Chip.told c.pass.new.chip) (g.C.Chip.told c.renew_place.new.chip) c.renew_place.result
+    c.renew_place.ensures.accounts.cause

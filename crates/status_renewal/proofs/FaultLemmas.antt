@@ -1,0 +1,146 @@
+-- What is wrong with a unit that a pass comes to is what was wrong with it at first.
+use Rattle.std.proofs.Common.{◌≡◌, ◌≢◌, ◌⊎◌, ℕ, ◌<◌, ◌≤◌, ◌+◌, ◌-◌, true, false, List, [], length, slice_index, Some, None, Result, Ok, Err, OnOk, IfErr, inl, inr, refl, sym, ◌∙◌, ap, subst, arith}
+use Rattle.std.specs.Prelude.{nat_le, if◌then◌else◌}
+use Rattle.std.proofs.lemmas.Bool.{cases_Bool, lt-leb}
+use Rattle.std.proofs.lemmas.List.Elements.{Contains-get_or}
+use Rattle.std.proofs.lemmas.Option.{same_Some}
+use Rattle.chip_trait.specs.Story.{Contents}
+use Rattle.chip_trait.specs.Told.{Told}
+use Rattle.ipl_base.specs.declared.fault.ChipFault.{ChipFault}
+use Rattle.ipl_base.specs.declared.fault.ChipFault.TheVariants.{Stopped, Malformed}
+use Rattle.ipl_base.specs.declared.fault.ImageFault.{ImageFault}
+use Rattle.ipl_base.specs.declared.fault.ImageFault.TheVariants.{Chip}
+use Rattle.ipl_meaning.specs.Chart.{Chart, chart_of}
+use Rattle.ipl_meaning.specs.Last.{carried_count}
+use Rattle.ipl_meaning.specs.Layout.{Shape, Layout, records_of}
+use Rattle.ipl_meaning.specs.Mirrors.{Mirrors}
+use Rattle.ipl_meaning.specs.Tables.{IsFree, Tables, Status}
+use Rattle.merge_rules.specs.Faults.{pages_fault, merge_fault, IsTheFault}
+use Rattle.merge_rules.specs.Known.{KnowsPlaces}
+use Rattle.merge_rules.specs.Merged.{source_of}
+use Rattle.merge_rules.specs.Packs.{among}
+use Rattle.merge_rules.proofs.FaultLemmas.{faults_are_of_the_place, fault_with_few}
+use Rattle.opening_rules.specs.Faults.{first_fault}
+use Rattle.opening_rules.specs.LaidOut.{layout_in}
+use Rattle.selective_merge.specs.Merging.{FailsAsMerge}
+use Rattle.selective_merge.specs.Spending.{SparesUsed}
+use Rattle.unit_io.specs.Leads.{IsStopped}
+use Rattle.status_renewal.specs.Joins.{joined}
+use Rattle.status_renewal.specs.Passes.{kept_below, has_room, HasPassed, SparesUnits, IsRenewalFault, FailsAsPass}
+use Rattle.status_renewal.specs.Recovers.{IsOpeningFault}
+use Rattle.status_renewal.proofs.CompleteLemmas.{carried_none}
+
+-- ---- the bytes of units
+
+-- nothing was written
+pub spared_none : (places n : ℕ) (x : Contents) (it : Layout) (told : Told)
+    → told.contents ≡ Some x → SparesUnits places n x it told
+spared_none places n x it told is y told_y u low behind s =
+    ap (λ (z : Contents). z (it.units u).home s) (same_Some y x (sym told_y ∙ is))
+
+pub spared_read : (places n : ℕ) (x : Contents) (it : Layout) (old new : Told)
+    → new.contents ≡ old.contents → SparesUnits places n x it old
+    → SparesUnits places (n + 1) x it new
+spared_read places n x it old new same spared y told u low behind =
+    spared y (sym same ∙ told) u low (omega (arith, behind))
+
+module _ (places n : ℕ) (x : Contents) (it : Layout) (t : Tables) (kept : List ℕ) (old mid : Told)
+    (between : Tables) (known : KnowsPlaces places between)
+    (was : HasPassed places n (chart_of x) it t kept old between)
+    (spared : SparesUnits places n x it old) (reads : mid.contents ≡ old.contents) where
+  -- the place of a unit that the pass hasn't come to is in use
+  still_used : (u : ℕ) → u < places - 4 → n ≤ u → ¬ IsFree between.places (it.units u).home
+  still_used u low behind free =
+      let same : was.now.units u ≡ it.units u = was.passed.same u low (inl behind) in
+      let home : slice_index between.places.current u ≡ (it.units u).home =
+      was.mirrors.directory.current u low ∙ ap (λ (s : Shape). s.home) same in
+      known.used (slice_index between.places.current u)
+      (inl (Contains-get_or between.places.current u 0
+      (omega (arith, low, was.mirrors.directory.units))))
+      (subst (IsFree between.places) (sym home) free)
+
+  -- a merge leaves the other units' bytes
+  pub spared_merged : (result : Result (Unit {0}) ChipFault) (new : Told)
+      → OnOk result (SparesUsed between.places mid new)
+      → OnOk result (SparesUnits places (n + 1) x it new)
+  spared_merged (Err e) new spares = tt
+  spared_merged (Ok v) new spares = λ y told u low behind s.
+      let (z, told_z, same) = spares was.contents (reads ∙ was.told) in
+      ap (λ (c : Contents). c (it.units u).home s) (same_Some y z (sym told ∙ told_z))
+      ∙ same (it.units u).home s (still_used u low (omega (arith, behind)))
+      ∙ spared was.contents was.told u low (omega (arith, behind)) s
+
+  -- ---- the fault
+
+  module _ (low : n < places - 4) (active : between.active ≡ t.active)
+      (status : between.status ≡ t.status) where
+    same_unit : was.now.units n ≡ it.units n
+    same_unit = was.passed.same n low (inl (omega arith))
+
+    -- what is wrong with the unit now was so at first
+    fault_is : merge_fault was.contents between (was.now.units n) n
+        ≡ merge_fault x t (it.units n) n
+    fault_is =
+        ap (λ (s : Shape). merge_fault was.contents between s n) same_unit
+        ∙ ap (λ (a : List ℕ). if nat_le (carried_count (among a) (it.units n).log) 12
+        then pages_fault was.contents (source_of between (it.units n) n)
+        else Some (Malformed (it.units n).home 0)) active
+        ∙ faults_are_of_the_place x was.contents t (it.units n) n
+        (spared was.contents was.told n low (omega arith))
+
+    -- and its numbers don't fit
+    no_room : 3840 < length (joined between.status.numbers (records_of (was.now.units n).log) kept)
+        → has_room t.status.numbers it n ≡ false
+    unfolding same_unit
+    no_room many =
+        let all : joined between.status.numbers (records_of (was.now.units n).log) kept
+        ≡ joined t.status.numbers (records_of (it.units n).log)
+        (kept_below t.status.numbers it n) =
+        rw (ap (λ (s : Status). s.numbers) status, same_unit, was.kept_is) refl in
+        lt-leb _ _ (subst (λ (l : List ℕ). 3840 < length l) all many)
+
+    pub merge_fails : (result : Result (Unit {0}) ChipFault)
+        → 3840 < length (joined between.status.numbers (records_of (was.now.units n).log) kept)
+        → mid.places ≡ places → FailsAsMerge mid.places between n result mid
+        → IfErr result (FailsAsPass places x it t)
+    merge_fails result many sized fails = go result
+        (subst (λ (q : ℕ). FailsAsMerge q between n result mid) sized fails was.contents
+        (reads ∙ was.told) was.now was.mirrors)
+      where
+        go : (r : Result (Unit {0}) ChipFault)
+            → IfErr r (IsTheFault (merge_fault was.contents between (was.now.units n) n))
+            → IfErr r (FailsAsPass places x it t)
+        go (Ok v) is = tt
+        go (Err e) is = λ read stopped. record {
+          unit = n;
+          low = low;
+          full = no_room many;
+          fault = sym fault_is ∙ is read stopped;
+        }
+
+-- a call that only writes
+pub pass_written : (places : ℕ) (x : Contents) (it : Layout) (t : Tables) (old new : Told)
+    (result : Result (Unit {0}) ChipFault) → IfErr result (λ e. IsStopped e old new)
+    → IfErr result (FailsAsPass places x it t)
+pass_written places x it t old new (Ok v) is = tt
+pass_written places x it t old new (Err e) is = λ read stopped. absurd (stopped is.0)
+
+-- ---- an opening
+
+-- where no session is open, it is the fault of a page
+pub opening_fault : (places : ℕ) (x : Contents) (t : Tables) (fault : ChipFault)
+    → t.active ≡ [] → first_fault (chart_of x) places ≡ None
+    → IsRenewalFault places x (layout_in (chart_of x) places) t fault
+    → IsOpeningFault places x (Chip fault)
+opening_fault places x t fault none sound is =
+    let shape = (layout_in (chart_of x) places).units is.unit in
+    let few : carried_count (among t.active) shape.log ≤ 12 =
+    subst (λ (a : List ℕ). carried_count (among a) shape.log ≤ 12) (sym none)
+    (rw (carried_none (records_of shape.log)) (omega arith)) in
+    inr (sound, record {
+      fault = fault;
+      is = refl;
+      unit = is.unit;
+      low = is.low;
+      page = sym (fault_with_few x (source_of t shape is.unit) _ few) ∙ is.fault;
+    })
