@@ -1,5 +1,5 @@
 -- What is wrong with a unit that is to be merged, read from contents that are the same at its place.
-use Rattle.std.proofs.Common.{◌≡◌, ◌≢◌, ◌<◌, ◌≤◌, ℕ, true, false, slice_index, Option, Some, None, Result, Ok, Err, IfErr, inl, inr, refl, sym, ◌∙◌, ap, subst, arith}
+use Rattle.std.proofs.Common.{◌≡◌, ◌≢◌, ◌<◌, ◌≤◌, ℕ, slice_index, Option, Some, None, Result, Ok, Err, IfErr, inl, inr, refl, sym, ◌∙◌, ap, subst, arith}
 use Rattle.std.specs.Prelude.{nat_le, if◌then◌else◌}
 use Rattle.std.proofs.lemmas.Bool.Decides.{leb_tells}
 use Rattle.chip_trait.specs.Story.{Contents}
@@ -10,14 +10,12 @@ use Rattle.ipl_base.specs.declared.fault.ChipFault.TheVariants.{ReadFault, Stopp
 use Rattle.ipl_base.proofs.FirstLemmas.{first_alike, first_found, first_none}
 use Rattle.ipl_meaning.specs.Chart.{chart_of}
 use Rattle.ipl_meaning.specs.Last.{carried_count}
-use Rattle.ipl_meaning.specs.Layout.{Shape}
-use Rattle.ipl_meaning.specs.Tables.{Tables}
 use Rattle.unit_io.specs.Faults.{page_fault, TellsChipFault}
 use Rattle.unit_io.specs.Leads.{IsStopped}
 use Rattle.unit_io.proofs.HeldLemmas.{sound_pages_are_held, held_pages_read_well}
 use Rattle.unit_io.proofs.SparesLemmas.{pages_alike}
 use Rattle.merge_rules.specs.FaultLaws.{MergeableUnitsHaveNoFault, FaultsAreOfThePlace, SaidUnitsAreMergeable}
-use Rattle.merge_rules.specs.Faults.{page_fault_from, pages_fault, fault_with, merge_fault, IsMergeable, IsTheFault, TellsTheFault, FailsByChipAlone}
+use Rattle.merge_rules.specs.Faults.{page_fault_from, pages_fault, fault_with, IsTheFault, TellsTheFault, FailsByChipAlone}
 use Rattle.merge_rules.specs.Merged.{source_of}
 use Rattle.merge_rules.specs.Moved.{Source}
 use Rattle.merge_rules.specs.Packs.{among}

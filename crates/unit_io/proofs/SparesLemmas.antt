@@ -1,13 +1,12 @@
 -- A call that writes to one place leaves the bytes of all others; and what is wrong with a page there
 -- stays wrong.
-use Rattle.std.proofs.Common.{◌≡◌, ◌≢◌, ◌<◌, ◌+◌, ◌*◌, ℕ, zero, suc, List, ◌++◌, Result, Ok, Err, OnOk, Option, Some, refl, sym, ◌∙◌, ap, ap₂}
+use Rattle.std.proofs.Common.{◌≡◌, ◌+◌, ◌*◌, ℕ, zero, suc, List, ◌++◌, Result, Ok, Err, OnOk, refl, sym, ◌∙◌, ap, ap₂}
 use Rattle.std.specs.Option.{option_map, option_or}
 use Rattle.std.specs.Prelude.{◌==◌}
 use Rattle.std.proofs.lemmas.Bool.{ne_eqb}
 use Rattle.chip_trait.specs.declared.event.Event.TheVariants.{Program, Erase, Barrier}
 use Rattle.chip_trait.specs.Story.{Contents, after}
 use Rattle.chip_trait.specs.Told.{Told}
-use Rattle.ipl_base.specs.First.{first_below}
 use Rattle.ipl_base.specs.declared.fault.ChipFault.{ChipFault}
 use Rattle.ipl_base.proofs.FirstLemmas.{first_alike}
 use Rattle.ipl_format.specs.Sector.{sector_in}
