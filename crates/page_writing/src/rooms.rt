@@ -1,6 +1,5 @@
 //! Room for a log sector of a unit, whose generation is known.
 ghost use Rattle.std.specs.Prelude.{◌≡◌, ◌<◌, ◌≤◌, ◌+◌, ◌^◌, ℕ, List, None, Some, slice_index, MatchResult, IfOk};
-ghost use Rattle.chip_trait.specs.Told.{Told};
 ghost use Rattle.ipl_base.specs.declared.fault.ChipFault.TheVariants.{ReadFault};
 ghost use Rattle.ipl_format.specs.Sector.{Sector};
 ghost use Rattle.ipl_meaning.specs.Chart.{chart_of, IsDataHeader};

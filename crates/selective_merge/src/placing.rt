@@ -1,7 +1,6 @@
 //! Where a log sector of a unit goes: the rules.
 ghost use Rattle.std.specs.Prelude.{◌≡◌, ◌<◌, ◌≤◌, ◌+◌, ◌^◌, slice_index, IfOk};
 ghost use Rattle.overflow.specs.Lists.{spots_in};
-ghost use Rattle.unit_directory.specs.Free.{free_count};
 ghost use Rattle.unit_io.specs.Accounts.{Accounts};
 ghost use Rattle.unit_io.specs.Costs.{Spends};
 ghost use Rattle.unit_io.specs.ReadsAt.{ReadsAt};

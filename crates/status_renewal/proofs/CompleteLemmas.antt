@@ -1,7 +1,6 @@
 -- A renewal and an opening of what reads well fail only where a call of the chip failed.
-use Rattle.std.proofs.Common.{◌≡◌, ◌⊎◌, ℕ, ◌<◌, ◌≤◌, ◌+◌, ◌-◌, Bool, true, false, List, [], ◌∷◌, Some, None, Result, Ok, Err, IfErr, inl, inr, refl, sym, ◌∙◌, ap, subst, arith}
+use Rattle.std.proofs.Common.{◌≡◌, ◌⊎◌, ℕ, ◌<◌, ◌≤◌, ◌+◌, ◌-◌, Bool, true, List, [], ◌∷◌, Some, None, Result, Ok, Err, IfErr, inl, inr, refl, sym, ◌∙◌, ap, subst, arith}
 use Rattle.std.proofs.lemmas.Bool.{cases_Bool}
-use Rattle.chip_trait.specs.Story.{Contents}
 use Rattle.chip_trait.specs.Told.{Told}
 use Rattle.ipl_base.specs.declared.fault.ChipFault.{ChipFault}
 use Rattle.ipl_base.specs.declared.fault.ChipFault.TheVariants.{ReadFault, Stopped}
@@ -13,7 +12,6 @@ use Rattle.ipl_rules.specs.State.{Map}
 use Rattle.ipl_meaning.specs.Chart.{Chart, chart_of}
 use Rattle.ipl_meaning.specs.Last.{carried, carried_count}
 use Rattle.ipl_meaning.specs.Layout.{Shape, Layout, ReadsWell, records_of}
-use Rattle.ipl_meaning.specs.Mirrors.{Mirrors}
 use Rattle.ipl_meaning.specs.Stands.{Says, Shows}
 use Rattle.ipl_meaning.specs.Tables.{Tables}
 use Rattle.ipl_meaning.specs.Values.{after_records}
@@ -21,7 +19,6 @@ use Rattle.merge_rules.specs.Faults.{IsMergeable, FailsByChipAlone}
 use Rattle.merge_rules.specs.Packs.{among}
 use Rattle.merge_rules.proofs.FaultLemmas.{said_units_are_mergeable}
 use Rattle.opening_rules.specs.Faults.{first_fault, is_image}
-use Rattle.opening_rules.specs.LaidOut.{layout_in}
 use Rattle.restart.specs.Looks.{HasCause}
 use Rattle.selective_merge.specs.Merging.{CompletesMerge}
 use Rattle.unit_io.specs.Leads.{IsStopped}
