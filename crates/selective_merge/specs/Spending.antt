@@ -11,8 +11,8 @@ pub record ErasesFree (before : Places) (added : Story) : Type 0 where
   pub costs : Costs 1 0 3 [] added
   pub free : (p : ℕ) → is_erased added p ≡ true → IsFree before p
 
--- a chip that tells its contents goes on telling them, and each place that was in use has the bytes it
--- had
+-- a chip that tells its contents goes on telling them, and each place that was in use has the
+-- bytes that it had
 abbrev pub SparesUsed : Places → Told → Told → Type 0
 SparesUsed before old new = (x : Contents) → old.contents ≡ Some x
     → (y : Contents) × (new.contents ≡ Some y)

@@ -159,7 +159,7 @@ SparesUnits places n x it new = (y : Contents) → new.contents ≡ Some y
     → (u : ℕ) → u < places - RESERVED_PLACES → n ≤ u
     → (s : ℕ) → y (it.units u).home s ≡ x (it.units u).home s
 
--- this is wrong with a unit whose numbers don't fit: a page, or how many log sectors would be carried
+-- this is wrong with a unit whose numbers don't fit: a page, or how many log sectors are carried
 pub record IsRenewalFault (places : ℕ) (x : Contents) (it : Layout) (t : Tables)
     (e : ChipFault) : Type 0 where
   pub unit : ℕ

@@ -29,8 +29,9 @@ use Rattle.status_renewal.specs.Passes.{TellsChart}
 
 -- ---- what the chip holds
 
--- The chart had no fault, and was laid out so. All pages show what they showed, and of the numbers that were committed
--- exactly those are so still that a live record has; the tables mirror the new chart.
+-- The chart had no fault, and was laid out so. All pages show what they showed, and of the numbers
+-- that were committed exactly those are so still that a live record has; the tables mirror the new
+-- chart.
 pub record HasOpened (places : ℕ) (c : Chart) (after : Tables) (y : Chart) : Type 0 where
   pub none : first_fault c places ≡ None
   pub laid : Laid places c (layout_in c places)

@@ -35,9 +35,9 @@ pub fn renew<C: Chip>(
     ensures steps { KeepsInSteps (C.told chip.old).places (tables_of parts.old)
         (tables_of parts.new) (C.told chip.old) result (C.told chip.new) }
 
-    // Why it fails over what the chip holds: it tells what is wrong with a unit that had to be merged;
-    // and where all units' pages read well and few log sectors of each would be carried, only
-    // where a call of the chip failed.
+    // Why it fails over what the chip holds: it tells what is wrong with a unit that had to be
+    // merged; and where all units' pages read well and few log sectors of each would be carried,
+    // only where a call of the chip failed.
     ensures fault { FailsAsRenewal (C.told chip.old).places (tables_of parts.old) result
         (C.told chip.old) }
     ensures complete { CompletesRenewal (C.told chip.old).places (tables_of parts.old) result
