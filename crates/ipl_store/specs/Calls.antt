@@ -1,6 +1,7 @@
 -- What a contract sees of a store, and what each of its calls leaves.
 use Rattle.std.specs.Prelude.{ℕ, ◌≡◌, ◌≤◌, ◌+◌, ◌-◌, ◌||◌, ◌&&◌, nat_le, nat_lt, Bool, not, true, false, ◌∷◌, [], length, Option, Some, None, Result, Ok, Err, MatchResult, if◌then◌else◌}
 use Rattle.chip_trait.specs.Told.{Told, Counts}
+use Rattle.ipl_base.specs.declared.limits.TheConstants.{RESERVED_PLACES, PAGES}
 use Rattle.ipl_base.specs.Places.{IsGeometry}
 use Rattle.ipl_base.specs.declared.fault.ChipFault.{ChipFault}
 use Rattle.ipl_base.specs.declared.fault.ChipFault.TheVariants.{ReadFault, Stopped, Damaged, Malformed}
@@ -38,10 +39,10 @@ counter_of store = store.transactions.pages.parts.counter
 -- the store is made for a chip of so many places
 pub record IsMade (places : ℕ) (store : Store) : Type 0 where
   pub geometry : IsGeometry places
-  pub units : store.units + 4 ≡ places
+  pub units : store.units + RESERVED_PLACES ≡ places
   pub scratch : store.scratch ≡ places
   pub directory : length store.transactions.pages.parts.directory.in_use ≡ places
-  pub overflow : length store.transactions.pages.parts.overflow.spots + 4 ≡ places
+  pub overflow : length store.transactions.pages.parts.overflow.spots + RESERVED_PLACES ≡ places
   pub frames : store.frames ≡ store.transactions.pages.pool.limit
   pub two : 2 ≤ store.frames
 
@@ -79,7 +80,7 @@ refuses_name limits n = first_of (bad_name limits n ∷ [])
 
 -- there is no such unit, or no such page in it
 abbrev pub bad_page : ℕ → ℕ → ℕ → Test
-bad_page units u page = (nat_le units u || nat_le 15 page, BadUnit)
+bad_page units u page = (nat_le units u || nat_le PAGES page, BadUnit)
 
 -- the page is held in a frame
 abbrev pub is_held : PoolView → ℕ → ℕ → Bool

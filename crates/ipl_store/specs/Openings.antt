@@ -6,6 +6,7 @@ use Rattle.ipl_base.specs.declared.fault.ImageFault.{ImageFault}
 use Rattle.ipl_base.specs.declared.fault.ImageFault.TheVariants.{Geometry}
 use Rattle.ipl_base.specs.declared.fault.OpenFault.{OpenFault}
 use Rattle.ipl_base.specs.declared.fault.OpenFault.TheVariants.{Image, OutOfMemory}
+use Rattle.ipl_base.specs.declared.limits.TheConstants.{SESSIONS}
 use Rattle.ipl_base.specs.Places.{IsGeometry}
 use Rattle.ipl_rules.specs.Operations.{after_restart}
 use Rattle.ipl_rules.specs.State.{Map, at_rest}
@@ -29,7 +30,7 @@ use Rattle.ipl_store.specs.Calls.{view_of, counter_of, IsSound}
 -- the store isn't down, no session is open, and no page is in a frame
 pub record IsFresh (store : Store) : Type 0 where
   pub up : store.down ≡ false
-  pub idle : store.transactions.sessions ≡ replicate 32 None
+  pub idle : store.transactions.sessions ≡ replicate SESSIONS None
   pub empty : store.transactions.pages.pool.buffers.slots ≡ []
 
 -- A store of which a chip was opened. Where the contents before stood for a map, its memory and the

@@ -23,13 +23,7 @@ ghost use Rattle.ipl_store.specs.Calls.{
 
 use crate::Store;
 use buffer_pool::{Pool, pool_laws};
-use ipl_base::{Name, PAGES, Refusal, UNIT_NAMES};
-
-/// Sessions are numbered below this.
-const SESSIONS: u32 = 32;
-
-/// The longest value.
-const VALUE_LEN: usize = 108;
+use ipl_base::{Name, PAGES, Refusal, SESSIONS, UNIT_NAMES, VALUE_LEN};
 
 impl Store {
     /// Why a begin is refused, if it is.
