@@ -6,21 +6,27 @@ use Rattle.chip_trait.proofs.CountsLemmas.{counts_none}
 use Rattle.ipl_base.specs.declared.fault.ChipFault.{ChipFault}
 use Rattle.ipl_base.specs.declared.fault.Refusal.{Refusal}
 use Rattle.ipl_base.specs.declared.fault.StoreFault.{StoreFault}
-use Rattle.ipl_base.specs.declared.fault.StoreFault.TheVariants.{Down, Spent}
+use Rattle.ipl_base.specs.declared.fault.StoreFault.TheVariants.{Down, Spent, Chip}
 use Rattle.ipl_rules.specs.State.{State}
 use Rattle.buffer_pool.specs.Holding.{KeepsPins}
 use Rattle.store_trait.specs.Keeping.{LAST_NUMBER}
+use Rattle.ipl_meaning.specs.Chart.{chart_of}
+use Rattle.ipl_meaning.specs.Stands.{Says}
 use Rattle.unit_io.specs.Accounts.{Accounts}
-use Rattle.store_steps.specs.Advances.{TurnsMapOf, LeadsTo}
+use Rattle.unit_io.specs.Reads.{OfContents}
+use Rattle.merge_rules.specs.Faults.{FailsByChipAlone}
+use Rattle.store_steps.specs.Advances.{MemoryFits, TurnsMapOf, LeadsTo}
+use Rattle.store_steps.specs.Keeps.{ShowsState}
 use Rattle.store_steps.proofs.AdvanceLemmas.{answers_advance, calls_advance, failures_advance}
 use Rattle.store_steps.proofs.KeeperLemmas.{nothing_keeps_states}
 use Rattle.store_steps.proofs.LeadLemmas.{keepers_lead_still}
 use Rattle.page_frames.specs.declared.pages.Pages.{Pages}
+use Rattle.page_frames.specs.Complete.{Completes}
 use Rattle.page_frames.specs.Pages.{PageCause, Upholds}
 use Rattle.transactions.specs.declared.transactions.Transactions.{Transactions}
 use Rattle.transactions.specs.Turns.{memory_in, IsInOrder, Turns, TurnsInMemory}
 use Rattle.ipl_store.specs.declared.store.Store.{Store}
-use Rattle.ipl_store.specs.Calls.{memory_of_store, counter_of, IsMade, IsSound, early_fault, entry_fault, down_fault, is_stopped, EndsAs, EndsFor, KeepsHolds, Calls}
+use Rattle.ipl_store.specs.Calls.{memory_of_store, view_of, counter_of, IsMade, IsSound, early_fault, entry_fault, down_fault, is_stopped, EndsAs, IsOfTheChip, EndsFor, KeepsHolds, Calls}
 
 -- ---- before anything is done
 
@@ -77,17 +83,19 @@ pub record Moves (next : State → State) (most : ℕ) (old : Transactions) (bef
   pub least : old.pages.parts.counter ≤ new.pages.parts.counter
   pub drawn : new.pages.parts.counter ≤ old.pages.parts.counter + most
   pub accounts : Accounts PageCause done before after
+  pub complete : Completes old.pages done before
 
 pub turns_move : (next : State → State) (most : ℕ) (old new : Transactions) (before after : Told)
     (done : Result (Unit {0}) ChipFault) → Turns next most old before done new after
-    → Moves next most old before done new after
-turns_move next most old new before after done did = record {
+    → Completes old.pages done before → Moves next most old before done new after
+turns_move next most old new before after done did complete = record {
   leads = did.leads;
   order = did.order;
   limit = did.pins.limit;
   least = did.least;
   drawn = did.drawn;
   accounts = did.accounts;
+  complete = complete;
 }
 
 -- one in memory alone
@@ -103,20 +111,22 @@ memory_moves next most old new told did order least drawn = record {
   least = least;
   drawn = drawn;
   accounts = record { counts = counts_none told; cause = tt };
+  complete = λ x there slots it state fits says. tt;
 }
 
 -- one that knows the pages alone
 pub pages_move : (most : ℕ) (old : Transactions) (pages : Pages) (before after : Told)
     (result : Result (Unit {0}) ChipFault) → IsInOrder before.places old
-    → Upholds most old.pages before result pages after
+    → Upholds most old.pages before result pages after → Completes old.pages result before
     → Moves (λ state. state) most old before result (record old { pages = pages }) after
-pages_move most old pages before after result order did = record {
+pages_move most old pages before after result order did complete = record {
   leads = keepers_lead_still (memory_in old) _ _ result before after did.keeps;
   order = record { ready = did.ready; active = did.active ∙ order.active };
   limit = did.pins.limit;
   least = did.least;
   drawn = did.drawn;
   accounts = did.accounts;
+  complete = complete;
 }
 
 -- ---- the end of a call
@@ -144,6 +154,29 @@ ends_for (Err e) was result new before after up cause ends =
       cause,
       ends.1 ∙ ap (λ (b : Bool). is_stopped e || b) up ∙ not_down (is_stopped e),
     )
+
+-- a call hands its work's fault on, which is one of the chip
+failed_so : (done : Result (Unit {0}) ChipFault) (was is : Bool)
+    (result : Result (Unit {0}) StoreFault) → EndsAs done was result is → FailsByChipAlone done
+    → IfErr result IsOfTheChip
+failed_so (Ok v) was is result ends alone =
+    subst (λ (r : Result (Unit {0}) StoreFault). IfErr r IsOfTheChip) (sym ends.0) tt
+failed_so (Err e) was is result ends alone =
+    subst (λ (r : Result (Unit {0}) StoreFault). IfErr r IsOfTheChip) (sym ends.0) (elim alone [
+      | inl read ↦ inl (ap Chip read)
+      | inr stopped ↦ inr (ap Chip stopped)
+    ])
+
+-- work that is complete, where store and contents show a state
+shown_complete : (store : Store) (before : Told) (done : Result (Unit {0}) ChipFault)
+    → store.units + 4 ≡ before.places → Completes store.transactions.pages done before
+    → OfContents before (λ x. (state : State) → ShowsState (view_of store) state x
+    → FailsByChipAlone done)
+shown_complete store before done suits complete x told state shown =
+    complete x told store.transactions.sessions shown.layout state
+    (subst (λ (n : ℕ). MemoryFits n (chart_of x) shown.layout (memory_of_store store) state) suits
+    shown.fits)
+    (subst (λ (n : ℕ). Says n (chart_of x) shown.layout state.map) suits shown.says)
 
 module _ (next : State → State) (most : ℕ) (old : Store) (t : Transactions) (kept : List ℕ)
     (before after : Told) (done : Result (Unit {0}) ChipFault)
@@ -185,6 +218,8 @@ module _ (next : State → State) (most : ℕ) (old : Store) (t : Transactions) 
           moves.least;
       drawn = subst (λ (it : Transactions). it.pages.parts.counter ≤ counter_of old + most)
           (sym moved) moves.drawn;
+      complete = λ x told state shown. failed_so done old.down new.down result ends
+          (shown_complete old before done sound.made.units moves.complete x told state shown);
     };
     sound = record {
       made = made;
@@ -245,6 +280,7 @@ idle_calls most store told early sound up none =
       least = omega arith;
       drawn = omega arith;
       accounts = record { counts = counts_none told; cause = tt };
+      complete = λ x there slots it state fits says. tt;
     }) refl (refl, refl) early none
 
 -- what holds where the work was done holds where the call was
@@ -285,6 +321,7 @@ calls_joined early next most old mid t before after none law then_law up first d
     ends = up;
     least = omega (arith, (first.serves refl).least, drawn);
     drawn = omega (arith, (first.serves refl).drawn, drawn);
+    complete = λ x told state shown. tt;
   };
   sound = subst (λ (n : ℕ). IsSound n (record mid { transactions = t })) first.counts.places
       second.sound;
@@ -312,6 +349,7 @@ failed_calls early next most old before fault new after none calls = record {
         ends = did.ends;
         least = did.least;
         drawn = did.drawn;
+        complete = did.complete;
       };
   sound = calls.sound;
   counts = calls.counts;

@@ -161,6 +161,7 @@ repooled_calls early next most old before mid new after none pool calls =
             ends = did.ends;
             least = did.least;
             drawn = did.drawn;
+            complete = did.complete;
           };
       sound = record {
         made = record {

@@ -92,6 +92,7 @@ looks_as early next n old before v new after did = record {
           ends = serves.ends;
           least = serves.least;
           drawn = serves.drawn;
+          complete = λ x told state shown. tt;
         };
     sound = did.calls.sound;
     counts = did.calls.counts;
@@ -116,6 +117,7 @@ looks_fail {U} early next n old before fault new after did = record {
           ends = serves.ends;
           least = serves.least;
           drawn = serves.drawn;
+          complete = serves.complete;
         };
     sound = did.calls.sound;
     counts = did.calls.counts;

@@ -1,5 +1,5 @@
 -- What a contract sees of a store, and what each of its calls leaves.
-use Rattle.std.specs.Prelude.{ℕ, ◌≡◌, ◌≤◌, ◌+◌, ◌-◌, ◌||◌, ◌&&◌, nat_le, nat_lt, Bool, not, true, false, ◌∷◌, [], length, Option, Some, None, Result, Ok, Err, MatchResult, if◌then◌else◌}
+use Rattle.std.specs.Prelude.{ℕ, ◌≡◌, ◌⊎◌, ◌≤◌, ◌+◌, ◌-◌, ◌||◌, ◌&&◌, nat_le, nat_lt, Bool, not, true, false, ◌∷◌, [], length, Option, Some, None, Result, Ok, Err, MatchResult, IfErr, if◌then◌else◌}
 use Rattle.chip_trait.specs.Told.{Told, Counts}
 use Rattle.ipl_base.specs.declared.limits.TheConstants.{RESERVED_PLACES, PAGES}
 use Rattle.ipl_base.specs.Places.{IsGeometry}
@@ -11,12 +11,13 @@ use Rattle.ipl_base.specs.declared.fault.StoreFault.{StoreFault}
 use Rattle.ipl_base.specs.declared.fault.StoreFault.TheVariants.{Down, Spent, Refused, Chip}
 use Rattle.ipl_rules.specs.State.{State, Limits}
 use Rattle.ipl_rules.specs.Refusals.{Test, first_of, bad_session, bad_name}
+use Rattle.unit_io.specs.Reads.{OfContents}
 use Rattle.buffer_pool.specs.Pools.{PoolView}
 use Rattle.buffer_pool.specs.Laws.{buffer_of}
 use Rattle.buffer_pool.specs.Holding.{is_pinned, pinned_count, KeepsPins}
 use Rattle.store_trait.specs.Keeping.{LAST_NUMBER}
 use Rattle.store_steps.specs.Advances.{Memory, LeadsTo}
-use Rattle.store_steps.specs.Keeps.{View}
+use Rattle.store_steps.specs.Keeps.{View, ShowsState}
 use Rattle.page_frames.specs.Pages.{PageCause}
 use Rattle.transactions.specs.Turns.{memory_in, IsInOrder}
 use Rattle.ipl_store.specs.declared.store.Store.{Store}
@@ -118,6 +119,10 @@ abbrev pub EndsAs : Result (Unit {0}) ChipFault → Bool → Result (Unit {0}) S
 EndsAs (Ok v) was result is = (result ≡ Ok v) × (is ≡ was)
 EndsAs (Err e) was result is = (result ≡ Err (Chip e)) × (is ≡ (is_stopped e || was))
 
+-- a read or a write of the chip failed
+abbrev pub IsOfTheChip : StoreFault → Type 0
+IsOfTheChip fault = (fault ≡ Chip ReadFault) ⊎ (fault ≡ Chip Stopped)
+
 -- done, the store isn't down; else a fault of the chip ended the call, for its cause, and the store
 -- is down exactly where a write failed
 abbrev pub EndsFor : {T : Type 0} → Told → Result T StoreFault → Store → Told → Type 0
@@ -126,13 +131,16 @@ EndsFor before result new after = MatchResult result (λ v. new.down ≡ false)
     × (new.down ≡ is_stopped e))
 
 -- A call that is let in. It leads from each state that memory and chip stand for to the next one,
--- and at most so many numbers were drawn.
+-- and at most so many numbers were drawn. Over contents that the memory shows a state of, it fails
+-- only where a call of the chip failed.
 pub record Serves {T : Type 0} (next : State → State) (most : ℕ) (old : Store) (before : Told)
     (result : Result T StoreFault) (new : Store) (after : Told) : Type 0 where
   pub leads : LeadsTo next (memory_of_store old) before result (memory_of_store new) after
   pub ends : EndsFor before result new after
   pub least : counter_of old ≤ counter_of new
   pub drawn : counter_of new ≤ counter_of old + most
+  pub complete : OfContents before (λ x. (state : State) → ShowsState (view_of old) state x
+      → IfErr result IsOfTheChip)
 
 -- the same pages are held
 abbrev pub KeepsHolds : Store → Store → Type 0

@@ -18,7 +18,8 @@ returns-clause-fetches g c =
           (record store.transactions { pages = pages }) store.kept old after c.bring-done.result
           c.end.result c.end.new.self c.requires.up c.requires.sound
           (pages_move 14 store.transactions pages old after c.bring-done.result
-          (c.requires.sound.order c.requires.up) c.bring-done.ensures.upholds) rest
+          (c.requires.sound.order c.requires.up) c.bring-done.ensures.upholds
+          c.bring-done.ensures.complete) rest
           c.end.ensures.ends None refl;
       holds = kept_holds store c.end.new.self (record store.transactions { pages = pages })
           store.kept rest c.bring-done.ensures.upholds.pins;

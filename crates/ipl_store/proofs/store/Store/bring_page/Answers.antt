@@ -14,7 +14,8 @@ returns-clause-calls g c =
     old (g.C.Chip.told c.bring-done.new.chip) c.bring-done.result c.end.result c.end.new.self
     c.requires.up c.requires.sound
     (pages_move 14 store.transactions pages old (g.C.Chip.told c.bring-done.new.chip)
-    c.bring-done.result (c.requires.sound.order c.requires.up) c.bring-done.ensures.upholds)
+    c.bring-done.result (c.requires.sound.order c.requires.up) c.bring-done.ensures.upholds
+    c.bring-done.ensures.complete)
     c.end.ensures.rest c.end.ensures.ends None refl
 
 pub returns-clause-holds : goal.returns-clause-holds

@@ -23,7 +23,8 @@ returns-clause-calls g c =
     c.commit-done.new.kept old after c.commit-done.result c.end.result c.end.new.self up
     c.requires.sound (turns_move (λ state. after_commit state c.args.s) (2 ^ 15)
     store.transactions c.commit-done.new.self old after c.commit-done.result
-    c.commit-done.ensures.turns) c.end.ensures.rest c.end.ensures.ends early none
+    c.commit-done.ensures.turns c.commit-done.ensures.complete) c.end.ensures.rest
+    c.end.ensures.ends early none
 
 pub returns-clause-holds : goal.returns-clause-holds
 returns-clause-holds g c = kept_holds c.args.self.now c.end.new.self c.commit-done.new.self

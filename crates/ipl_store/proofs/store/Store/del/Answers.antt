@@ -22,7 +22,8 @@ returns-clause-calls g c =
     c.write-done.new.self store.kept old after c.write-done.result c.end.result c.end.new.self up
     c.requires.sound
     (turns_move (λ state. after_write state c.args.s (c.args.n, None)) 14 store.transactions
-    c.write-done.new.self old after c.write-done.result c.write-done.ensures.turns)
+    c.write-done.new.self old after c.write-done.result c.write-done.ensures.turns
+    c.write-done.ensures.complete)
     c.end.ensures.rest c.end.ensures.ends early none
 
 pub returns-clause-holds : goal.returns-clause-holds

@@ -28,7 +28,7 @@ returns-clause-calls g c =
     c.requires.sound
     (turns_move (λ state. after_write state c.args.s (c.args.n, Some c.args.value.now)) 14
     store.transactions
-    c.write-done.new.self old after c.write-done.result turns)
+    c.write-done.new.self old after c.write-done.result turns c.write-done.ensures.complete)
     c.end.ensures.rest c.end.ensures.ends early none
 
 pub returns-clause-holds : goal.returns-clause-holds
