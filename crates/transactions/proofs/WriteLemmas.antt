@@ -1,8 +1,9 @@
 -- What a write makes of the memory of a store.
-use Rattle.std.proofs.Common.{◌≡◌, ℕ, ◌<◌, ◌-◌, ◌*◌, Some, Ok, inl, inr, refl, sym, ◌∙◌, ap, subst, arith}
+use Rattle.std.proofs.Common.{◌≡◌, ℕ, ◌<◌, ◌-◌, ◌*◌, Some, IsSome, Ok, inl, inr, refl, sym, ◌∙◌, ap, subst, arith}
 use Rattle.chip_trait.specs.Told.{Told, IsConsistent}
 use Rattle.chip_trait.proofs.CountsLemmas.{counts_none}
 use Rattle.ipl_base.specs.declared.fault.ChipFault.{ChipFault}
+use Rattle.ipl_base.specs.declared.spot.Home.{Home}
 use Rattle.ipl_format.specs.Record.{Record, IsRecord}
 use Rattle.ipl_rules.specs.Operations as rules
 use Rattle.ipl_rules.specs.State.{State}
@@ -14,12 +15,12 @@ use Rattle.pending_writes.specs.Pending.{name_at}
 use Rattle.pending_writes.specs.Frames.{Frame, Frames, with_frame_at, IsWrittenFrame}
 use Rattle.pending_writes.specs.Fits.{LocksHold}
 use Rattle.pending_writes.proofs.MemoryLemmas.{cases_page}
-use Rattle.pending_writes.proofs.SameLemmas.{frame_other}
+use Rattle.pending_writes.proofs.SameLemmas.{frame_here, frame_other}
 use Rattle.store_steps.specs.Advances.{Memory, memory_of, LeadsTo}
 use Rattle.store_steps.proofs.SessionLemmas.{writes_lead}
 use Rattle.frame_changes.specs.Changes.{FrameChanges}
 use Rattle.page_frames.specs.declared.pages.Pages.{Pages}
-use Rattle.page_frames.specs.Pages.{tables_in, frames_in, Upholds}
+use Rattle.page_frames.specs.Pages.{tables_in, frames_in, IsFramed, Upholds}
 use Rattle.transactions.specs.declared.transactions.Transactions.{Transactions}
 use Rattle.transactions.specs.Turns.{memory_in, IsInOrder, Turns}
 use Rattle.transactions.proofs.OrderLemmas.{HadFrames, still_ready}
@@ -39,6 +40,16 @@ put_had R u page old new did v q f is = elim (cases_page u page v q) [
         ∙ is,
   )
 ]
+
+-- that page is in a frame then
+pub put_framed : (R : Frame → Frame → Type 0) (u page : ℕ) (at : Home) (old new : Pages)
+    → at.unit ≡ u → at.page ≡ page → FrameChanges R (frames_in old) (frames_in new) u page
+    → IsFramed new at.unit at.page
+put_framed R u page at old new same also did =
+    let now : frames_in new at.unit at.page ≡ Some did.now =
+    ap (λ (frames : Frames). frames at.unit at.page) did.frames
+    ∙ frame_here (frames_in old) u page (Some did.now) at.unit at.page same also in
+    subst IsSome (sym now) refl
 
 -- a record was put behind those of its page
 pub was_put : (s n u : ℕ) (r : Record) (old new : Transactions) (told : Told)

@@ -1,12 +1,14 @@
 //! A name is changed.
-ghost use Rattle.std.specs.Prelude.{◌≡◌, ◌<◌, ◌+◌, ◌-◌, ◌*◌, ◌^◌, ◌≤◌, length, None};
+ghost use Rattle.std.specs.Prelude.{◌≡◌, ◌<◌, ◌+◌, ◌-◌, ◌*◌, ◌^◌, ◌≤◌, length, None, OnOk};
 ghost use Rattle.unit_io.specs.Costs.{Spends};
+ghost use Rattle.ipl_base.specs.Places.{home_of};
 ghost use Rattle.ipl_format.specs.Record.{IsRecord, value_of};
 ghost use Rattle.log_records.specs.View.{change_of, record_of};
 ghost use Rattle.ipl_rules.specs.Operations.{after_write};
 ghost use Rattle.record_locks.specs.Locks.{refuses_write};
 ghost use Rattle.page_writing.specs.Spending.{ErasesAndLogs};
 ghost use Rattle.page_frames.specs.Complete.{Completes};
+ghost use Rattle.page_frames.specs.Pages.{IsFramed};
 ghost use Rattle.transactions.specs.Turns.{IsInOrder, Turns};
 
 use crate::Transactions;
@@ -33,6 +35,8 @@ impl Transactions {
         ensures turns { Turns (λ state. after_write state s (name.0, change_of change)) 14
             self.old (C.told chip.old) result self.new (C.told chip.new) }
         ensures complete { Completes self.old.pages result (C.told chip.old) }
+        ensures framed { OnOk result
+            (IsFramed self.new.pages (home_of name.0).unit (home_of name.0).page) }
         ensures costs { Spends (ErasesAndLogs self.old.pages.parts.directory)
             (C.told chip.old) (C.told chip.new) }
     {

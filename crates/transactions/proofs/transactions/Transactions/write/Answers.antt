@@ -1,13 +1,16 @@
-use Rattle.std.proofs.Common.{refl, sym, ◌∙◌}
+use Rattle.std.proofs.Common.{refl, sym, ◌∙◌, ap}
 use Rattle.std.proofs.lemmas.Option.{none-some}
 use Rattle.std.proofs.lemmas.Result.{err_from_is_err_and}
+use Rattle.ipl_base.specs.Places.{home_of}
+use Rattle.ipl_base.specs.declared.spot.Home.{Home}
 use Rattle.ipl_rules.specs.Operations.{after_write}
 use Rattle.log_records.specs.View.{change_of}
+use Rattle.pending_writes.specs.Frames.{IsWrittenFrame}
 use Rattle.record_locks.specs.Locks.{refuses_write}
 use Rattle.transactions.proofs.OpenLemmas.{writes_numbered, unrefused_done}
 use Rattle.transactions.proofs.SessionLemmas.{locks_of}
 use Rattle.transactions.proofs.TurnLemmas.{upheld_no_more}
-use Rattle.transactions.proofs.WriteLemmas.{was_written}
+use Rattle.transactions.proofs.WriteLemmas.{put_framed, was_written}
 use Rattle.transactions.proofs.transactions.Transactions.write.Goals as goal
 
 pub unreachable-requires : goal.unreachable-requires
@@ -57,3 +60,16 @@ pub returns-in_err-prepare-clause-complete : goal.returns-in_err-prepare-clause-
 returns-in_err-prepare-clause-complete g c =
     let e = err_from_is_err_and c.from_residual.result c.from_residual.ensures.1 in
     rw (e.1, e.2) c.in_err-prepare.ensures.complete
+
+pub returns-clause-framed : goal.returns-clause-framed
+returns-clause-framed g c =
+    let at = home_of c.args.name.0 in
+    put_framed (IsWrittenFrame (record {
+      page = c.home-home.result.page;
+      slot = c.home-home.result.slot;
+      tid = c.in-Some.tid;
+      change = change_of c.args.change;
+    })) c.home-home.result.unit c.home-home.result.page at c.prepare.new.self
+    (record { parts = c.prepare.new.self.parts; pool = c.put_record.new.pool })
+    (ap (λ (h : Home). h.unit) (sym c.home-home.ensures.home))
+    (ap (λ (h : Home). h.page) (sym c.home-home.ensures.home)) c.put_record.ensures.put
