@@ -1,4 +1,5 @@
 pub mod FrameLemmas
+pub mod FramedLemmas
 pub mod HeldLemmas
 pub mod UpholdLemmas
 pub mod SpendLemmas

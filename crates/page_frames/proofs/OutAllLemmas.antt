@@ -23,9 +23,10 @@ use Rattle.frame_changes.specs.Views.{frame_in, frames_of}
 use Rattle.frame_changes.proofs.FrameLemmas.{frame_found}
 use Rattle.page_frames.proofs.HeldLemmas.{none_some}
 use Rattle.page_frames.specs.declared.pages.Pages.{Pages}
-use Rattle.page_frames.specs.Pages.{frames_in, IsReady, Upholds, emptied}
+use Rattle.page_frames.specs.Pages.{frames_in, KeepsFramed, IsReady, Upholds, emptied}
 use Rattle.page_frames.specs.Changed.{is_home, is_on_page}
 use Rattle.page_frames.proofs.FrameLemmas.{emptied_out}
+use Rattle.page_frames.proofs.FramedLemmas.{out_framed}
 use Rattle.page_frames.proofs.UpholdLemmas.{upholds_none, upholds_then, upholds_weaker}
 
 -- of the first n pages in the order, those that are of the names have no records in memory
@@ -41,6 +42,7 @@ pub record IsOutBelow (n : ℕ) (names : List ℕ) (first : Pages) (before : Tol
   pub order : now.pool.order ≡ first.pool.order
   pub status : now.parts.status ≡ first.parts.status
   pub out : AreOutBelow n names first.pool.order (frames_in now)
+  pub framed : KeepsFramed first now
   pub costs : Spends (Costs n n (3 * n) (5 ∷ [])) before after
 
 pub none_out : (names : List ℕ) (first : Pages) (before : Told) → IsReady before.places first
@@ -50,6 +52,7 @@ none_out names first before ready = record {
   order = refl;
   status = refl;
   out = λ u page k few less. absurd (omega (arith, less));
+  framed = λ u page is. is;
   costs = spends_none (Costs 0 0 0 (5 ∷ [])) before (costs_none (5 ∷ []));
 }
 
@@ -109,6 +112,7 @@ passed_out n u page names first before now after few at off so_far = record {
   out = one_more n u page names first.pool.order (frames_in now) (frames_in now) few
       (at ∙ ap (λ (l : List ℕ). slice_index_or l n 0) so_far.order) (λ v q none. none)
       (λ on. absurd (false≢true (sym off ∙ on))) so_far.out;
+  framed = so_far.framed;
   costs = spends_weaker (Costs n n (3 * n) (5 ∷ [])) (Costs (n + 1) (n + 1) (3 * (n + 1)) (5 ∷ []))
       before after (λ added costs. costs_at_most n (n + 1) n (n + 1) (3 * n) (3 * (n + 1)) (5 ∷ [])
       (5 ∷ []) added (omega arith) (omega arith) (omega arith) (λ kind has. has) costs) so_far.costs;
@@ -148,6 +152,7 @@ written_out n u page names first before mid between now after consistent then_co
           ∙ still_out (frames_in mid) u page v q none)
           (λ on. ap (λ (F : Frames). logs_of F u page) is ∙ emptied_out (frames_in mid) u page)
           so_far.out;
+      framed = λ v q there. out_framed u page mid now is v q (so_far.framed v q there);
       costs = costs_more n before between after mid.parts.directory so_far.costs costs;
     }
 

@@ -36,6 +36,10 @@ frames_in pages = frames_of pages.pool
 abbrev pub IsFramed : Pages → ℕ → ℕ → Type 0
 IsFramed pages u page = IsSome (frames_in pages u page)
 
+-- pages that are in frames stay in them
+abbrev pub KeepsFramed : Pages → Pages → Type 0
+KeepsFramed old new = (u page : ℕ) → IsFramed old u page → IsFramed new u page
+
 -- a frame is free
 abbrev pub HasFreeFrame : Pages → Type 0
 HasFreeFrame pages = slab_len pages.pool.buffers < pages.pool.limit

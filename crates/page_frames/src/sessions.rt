@@ -3,7 +3,7 @@ ghost use Rattle.std.specs.Prelude.{◌≡◌, ◌<◌, ◌+◌, ◌*◌, ◌^�
 ghost use Rattle.unit_io.specs.Costs.{Costs, Spends};
 ghost use Rattle.store_steps.specs.Numbers.{IsOut};
 ghost use Rattle.page_frames.specs.Complete.{Completes};
-ghost use Rattle.page_frames.specs.Pages.{frames_in, IsReady, Upholds};
+ghost use Rattle.page_frames.specs.Pages.{frames_in, KeepsFramed, IsReady, Upholds};
 ghost use Rattle.page_frames.specs.Changed.{is_home, is_on_page};
 
 use crate::Pages;
@@ -44,6 +44,7 @@ impl Pages {
             result self.new (C.told chip.new) }
         ensures complete { Completes self.old result (C.told chip.old) }
         ensures out { OnOk result (All (IsOut (frames_in self.new)) (map (λ n. n.0) names.now)) }
+        ensures framed { KeepsFramed self.old self.new }
         ensures status { self.new.parts.status ≡ self.old.parts.status }
         // At most one erase for each page in a frame, and one log sector outside the places that are
         // erased.

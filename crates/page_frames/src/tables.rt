@@ -8,7 +8,7 @@ ghost use Rattle.selective_merge.specs.Spending.{ErasesFor};
 ghost use Rattle.selective_merge.specs.Throughout.{ChartsThroughout};
 ghost use Rattle.status_renewal.specs.Passes.{ErasesAtMost};
 ghost use Rattle.page_frames.specs.Complete.{Completes};
-ghost use Rattle.page_frames.specs.Pages.{tables_in, IsReady, Upholds};
+ghost use Rattle.page_frames.specs.Pages.{tables_in, KeepsFramed, IsReady, Upholds};
 
 use crate::Pages;
 use chip_trait::Chip;
@@ -30,6 +30,7 @@ impl Pages {
         ensures complete { Completes self.old result (C.told chip.old) }
         ensures room { OnOk result (0 < room_of self.new.parts.status) }
         ensures frames { self.new.pool ≡ self.old.pool }
+        ensures framed { KeepsFramed self.old self.new }
         ensures idle { 0 < room_of self.old.parts.status
             → (self.new ≡ self.old) × (C.told chip.new ≡ C.told chip.old) }
         ensures costs { Spends (ErasesAtMost ((C.told chip.old).places - 3))
@@ -54,6 +55,7 @@ impl Pages {
             result (C.told chip.old) (C.told chip.new) }
         ensures room { OnOk result (slice_index self.new.parts.directory.written unit ≤ 12) }
         ensures frames { self.new.pool ≡ self.old.pool }
+        ensures framed { KeepsFramed self.old self.new }
         ensures costs { Spends (ErasesFor self.old.parts.directory
             (slice_index self.new.parts.directory.current unit) (is_ok result))
             (C.told chip.old) (C.told chip.new) }

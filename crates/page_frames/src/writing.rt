@@ -4,7 +4,7 @@ ghost use Rattle.unit_io.specs.Costs.{Spends};
 ghost use Rattle.pending_writes.specs.Frames.{logs_of};
 ghost use Rattle.page_writing.specs.Spending.{ErasesAndLogs};
 ghost use Rattle.page_frames.specs.Complete.{Completes};
-ghost use Rattle.page_frames.specs.Pages.{frames_in, IsReady, Upholds, frames_after};
+ghost use Rattle.page_frames.specs.Pages.{frames_in, KeepsFramed, IsReady, Upholds, frames_after};
 
 use crate::Pages;
 use crate::frames::has_records;
@@ -29,6 +29,7 @@ impl Pages {
         ensures upholds { Upholds 14 self.old (C.told chip.old) result self.new (C.told chip.new) }
         ensures complete { Completes self.old result (C.told chip.old) }
         ensures frames { frames_in self.new ≡ frames_after result (frames_in self.old) unit page }
+        ensures framed { KeepsFramed self.old self.new }
         ensures order { self.new.pool.order ≡ self.old.pool.order }
         ensures status { self.new.parts.status ≡ self.old.parts.status }
         ensures costs { Spends (ErasesAndLogs self.old.parts.directory)

@@ -17,3 +17,6 @@ pub returns-clause-complete : goal.returns-clause-complete
 returns-clause-complete g c =
     merge_completes c.args.unit c.args.self.now c.merge.result (g.C.Chip.told c.args.chip.now)
     c.requires.unit c.merge.ensures.complete
+
+pub returns-clause-framed : goal.returns-clause-framed
+returns-clause-framed g c = λ u page is. is

@@ -19,3 +19,9 @@ pub returns-clause-complete : goal.returns-clause-complete
 returns-clause-complete g c =
     renew_completes c.args.self.now c.renew.result (g.C.Chip.told c.args.chip.now)
     c.renew.ensures.complete
+
+pub returns-then-room-gt0-clause-framed : goal.returns-then-room-gt0-clause-framed
+returns-then-room-gt0-clause-framed g c = λ u page is. is
+
+pub returns-clause-framed : goal.returns-clause-framed
+returns-clause-framed g c = λ u page is. is

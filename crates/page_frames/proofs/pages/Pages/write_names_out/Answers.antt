@@ -70,3 +70,10 @@ returns-in_err-write_out-clause-complete g c =
     (Err c.in_err-write_out.field-0.0) (g.C.Chip.told c.args.chip.now)
     (g.C.Chip.told c.loop-i.chip) done.accounts.counts.places done.keeps
     c.in_err-write_out.ensures.complete)
+
+pub returns-in_err-write_out-clause-framed : goal.returns-in_err-write_out-clause-framed
+returns-in_err-write_out-clause-framed g c = λ u page is.
+    c.in_err-write_out.ensures.framed u page (c.loop-i.invariant.framed u page is)
+
+pub returns-clause-framed : goal.returns-clause-framed
+returns-clause-framed g c = c.loop-i.invariant.framed

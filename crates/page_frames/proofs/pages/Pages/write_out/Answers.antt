@@ -1,7 +1,9 @@
 use Rattle.std.proofs.Common.{refl, sym, slice_index, Err}
 use Rattle.std.proofs.lemmas.Result.{err_from_is_err_and}
+use Rattle.page_frames.specs.declared.pages.Pages.{Pages}
 use Rattle.page_frames.specs.Pages.{frames_in}
 use Rattle.page_frames.proofs.FrameLemmas.{emptied_same}
+use Rattle.page_frames.proofs.FramedLemmas.{out_framed}
 use Rattle.page_frames.proofs.OutLemmas.{out_failed, cleared_frames, out_done}
 use Rattle.page_frames.proofs.UpholdLemmas.{upholds_none}
 use Rattle.page_frames.proofs.CompleteLemmas.{merge_completes}
@@ -55,3 +57,16 @@ returns-in_err-write_out-clause-complete g c =
     rw (e.1, e.2) (merge_completes {T = Unit {0}} c.args.unit c.args.self.now
     (Err c.in_err-write_out.field-0.0) (g.C.Chip.told c.args.chip.now) c.requires.unit
     c.in_err-write_out.ensures.complete)
+
+pub returns-then-not-has_records-clause-framed : goal.returns-then-not-has_records-clause-framed
+returns-then-not-has_records-clause-framed g c = λ u page is. is
+
+pub returns-in_err-write_out-clause-framed : goal.returns-in_err-write_out-clause-framed
+returns-in_err-write_out-clause-framed g c = λ u page is. is
+
+pub returns-clause-framed : goal.returns-clause-framed
+returns-clause-framed g c =
+    let new : Pages = record { parts = c.write_out.new.parts; pool = c.clear_log.new.pool } in
+    out_framed c.args.unit c.args.page c.args.self.now new
+    (cleared_frames (frames_in c.args.self.now) (frames_in new) c.args.unit c.args.page
+    c.clear_log.ensures.cleared)

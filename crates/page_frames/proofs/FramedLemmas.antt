@@ -1,0 +1,36 @@
+-- Pages that stay in their frames.
+use Rattle.std.proofs.Common.{◌≡◌, ℕ, [], Option, Some, None, inl, inr, refl, sym, subst}
+use Rattle.std.specs.Prelude.{IsSome}
+use Rattle.std.specs.Option.{option_map}
+use Rattle.buffer_pool.specs.Pools.{PoolView}
+use Rattle.frame_changes.specs.Views.{frames_of}
+use Rattle.pending_writes.specs.Frames.{Frame, Frames, with_frame_log}
+use Rattle.pending_writes.proofs.MemoryLemmas.{cases_page}
+use Rattle.pending_writes.proofs.SameLemmas.{frame_here, frame_other}
+use Rattle.page_frames.specs.declared.pages.Pages.{Pages}
+use Rattle.page_frames.specs.Pages.{frames_in, KeepsFramed, emptied}
+
+-- where the frames are the same
+pub pool_framed : (old new : Pages) → new.pool ≡ old.pool → KeepsFramed old new
+pool_framed old new same u page is =
+    subst (λ (p : PoolView). IsSome (frames_of p u page)) (sym same) is
+
+-- a page whose records are written out, and all others
+emptied_framed : (frames : Frames) (u page v q : ℕ) → IsSome (frames v q)
+    → IsSome (emptied frames u page v q)
+emptied_framed frames u page v q is = elim (cases_page u page v q) [
+  | inl here ↦ subst IsSome (sym (frame_here frames u page _ v q here.0 here.1))
+      (mapped (frames u page) (subst (λ (r : ℕ). IsSome (frames u r)) here.1
+      (subst (λ (w : ℕ). IsSome (frames w q)) here.0 is)))
+  | inr apart ↦ subst IsSome (sym (frame_other frames u page _ v q apart)) is
+]
+  where
+    mapped : (o : Option Frame) → IsSome o → IsSome (option_map (λ f. with_frame_log f []) o)
+    mapped None none = none
+    mapped (Some f) some = refl
+
+pub out_framed : (u page : ℕ) (old new : Pages) → frames_in new ≡ emptied (frames_in old) u page
+    → KeepsFramed old new
+out_framed u page old new is v q there =
+    subst (λ (frames : Frames). IsSome (frames v q)) (sym is)
+    (emptied_framed (frames_in old) u page v q there)
