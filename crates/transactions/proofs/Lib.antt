@@ -6,3 +6,4 @@ pub mod CommitLemmas
 pub mod TurnLemmas
 pub mod WriteLemmas
 pub mod CostLemmas
+pub mod FramedLemmas

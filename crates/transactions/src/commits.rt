@@ -8,7 +8,7 @@ ghost use Rattle.record_locks.specs.Locks.{refuses_end};
 ghost use Rattle.merge_rules.specs.Faults.{FailsByChipAlone};
 ghost use Rattle.store_steps.specs.Numbers.{IsOut};
 ghost use Rattle.page_frames.specs.Complete.{Completes};
-ghost use Rattle.page_frames.specs.Pages.{frames_in, Upholds};
+ghost use Rattle.page_frames.specs.Pages.{frames_in, KeepsFramed, Upholds};
 ghost use Rattle.transactions.specs.Turns.{IsInOrder, Turns};
 ghost use Rattle.transactions.specs.Costs.{framed_pages, PagesOut, CommitCosts};
 
@@ -38,6 +38,7 @@ impl Transactions {
         ensures out { OnOk result (All (IsOut (frames_in self.new.pages))
             (written_of self.old.sessions s)) }
         ensures sessions { self.new.sessions ≡ self.old.sessions }
+        ensures framed { KeepsFramed self.old.pages self.new.pages }
         ensures costs { 0 < room_of self.old.pages.parts.status
             → Spends (PagesOut (framed_pages self.old)) (C.told chip.old) (C.told chip.new) }
     {
@@ -57,6 +58,7 @@ impl Transactions {
         ensures turns { Turns (λ state. after_commit state s) 1
             self.old (C.told chip.old) result self.new (C.told chip.new) }
         ensures complete { FailsByChipAlone result }
+        ensures framed { KeepsFramed self.old.pages self.new.pages }
         ensures costs { Spends (ProgramsAt self.old.pages.parts.status.place 1 2 6)
             (C.told chip.old) (C.told chip.new) }
     {
@@ -82,6 +84,7 @@ impl Transactions {
         ensures turns { Turns (λ state. after_commit state s) (2 ^ 15)
             self.old (C.told chip.old) result self.new (C.told chip.new) }
         ensures complete { Completes self.old.pages result (C.told chip.old) }
+        ensures framed { KeepsFramed self.old.pages self.new.pages }
         ensures idle { written_of self.old.sessions s ≡ [] → C.told chip.new ≡ C.told chip.old }
         ensures costs { 0 < room_of self.old.pages.parts.status
             → Spends (CommitCosts (framed_pages self.old)) (C.told chip.old) (C.told chip.new) }

@@ -4,6 +4,7 @@ ghost use Rattle.ipl_rules.specs.Operations.{after_begin, after_share, after_abo
 ghost use Rattle.pending_writes.specs.Fits.{LocksHold};
 ghost use Rattle.record_locks.specs.Held.{after_end, number_of, numbers_in};
 ghost use Rattle.record_locks.specs.Locks.{refuses_begin, refuses_share, refuses_end};
+ghost use Rattle.page_frames.specs.Pages.{KeepsFramed};
 ghost use Rattle.transactions.specs.Turns.{TurnsInMemory, IsSameButActive};
 
 use crate::Transactions;
@@ -18,6 +19,7 @@ impl Transactions {
         requires closed { refuses_begin self.old.sessions s ≡ None }
         requires left { self.old.pages.parts.counter + 1 < 2 ^ 64 }
         ensures turns { TurnsInMemory (λ state. after_begin state s) self.old self.new }
+        ensures framed { KeepsFramed self.old.pages self.new.pages }
         ensures drawn { self.new.pages.parts.counter ≡ self.old.pages.parts.counter + 1 }
     {
         let number = self.pages.parts.counter.draw();
@@ -31,6 +33,7 @@ impl Transactions {
         requires session { s < 32 }
         requires unrefused { refuses_share self.old.sessions s name.0 ≡ None }
         ensures turns { TurnsInMemory (λ state. after_share state s name.0) self.old self.new }
+        ensures framed { KeepsFramed self.old.pages self.new.pages }
         ensures pages { self.new.pages ≡ self.old.pages }
         ensures same { number_of self.new.sessions s ≡ number_of self.old.sessions s }
     {
@@ -58,6 +61,7 @@ impl Transactions {
         requires session { s < 32 }
         requires open { refuses_end self.old.sessions s ≡ None }
         ensures turns { TurnsInMemory (λ state. after_abort state s) self.old self.new }
+        ensures framed { KeepsFramed self.old.pages self.new.pages }
         ensures drawn { self.new.pages.parts.counter ≡ self.old.pages.parts.counter }
     {
         let Some(number) = self.sessions.number(s) else {

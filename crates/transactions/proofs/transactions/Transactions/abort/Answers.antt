@@ -1,5 +1,7 @@
 use Rattle.std.proofs.Common.{sym, ◌∙◌}
 use Rattle.std.proofs.lemmas.Option.{none-some}
+use Rattle.pending_writes.specs.Frames.{IsAbortedFrame}
+use Rattle.transactions.proofs.FramedLemmas.{named_framed}
 use Rattle.transactions.proofs.OpenLemmas.{ends_numbered}
 use Rattle.transactions.proofs.SessionLemmas.{aborted}
 use Rattle.transactions.proofs.transactions.Transactions.abort.Goals as goal
@@ -17,3 +19,10 @@ returns-clause-turns c =
     c.drop_names.new.pool c.requires.session (sym c.number.ensures ∙ c.in-Some.is)
     c.written.ensures.names c.drop_names.ensures.dropped c.drop_names.ensures.pins
     c.end.ensures.rest c.end.ensures.sessions c.end.ensures.active c.end.ensures.locks
+
+pub returns-clause-framed : goal.returns-clause-framed
+returns-clause-framed c =
+    let old = c.args.self.now.pages in
+    named_framed (IsAbortedFrame c.in-Some.number) _ old
+    (record { parts = old.parts; pool = c.drop_names.new.pool }) c.end.new.self.pages
+    c.drop_names.ensures.dropped c.end.ensures.rest.pool

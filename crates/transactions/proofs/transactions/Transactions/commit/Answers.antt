@@ -2,6 +2,7 @@ use Rattle.std.proofs.Common.{◌^◌, sym, ◌∙◌}
 use Rattle.std.proofs.lemmas.Option.{none-some}
 use Rattle.std.proofs.lemmas.Result.{err_from_is_err_and}
 use Rattle.record_locks.specs.Held.{written_of}
+use Rattle.page_frames.proofs.FramedLemmas.{pool_framed}
 use Rattle.transactions.specs.Costs.{framed_pages}
 use Rattle.transactions.proofs.CommitLemmas.{empty_committed, committed, not_committed, wrote_nothing, wrote_some}
 use Rattle.transactions.proofs.CostLemmas.{pages_cost, commit_cost}
@@ -76,3 +77,15 @@ returns-in_err-write_session_out-clause-complete g c =
 pub returns-clause-complete : goal.returns-clause-complete
 returns-clause-complete g c =
     λ x there slots it state fits says. c.commit_number.ensures.complete
+
+pub returns-then-is_empty-clause-framed : goal.returns-then-is_empty-clause-framed
+returns-then-is_empty-clause-framed g c =
+    pool_framed c.args.self.now.pages c.end.new.self.pages c.end.ensures.rest.pool
+
+pub returns-in_err-write_session_out-clause-framed :
+    goal.returns-in_err-write_session_out-clause-framed
+returns-in_err-write_session_out-clause-framed g c = c.in_err-write_session_out.ensures.framed
+
+pub returns-clause-framed : goal.returns-clause-framed
+returns-clause-framed g c = λ u page is.
+    c.commit_number.ensures.framed u page (c.in_ok-write_session_out.ensures.framed u page is)

@@ -1,7 +1,9 @@
 use Rattle.std.proofs.Common.{inr, refl}
 use Rattle.std.proofs.lemmas.Result.{err_from_is_err_and}
+use Rattle.pending_writes.specs.Frames.{IsCommittedFrame}
 use Rattle.store_steps.proofs.SessionLemmas.{open_sessions_may_end}
 use Rattle.transactions.proofs.CommitLemmas.{number_added, number_not_added}
+use Rattle.transactions.proofs.FramedLemmas.{named_framed}
 use Rattle.transactions.proofs.transactions.Transactions.commit_number.Goals as goal
 
 pub end-requires-clause-open : goal.end-requires-clause-open
@@ -48,3 +50,13 @@ pub returns-in_err-add_number-clause-complete : goal.returns-in_err-add_number-c
 returns-in_err-add_number-clause-complete g c =
     let e = err_from_is_err_and c.from_residual.result c.from_residual.ensures.1 in
     rw (e.1, e.2) (inr c.in_err-add_number.ensures.accounts.cause.0)
+
+pub returns-in_err-add_number-clause-framed : goal.returns-in_err-add_number-clause-framed
+returns-in_err-add_number-clause-framed g c = λ u page is. is
+
+pub returns-clause-framed : goal.returns-clause-framed
+returns-clause-framed g c =
+    let old = c.args.self.now.pages in
+    named_framed (IsCommittedFrame c.args.tid) _ old
+    (record { parts = old.parts; pool = c.settle_names.new.pool }) c.end.new.self.pages
+    c.settle_names.ensures.settled c.end.ensures.rest.pool

@@ -14,3 +14,6 @@ returns-clause-turns c =
     c.requires.session did
     (locks_of c.share.new.self c.facts.ensures.all c.facts.ensures.one_writer c.facts.ensures.few)
     refl
+
+pub returns-clause-framed : goal.returns-clause-framed
+returns-clause-framed c = λ u page is. is

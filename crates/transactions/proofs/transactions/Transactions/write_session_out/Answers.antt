@@ -40,3 +40,10 @@ returns-clause-complete g c =
     completes_then c.args.self.now.pages c.ready_status.new.self c.write_names_out.result
     (g.C.Chip.told c.args.chip.now) (g.C.Chip.told c.ready_status.new.chip)
     did.accounts.counts.places did.keeps c.write_names_out.ensures.complete
+
+pub returns-in_err-ready_status-clause-framed : goal.returns-in_err-ready_status-clause-framed
+returns-in_err-ready_status-clause-framed g c = c.in_err-ready_status.ensures.framed
+
+pub returns-clause-framed : goal.returns-clause-framed
+returns-clause-framed g c = λ u page is.
+    c.write_names_out.ensures.framed u page (c.in_ok-ready_status.ensures.framed u page is)
