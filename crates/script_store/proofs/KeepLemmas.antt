@@ -1,0 +1,130 @@
+-- How the store of a script keeps a state, from how the store of records does.
+use Rattle.std.proofs.Common.{ℕ, ◌≡◌, ◌≤◌, ◌<◌, ◌+◌, ◌^◌, max, arith, Bool, true, false, ◌∷◌, [], Option, List, Result, MatchResult, Ok, Err, is_ok, if◌then◌else◌, refl, sym, ap, subst}
+use Rattle.std.specs.FinMap.{get}
+use Rattle.std.proofs.lemmas.Result.{on_err_weaker}
+use Rattle.chip_trait.specs.Story.{Contents}
+use Rattle.chip_trait.specs.Told.{History, Told, Unrisen}
+use Rattle.ipl_rules.specs.State.{State, Limits}
+use Rattle.ipl_model.specs.declared.command.Command.{Command}
+use Rattle.ipl_model.specs.declared.reply.Reply.{Reply}
+use Rattle.ipl_model.specs.Step.{step}
+use Rattle.store_trait.specs.declared.fault.Fault.{Fault}
+use Rattle.store_trait.specs.Keeping.{FOUND_NUMBER, LAST_NUMBER, WORK_DRAWS, LOOK_UP_DRAWS, Draws, WorkLeaves, Stays, Works, LooksUp}
+use Rattle.store_steps.specs.Keeps.{View, store_keeping}
+use Rattle.ipl_store.specs.Calls.{view_of, counter_of}
+use Rattle.script_store.specs.declared.store.ScriptStore.{ScriptStore}
+use Rattle.script_store.specs.Keeps.{KeepsScript, next_number, script_keeping}
+
+-- ---- numbers
+
+pub counted_up : (s : ScriptStore) → s.store.down ≡ false → next_number s ≡ counter_of s.store
+counted_up s up = ap (λ (down : Bool). if down then 0 else counter_of s.store) up
+
+pub counted_few : (s : ScriptStore) → next_number s ≤ counter_of s.store
+counted_few s = by_down s.store.down
+  where
+    by_down : (down : Bool) → (if down then 0 else counter_of s.store) ≤ counter_of s.store
+    by_down true = omega arith
+    by_down false = omega arith
+
+within_max : (a b n m : ℕ) → n ≤ a + m → n ≤ max a b + m
+within_max a b n m few = omega (arith, few)
+
+past_max : (a b n m : ℕ) → n < a → n < max a b + m
+past_max a b n m late = omega (arith, late)
+
+within_found : (a b n m : ℕ) → n ≤ b → n ≤ max a b + m
+within_found a b n m few = omega (arith, few)
+
+-- a call of a store that isn't down drew at most so many, and told that they are used up where they are
+pub draws_few : (n : ℕ) (IsSpent : Type 0) (a b : ScriptStore) → a.store.down ≡ false
+    → counter_of b.store ≤ counter_of a.store + n
+    → (IsSpent → LAST_NUMBER < counter_of a.store) → Draws script_keeping n a IsSpent b
+draws_few n IsSpent a b up drawn late = record {
+  most = within_max (next_number a) FOUND_NUMBER (next_number b) n most;
+  spent = λ is. past_max (next_number a) FOUND_NUMBER LAST_NUMBER n
+      (subst (λ (k : ℕ). LAST_NUMBER < k) (sym (counted_up a up)) (late is));
+}
+  where
+    most : next_number b ≤ next_number a + n
+    most = omega (arith, drawn, counted_few b, counted_up a up)
+
+-- one that opened the chip again
+pub draws_found : (n : ℕ) (IsSpent : Type 0) (a b : ScriptStore) → next_number b ≤ FOUND_NUMBER
+    → (IsSpent → ⊥) → Draws script_keeping n a IsSpent b
+draws_found n IsSpent a b left never = record {
+  most = within_found (next_number a) FOUND_NUMBER (next_number b) n left;
+  spent = λ is. absurd (never is);
+}
+
+-- ---- work, and looking up
+
+module _ (a b : ScriptStore) (old new : Told) (up : a.store.down ≡ false)
+    (units : b.store.units ≡ a.store.units) where
+  leaves_so : (P : Contents → Type 0) (h : History) (done : Bool)
+      → WorkLeaves store_keeping P (view_of a.store) h (view_of b.store) new done
+      → WorkLeaves script_keeping P a h b new done
+  leaves_so P h done leaves = record {
+    added = leaves.added;
+    history = leaves.history;
+    each_moment = leaves.each_moment;
+    silent = leaves.silent;
+    only = leaves.only;
+    lawful = leaves.lawful;
+    clean = leaves.clean;
+  }
+
+  few_still : a.store.units ≤ 1024 → b.store.units ≤ 1024
+  few_still few = omega (arith, few, units)
+
+  drawn_so : (n : ℕ) → counter_of b.store ≤ counter_of a.store + n
+      → next_number b ≤ next_number a + n
+  drawn_so n drawn = omega (arith, drawn, counted_few b, counted_up a up)
+
+  few_so : (n : ℕ) → next_number a + n < 2 ^ 63 → counter_of a.store + n < 2 ^ 63
+  few_so n few = subst (λ (k : ℕ). k + n < 2 ^ 63) (counted_up a up) few
+
+  pub works_so : (c : Command) (result : Result Reply Fault)
+      → Works store_keeping c (view_of a.store) old result (view_of b.store) new
+      → Works script_keeping c a old result b new
+  works_so c result works limits state h keeps told =
+      let did = works limits state h keeps.kept told in record {
+        leaves = leaves_so _ h (is_ok result) did.leaves;
+        ends = by_end result did.ends;
+        drawn = drawn_so WORK_DRAWS did.drawn;
+        excuse = on_err_weaker result (λ excuse few. excuse (few_so WORK_DRAWS few)) did.excuse;
+      }
+    where
+      by_end : (r : Result Reply Fault) → MatchResult r
+          (λ reply. store_keeping.holds limits (view_of b.store) new (step limits state c).0
+          × ((step limits state c).1 ≡ reply ∷ []))
+          (λ fault. Stays store_keeping limits (view_of b.store) old new state)
+          → MatchResult r
+          (λ reply. script_keeping.holds limits b new (step limits state c).0
+          × ((step limits state c).1 ≡ reply ∷ []))
+          (λ fault. Stays script_keeping limits b old new state)
+      by_end (Ok reply) ends = (record { kept = ends.0; few = few_still keeps.few }, ends.1)
+      by_end (Err fault) stays =
+          λ unrisen. record { kept = stays unrisen; few = few_still keeps.few }
+
+  pub looks_up_so : (n : ℕ) (result : Result (Option (List ℕ)) Fault)
+      → LooksUp store_keeping n (view_of a.store) old result (view_of b.store) new
+      → LooksUp script_keeping n a old result b new
+  looks_up_so n result looks limits state h keeps told low =
+      let did = looks limits state h keeps.kept told low in record {
+        leaves = leaves_so _ h (is_ok result) did.leaves;
+        ends = by_end result did.ends;
+        drawn = drawn_so LOOK_UP_DRAWS did.drawn;
+        excuse = on_err_weaker result (λ excuse few. excuse (few_so LOOK_UP_DRAWS few)) did.excuse;
+      }
+    where
+      by_end : (r : Result (Option (List ℕ)) Fault) → MatchResult r
+          (λ found. store_keeping.holds limits (view_of b.store) new state
+          × (found ≡ get state.map n))
+          (λ fault. Stays store_keeping limits (view_of b.store) old new state)
+          → MatchResult r
+          (λ found. script_keeping.holds limits b new state × (found ≡ get state.map n))
+          (λ fault. Stays script_keeping limits b old new state)
+      by_end (Ok found) ends = (record { kept = ends.0; few = few_still keeps.few }, ends.1)
+      by_end (Err fault) stays =
+          λ unrisen. record { kept = stays unrisen; few = few_still keeps.few }

@@ -1,0 +1,25 @@
+use Rattle.std.proofs.Common.{◌≡◌, Result, arith, refl, sym, subst}
+use Rattle.ipl_model.specs.declared.command.Command.TheVariants as command
+use Rattle.ipl_model.specs.declared.reply.Reply.{Reply}
+use Rattle.ipl_model.specs.declared.reply.Reply.TheVariants as reply
+use Rattle.ipl_rules.specs.Refusals.{refuses_merge}
+use Rattle.record_locks.specs.Standing.{state_of}
+use Rattle.store_trait.specs.declared.fault.Fault.{Fault}
+use Rattle.store_steps.specs.Keeps.{limits_of}
+use Rattle.ipl_store.proofs.CallLemmas.{on_ok}
+use Rattle.script_store.specs.Keeps.{Does}
+use Rattle.script_store.proofs.WorkLemmas.{calls_do}
+use Rattle.script_store.proofs.store.ScriptStore.merge.Goals as goal
+
+pub returns : goal.returns
+returns g c =
+    let store = c.args.self.now.store in
+    let refusal = refuses_merge (limits_of store.units) c.args.unit in
+    let before = g.C.Chip.told c.args.chip.now in
+    let after = g.C.Chip.told c.merge.new.chip in
+    subst (λ (r : Result Reply Fault). Does (command.Merge c.args.unit) c.args.self.now before r
+    (record { store = c.merge.new.self }) after) (sym c.reply_of.ensures)
+    (calls_do (λ v. reply.Ok) (command.Merge c.args.unit) refusal (λ state. state) (13) c.args.self.now
+    (record { store = c.merge.new.self }) before after c.merge.result c.requires.runs
+    (g.met.C.Chip.consistent c.args.chip.now) (omega arith) refl (λ state. refl)
+    (on_ok c.merge.result (λ state x told shown. refl)) c.merge.ensures.calls)

@@ -1,0 +1,114 @@
+-- How the store that a run of a script works with keeps a state, and what the work of each command
+-- leaves of it.
+use Rattle.std.specs.Prelude.{ℕ, ◌≡◌, ◌≤◌, ◌+◌, Bool, false, List, Option, None, Result, Ok, Err, IfErr, OnOk, IsErrOf, if◌then◌else◌}
+use Rattle.chip_trait.specs.Chart.{says}
+use Rattle.chip_trait.specs.Moment.{Leaves}
+use Rattle.chip_trait.specs.Told.{History, Told, Counts}
+use Rattle.ipl_base.specs.declared.fault.StoreFault.{StoreFault}
+use Rattle.ipl_base.specs.declared.fault.StoreFault.TheVariants as store
+use Rattle.ipl_base.specs.declared.limits.TheConstants.{RESERVED_PLACES}
+use Rattle.ipl_rules.specs.State.{State, Limits}
+use Rattle.ipl_model.specs.declared.command.Command.{Command}
+use Rattle.ipl_model.specs.declared.reply.Reply.{Reply}
+use Rattle.ipl_model.specs.declared.reply.Reply.TheVariants as reply
+use Rattle.ipl_format.specs.Sector.{sector_in}
+use Rattle.ipl_meaning.specs.Chart.{chart_of}
+use Rattle.ipl_meaning.specs.Stands.{Stands}
+use Rattle.ipl_meaning.specs.Tables.{IsCountedClean}
+use Rattle.store_trait.specs.declared.fault.Fault.{Fault}
+use Rattle.store_trait.specs.declared.fault.Fault.TheVariants.{Chip, Spent}
+use Rattle.store_trait.specs.Onward.{Still}
+use Rattle.store_trait.specs.Keeping.{Keeping, WORK_DRAWS, LOOK_UP_DRAWS, Draws, Works, LooksUp}
+use Rattle.store_steps.specs.Keeps.{View, KeepsStore, StoreCause, keeps_each, keeps_still, cause_longer}
+use Rattle.ipl_store.specs.Calls.{view_of, counter_of, IsSound}
+use Rattle.script_store.specs.declared.store.ScriptStore.{ScriptStore}
+
+-- ---- what it keeps
+
+-- the store is sound for a chip of so many places, and isn't down
+pub record IsRunning (places : ℕ) (s : ScriptStore) : Type 0 where
+  pub sound : IsSound places s.store
+  pub up : s.store.down ≡ false
+
+-- it keeps the state, with at most 1,024 units
+pub record KeepsScript (limits : Limits) (s : ScriptStore) (t : Told) (state : State)
+    : Type 0 where
+  pub kept : KeepsStore limits (view_of s.store) t state
+  pub few : s.store.units ≤ 1024
+
+-- the next number that it draws; a store that is down draws none
+abbrev pub next_number : ScriptStore → ℕ
+next_number s = if s.store.down then 0 else counter_of s.store
+
+-- what is said and what is read of a script changes nothing
+pub script_still : (limits : Limits) (s : ScriptStore) (old new : Told) (state : State)
+    → Still old new → KeepsScript limits s old state → KeepsScript limits s new state
+script_still limits s old new state still keeps = record {
+  kept = keeps_still limits (view_of s.store) old new state still keeps.kept;
+  few = keeps.few;
+}
+
+-- such a store, as a run knows it
+abbrev pub script_keeping : Keeping ScriptStore
+script_keeping = record {
+  checks = says sector_in;
+  stands = λ limits x m. Stands (limits.units + RESERVED_PLACES) (chart_of x) m;
+  holds = KeepsScript;
+  suits = λ s places. IsRunning places s;
+  clean = λ s p sector. IsCountedClean (view_of s.store).memory.tables p sector;
+  counter = next_number;
+  does = λ e. Unit {0};
+  cause = StoreCause;
+  each = λ limits s t state h keeps told. keeps_each limits (view_of s.store) t state h keeps.kept told;
+  still = script_still;
+  caused = cause_longer;
+}
+
+-- ---- answers
+
+-- what ended a call of the store, as a reply or a fault; one that is down isn't called
+abbrev pub ended : StoreFault → Result Reply Fault
+ended store.Down = Err Spent
+ended store.Spent = Err Spent
+ended (store.Refused refusal) = Ok (reply.Refused refusal)
+ended (store.Chip fault) = Err (Chip fault)
+
+-- a call's answer, where a reply says what it found
+abbrev pub answer_of : {T : Type 0} → (T → Reply) → Result T StoreFault → Result Reply Fault
+answer_of say (Ok found) = Ok (say found)
+answer_of say (Err fault) = ended fault
+
+-- where it found nothing
+abbrev pub reply_of : Result (Unit {0}) StoreFault → Result Reply Fault
+reply_of done = answer_of (λ v. reply.Ok) done
+
+-- what ended a look-up, as its answer; no record has a name that is refused
+abbrev pub not_found : StoreFault → Result (Option (List ℕ)) Fault
+not_found store.Down = Err Spent
+not_found store.Spent = Err Spent
+not_found (store.Refused refusal) = Ok None
+not_found (store.Chip fault) = Err (Chip fault)
+
+abbrev pub looked_up : Result (Option (List ℕ)) StoreFault → Result (Option (List ℕ)) Fault
+looked_up (Ok found) = Ok found
+looked_up (Err fault) = not_found fault
+
+-- ---- work
+
+-- what the work of a command leaves
+pub record Does (c : Command) (old : ScriptStore) (before : Told) (result : Result Reply Fault)
+    (new : ScriptStore) (after : Told) : Type 0 where
+  pub works : Works script_keeping c old before result new after
+  pub draws : Draws script_keeping WORK_DRAWS old (IsErrOf result Spent) new
+  pub running : OnOk result (IsRunning before.places new)
+  pub counts : Counts before after
+  pub cause : IfErr result (λ fault. StoreCause fault before after)
+
+-- what looking a record up leaves
+pub record Finds (n : ℕ) (old : ScriptStore) (before : Told)
+    (result : Result (Option (List ℕ)) Fault) (new : ScriptStore) (after : Told) : Type 0 where
+  pub looks_up : LooksUp script_keeping n old before result new after
+  pub draws : Draws script_keeping LOOK_UP_DRAWS old (IsErrOf result Spent) new
+  pub running : OnOk result (IsRunning before.places new)
+  pub counts : Counts before after
+  pub cause : IfErr result (λ fault. StoreCause fault before after)

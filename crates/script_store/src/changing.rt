@@ -1,0 +1,68 @@
+//! Commands that have no record as their reply.
+ghost use Rattle.ipl_model.specs.declared.command.Command.TheVariants as command;
+ghost use Rattle.script_store.specs.Keeps.{IsRunning, Does};
+
+use crate::ScriptStore;
+use crate::replies::reply_of;
+use chip_trait::Chip;
+use ipl_model::{PutBytes, Reply};
+use store_trait::Fault;
+
+impl ScriptStore {
+    /// Opens a session.
+    pub(crate) fn begin<C: Chip>(&mut self, chip: &mut C, s: u32) -> Result<Reply, Fault>
+        requires runs { IsRunning (C.told chip.old).places self.old }
+        ensures { Does (command.Begin s) self.old (C.told chip.old) result self.new (C.told chip.new) }
+    {
+        reply_of(self.store.begin(chip, s))
+    }
+
+    /// Puts a value at a name, for a session.
+    pub(crate) fn put<C: Chip>(
+        &mut self,
+        chip: &mut C,
+        s: u32,
+        n: u32,
+        bytes: &PutBytes,
+    ) -> Result<Reply, Fault>
+        requires runs { IsRunning (C.told chip.old).places self.old }
+        ensures { Does (command.Put s n bytes.now) self.old (C.told chip.old) result self.new
+            (C.told chip.new) }
+    {
+        reply_of(self.store.put(chip, s, n, bytes.bytes()))
+    }
+
+    /// Deletes a name's record, for a session.
+    pub(crate) fn del<C: Chip>(&mut self, chip: &mut C, s: u32, n: u32) -> Result<Reply, Fault>
+        requires runs { IsRunning (C.told chip.old).places self.old }
+        ensures { Does (command.Del s n) self.old (C.told chip.old) result self.new (C.told chip.new) }
+    {
+        reply_of(self.store.del(chip, s, n))
+    }
+
+    /// Commits a session.
+    pub(crate) fn commit<C: Chip>(&mut self, chip: &mut C, s: u32) -> Result<Reply, Fault>
+        requires runs { IsRunning (C.told chip.old).places self.old }
+        ensures { Does (command.Commit s) self.old (C.told chip.old) result self.new
+            (C.told chip.new) }
+    {
+        reply_of(self.store.commit(chip, s))
+    }
+
+    /// Aborts a session.
+    pub(crate) fn abort<C: Chip>(&mut self, chip: &mut C, s: u32) -> Result<Reply, Fault>
+        requires runs { IsRunning (C.told chip.old).places self.old }
+        ensures { Does (command.Abort s) self.old (C.told chip.old) result self.new (C.told chip.new) }
+    {
+        reply_of(self.store.abort(chip, s))
+    }
+
+    /// Merges a unit.
+    pub(crate) fn merge<C: Chip>(&mut self, chip: &mut C, unit: u32) -> Result<Reply, Fault>
+        requires runs { IsRunning (C.told chip.old).places self.old }
+        ensures { Does (command.Merge unit) self.old (C.told chip.old) result self.new
+            (C.told chip.new) }
+    {
+        reply_of(self.store.merge(chip, unit))
+    }
+}

@@ -1,0 +1,10 @@
+//! The store as a run of a script uses it: the work of each command is one call of the store, and its
+//! answer the command's reply. It stands on `ipl_store`, and on the trait of `store_trait`. A contract
+//! sees how it keeps a state (`script_keeping`), which is how the store does.
+#![tactic(auto)]
+
+mod changing;
+mod replies;
+mod store;
+
+pub use store::ScriptStore;
