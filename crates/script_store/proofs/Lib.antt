@@ -1,2 +1,4 @@
 pub mod KeepLemmas
 pub mod WorkLemmas
+pub mod SeeLemmas
+pub mod RestartLemmas

@@ -58,7 +58,7 @@ chip_cause (Malformed p s) before after cause = tt
 abbrev pub IsEntry : ScriptStore → Option StoreFault → Type 0
 IsEntry a entry = (entry ≡ None) ⊎ ((entry ≡ Some store.Spent) × (LAST_NUMBER < counter_of a.store))
 
-up_entry : (a : ScriptStore) → a.store.down ≡ false → IsEntry a (entry_fault a.store)
+pub up_entry : (a : ScriptStore) → a.store.down ≡ false → IsEntry a (entry_fault a.store)
 up_entry a up = subst (IsEntry a) (sym (ap (λ (down : Bool). if down then Some store.Down else rest) up))
     (by_spent (nat_lt LAST_NUMBER (counter_of a.store)) refl)
   where

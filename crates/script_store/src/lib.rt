@@ -5,6 +5,7 @@
 
 mod changing;
 mod replies;
+mod seeing;
 mod store;
 
 pub use store::ScriptStore;

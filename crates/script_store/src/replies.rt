@@ -2,7 +2,7 @@
 ghost use Rattle.std.specs.Prelude.{◌≡◌, ◌≢◌, ◌≤◌, Err, IfSome, length, option_map};
 ghost use Rattle.ipl_base.specs.declared.fault.StoreFault.TheVariants.{Down};
 ghost use Rattle.ipl_model.specs.Step.{found_reply};
-ghost use Rattle.script_store.specs.Keeps.{ended, answer_of, reply_of};
+ghost use Rattle.script_store.specs.Keeps.{ended, answer_of, reply_of, looked_up};
 
 use ipl_base::{StoreFault, Value};
 use ipl_model::Reply;
@@ -61,5 +61,19 @@ pub(crate) fn found_of(found: Result<Option<Value>, StoreFault>) -> Result<Reply
     match found {
         Ok(found) => Ok(found_reply(found)),
         Err(fault) => ended(fault),
+    }
+}
+
+/// The answer of a call that looked a committed record up: a name that is refused has none.
+pub(crate) fn looked_up(found: Result<Option<Value>, StoreFault>) -> Result<Option<Value>, Fault>
+    requires up { found ≢ Err Down }
+    ensures { result ≡ looked_up found }
+{
+    match found {
+        Ok(found) => Ok(found),
+        Err(StoreFault::Refused(_)) => Ok(None),
+        Err(StoreFault::Chip(fault)) => Err(Fault::Chip(fault)),
+        Err(StoreFault::Spent) => Err(Fault::Spent),
+        Err(StoreFault::Down) => unreachable!("the store isn't down"),
     }
 }

@@ -1,0 +1,315 @@
+-- A chip that is opened again is the work of a restart.
+use Rattle.std.proofs.Common.{ℕ, ◌≡◌, ◌≢◌, ◌⊎◌, inl, inr, ◌≤◌, ◌<◌, ◌+◌, ◌^◌, arith, Bool, true, false, [], Option, None, Some, Result, Ok, Err, MatchResult, IfErr, OnOk, if◌then◌else◌, refl, sym, ◌∙◌, ap, subst}
+use Rattle.chip_trait.specs.Told.{History, Told, IsConsistent}
+use Rattle.ipl_base.specs.declared.fault.ChipFault.TheVariants.{ReadFault, Stopped, Damaged, Malformed}
+use Rattle.ipl_base.specs.declared.fault.ImageFault.{ImageFault}
+use Rattle.ipl_base.specs.declared.fault.ImageFault.TheVariants as image
+use Rattle.ipl_rules.specs.Operations.{after_restart}
+use Rattle.ipl_rules.specs.State.{Map, State, Limits}
+use Rattle.ipl_model.specs.declared.command.Command.TheVariants as command
+use Rattle.ipl_model.specs.declared.reply.Reply.{Reply}
+use Rattle.ipl_model.specs.declared.reply.Reply.TheVariants as reply
+use Rattle.ipl_meaning.specs.Chart.{Chart, chart_of}
+use Rattle.ipl_meaning.specs.Found.{IsFoundNumber, IsAbove}
+use Rattle.ipl_meaning.specs.Layout.{Layout, Laid}
+use Rattle.ipl_meaning.specs.Rests.{StoryRests}
+use Rattle.ipl_meaning.specs.Stands.{Says}
+use Rattle.ipl_meaning.specs.Tables.{Tables, IsCountedClean}
+use Rattle.opening_rules.specs.Faults.{first_fault, greatest_found}
+use Rattle.opening_rules.specs.LaidOut.{layout_in}
+use Rattle.opening_rules.specs.Laws.{IsByteChart}
+use Rattle.opening_rules.proofs.LaidLemmas.{laid_has_no_fault, laid_is_fine_or_spent}
+use Rattle.opening_rules.proofs.NoFaultLemmas.{no_fault_is_laid}
+use Rattle.opening_rules.proofs.NumberLemmas.{greatest_is_found}
+use Rattle.unit_io.specs.Leads.{IsSteady}
+use Rattle.unit_io.specs.Reads.{OfContents}
+use Rattle.steps.specs.Laws.{Preserves}
+use Rattle.status_renewal.specs.Recovers.{IsOpeningFault, FailsByCallAlone, OpeningCause}
+use Rattle.status_renewal.proofs.ReadyLemmas.{layouts_say}
+use Rattle.store_trait.specs.declared.fault.Fault.{Fault}
+use Rattle.store_trait.specs.declared.fault.Fault.TheVariants.{Chip, Image, Spent}
+use Rattle.store_trait.specs.Keeping.{FOUND_NUMBER, WORK_DRAWS, ChipRose, Works}
+use Rattle.store_steps.specs.Advances.{memory_of, MemoryFitsStory, TurnsMapOf}
+use Rattle.store_steps.specs.Keeps.{View, ImageCause, DrawsFew, IsExcused, ShowsState, store_keeping}
+use Rattle.store_steps.proofs.AdvanceLemmas.{answers_advance}
+use Rattle.store_steps.proofs.KeepLemmas.{leads_are_work}
+use Rattle.store_steps.proofs.FaultLemmas.{faults_that_leave_down}
+use Rattle.ipl_store.specs.Calls.{memory_of_store, view_of, counter_of, IsSound}
+use Rattle.ipl_store.specs.Openings.{Opens, Reopens, Restarts, Tries}
+use Rattle.script_store.specs.declared.store.ScriptStore.{ScriptStore}
+use Rattle.script_store.specs.Keeps.{IsRunning, KeepsScript, next_number, script_keeping, Does}
+use Rattle.script_store.proofs.KeepLemmas.{counted_few, works_so, draws_found}
+
+-- ---- what is to be known of the opening besides
+
+-- the sectors that it read are bytes, where it was done or failed though all calls of the chip were done
+abbrev pub ReadsBytes : ℕ → Told → Result (Unit {0}) ImageFault → Type 0
+ReadsBytes places told result = OfContents told (λ x. MatchResult result
+    (λ v. IsByteChart places (chart_of x))
+    (λ e. e ≢ image.Chip ReadFault → e ≢ image.Chip Stopped
+    → (e ≡ image.Spent) ⊎ (first_fault (chart_of x) places ≡ None)
+    → IsByteChart places (chart_of x)))
+
+-- ---- the answer
+
+-- what an opening answers, as a restart does
+abbrev pub restarted : Result (Unit {0}) ImageFault → Result Reply Fault
+restarted (Ok v) = Ok reply.Ok
+restarted (Err e) = Err (Image e)
+
+-- ---- tables that count no sector as clean
+
+abbrev none_clean : ℕ → Tables
+none_clean next = record {
+  places = record { current = []; in_use = []; written = [] };
+  overflow = record { spots = []; in_use = [] };
+  status = record { place = 0; generation = 0; numbers = []; first = 256 };
+  next = next;
+  active = [];
+}
+
+none_counted : (next p s : ℕ) → IsCountedClean (none_clean next) p s → ⊥
+none_counted next p s (within, inl (u, low, at, from)) = absurd (omega (arith, low))
+none_counted next p s (within, inr (inl (first, listed, from))) = absurd (omega (arith, listed.1))
+none_counted next p s (within, inr (inr (place, from))) = absurd (omega (arith, within, from))
+
+-- ---- a store that is down keeps its story
+
+module _ (a b : ScriptStore) (old new : Told) (up : a.store.down ≡ false)
+    (units : b.store.units ≡ a.store.units) (down : b.store.down ≡ true) where
+  -- whatever is left of its memory
+  abbrev left : View
+  left = record {
+    memory = memory_of (none_clean (counter_of a.store)) (λ u page. None) [];
+    units = b.store.units;
+    down = true;
+  }
+
+  pub works_down : (fault : Fault)
+      → Works store_keeping command.Restart (view_of a.store) old (Err fault) left new
+      → Works script_keeping command.Restart a old (Err fault) b new
+  works_down fault works limits state h keeps told =
+      let did = works limits state h keeps.kept told in record {
+        leaves = record {
+          added = did.leaves.added;
+          history = did.leaves.history;
+          each_moment = did.leaves.each_moment;
+          silent = did.leaves.silent;
+          only = did.leaves.only;
+          lawful = did.leaves.lawful;
+          clean = λ done. absurd (cc done);
+        };
+        ends = λ unrisen.
+            let stays = did.ends unrisen in
+            let few = keeps.few in record {
+              kept = record {
+                limits_are = stays.limits_are;
+                story = λ k is. let on = stays.story k is in record {
+                  settled = on.settled;
+                  rests = on.rests;
+                };
+                up = λ runs. absurd (let clash : true ≡ false = sym down ∙ runs in cc clash);
+              };
+              few = omega (arith, few, units);
+            };
+        drawn = let none = none_drawn in omega (arith, none);
+        excuse = λ few. did.excuse (subst (λ (k : ℕ). k + WORK_DRAWS < 2 ^ 63)
+            (ap (λ (is : Bool). if is then 0 else counter_of a.store) up) few);
+      }
+    where
+      none_drawn : next_number b ≡ 0
+      none_drawn = ap (λ (is : Bool). if is then 0 else counter_of b.store) down
+
+-- ---- a fault of the opening
+
+-- where no call of the chip failed it would have been done
+rose_for : (e : ImageFault) (before after : Told) → OpeningCause e before after
+    → (e ≢ image.Chip ReadFault → e ≢ image.Chip Stopped → FailsByCallAlone e)
+    → ChipRose before after
+rose_for (image.Chip ReadFault) before after cause fails = inl (cause.read refl)
+rose_for (image.Chip Stopped) before after cause fails = inr (cause.stopped refl)
+rose_for (image.Chip (Damaged p s stored computed)) before after cause fails =
+    elim (fails (λ no. absurd (cc no)) (λ no. absurd (cc no))) [
+      | inl is ↦ absurd (cc is)
+      | inr is ↦ absurd (cc is)
+    ]
+rose_for (image.Chip (Malformed p s)) before after cause fails =
+    elim (fails (λ no. absurd (cc no)) (λ no. absurd (cc no))) [
+      | inl is ↦ absurd (cc is)
+      | inr is ↦ absurd (cc is)
+    ]
+rose_for image.Geometry before after cause fails =
+    elim (fails (λ no. absurd (cc no)) (λ no. absurd (cc no))) [
+      | inl is ↦ absurd (cc is)
+      | inr is ↦ absurd (cc is)
+    ]
+rose_for image.NotFormatted before after cause fails =
+    elim (fails (λ no. absurd (cc no)) (λ no. absurd (cc no))) [
+      | inl is ↦ absurd (cc is)
+      | inr is ↦ absurd (cc is)
+    ]
+rose_for (image.Missing u) before after cause fails =
+    elim (fails (λ no. absurd (cc no)) (λ no. absurd (cc no))) [
+      | inl is ↦ absurd (cc is)
+      | inr is ↦ absurd (cc is)
+    ]
+rose_for image.Spent before after cause fails =
+    elim (fails (λ no. absurd (cc no)) (λ no. absurd (cc no))) [
+      | inl is ↦ absurd (cc is)
+      | inr is ↦ absurd (cc is)
+    ]
+rose_for (image.NoSpare n) before after cause fails =
+    elim (fails (λ no. absurd (cc no)) (λ no. absurd (cc no))) [
+      | inl is ↦ absurd (cc is)
+      | inr is ↦ absurd (cc is)
+    ]
+
+-- the fault is that the numbers are used up, or the chart has none
+spent_or_none : (places : ℕ) (c : Chart) (it : Layout) (e : ImageFault) → Laid places c it
+    → IsOpeningFault places c e → (e ≡ image.Spent) ⊎ (first_fault c places ≡ None)
+spent_or_none places c it e laid (inr (none, fault, is)) = inr none
+spent_or_none places c it e laid (inl first) = elim (laid_is_fine_or_spent c places it laid) [
+  | inl none ↦ inr none
+  | inr spent ↦ inl (let both : Some e ≡ Some image.Spent = sym first ∙ spent in cc both)
+]
+
+-- ---- the numbers found are below the counter
+
+few_found : (places : ℕ) (c : Chart) (it : Layout) (next : ℕ) → IsByteChart places c
+    → Laid places c it → IsAbove places c it next → greatest_found c places ≤ next
+few_found places c it next bytes laid above = elim (greatest_is_found c places it bytes laid) [
+  | inl zero_is ↦ omega (arith, zero_is)
+  | inr found ↦ (let below = above (greatest_found c places) found in omega (arith, below))
+]
+
+-- ---- an opening
+
+module _ (a b : ScriptStore) (before after : Told) (t : Tables)
+    (runs : IsRunning before.places a) (consistent : IsConsistent before)
+    (sound : IsSound before.places b.store) where
+  abbrev first : View
+  first = view_of a.store
+
+  abbrev last : View
+  last = view_of b.store
+
+  units : b.store.units ≡ a.store.units
+  units = let was = runs.sound.made.units in let are = sound.made.units in omega (arith, was, are)
+
+  suits : a.store.units + 4 ≡ before.places
+  suits = runs.sound.made.units
+
+  opened_does : Opens before.places before b.store after
+      → Tries before.places before (Ok tt) t after
+      → Restarts (memory_of_store a.store) before (memory_of_store b.store) after
+      → ReadsBytes before.places before (Ok tt)
+      → Does command.Restart a before (Ok reply.Ok) b after
+  opened_does opens tries leads reads = record {
+    works = works_so a b before after runs.up units command.Restart (Ok reply.Ok)
+        (leads_are_work command.Restart first last (Ok reply.Ok) before after consistent suits units
+        runs.up (answers_advance (TurnsMapOf (λ state. after_restart state))
+        (λ state. after_restart state) first.memory last.memory (Ok tt) (Ok reply.Ok) before after
+        refl leads) (λ state keeps x told. refl) few tt);
+    draws = draws_found WORK_DRAWS _ a b found (λ spent. absurd (cc spent));
+    running = record { sound = sound; up = opens.fresh.up };
+    counts = tries.accounts.counts;
+    cause = tt;
+  }
+    where
+      found : next_number b ≤ FOUND_NUMBER
+      found = let left = opens.left in let most = counted_few b in omega (arith, left, most)
+
+      few : DrawsFew WORK_DRAWS first before last
+      few state keeps x told =
+          let shown = (keeps.up runs.up).contents x told in
+          let bytes = subst (λ (n : ℕ). IsByteChart n (chart_of x)) (sym suits) (reads x told) in
+          let below = few_found (a.store.units + 4) (chart_of x) shown.layout
+          (counter_of a.store) bytes shown.fits.mirrors.laid shown.fits.mirrors.numbers.above in
+          let number = subst (λ (n : ℕ). counter_of b.store ≤ greatest_found (chart_of x) n + 1 + 2 ^ 14)
+          (sym suits) (opens.number x told) in
+          omega (arith, below, number)
+
+  failed_does : (e : ImageFault) → b.store.down ≡ true
+      → Tries before.places before (Err e) t after → ReadsBytes before.places before (Err e)
+      → ImageCause e before after → Does command.Restart a before (Err (Image e)) b after
+  failed_does e down tries reads cause = record {
+    works = works_down a b before after runs.up units down (Image e)
+        (faults_that_leave_down command.Restart first
+        (left a b before after runs.up units down) (Image e) before after consistent suits units
+        runs.up refl
+        (λ h it state steady story. subst (λ (n : ℕ). StoryRests n state.map h
+        → Preserves {T = Reply} n state.map first.memory.tables (none_clean (counter_of a.store)) h
+        (Err (Image e)) before after) (sym suits) (preserved state.map h steady) story.rests)
+        (omega arith) excused);
+    draws = draws_found WORK_DRAWS _ a b
+        (let none = none_drawn in omega (arith, none)) (λ spent. absurd (cc spent));
+    running = tt;
+    counts = tries.accounts.counts;
+    cause = cause;
+  }
+    where
+      none_drawn : next_number b ≡ 0
+      none_drawn = ap (λ (is : Bool). if is then 0 else counter_of b.store) down
+
+      preserved : (m : Map) (h : History) → IsSteady h before → StoryRests before.places m h
+          → Preserves {T = Reply} before.places m first.memory.tables
+          (none_clean (counter_of a.store)) h (Err (Image e)) before after
+      preserved m h steady rests =
+          let did = tries.steps m h steady rests in record {
+            added = did.added;
+            history = did.history;
+            each_moment = did.each_moment;
+            does = record {
+              silent = did.does.silent;
+              lawful = record {
+                lawful = λ base is clean.
+                    did.does.lawful.lawful base is (λ p s nowhere. absurd nowhere);
+              };
+              clean = λ done base clean p s counted.
+                  absurd (none_counted (counter_of a.store) p s counted);
+            };
+            settled = did.settled;
+            ends = did.ends;
+          }
+
+      excused : IsExcused WORK_DRAWS first before after
+      excused state keeps x told low = rose_for e before after tries.accounts.cause fails
+        where
+          shown : ShowsState first state x
+          shown = (keeps.up runs.up).contents x told
+
+          laid : Laid before.places (chart_of x) shown.layout
+          laid = subst (λ (n : ℕ). Laid n (chart_of x) shown.layout) suits
+              shown.fits.mirrors.laid
+
+          above : IsAbove before.places (chart_of x) shown.layout (2 ^ 63)
+          above n found =
+              let below = shown.fits.mirrors.numbers.above n (subst (λ (k : ℕ).
+              IsFoundNumber k (chart_of x) shown.layout n) (sym suits) found) in
+              omega (arith, below, low)
+
+          says : Says before.places (chart_of x) shown.layout state.map
+          says = subst (λ (n : ℕ). Says n (chart_of x) shown.layout state.map) suits shown.says
+
+          fails : e ≢ image.Chip ReadFault → e ≢ image.Chip Stopped → FailsByCallAlone e
+          fails unread unstopped =
+              let fault = tries.tells x told unread unstopped in
+              let bytes = reads x told unread unstopped
+              (spent_or_none before.places (chart_of x) shown.layout e laid fault) in
+              let none = laid_has_no_fault (chart_of x) before.places shown.layout bytes laid above
+              in
+              let in_it = no_fault_is_laid (chart_of x) before.places bytes none in
+              tries.complete x told state.map none
+              (layouts_say before.places (chart_of x) (layout_in (chart_of x) before.places)
+              state.map in_it (record { layout = shown.layout; laid = laid; says = says }))
+
+  -- a restart
+  pub restart_does : (result : Result (Unit {0}) ImageFault)
+      → Reopens before.places before result b.store after
+      → Tries before.places before result t after
+      → OnOk result (Restarts (memory_of_store a.store) before (memory_of_store b.store) after)
+      → ReadsBytes before.places before result
+      → IfErr result (λ e. ImageCause e before after)
+      → Does command.Restart a before (restarted result) b after
+  restart_does (Ok v) opens tries leads reads cause = opened_does opens tries leads reads
+  restart_does (Err e) down tries leads reads cause = failed_does e down tries reads cause

@@ -1,0 +1,296 @@
+-- Looking records up: what sessions see, and what is committed.
+use Rattle.std.proofs.Common.{ℕ, ◌≡◌, ◌⊎◌, inl, inr, ◌≤◌, ◌<◌, ◌*◌, ◌+◌, arith, Bool, true, false, nat_le, nat_lt, Option, None, Some, List, ◌∷◌, [], Result, Ok, Err, IfOk, is_ok, if◌then◌else◌, refl, sym, ◌∙◌, ap, subst}
+use Rattle.std.proofs.lemmas.Bool.Decides.{nat_tests}
+use Rattle.chip_trait.specs.Story.{Contents}
+use Rattle.chip_trait.specs.Told.{History, Told, Counts, IsConsistent}
+use Rattle.chip_trait.proofs.CountsLemmas.{counts_none}
+use Rattle.ipl_base.specs.declared.fault.ChipFault.{ChipFault}
+use Rattle.ipl_base.specs.declared.fault.Refusal.{Refusal}
+use Rattle.ipl_base.specs.declared.fault.Refusal.TheVariants.{BadName}
+use Rattle.ipl_base.specs.declared.fault.StoreFault.{StoreFault}
+use Rattle.ipl_base.specs.declared.fault.StoreFault.TheVariants as store
+use Rattle.ipl_rules.specs.State.{State, Limits, see}
+use Rattle.ipl_model.specs.declared.command.Command.TheVariants as command
+use Rattle.ipl_model.specs.declared.reply.Reply.{Reply}
+use Rattle.ipl_model.specs.declared.reply.Reply.TheVariants as reply
+use Rattle.ipl_model.specs.Step.{found_reply}
+use Rattle.unit_io.specs.Reads.{OfContents}
+use Rattle.page_frames.specs.Pages.{PageCause}
+use Rattle.store_trait.specs.declared.fault.Fault.{Fault}
+use Rattle.store_trait.specs.declared.fault.Fault.TheVariants.{Chip, Spent}
+use Rattle.store_trait.specs.Keeping.{LAST_NUMBER, WORK_DRAWS, LOOK_UP_DRAWS, WorkLeaves, Works, LooksUp}
+use Rattle.store_steps.specs.Advances.{TurnsMapOf}
+use Rattle.store_steps.specs.Keeps.{View, limits_of, ShowsState, store_keeping}
+use Rattle.store_steps.proofs.AdvanceLemmas.{answers_advance}
+use Rattle.store_steps.proofs.KeepLemmas.{IsAt, is_at, at_limits, leads_are_work}
+use Rattle.store_steps.proofs.FaultLemmas.{idle_faults_look_up}
+use Rattle.ipl_store.specs.declared.store.Store.{Store}
+use Rattle.ipl_store.specs.Calls.{memory_of_store, view_of, counter_of, IsSound, early_fault, entry_fault, refuses_name, Serves, Calls}
+use Rattle.ipl_store.specs.Shown.{IsSeen, IsCommitted}
+use Rattle.script_store.specs.declared.store.ScriptStore.{ScriptStore}
+use Rattle.script_store.specs.Keeps.{IsRunning, not_found, looked_up, Finds}
+use Rattle.script_store.proofs.KeepLemmas.{looks_up_so, draws_few}
+use Rattle.script_store.proofs.WorkLemmas.{chip_rose, chip_cause, IsEntry, up_entry}
+
+-- ---- a call that lends what it found, once that is copied
+
+abbrev pub copied_of : {T U : Type 0} → (T → U) → Result T StoreFault → Result U StoreFault
+copied_of copy (Ok found) = Ok (copy found)
+copied_of copy (Err fault) = Err fault
+
+pub calls_copied : {T U : Type 0} (copy : T → U) (early : Option StoreFault)
+    (next : State → State) (most : ℕ) (old : Store) (before : Told) (result : Result T StoreFault)
+    (new : Store) (after : Told) → Calls early next most old before result new after
+    → Calls early next most old before (copied_of copy result) new after
+calls_copied copy early next most old before (Ok found) new after calls = record {
+  refuses = λ fault is. let no = (calls.refuses fault is).0 in absurd (cc no);
+  serves = λ none.
+      let did = calls.serves none in record {
+        leads = answers_advance (TurnsMapOf next) next (memory_of_store old) (memory_of_store new)
+            (Ok found) (Ok (copy found)) before after refl did.leads;
+        ends = did.ends;
+        least = did.least;
+        drawn = did.drawn;
+        complete = λ x told state shown. tt;
+      };
+  sound = calls.sound;
+  counts = calls.counts;
+}
+calls_copied {U = U} copy early next most old before (Err e) new after calls = record {
+  refuses = λ fault is.
+      let (answer, same, still) = calls.refuses fault is in
+      let one : e ≡ fault = cc answer in (ap (λ (f : StoreFault). err f) one, same, still);
+  serves = λ none.
+      let did = calls.serves none in record {
+        leads = answers_advance (TurnsMapOf next) next (memory_of_store old) (memory_of_store new)
+            (Err e) (Err e) before after refl did.leads;
+        ends = did.ends;
+        least = did.least;
+        drawn = did.drawn;
+        complete = did.complete;
+      };
+  sound = calls.sound;
+  counts = calls.counts;
+}
+  where
+    err : StoreFault → Result U StoreFault
+    err fault = Err fault
+
+-- one that was done
+pub found_calls : {T U : Type 0} (copy : T → U) (early : Option StoreFault) (next : State → State)
+    (most : ℕ) (old : Store) (before : Told) (result : Result T StoreFault) (found : T) (value : U)
+    (new : Store) (after : Told) → result ≡ Ok found → value ≡ copy found
+    → Calls early next most old before result new after
+    → Calls early next most old before (Ok value) new after
+found_calls {T = T} {U = U} copy early next most old before result found value new after is same
+    calls =
+    subst (λ (v : U). Calls early next most old before (Ok v) new after) (sym same)
+    (calls_copied copy early next most old before (Ok found) new after
+    (subst (λ (r : Result T StoreFault). Calls early next most old before r new after) is calls))
+
+-- one that failed
+pub failed_calls : {T U : Type 0} (copy : T → U) (early : Option StoreFault)
+    (next : State → State) (most : ℕ) (old : Store) (before : Told) (result : Result T StoreFault)
+    (fault : StoreFault) (new : Store) (after : Told) → result ≡ Err fault
+    → Calls early next most old before result new after
+    → Calls {T = U} early next most old before (Err fault) new after
+failed_calls {T = T} copy early next most old before result fault new after is calls =
+    calls_copied copy early next most old before (Err fault) new after
+    (subst (λ (r : Result T StoreFault). Calls early next most old before r new after) is calls)
+
+-- what is seen is the model's reply
+pub seen_replies : (s n : ℕ) (old : Store) (before : Told)
+    (result : Result (Option (List ℕ)) StoreFault)
+    → IfOk result (λ found. IsSeen s n old before found)
+    → IfOk result (λ found. (state : State) → OfContents before (λ x.
+    ShowsState (view_of old) state x → found_reply (see state s n) ∷ [] ≡ found_reply found ∷ []))
+seen_replies s n old before (Ok found) seen = λ state x told shown.
+    ap (λ (value : Option (List ℕ)). found_reply value ∷ []) (sym (seen state x told shown))
+seen_replies s n old before (Err fault) seen = tt
+
+-- ---- a record is looked up
+
+either_way : {A : Type 0} → A ⊎ A → A
+either_way (inl a) = a
+either_way (inr a) = a
+
+-- a power cut leaves the records, of which the next ones are the same
+leaves_same : (P : Contents → Type 0) (first last : View) (h : History) (new : Told) (done : Bool)
+    → WorkLeaves store_keeping (λ x. P x ⊎ P x) first h last new done
+    → WorkLeaves store_keeping P first h last new done
+leaves_same P first last h new done leaves = record {
+  added = leaves.added;
+  history = leaves.history;
+  each_moment = λ later e split x image. either_way (leaves.each_moment later e split x image);
+  silent = leaves.silent;
+  only = leaves.only;
+  lawful = leaves.lawful;
+  clean = leaves.clean;
+}
+
+-- a name below the limit isn't refused
+low_is_free : (units n : ℕ) (r : Refusal) → refuses_name (limits_of units) n ≡ Some r
+    → n < 960 * units → ⊥
+low_is_free units n r is low = by_test (nat_le (960 * units) n) refl is
+  where
+    by_test : (high : Bool) → nat_le (960 * units) n ≡ high
+        → (if high then Some BadName else None) ≡ Some r → ⊥
+    by_test true past found = grind (arith, nat_tests, past, low)
+    by_test false past found = absurd (cc found)
+
+module _ (n : ℕ) (a b : ScriptStore) (before after : Told) (runs : IsRunning before.places a)
+    (consistent : IsConsistent before) where
+  abbrev first : View
+  first = view_of a.store
+
+  abbrev last : View
+  last = view_of b.store
+
+  spent_finds : LAST_NUMBER < counter_of a.store → Finds n a before (Err Spent) a before
+  spent_finds late = record {
+    looks_up = looks_up_so a a before before runs.up refl n (Err Spent)
+        (idle_faults_look_up n first before late);
+    draws = draws_few LOOK_UP_DRAWS _ a a runs.up (omega arith) (λ is. late);
+    running = tt;
+    counts = counts_none before;
+    cause = tt;
+  }
+
+  refused_finds : (r : Refusal) → refuses_name (limits_of a.store.units) n ≡ Some r
+      → Finds n a before (Ok None) a before
+  refused_finds r is = record {
+    looks_up = looks_up_so a a before before runs.up refl n (Ok None)
+        (λ limits state h keeps told low. absurd (low_is_free a.store.units n r is
+        (subst (λ (l : Limits). n < l.names) keeps.limits_are low)));
+    draws = draws_few LOOK_UP_DRAWS _ a a runs.up (omega arith) (λ spent. absurd (cc spent));
+    running = runs;
+    counts = counts_none before;
+    cause = tt;
+  }
+
+  module _ (units : b.store.units ≡ a.store.units) where
+    done_finds : (found : Option (List ℕ))
+        → Serves (λ state. state) 14 a.store before (Ok found) b.store after
+        → IsCommitted n a.store before found → IsRunning before.places b
+        → (counts : Counts before after) → Finds n a before (Ok found) b after
+    done_finds found did committed running counts = record {
+      looks_up = looks_up_so a b before after runs.up units n (Ok found) looks;
+      draws = draws_few LOOK_UP_DRAWS _ a b runs.up few (λ spent. absurd (cc spent));
+      running = running;
+      counts = counts;
+      cause = tt;
+    }
+      where
+        few : counter_of b.store ≤ counter_of a.store + LOOK_UP_DRAWS
+        few = let drawn = did.drawn in omega (arith, drawn)
+
+        works : Works store_keeping command.Syntax first before (Ok reply.Syntax) last after
+        works = leads_are_work command.Syntax first last (Ok reply.Syntax) before after consistent
+            runs.sound.made.units units runs.up
+            (answers_advance (TurnsMapOf (λ state. state)) (λ state. state) first.memory
+            last.memory (Ok found) (Ok reply.Syntax) before after refl did.leads)
+            (λ state keeps x told. refl)
+            (λ state keeps x told. let drawn = did.drawn in omega (arith, drawn)) tt
+
+        looks : LooksUp store_keeping n first before (Ok found) last after
+        looks limits state h keeps told low =
+            let did_work = works limits state h keeps told in
+            let here = is_at first before state h consistent runs.up
+            (at_limits limits first before state keeps) told in record {
+              leaves = leaves_same _ first last h after true did_work.leaves;
+              ends = (did_work.ends.0, committed state _ here.there here.shown);
+              drawn = few;
+              excuse = tt;
+            }
+
+    failed_finds : (e : ChipFault)
+        → (did : Serves {T = Option (List ℕ)} (λ state. state) 14 a.store before
+        (Err (store.Chip e)) b.store after)
+        → PageCause e before after → (counts : Counts before after)
+        → Finds n a before (Err (Chip e)) b after
+    failed_finds e did cause counts = record {
+      looks_up = looks_up_so a b before after runs.up units n (Err (Chip e)) looks;
+      draws = draws_few LOOK_UP_DRAWS _ a b runs.up few (λ spent. absurd (cc spent));
+      running = tt;
+      counts = counts;
+      cause = chip_cause e before after cause;
+    }
+      where
+        few : counter_of b.store ≤ counter_of a.store + LOOK_UP_DRAWS
+        few = let drawn = did.drawn in omega (arith, drawn)
+
+        works : Works store_keeping command.Syntax first before (Err (Chip e)) last after
+        works = leads_are_work command.Syntax first last (Err (Chip e)) before after consistent
+            runs.sound.made.units units runs.up
+            (answers_advance (TurnsMapOf (λ state. state)) (λ state. state) first.memory
+            last.memory (Err (store.Chip e)) (Err (Chip e)) before after refl did.leads) tt
+            (λ state keeps x told. let drawn = did.drawn in omega (arith, drawn))
+            (λ state keeps x told low. chip_rose e before after
+            (did.complete x told state ((keeps.up runs.up).contents x told)) cause)
+
+        looks : LooksUp store_keeping n first before (Err (Chip e)) last after
+        looks limits state h keeps told low =
+            let did_work = works limits state h keeps told in
+            let here = is_at first before state h consistent runs.up
+            (at_limits limits first before state keeps) told in record {
+              leaves = leaves_same _ first last h after false did_work.leaves;
+              ends = did_work.ends;
+              drawn = few;
+              excuse = λ low. chip_rose e before after
+                  (did.complete _ here.there state here.shown) cause;
+            }
+
+    served_finds : (result : Result (Option (List ℕ)) StoreFault)
+        → Serves (λ state. state) 14 a.store before result b.store after
+        → IfOk result (λ found. IsCommitted n a.store before found)
+        → IsSound before.places b.store → Counts before after
+        → Finds n a before (looked_up result) b after
+    served_finds (Ok found) did committed sound counts =
+        done_finds found did committed (record { sound = sound; up = did.ends }) counts
+    served_finds (Err fault) did committed sound counts =
+        let (e, is_chip, cause, stopped) = did.ends in
+        subst (λ (f : StoreFault). Serves {T = Option (List ℕ)} (λ state. state) 14 a.store before
+        (Err f) b.store after → Finds n a before (not_found f) b after) (sym is_chip)
+        (λ of_chip. failed_finds e of_chip cause counts) did
+
+  -- ---- the call
+
+  module _ (result : Result (Option (List ℕ)) StoreFault)
+      (committed : IfOk result (λ found. IsCommitted n a.store before found)) where
+    idle_finds : (fault : StoreFault) → Finds n a before (not_found fault) a before
+        → result ≡ Err fault → b.store ≡ a.store → after ≡ before
+        → Finds n a before (looked_up result) b after
+    idle_finds fault base is same still =
+        subst (λ (r : Result (Option (List ℕ)) StoreFault). Finds n a before (looked_up r) b after)
+        (sym is)
+        (subst (λ (t : Told). Finds n a before (not_found fault) b t) (sym still)
+        (subst (λ (s : Store). Finds n a before (not_found fault) (record { store = s }) before)
+        (sym same) base))
+
+    by_refusal : (r : Option Refusal) → refuses_name (limits_of a.store.units) n ≡ r
+        → Calls (early_fault None r) (λ state. state) 14 a.store before result b.store after
+        → Finds n a before (looked_up result) b after
+    by_refusal (Some r) is calls =
+        let (answer, same, still) = calls.refuses (store.Refused r) refl in
+        idle_finds (store.Refused r) (refused_finds r is) answer same still
+    by_refusal None is calls =
+        served_finds (omega (arith, calls.sound.made.units, runs.sound.made.units)) result
+        (calls.serves refl) committed calls.sound calls.counts
+
+    by_entry : (entry : Option StoreFault) → IsEntry a entry
+        → Calls (early_fault entry (refuses_name (limits_of a.store.units) n)) (λ state. state) 14
+        a.store before result b.store after
+        → Finds n a before (looked_up result) b after
+    by_entry entry (inl none) calls = by_refusal (refuses_name (limits_of a.store.units) n) refl
+        (subst (λ (o : Option StoreFault). Calls (early_fault o
+        (refuses_name (limits_of a.store.units) n)) (λ state. state) 14 a.store before result
+        b.store after) none calls)
+    by_entry entry (inr (is, late)) calls =
+        let (answer, same, still) = calls.refuses store.Spent (ap (λ (o : Option StoreFault).
+        early_fault o (refuses_name (limits_of a.store.units) n)) is) in
+        idle_finds store.Spent (spent_finds late) answer same still
+
+    pub call_finds : Calls (early_fault (entry_fault a.store)
+        (refuses_name (limits_of a.store.units) n)) (λ state. state) 14 a.store before result
+        b.store after → Finds n a before (looked_up result) b after
+    call_finds calls = by_entry (entry_fault a.store) (up_entry a runs.up) calls

@@ -1,0 +1,27 @@
+use Rattle.std.proofs.Common.{◌≡◌, ◌∙◌, List, Result, arith, refl, sym, ap, subst}
+use Rattle.ipl_model.specs.declared.command.Command.TheVariants as command
+use Rattle.ipl_model.specs.declared.reply.Reply.{Reply}
+use Rattle.ipl_model.specs.Step.{found_reply}
+use Rattle.ipl_rules.specs.Refusals.{refuses_get}
+use Rattle.record_locks.specs.Standing.{state_of}
+use Rattle.store_trait.specs.declared.fault.Fault.{Fault}
+use Rattle.store_steps.specs.Keeps.{limits_of}
+use Rattle.script_store.specs.Keeps.{Does}
+use Rattle.script_store.proofs.SeeLemmas.{seen_replies}
+use Rattle.script_store.proofs.WorkLemmas.{calls_do}
+use Rattle.script_store.proofs.store.ScriptStore.get.Goals as goal
+
+pub returns : goal.returns
+returns g c =
+    let store = c.args.self.now.store in
+    let refusal = refuses_get (limits_of store.units) (state_of store.transactions.sessions)
+    c.args.s c.args.n in
+    let before = g.C.Chip.told c.args.chip.now in
+    let after = g.C.Chip.told c.see.new.chip in
+    subst (λ (r : Result Reply Fault). Does (command.Get c.args.s c.args.n) c.args.self.now
+    before r c.see.new.self after) (sym c.found_of.ensures)
+    (calls_do found_reply (command.Get c.args.s c.args.n) refusal (λ state. state) 14
+    c.args.self.now c.see.new.self before after c.see.result c.requires.runs
+    (g.met.C.Chip.consistent c.args.chip.now) (omega arith) refl (λ state. refl)
+    (seen_replies c.args.s c.args.n store before c.see.result c.see.ensures.seen)
+    c.see.ensures.calls)

@@ -1,0 +1,28 @@
+use Rattle.std.proofs.Common.{◌≡◌, ◌∙◌, List, Result, arith, refl, sym, ap, subst}
+use Rattle.ipl_model.specs.declared.command.Command.TheVariants as command
+use Rattle.ipl_model.specs.declared.reply.Reply.{Reply}
+use Rattle.ipl_model.specs.Step.{found_reply}
+use Rattle.ipl_rules.specs.Refusals.{refuses_share}
+use Rattle.ipl_rules.specs.Operations.{after_share}
+use Rattle.record_locks.specs.Standing.{state_of}
+use Rattle.store_trait.specs.declared.fault.Fault.{Fault}
+use Rattle.store_steps.specs.Keeps.{limits_of}
+use Rattle.script_store.specs.Keeps.{Does}
+use Rattle.script_store.proofs.SeeLemmas.{seen_replies}
+use Rattle.script_store.proofs.WorkLemmas.{calls_do}
+use Rattle.script_store.proofs.store.ScriptStore.share.Goals as goal
+
+pub returns : goal.returns
+returns g c =
+    let store = c.args.self.now.store in
+    let refusal = refuses_share (limits_of store.units) (state_of store.transactions.sessions)
+    c.args.s c.args.n in
+    let before = g.C.Chip.told c.args.chip.now in
+    let after = g.C.Chip.told c.see_shared.new.chip in
+    subst (λ (r : Result Reply Fault). Does (command.Share c.args.s c.args.n) c.args.self.now
+    before r c.see_shared.new.self after) (sym c.found_of.ensures)
+    (calls_do found_reply (command.Share c.args.s c.args.n) refusal (λ state. after_share state c.args.s c.args.n) 14
+    c.args.self.now c.see_shared.new.self before after c.see_shared.result c.requires.runs
+    (g.met.C.Chip.consistent c.args.chip.now) (omega arith) refl (λ state. refl)
+    (seen_replies c.args.s c.args.n store before c.see_shared.result c.see_shared.ensures.seen)
+    c.see_shared.ensures.calls)

@@ -1,0 +1,102 @@
+//! What sessions see, and what is committed.
+ghost use Rattle.std.specs.Prelude.{IfOk};
+ghost use Rattle.ipl_model.specs.declared.command.Command.TheVariants as command;
+ghost use Rattle.ipl_rules.specs.Operations.{after_share};
+ghost use Rattle.ipl_rules.specs.Refusals.{refuses_get, refuses_share};
+ghost use Rattle.record_locks.specs.Standing.{state_of};
+ghost use Rattle.store_steps.specs.Keeps.{limits_of};
+ghost use Rattle.ipl_store.specs.Calls.{Calls, early_fault, entry_fault, refuses_name};
+ghost use Rattle.ipl_store.specs.Shown.{IsSeen, IsCommitted};
+ghost use Rattle.script_store.specs.Keeps.{IsRunning, Does, Finds};
+
+use crate::ScriptStore;
+use crate::replies::{copied, found_of, looked_up};
+use chip_trait::Chip;
+use ipl_base::{StoreFault, Value};
+use ipl_model::Reply;
+use store_trait::Fault;
+
+impl ScriptStore {
+    /// What a session sees of a name, as a value of its own.
+    fn see<C: Chip>(
+        &mut self,
+        chip: &mut C,
+        s: u32,
+        n: u32,
+    ) -> Result<Option<Value>, StoreFault>
+        requires runs { IsRunning (C.told chip.old).places self.old }
+        ensures calls { Calls (early_fault (entry_fault self.old.store)
+            (refuses_get (limits_of self.old.store.units)
+            (state_of self.old.store.transactions.sessions) s n)) (λ state. state) 14
+            self.old.store (C.told chip.old) result self.new.store (C.told chip.new) }
+        ensures seen { IfOk result (λ found. IsSeen s n self.old.store (C.told chip.old) found) }
+    {
+        match self.store.get(chip, s, n) {
+            Ok(found) => Ok(copied(found)),
+            Err(fault) => Err(fault),
+        }
+    }
+
+    /// What a session sees of a name, which it shares then, as a value of its own.
+    fn see_shared<C: Chip>(
+        &mut self,
+        chip: &mut C,
+        s: u32,
+        n: u32,
+    ) -> Result<Option<Value>, StoreFault>
+        requires runs { IsRunning (C.told chip.old).places self.old }
+        ensures calls { Calls (early_fault (entry_fault self.old.store)
+            (refuses_share (limits_of self.old.store.units)
+            (state_of self.old.store.transactions.sessions) s n))
+            (λ state. after_share state s n) 14
+            self.old.store (C.told chip.old) result self.new.store (C.told chip.new) }
+        ensures seen { IfOk result (λ found. IsSeen s n self.old.store (C.told chip.old) found) }
+    {
+        match self.store.share(chip, s, n) {
+            Ok(found) => Ok(copied(found)),
+            Err(fault) => Err(fault),
+        }
+    }
+
+    /// The committed record of a name, as a value of its own.
+    fn find<C: Chip>(&mut self, chip: &mut C, n: u32) -> Result<Option<Value>, StoreFault>
+        requires runs { IsRunning (C.told chip.old).places self.old }
+        ensures calls { Calls (early_fault (entry_fault self.old.store)
+            (refuses_name (limits_of self.old.store.units) n)) (λ state. state) 14
+            self.old.store (C.told chip.old) result self.new.store (C.told chip.new) }
+        ensures committed { IfOk result (λ found. IsCommitted n self.old.store (C.told chip.old)
+            found) }
+    {
+        match self.store.committed(chip, n) {
+            Ok(found) => Ok(copied(found)),
+            Err(fault) => Err(fault),
+        }
+    }
+}
+
+impl ScriptStore {
+    /// What a session sees of a name.
+    pub(crate) fn get<C: Chip>(&mut self, chip: &mut C, s: u32, n: u32) -> Result<Reply, Fault>
+        requires runs { IsRunning (C.told chip.old).places self.old }
+        ensures { Does (command.Get s n) self.old (C.told chip.old) result self.new
+            (C.told chip.new) }
+    {
+        found_of(self.see(chip, s, n))
+    }
+
+    /// What a session sees of a name, which it shares then.
+    pub(crate) fn share<C: Chip>(&mut self, chip: &mut C, s: u32, n: u32) -> Result<Reply, Fault>
+        requires runs { IsRunning (C.told chip.old).places self.old }
+        ensures { Does (command.Share s n) self.old (C.told chip.old) result self.new
+            (C.told chip.new) }
+    {
+        found_of(self.see_shared(chip, s, n))
+    }
+    /// The committed record of a name, where there is one. A name that the chip hasn't has none.
+    pub(crate) fn look<C: Chip>(&mut self, chip: &mut C, n: u32) -> Result<Option<Value>, Fault>
+        requires runs { IsRunning (C.told chip.old).places self.old }
+        ensures { Finds n self.old (C.told chip.old) result self.new (C.told chip.new) }
+    {
+        looked_up(self.find(chip, n))
+    }
+}
