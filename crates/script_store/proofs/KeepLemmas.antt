@@ -1,19 +1,18 @@
 -- How the store of a script keeps a state, from how the store of records does.
-use Rattle.std.proofs.Common.{ℕ, ◌≡◌, ◌≤◌, ◌<◌, ◌+◌, ◌^◌, max, arith, Bool, true, false, ◌∷◌, [], Option, List, Result, MatchResult, Ok, Err, is_ok, if◌then◌else◌, refl, sym, ap, subst}
+use Rattle.std.proofs.Common.{ℕ, ◌≡◌, ◌≤◌, ◌<◌, ◌+◌, ◌^◌, max, arith, Bool, true, false, ◌∷◌, [], Option, List, Result, MatchResult, Ok, Err, is_ok, if◌then◌else◌, sym, ap, subst}
 use Rattle.std.specs.FinMap.{get}
 use Rattle.std.proofs.lemmas.Result.{on_err_weaker}
 use Rattle.chip_trait.specs.Story.{Contents}
-use Rattle.chip_trait.specs.Told.{History, Told, Unrisen}
-use Rattle.ipl_rules.specs.State.{State, Limits}
+use Rattle.chip_trait.specs.Told.{History, Told}
 use Rattle.ipl_model.specs.declared.command.Command.{Command}
 use Rattle.ipl_model.specs.declared.reply.Reply.{Reply}
 use Rattle.ipl_model.specs.Step.{step}
 use Rattle.store_trait.specs.declared.fault.Fault.{Fault}
 use Rattle.store_trait.specs.Keeping.{FOUND_NUMBER, LAST_NUMBER, WORK_DRAWS, LOOK_UP_DRAWS, Draws, WorkLeaves, Stays, Works, LooksUp}
-use Rattle.store_steps.specs.Keeps.{View, store_keeping}
+use Rattle.store_steps.specs.Keeps.{store_keeping}
 use Rattle.ipl_store.specs.Calls.{view_of, counter_of}
 use Rattle.script_store.specs.declared.store.ScriptStore.{ScriptStore}
-use Rattle.script_store.specs.Keeps.{KeepsScript, next_number, script_keeping}
+use Rattle.script_store.specs.Keeps.{next_number, script_keeping}
 
 -- ---- numbers
 

@@ -1,11 +1,11 @@
 -- A chip that is opened again is the work of a restart.
-use Rattle.std.proofs.Common.{ℕ, ◌≡◌, ◌≢◌, ◌⊎◌, inl, inr, ◌≤◌, ◌<◌, ◌+◌, ◌^◌, arith, Bool, true, false, [], Option, None, Some, Result, Ok, Err, MatchResult, IfErr, OnOk, if◌then◌else◌, refl, sym, ◌∙◌, ap, subst}
+use Rattle.std.proofs.Common.{ℕ, ◌≡◌, ◌≢◌, ◌⊎◌, inl, inr, ◌≤◌, ◌<◌, ◌+◌, ◌^◌, arith, Bool, true, false, [], None, Some, Result, Ok, Err, MatchResult, IfErr, OnOk, if◌then◌else◌, refl, sym, ◌∙◌, ap, subst}
 use Rattle.chip_trait.specs.Told.{History, Told, IsConsistent}
 use Rattle.ipl_base.specs.declared.fault.ChipFault.TheVariants.{ReadFault, Stopped, Damaged, Malformed}
 use Rattle.ipl_base.specs.declared.fault.ImageFault.{ImageFault}
 use Rattle.ipl_base.specs.declared.fault.ImageFault.TheVariants as image
 use Rattle.ipl_rules.specs.Operations.{after_restart}
-use Rattle.ipl_rules.specs.State.{Map, State, Limits}
+use Rattle.ipl_rules.specs.State.{Map}
 use Rattle.ipl_model.specs.declared.command.Command.TheVariants as command
 use Rattle.ipl_model.specs.declared.reply.Reply.{Reply}
 use Rattle.ipl_model.specs.declared.reply.Reply.TheVariants as reply
@@ -27,9 +27,9 @@ use Rattle.steps.specs.Laws.{Preserves}
 use Rattle.status_renewal.specs.Recovers.{IsOpeningFault, FailsByCallAlone, OpeningCause}
 use Rattle.status_renewal.proofs.ReadyLemmas.{layouts_say}
 use Rattle.store_trait.specs.declared.fault.Fault.{Fault}
-use Rattle.store_trait.specs.declared.fault.Fault.TheVariants.{Chip, Image, Spent}
+use Rattle.store_trait.specs.declared.fault.Fault.TheVariants.{Image}
 use Rattle.store_trait.specs.Keeping.{FOUND_NUMBER, WORK_DRAWS, ChipRose, Works}
-use Rattle.store_steps.specs.Advances.{memory_of, MemoryFitsStory, TurnsMapOf}
+use Rattle.store_steps.specs.Advances.{memory_of, TurnsMapOf}
 use Rattle.store_steps.specs.Keeps.{View, ImageCause, DrawsFew, IsExcused, ShowsState, store_keeping}
 use Rattle.store_steps.proofs.AdvanceLemmas.{answers_advance}
 use Rattle.store_steps.proofs.KeepLemmas.{leads_are_work}
@@ -37,7 +37,7 @@ use Rattle.store_steps.proofs.FaultLemmas.{faults_that_leave_down}
 use Rattle.ipl_store.specs.Calls.{memory_of_store, view_of, counter_of, IsSound}
 use Rattle.ipl_store.specs.Openings.{Opens, Reopens, Restarts, Tries}
 use Rattle.script_store.specs.declared.store.ScriptStore.{ScriptStore}
-use Rattle.script_store.specs.Keeps.{IsRunning, KeepsScript, next_number, script_keeping, Does}
+use Rattle.script_store.specs.Keeps.{IsRunning, next_number, script_keeping, Does}
 use Rattle.script_store.proofs.KeepLemmas.{counted_few, works_so, draws_found}
 
 -- ---- what is to be known of the opening besides

@@ -1,5 +1,5 @@
 -- Looking records up: what sessions see, and what is committed.
-use Rattle.std.proofs.Common.{ℕ, ◌≡◌, ◌⊎◌, inl, inr, ◌≤◌, ◌<◌, ◌*◌, ◌+◌, arith, Bool, true, false, nat_le, nat_lt, Option, None, Some, List, ◌∷◌, [], Result, Ok, Err, IfOk, is_ok, if◌then◌else◌, refl, sym, ◌∙◌, ap, subst}
+use Rattle.std.proofs.Common.{ℕ, ◌≡◌, ◌⊎◌, inl, inr, ◌≤◌, ◌<◌, ◌*◌, ◌+◌, arith, Bool, true, false, nat_le, Option, None, Some, List, ◌∷◌, [], Result, Ok, Err, IfOk, if◌then◌else◌, refl, sym, ap, subst}
 use Rattle.std.proofs.lemmas.Bool.Decides.{nat_tests}
 use Rattle.chip_trait.specs.Story.{Contents}
 use Rattle.chip_trait.specs.Told.{History, Told, Counts, IsConsistent}
@@ -11,18 +11,16 @@ use Rattle.ipl_base.specs.declared.fault.StoreFault.{StoreFault}
 use Rattle.ipl_base.specs.declared.fault.StoreFault.TheVariants as store
 use Rattle.ipl_rules.specs.State.{State, Limits, see}
 use Rattle.ipl_model.specs.declared.command.Command.TheVariants as command
-use Rattle.ipl_model.specs.declared.reply.Reply.{Reply}
 use Rattle.ipl_model.specs.declared.reply.Reply.TheVariants as reply
 use Rattle.ipl_model.specs.Step.{found_reply}
 use Rattle.unit_io.specs.Reads.{OfContents}
 use Rattle.page_frames.specs.Pages.{PageCause}
-use Rattle.store_trait.specs.declared.fault.Fault.{Fault}
 use Rattle.store_trait.specs.declared.fault.Fault.TheVariants.{Chip, Spent}
-use Rattle.store_trait.specs.Keeping.{LAST_NUMBER, WORK_DRAWS, LOOK_UP_DRAWS, WorkLeaves, Works, LooksUp}
+use Rattle.store_trait.specs.Keeping.{LAST_NUMBER, LOOK_UP_DRAWS, WorkLeaves, Works, LooksUp}
 use Rattle.store_steps.specs.Advances.{TurnsMapOf}
 use Rattle.store_steps.specs.Keeps.{View, limits_of, ShowsState, store_keeping}
 use Rattle.store_steps.proofs.AdvanceLemmas.{answers_advance}
-use Rattle.store_steps.proofs.KeepLemmas.{IsAt, is_at, at_limits, leads_are_work}
+use Rattle.store_steps.proofs.KeepLemmas.{is_at, at_limits, leads_are_work}
 use Rattle.store_steps.proofs.FaultLemmas.{idle_faults_look_up}
 use Rattle.ipl_store.specs.declared.store.Store.{Store}
 use Rattle.ipl_store.specs.Calls.{memory_of_store, view_of, counter_of, IsSound, early_fault, entry_fault, refuses_name, Serves, Calls}

@@ -1,5 +1,5 @@
 -- Calls of the store are the work of their commands.
-use Rattle.std.proofs.Common.{ℕ, ◌≡◌, ◌≢◌, ◌⊎◌, inl, inr, ◌≤◌, ◌<◌, ◌+◌, arith, Bool, true, false, nat_lt, ◌∷◌, [], Option, None, Some, Result, Ok, Err, IfOk, IfErr, if◌then◌else◌, refl, sym, ◌∙◌, ap, subst}
+use Rattle.std.proofs.Common.{ℕ, ◌≡◌, ◌⊎◌, inl, inr, ◌≤◌, ◌<◌, ◌+◌, arith, Bool, true, false, nat_lt, ◌∷◌, [], Option, None, Some, Result, Ok, Err, IfOk, if◌then◌else◌, refl, sym, ◌∙◌, ap, subst}
 use Rattle.std.proofs.lemmas.Bool.Decides.{nat_tests}
 use Rattle.chip_trait.specs.Told.{Told, Counts, IsConsistent}
 use Rattle.chip_trait.proofs.CountsLemmas.{counts_none}
@@ -20,7 +20,7 @@ use Rattle.store_trait.specs.declared.fault.Fault.{Fault}
 use Rattle.store_trait.specs.declared.fault.Fault.TheVariants.{Chip, Spent}
 use Rattle.store_trait.specs.Keeping.{LAST_NUMBER, WORK_DRAWS, ChipRose}
 use Rattle.store_steps.specs.Advances.{TurnsMapOf, LeadsTo}
-use Rattle.store_steps.specs.Keeps.{View, limits_of, ShowsState, KeepsStore, StoreCause}
+use Rattle.store_steps.specs.Keeps.{View, limits_of, ShowsState, StoreCause}
 use Rattle.store_steps.proofs.AdvanceLemmas.{answers_advance}
 use Rattle.store_steps.proofs.LeadLemmas.{next_states_are_alike}
 use Rattle.store_steps.proofs.RefusalLemmas.{refusals_answer, accepted_are_done, refusals_lead, accepted_lead}
@@ -236,49 +236,3 @@ module _ {T : Type 0} (say : T → Reply) (c : Command) (refusal : Option Refusa
       b.store after → Does c a before (answer_of say result) b after
   ends_do calls = by_entry (down_fault a.store)
       (inl (ap (λ (down : Bool). if down then Some store.Down else None) runs.up)) calls
-
--- ---- a store that isn't down
-
-module _ {T : Type 0} (refusal : Option Refusal) (next : State → State) (most : ℕ)
-    (a b : ScriptStore) (before after : Told) (result : Result T StoreFault)
-    (up : a.store.down ≡ false) where
-  abbrev err : StoreFault → Result T StoreFault
-  err fault = Err fault
-
-  served_up : (r : Result T StoreFault) → Serves next most a.store before r b.store after
-      → r ≡ Err store.Down → ⊥
-  served_up (Ok found) did is = absurd (cc is)
-  served_up (Err fault) did is =
-      let (e, is_chip, cause, stopped) = did.ends in
-      let no : err (store.Chip e) ≡ err store.Down = ap err (sym is_chip) ∙ is in absurd (cc no)
-
-  early_up : (fault : StoreFault) → fault ≢ store.Down → result ≡ Err fault
-      → result ≡ Err store.Down → ⊥
-  early_up fault other was is =
-      let no : err fault ≡ err store.Down = sym was ∙ is in other (cc no)
-
-  by_refused : (r : Option Refusal)
-      → Calls (early_fault None r) next most a.store before result b.store after
-      → result ≡ Err store.Down → ⊥
-  by_refused (Some r) calls =
-      early_up (store.Refused r) (λ no. absurd (cc no)) (calls.refuses (store.Refused r) refl).0
-  by_refused None calls = served_up result (calls.serves refl)
-
-  by_entered : (entry : Option StoreFault) → IsEntry a entry
-      → Calls (early_fault entry refusal) next most a.store before result b.store after
-      → result ≡ Err store.Down → ⊥
-  by_entered entry (inl none) calls = by_refused refusal
-      (subst (λ (o : Option StoreFault). Calls (early_fault o refusal) next most a.store before
-      result b.store after) none calls)
-  by_entered entry (inr (is, late)) calls = early_up store.Spent (λ no. absurd (cc no))
-      (calls.refuses store.Spent (ap (λ (o : Option StoreFault). early_fault o refusal) is)).0
-
-  -- a call doesn't find it down
-  pub calls_up : Calls (early_fault (entry_fault a.store) refusal) next most a.store before result
-      b.store after → result ≢ Err store.Down
-  calls_up calls = by_entered (entry_fault a.store) (up_entry a up) calls
-
-  pub ends_up : Calls (early_fault (down_fault a.store) refusal) next most a.store before result
-      b.store after → result ≢ Err store.Down
-  ends_up calls = by_entered (down_fault a.store)
-      (inl (ap (λ (down : Bool). if down then Some store.Down else None) up)) calls

@@ -1,9 +1,8 @@
 -- How the store that a run of a script works with keeps a state, and what the work of each command
 -- leaves of it.
-use Rattle.std.specs.Prelude.{ℕ, ◌≡◌, ◌≤◌, ◌+◌, Bool, false, List, Option, None, Result, Ok, Err, IfErr, OnOk, IsErrOf, if◌then◌else◌}
+use Rattle.std.specs.Prelude.{ℕ, ◌≡◌, ◌≤◌, ◌+◌, false, List, Option, None, Result, Ok, Err, IfErr, OnOk, IsErrOf, if◌then◌else◌}
 use Rattle.chip_trait.specs.Chart.{says}
-use Rattle.chip_trait.specs.Moment.{Leaves}
-use Rattle.chip_trait.specs.Told.{History, Told, Counts}
+use Rattle.chip_trait.specs.Told.{Told, Counts}
 use Rattle.ipl_base.specs.declared.fault.StoreFault.{StoreFault}
 use Rattle.ipl_base.specs.declared.fault.StoreFault.TheVariants as store
 use Rattle.ipl_base.specs.declared.limits.TheConstants.{RESERVED_PLACES}
@@ -19,7 +18,7 @@ use Rattle.store_trait.specs.declared.fault.Fault.{Fault}
 use Rattle.store_trait.specs.declared.fault.Fault.TheVariants.{Chip, Spent}
 use Rattle.store_trait.specs.Onward.{Still}
 use Rattle.store_trait.specs.Keeping.{Keeping, WORK_DRAWS, LOOK_UP_DRAWS, Draws, Works, LooksUp}
-use Rattle.store_steps.specs.Keeps.{View, KeepsStore, StoreCause, keeps_each, keeps_still, cause_longer}
+use Rattle.store_steps.specs.Keeps.{KeepsStore, StoreCause, keeps_each, keeps_still, cause_longer}
 use Rattle.ipl_store.specs.Calls.{view_of, counter_of, IsSound}
 use Rattle.script_store.specs.declared.store.ScriptStore.{ScriptStore}
 

@@ -18,12 +18,7 @@ use store_trait::Fault;
 
 impl ScriptStore {
     /// What a session sees of a name, as a value of its own.
-    fn see<C: Chip>(
-        &mut self,
-        chip: &mut C,
-        s: u32,
-        n: u32,
-    ) -> Result<Option<Value>, StoreFault>
+    fn see<C: Chip>(&mut self, chip: &mut C, s: u32, n: u32) -> Result<Option<Value>, StoreFault>
         requires runs { IsRunning (C.told chip.old).places self.old }
         ensures calls { Calls (early_fault (entry_fault self.old.store)
             (refuses_get (limits_of self.old.store.units)
@@ -92,6 +87,7 @@ impl ScriptStore {
     {
         found_of(self.see_shared(chip, s, n))
     }
+
     /// The committed record of a name, where there is one. A name that the chip hasn't has none.
     pub(crate) fn look<C: Chip>(&mut self, chip: &mut C, n: u32) -> Result<Option<Value>, Fault>
         requires runs { IsRunning (C.told chip.old).places self.old }

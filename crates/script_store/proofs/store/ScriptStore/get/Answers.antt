@@ -1,4 +1,4 @@
-use Rattle.std.proofs.Common.{◌≡◌, ◌∙◌, List, Result, arith, refl, sym, ap, subst}
+use Rattle.std.proofs.Common.{Result, arith, refl, sym, subst}
 use Rattle.ipl_model.specs.declared.command.Command.TheVariants as command
 use Rattle.ipl_model.specs.declared.reply.Reply.{Reply}
 use Rattle.ipl_model.specs.Step.{found_reply}

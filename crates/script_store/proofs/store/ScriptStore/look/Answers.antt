@@ -1,4 +1,4 @@
-use Rattle.std.proofs.Common.{List, Option, Result, ℕ, ◌≡◌, sym, subst}
+use Rattle.std.proofs.Common.{List, Option, Result, ℕ, sym, subst}
 use Rattle.store_trait.specs.declared.fault.Fault.{Fault}
 use Rattle.script_store.specs.Keeps.{Finds}
 use Rattle.script_store.proofs.SeeLemmas.{call_finds}

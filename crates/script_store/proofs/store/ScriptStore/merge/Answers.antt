@@ -1,9 +1,8 @@
-use Rattle.std.proofs.Common.{◌≡◌, Result, arith, refl, sym, subst}
+use Rattle.std.proofs.Common.{Result, arith, refl, sym, subst}
 use Rattle.ipl_model.specs.declared.command.Command.TheVariants as command
 use Rattle.ipl_model.specs.declared.reply.Reply.{Reply}
 use Rattle.ipl_model.specs.declared.reply.Reply.TheVariants as reply
 use Rattle.ipl_rules.specs.Refusals.{refuses_merge}
-use Rattle.record_locks.specs.Standing.{state_of}
 use Rattle.store_trait.specs.declared.fault.Fault.{Fault}
 use Rattle.store_steps.specs.Keeps.{limits_of}
 use Rattle.ipl_store.proofs.CallLemmas.{on_ok}

@@ -1,4 +1,4 @@
-use Rattle.std.proofs.Common.{Bor, List, Option, ℕ, ◌≡◌, option_map, sym, subst}
+use Rattle.std.proofs.Common.{Bor, List, ℕ, option_map, sym, subst}
 use Rattle.ipl_rules.specs.Refusals.{refuses_get}
 use Rattle.record_locks.specs.Standing.{state_of}
 use Rattle.store_steps.specs.Keeps.{limits_of}
