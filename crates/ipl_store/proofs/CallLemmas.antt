@@ -22,7 +22,7 @@ use Rattle.store_steps.proofs.KeeperLemmas.{nothing_keeps_states}
 use Rattle.store_steps.proofs.LeadLemmas.{keepers_lead_still}
 use Rattle.page_frames.specs.declared.pages.Pages.{Pages}
 use Rattle.page_frames.specs.Complete.{Completes}
-use Rattle.page_frames.specs.Pages.{PageCause, Upholds}
+use Rattle.page_frames.specs.Pages.{IsFramed, KeepsFramed, PageCause, Upholds}
 use Rattle.transactions.specs.declared.transactions.Transactions.{Transactions}
 use Rattle.transactions.specs.Turns.{memory_in, IsInOrder, Turns, TurnsInMemory}
 use Rattle.ipl_store.specs.declared.store.Store.{Store}
@@ -291,6 +291,26 @@ done_ends P (Ok v) was is result ends did =
     subst (λ (r : Result (Unit {0}) StoreFault). OnOk r P) (sym ends.0) did
 done_ends P (Err e) was is result ends did =
     subst (λ (r : Result (Unit {0}) StoreFault). OnOk r P) (sym ends.0) tt
+
+-- pages that stay in their frames
+pub kept_framed : (old new : Store) (t : Transactions) (kept : List ℕ)
+    → new ≡ record old { transactions = t; kept = kept; down = new.down }
+    → KeepsFramed old.transactions.pages t.pages
+    → KeepsFramed old.transactions.pages new.transactions.pages
+kept_framed old new t kept rest framed =
+    subst (λ (it : Transactions). KeepsFramed old.transactions.pages it.pages)
+    (sym (ap (λ (s : Store). s.transactions) rest)) framed
+
+-- a page that the work leaves in a frame
+pub ended_framed : (u page : ℕ) (old new : Store) (t : Transactions) (kept : List ℕ)
+    (done : Result (Unit {0}) ChipFault) (result : Result (Unit {0}) StoreFault)
+    → new ≡ record old { transactions = t; kept = kept; down = new.down }
+    → EndsAs done old.down result new.down → OnOk done (IsFramed t.pages u page)
+    → OnOk result (IsFramed new.transactions.pages u page)
+ended_framed u page old new t kept done result rest ends framed =
+    done_ends (IsFramed new.transactions.pages u page) done old.down new.down result ends
+    (subst (λ (it : Transactions). OnOk done (IsFramed it.pages u page))
+    (sym (ap (λ (s : Store). s.transactions) rest)) framed)
 
 -- ---- a call that keeps each state, and then one in memory
 

@@ -4,6 +4,7 @@ ghost use Rattle.ipl_rules.specs.Operations.{after_begin, after_abort};
 ghost use Rattle.ipl_rules.specs.Refusals.{refuses_begin, refuses_end};
 ghost use Rattle.record_locks.specs.Standing.{state_of};
 ghost use Rattle.store_steps.specs.Keeps.{limits_of};
+ghost use Rattle.page_frames.specs.Pages.{KeepsFramed};
 ghost use Rattle.ipl_store.specs.Calls.{
   IsSound,
   KeepsHolds,
@@ -27,6 +28,7 @@ impl Store {
             (λ state. after_begin state s) 1
             self.old (C.told _chip.old) result self.new (C.told _chip.new) }
         ensures holds { KeepsHolds self.old self.new }
+        ensures framed { KeepsFramed self.old.transactions.pages self.new.transactions.pages }
         ensures idle { C.told _chip.new ≡ C.told _chip.old }
     {
         self.admit(self.refuses_begin(s))?;
@@ -43,6 +45,7 @@ impl Store {
             (λ state. after_abort state s) 0
             self.old (C.told _chip.old) result self.new (C.told _chip.new) }
         ensures holds { KeepsHolds self.old self.new }
+        ensures framed { KeepsFramed self.old.transactions.pages self.new.transactions.pages }
         ensures idle { C.told _chip.new ≡ C.told _chip.old }
     {
         self.admit_end(self.refuses_end(s))?;

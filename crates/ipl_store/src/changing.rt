@@ -1,13 +1,15 @@
 //! Sessions change names, and are committed.
-ghost use Rattle.std.specs.Prelude.{◌≡◌, ◌<◌, ◌^◌, [], Some, None};
+ghost use Rattle.std.specs.Prelude.{◌≡◌, ◌<◌, ◌^◌, [], Some, None, OnOk};
 ghost use Rattle.unit_io.specs.Costs.{Spends};
 ghost use Rattle.txn_status.specs.Status.{room_of};
+ghost use Rattle.ipl_base.specs.Places.{home_of};
 ghost use Rattle.ipl_rules.specs.Operations.{after_write, after_commit};
 ghost use Rattle.ipl_rules.specs.Refusals.{refuses_put, refuses_del, refuses_end};
 ghost use Rattle.record_locks.specs.Held.{written_of};
 ghost use Rattle.record_locks.specs.Standing.{state_of};
 ghost use Rattle.store_steps.specs.Keeps.{limits_of};
 ghost use Rattle.page_writing.specs.Spending.{ErasesAndLogs};
+ghost use Rattle.page_frames.specs.Pages.{IsFramed, KeepsFramed};
 ghost use Rattle.transactions.specs.Costs.{framed_pages, CommitCosts};
 ghost use Rattle.ipl_store.specs.Calls.{IsSound, KeepsHolds, Calls, early_fault, entry_fault};
 
@@ -33,6 +35,8 @@ impl Store {
             s n value.now)) (λ state. after_write state s (n, Some value.now)) 14
             self.old (C.told chip.old) result self.new (C.told chip.new) }
         ensures holds { KeepsHolds self.old self.new }
+        ensures framed { OnOk result
+            (IsFramed self.new.transactions.pages (home_of n).unit (home_of n).page) }
         ensures costs { Spends (ErasesAndLogs self.old.transactions.pages.parts.directory)
             (C.told chip.old) (C.told chip.new) }
     {
@@ -55,6 +59,8 @@ impl Store {
             (λ state. after_write state s (n, None)) 14
             self.old (C.told chip.old) result self.new (C.told chip.new) }
         ensures holds { KeepsHolds self.old self.new }
+        ensures framed { OnOk result
+            (IsFramed self.new.transactions.pages (home_of n).unit (home_of n).page) }
         ensures costs { Spends (ErasesAndLogs self.old.transactions.pages.parts.directory)
             (C.told chip.old) (C.told chip.new) }
     {
@@ -73,6 +79,7 @@ impl Store {
             (λ state. after_commit state s) (2 ^ 15)
             self.old (C.told chip.old) result self.new (C.told chip.new) }
         ensures holds { KeepsHolds self.old self.new }
+        ensures framed { KeepsFramed self.old.transactions.pages self.new.transactions.pages }
         ensures idle { written_of self.old.transactions.sessions s ≡ []
             → C.told chip.new ≡ C.told chip.old }
         // Where the status place has a clean sector.

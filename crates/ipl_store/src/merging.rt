@@ -4,6 +4,7 @@ ghost use Rattle.unit_io.specs.Costs.{Spends};
 ghost use Rattle.ipl_rules.specs.Refusals.{refuses_merge};
 ghost use Rattle.selective_merge.specs.Spending.{ErasesFor};
 ghost use Rattle.store_steps.specs.Keeps.{limits_of};
+ghost use Rattle.page_frames.specs.Pages.{KeepsFramed};
 ghost use Rattle.ipl_store.specs.Calls.{
   IsSound,
   KeepsHolds,
@@ -25,6 +26,7 @@ impl Store {
             (refuses_merge (limits_of self.old.units) unit)) (λ state. state) 13
             self.old (C.told chip.old) result self.new (C.told chip.new) }
         ensures holds { KeepsHolds self.old self.new }
+        ensures framed { KeepsFramed self.old.transactions.pages self.new.transactions.pages }
         // Done, three log sectors of the unit's place at least are clean.
         ensures room { OnOk result
             (slice_index self.new.transactions.pages.parts.directory.written unit ≤ 12) }

@@ -20,3 +20,9 @@ returns-clause-calls g c =
     (g.C.Chip.told c.args._chip.now) (early_fault (down_fault store) refusal) c.requires.sound up
     c.abort.ensures.turns (omega (arith, c.abort.ensures.drawn))
     (omega (arith, c.abort.ensures.drawn)) none
+
+pub returns-in_err-admit_end-clause-framed : goal.returns-in_err-admit_end-clause-framed
+returns-in_err-admit_end-clause-framed g c = λ u page is. is
+
+pub returns-clause-framed : goal.returns-clause-framed
+returns-clause-framed g c = c.abort.ensures.framed

@@ -20,3 +20,9 @@ returns-clause-calls g c =
     (g.C.Chip.told c.args._chip.now) (early_fault (entry_fault store) refusal) c.requires.sound up
     c.begin.ensures.turns (omega (arith, c.begin.ensures.drawn))
     (omega (arith, c.begin.ensures.drawn)) none
+
+pub returns-in_err-admit-clause-framed : goal.returns-in_err-admit-clause-framed
+returns-in_err-admit-clause-framed g c = λ u page is. is
+
+pub returns-clause-framed : goal.returns-clause-framed
+returns-clause-framed g c = c.begin.ensures.framed

@@ -1,8 +1,6 @@
-use Rattle.std.proofs.Common.{None, OnOk, refl, sym, ap, subst}
-use Rattle.page_frames.specs.declared.pages.Pages.{Pages}
-use Rattle.page_frames.specs.Pages.{IsFramed}
-use Rattle.ipl_store.specs.declared.store.Store.{Store}
-use Rattle.ipl_store.proofs.CallLemmas.{pages_move, moved_calls, kept_holds, done_ends}
+use Rattle.std.proofs.Common.{None, refl, sym, subst}
+use Rattle.page_frames.specs.Pages.{KeepsFramed}
+use Rattle.ipl_store.proofs.CallLemmas.{pages_move, moved_calls, kept_holds, kept_framed, ended_framed}
 use Rattle.ipl_store.proofs.store.Store.bring_page.Goals as goal
 
 pub returns-clause-calls : goal.returns-clause-calls
@@ -27,8 +25,13 @@ returns-clause-holds g c =
 pub returns-clause-framed : goal.returns-clause-framed
 returns-clause-framed g c =
     let store = c.args.self.now in
-    done_ends (IsFramed c.end.new.self.transactions.pages c.args.unit c.args.page)
-    c.bring-done.result store.down c.end.new.self.down c.end.result c.end.ensures.ends
-    (subst (λ (p : Pages). OnOk c.bring-done.result (IsFramed p c.args.unit c.args.page))
-    (sym (ap (λ (s : Store). s.transactions.pages) c.end.ensures.rest))
-    c.bring-done.ensures.there)
+    ended_framed c.args.unit c.args.page store c.end.new.self
+    (record store.transactions { pages = c.bring-done.new.self }) store.kept c.bring-done.result
+    c.end.result c.end.ensures.rest c.end.ensures.ends c.bring-done.ensures.there
+
+pub returns-clause-stays : goal.returns-clause-stays
+returns-clause-stays g c = λ there.
+    let store = c.args.self.now in
+    kept_framed store c.end.new.self (record store.transactions { pages = c.bring-done.new.self })
+    store.kept c.end.ensures.rest (subst (KeepsFramed store.transactions.pages)
+    (sym (c.bring-done.ensures.idle there).0) (λ u page is. is))

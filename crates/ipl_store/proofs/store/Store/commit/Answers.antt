@@ -4,7 +4,7 @@ use Rattle.ipl_rules.specs.Refusals.{refuses_end}
 use Rattle.record_locks.specs.Standing.{state_of}
 use Rattle.store_steps.specs.Keeps.{limits_of}
 use Rattle.ipl_store.specs.Calls.{early_fault, entry_fault}
-use Rattle.ipl_store.proofs.CallLemmas.{let_in, turns_move, moved_calls, kept_holds}
+use Rattle.ipl_store.proofs.CallLemmas.{let_in, turns_move, moved_calls, kept_holds, kept_framed}
 use Rattle.ipl_store.proofs.store.Store.commit.Goals as goal
 
 pub returns-clause-calls : goal.returns-clause-calls
@@ -29,3 +29,10 @@ returns-clause-calls g c =
 pub returns-clause-holds : goal.returns-clause-holds
 returns-clause-holds g c = kept_holds c.args.self.now c.end.new.self c.commit-done.new.self
     c.commit-done.new.kept c.end.ensures.rest c.commit-done.ensures.turns.pins
+
+pub returns-in_err-admit-clause-framed : goal.returns-in_err-admit-clause-framed
+returns-in_err-admit-clause-framed g c = λ u page is. is
+
+pub returns-clause-framed : goal.returns-clause-framed
+returns-clause-framed g c = kept_framed c.args.self.now c.end.new.self c.commit-done.new.self
+    c.commit-done.new.kept c.end.ensures.rest c.commit-done.ensures.framed

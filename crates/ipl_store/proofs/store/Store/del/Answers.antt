@@ -1,10 +1,11 @@
 use Rattle.std.proofs.Common.{◌≡◌, ◌∙◌, None, sym, ap}
+use Rattle.ipl_base.specs.Places.{home_of}
 use Rattle.ipl_rules.specs.Operations.{after_write}
 use Rattle.ipl_rules.specs.Refusals.{refuses_del}
 use Rattle.record_locks.specs.Standing.{state_of}
 use Rattle.store_steps.specs.Keeps.{limits_of}
 use Rattle.ipl_store.specs.Calls.{early_fault, entry_fault}
-use Rattle.ipl_store.proofs.CallLemmas.{let_in, turns_move, moved_calls, kept_holds}
+use Rattle.ipl_store.proofs.CallLemmas.{let_in, turns_move, moved_calls, kept_holds, ended_framed}
 use Rattle.ipl_store.proofs.store.Store.del.Goals as goal
 
 pub returns-clause-calls : goal.returns-clause-calls
@@ -29,3 +30,8 @@ returns-clause-calls g c =
 pub returns-clause-holds : goal.returns-clause-holds
 returns-clause-holds g c = kept_holds c.args.self.now c.end.new.self c.write-done.new.self
     c.args.self.now.kept c.end.ensures.rest c.write-done.ensures.turns.pins
+
+pub returns-clause-framed : goal.returns-clause-framed
+returns-clause-framed g c = ended_framed (home_of c.args.n).unit (home_of c.args.n).page
+    c.args.self.now c.end.new.self c.write-done.new.self c.args.self.now.kept c.write-done.result
+    c.end.result c.end.ensures.rest c.end.ensures.ends c.write-done.ensures.framed

@@ -78,3 +78,17 @@ keep-requires-clause-few g c =
       c.bring_page.ensures.holds.limit,
       as_many pool c.bring_page.new.self.transactions.pages.pool c.bring_page.ensures.holds,
     )
+
+pub returns-in_err-admit-clause-stays : goal.returns-in_err-admit-clause-stays
+returns-in_err-admit-clause-stays g c = λ there u page is. is
+
+pub returns-then-is_held-clause-stays : goal.returns-then-is_held-clause-stays
+returns-then-is_held-clause-stays g c = λ there u page is. is
+
+pub returns-in_err-bring_page-clause-stays : goal.returns-in_err-bring_page-clause-stays
+returns-in_err-bring_page-clause-stays g c = c.in_err-bring_page.ensures.stays
+
+pub returns-clause-stays : goal.returns-clause-stays
+returns-clause-stays g c = λ there u page is.
+    subst (λ (f : Frames). IsSome (f u page)) (sym c.keep.ensures.pool.frames)
+    (c.in_ok-bring_page.ensures.stays there u page is)

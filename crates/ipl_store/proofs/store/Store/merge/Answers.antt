@@ -2,7 +2,7 @@ use Rattle.std.proofs.Common.{◌≡◌, ◌∙◌, None, sym, ap}
 use Rattle.ipl_rules.specs.Refusals.{refuses_merge}
 use Rattle.store_steps.specs.Keeps.{limits_of}
 use Rattle.ipl_store.specs.Calls.{early_fault, entry_fault}
-use Rattle.ipl_store.proofs.CallLemmas.{let_in, pages_move, moved_calls, kept_holds}
+use Rattle.ipl_store.proofs.CallLemmas.{let_in, pages_move, moved_calls, kept_holds, kept_framed}
 use Rattle.ipl_store.proofs.store.Store.merge.Goals as goal
 
 pub returns-clause-calls : goal.returns-clause-calls
@@ -28,3 +28,12 @@ returns-clause-holds g c =
     let store = c.args.self.now in
     kept_holds store c.end.new.self (record store.transactions { pages = c.merge-done.new.self })
     store.kept c.end.ensures.rest c.merge-done.ensures.upholds.pins
+
+pub returns-in_err-admit-clause-framed : goal.returns-in_err-admit-clause-framed
+returns-in_err-admit-clause-framed g c = λ u page is. is
+
+pub returns-clause-framed : goal.returns-clause-framed
+returns-clause-framed g c =
+    let store = c.args.self.now in
+    kept_framed store c.end.new.self (record store.transactions { pages = c.merge-done.new.self })
+    store.kept c.end.ensures.rest c.merge-done.ensures.framed

@@ -1,4 +1,5 @@
-use Rattle.std.proofs.Common.{◌≡◌, ◌∙◌, None, sym, ap}
+use Rattle.std.proofs.Common.{◌≡◌, ◌∙◌, None, sym, ap, subst, IsSome}
+use Rattle.pending_writes.specs.Frames.{Frames}
 use Rattle.ipl_store.specs.Calls.{early_fault, down_fault, refuses_release}
 use Rattle.ipl_store.proofs.CallLemmas.{let_in_down, idle_calls}
 use Rattle.ipl_store.proofs.HoldLemmas.{repooled_calls}
@@ -17,3 +18,10 @@ returns-clause-calls g c =
     let (up, free) = let_in_down store refusal none in
     repooled_calls early (λ state. state) 0 store told store c.let_go.new.self told none
     c.let_go.ensures.pool (idle_calls 0 store told early c.requires.sound up none)
+
+pub returns-in_err-admit_end-clause-framed : goal.returns-in_err-admit_end-clause-framed
+returns-in_err-admit_end-clause-framed g c = λ u page is. is
+
+pub returns-clause-framed : goal.returns-clause-framed
+returns-clause-framed g c = λ u page is.
+    subst (λ (f : Frames). IsSome (f u page)) (sym c.let_go.ensures.pool.frames) is
