@@ -9,5 +9,6 @@ pub mod OutLemmas
 pub mod LeaveLemmas
 pub mod LoadLemmas
 pub mod BringLemmas
+pub mod ChangedLemmas
 pub mod OutAllLemmas
 pub mod CompleteLemmas

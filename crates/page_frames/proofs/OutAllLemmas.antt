@@ -24,7 +24,8 @@ use Rattle.frame_changes.proofs.FrameLemmas.{frame_found}
 use Rattle.page_frames.proofs.HeldLemmas.{none_some}
 use Rattle.page_frames.specs.declared.pages.Pages.{Pages}
 use Rattle.page_frames.specs.Pages.{frames_in, KeepsFramed, IsReady, Upholds, emptied}
-use Rattle.page_frames.specs.Changed.{is_home, is_on_page}
+use Rattle.page_frames.specs.Changed.{is_home, is_on_page, changed_pages}
+use Rattle.page_frames.proofs.ChangedLemmas.{changed_below, SpendsOn, none_below, costs_more, spends_passed, spends_more, spends_all}
 use Rattle.page_frames.proofs.FrameLemmas.{emptied_out}
 use Rattle.page_frames.proofs.FramedLemmas.{out_framed}
 use Rattle.page_frames.proofs.UpholdLemmas.{upholds_none, upholds_then, upholds_weaker}
@@ -44,6 +45,9 @@ pub record IsOutBelow (n : ℕ) (names : List ℕ) (first : Pages) (before : Tol
   pub out : AreOutBelow n names first.pool.order (frames_in now)
   pub framed : KeepsFramed first now
   pub costs : Spends (Costs n n (3 * n) (5 ∷ [])) before after
+  pub still : (u page : ℕ) → logs_of (frames_in first) u page ≡ []
+      → logs_of (frames_in now) u page ≡ []
+  pub spends : SpendsOn (changed_below n names (frames_in first) first.pool.order) before after
 
 pub none_out : (names : List ℕ) (first : Pages) (before : Told) → IsReady before.places first
     → IsOutBelow 0 names first before first before
@@ -54,6 +58,8 @@ none_out names first before ready = record {
   out = λ u page k few less. absurd (omega (arith, less));
   framed = λ u page is. is;
   costs = spends_none (Costs 0 0 0 (5 ∷ [])) before (costs_none (5 ∷ []));
+  still = λ u page none. none;
+  spends = none_below names first.pool.order (frames_in first) before;
 }
 
 -- ---- one page more
@@ -101,10 +107,11 @@ one_more n u page names order frames later few at still here out v q k less belo
 
 -- the page is none of the names'
 pub passed_out : (n u page : ℕ) (names : List ℕ) (first : Pages) (before : Told) (now : Pages)
-    (after : Told) → page < 15 → page_number u page ≡ slice_index_or now.pool.order n 0
+    (after : Told) → n < length first.pool.order → page < 15
+    → page_number u page ≡ slice_index_or now.pool.order n 0
     → is_on_page names u page ≡ false → IsOutBelow n names first before now after
     → IsOutBelow (n + 1) names first before now after
-passed_out n u page names first before now after few at off so_far = record {
+passed_out n u page names first before now after less few at off so_far = record {
   upholds = upholds_weaker (14 * n) (14 * (n + 1)) first now (Ok tt) before after (omega arith)
       so_far.upholds;
   order = so_far.order;
@@ -116,30 +123,24 @@ passed_out n u page names first before now after few at off so_far = record {
   costs = spends_weaker (Costs n n (3 * n) (5 ∷ [])) (Costs (n + 1) (n + 1) (3 * (n + 1)) (5 ∷ []))
       before after (λ added costs. costs_at_most n (n + 1) n (n + 1) (3 * n) (3 * (n + 1)) (5 ∷ [])
       (5 ∷ []) added (omega arith) (omega arith) (omega arith) (λ kind has. has) costs) so_far.costs;
+  still = so_far.still;
+  spends = spends_passed n u page names first.pool.order (frames_in first) before after less few
+      (at ∙ ap (λ (l : List ℕ). slice_index_or l n 0) so_far.order) off so_far.spends;
 }
 
--- or it is written out, however that ends
-costs_more : (n : ℕ) (before mid after : Told) (t : Places)
-    → Spends (Costs n n (3 * n) (5 ∷ [])) before mid → Spends (ErasesAndLogs t) mid after
-    → Spends (Costs (n + 1) (n + 1) (3 * (n + 1)) (5 ∷ [])) before after
-costs_more n before mid after t = spends_then (Costs n n (3 * n) (5 ∷ [])) (ErasesAndLogs t)
-    (Costs (n + 1) (n + 1) (3 * (n + 1)) (5 ∷ [])) before mid after (λ later earlier one two.
-    costs_at_most (n + 1) (n + 1) (n + 1) (n + 1) (3 * n + 3) (3 * (n + 1)) (5 ∷ []) (5 ∷ [])
-    (later ++ earlier) (omega arith) (omega arith) (omega arith) (λ kind has. has)
-    (costs_then n 1 n 1 (3 * n) 3 (5 ∷ []) later earlier one two.costs))
-
--- done
+-- or it is written out
 pub written_out : (n u page : ℕ) (names : List ℕ) (first : Pages) (before : Told) (mid : Pages)
     (between : Told) (now : Pages) (after : Told) → IsConsistent before → IsConsistent between
-    → page < 15 → page_number u page ≡ slice_index_or mid.pool.order n 0
+    → n < length first.pool.order → is_on_page names u page ≡ true
+    → (logs_of (frames_in mid) u page ≡ [] → after ≡ between) → page < 15 → page_number u page ≡ slice_index_or mid.pool.order n 0
     → IsOutBelow n names first before mid between
     → Upholds {T = Unit {0}} 14 mid between (Ok tt) now after
     → frames_in now ≡ emptied (frames_in mid) u page → now.pool.order ≡ mid.pool.order
     → now.parts.status ≡ mid.parts.status
     → Spends (ErasesAndLogs mid.parts.directory) between after
     → IsOutBelow (n + 1) names first before now after
-written_out n u page names first before mid between now after consistent then_consistent few at
-    so_far did is order status costs = record {
+written_out n u page names first before mid between now after consistent then_consistent less on idle
+    few at so_far did is order status costs = record {
       upholds = upholds_weaker (14 * n + 14) (14 * (n + 1)) first now (Ok tt) before after
           (omega arith)
           (upholds_then (14 * n) 14 first mid now (Ok tt) before between after consistent
@@ -154,6 +155,12 @@ written_out n u page names first before mid between now after consistent then_co
           so_far.out;
       framed = λ v q there. out_framed u page mid now is v q (so_far.framed v q there);
       costs = costs_more n before between after mid.parts.directory so_far.costs costs;
+      still = λ v q none. ap (λ (F : Frames). logs_of F v q) is
+          ∙ still_out (frames_in mid) u page v q (so_far.still v q none);
+      spends = spends_more n u page names first.pool.order (frames_in first) (frames_in mid) before
+          between after mid.parts.directory less few
+          (at ∙ ap (λ (l : List ℕ). slice_index_or l n 0) so_far.order) on (so_far.still u page) idle
+          costs so_far.spends;
     }
 
 -- not done
@@ -178,6 +185,20 @@ unwritten_costs n count names first before mid between after less so_far costs =
     costs_at_most (n + 1) count (n + 1) count (3 * (n + 1)) (3 * count) (5 ∷ []) (5 ∷ []) added
     (omega (arith, less)) (omega (arith, less)) (omega (arith, less)) (λ kind has. has) is)
     (costs_more n before between after mid.parts.directory so_far.costs costs)
+
+pub unwritten_spends : (n u page : ℕ) (names : List ℕ) (first : Pages) (before : Told)
+    (mid : Pages) (between after : Told) → n < length first.pool.order
+    → is_on_page names u page ≡ true → (logs_of (frames_in mid) u page ≡ [] → after ≡ between)
+    → page < 15 → page_number u page ≡ slice_index_or mid.pool.order n 0
+    → IsOutBelow n names first before mid between
+    → Spends (ErasesAndLogs mid.parts.directory) between after
+    → SpendsOn (changed_pages first names) before after
+unwritten_spends n u page names first before mid between after less on idle few at so_far costs =
+    spends_all (n + 1) names first.pool.order (frames_in first) before after
+    (spends_more n u page names first.pool.order (frames_in first) (frames_in mid) before between
+    after mid.parts.directory less few
+    (at ∙ ap (λ (l : List ℕ). slice_index_or l n 0) so_far.order) on (so_far.still u page) idle costs
+    so_far.spends)
 
 -- ---- pages in frames
 

@@ -1,7 +1,12 @@
--- The pages of names.
-use Rattle.std.specs.Prelude.{ℕ, ◌==◌, ◌&&◌, Bool, List}
+-- The pages of names, and those whose records aren't on the chip yet.
+use Rattle.std.specs.Prelude.{ℕ, ◌==◌, ◌&&◌, ◌/◌, ◌%◌, Bool, true, false, List, [], ◌∷◌, count_by}
 use Rattle.std.specs.List.{list_any}
+use Rattle.ipl_base.specs.declared.limits.TheConstants.{PAGES}
 use Rattle.ipl_base.specs.Places.{home_of}
+use Rattle.ipl_format.specs.Record.{Record}
+use Rattle.pending_writes.specs.Frames.{Frames, logs_of}
+use Rattle.page_frames.specs.declared.pages.Pages.{Pages}
+use Rattle.page_frames.specs.Pages.{frames_in}
 
 -- this is the page of the name
 abbrev pub is_home : ℕ → ℕ → ℕ → Bool
@@ -10,3 +15,17 @@ is_home u page n = ((home_of n).unit == u) && ((home_of n).page == page)
 -- it is that of one of these names
 abbrev pub is_on_page : List ℕ → ℕ → ℕ → Bool
 is_on_page names u page = list_any (is_home u page) names
+
+-- there are some records
+abbrev pub has_some : List Record → Bool
+has_some [] = false
+has_some (r ∷ records) = true
+
+-- the page of this number has records in memory, and is that of one of these names
+abbrev pub is_changed : Frames → List ℕ → ℕ → Bool
+is_changed frames names number = has_some (logs_of frames (number / PAGES) (number % PAGES))
+    && is_on_page names (number / PAGES) (number % PAGES)
+
+-- how many pages in frames are so
+abbrev pub changed_pages : Pages → List ℕ → ℕ
+changed_pages pages names = count_by (is_changed (frames_in pages) names) pages.pool.order

@@ -4,7 +4,7 @@ ghost use Rattle.unit_io.specs.Costs.{Costs, Spends};
 ghost use Rattle.store_steps.specs.Numbers.{IsOut};
 ghost use Rattle.page_frames.specs.Complete.{Completes};
 ghost use Rattle.page_frames.specs.Pages.{frames_in, KeepsFramed, IsReady, Upholds};
-ghost use Rattle.page_frames.specs.Changed.{is_home, is_on_page};
+ghost use Rattle.page_frames.specs.Changed.{is_home, is_on_page, changed_pages};
 
 use crate::Pages;
 use chip_trait::Chip;
@@ -46,6 +46,12 @@ impl Pages {
         ensures out { OnOk result (All (IsOut (frames_in self.new)) (map (λ n. n.0) names.now)) }
         ensures framed { KeepsFramed self.old self.new }
         ensures status { self.new.parts.status ≡ self.old.parts.status }
+        // At most one erase for each page of the names that has records in memory, and one log sector
+        // outside the places that are erased.
+        ensures changed { Spends (Costs (changed_pages self.old (map (λ n. n.0) names.now))
+            (changed_pages self.old (map (λ n. n.0) names.now))
+            (3 * changed_pages self.old (map (λ n. n.0) names.now)) (5 ∷ []))
+            (C.told chip.old) (C.told chip.new) }
         // At most one erase for each page in a frame, and one log sector outside the places that are
         // erased.
         ensures costs { Spends (Costs (length self.old.pool.order) (length self.old.pool.order)

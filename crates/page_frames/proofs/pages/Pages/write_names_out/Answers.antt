@@ -1,7 +1,9 @@
 use Rattle.std.proofs.Common.{◌*◌, ◌∷◌, [], ℕ, arith, map, sym, ◌∙◌, subst, Err}
 use Rattle.std.proofs.lemmas.Result.{err_from_is_err_and}
 use Rattle.unit_io.specs.Costs.{Costs, Spends}
-use Rattle.page_frames.proofs.OutAllLemmas.{none_out, passed_out, written_out, unwritten_upholds, unwritten_costs, framed_unit, names_out}
+use Rattle.page_frames.proofs.OutAllLemmas.{none_out, passed_out, written_out, unwritten_upholds, unwritten_costs, unwritten_spends, framed_unit, names_out}
+use Rattle.page_frames.specs.Pages.{frames_in}
+use Rattle.page_frames.proofs.ChangedLemmas.{spends_all}
 use Rattle.page_frames.proofs.CompleteLemmas.{completes_then}
 use Rattle.page_frames.proofs.pages.Pages.write_names_out.Goals.{then-has_page+in_ok-write_out, else-has_page}
 use Rattle.page_frames.proofs.pages.Pages.write_names_out.Goals as goal
@@ -44,13 +46,14 @@ loop-i-preserved g c = elim c.if-has_page.branch [
       (g.C.Chip.told c.args.chip.now) c.loop-i.self (g.C.Chip.told c.loop-i.chip)
       w.write_out.new.self (g.C.Chip.told w.write_out.new.chip)
       (g.met.C.Chip.consistent c.args.chip.now) (g.met.C.Chip.consistent c.loop-i.chip)
-      c.page_at-unit.ensures.page c.page_at-unit.ensures.number c.loop-i.invariant is.upholds
+      (omega (arith, c.loop-i-test.true, c.len-i-end.ensures.all))
+      (sym c.has_page.ensures ∙ w.if-has_page.true) is.idle c.page_at-unit.ensures.page c.page_at-unit.ensures.number c.loop-i.invariant is.upholds
       is.frames is.order is.status is.costs)
   | else-has_page w ↦
       rw (w.self-is, w.chip-is) (passed_out c.loop-i.i c.page_at-unit.result.0
       c.page_at-unit.result.1 (map (λ n. n.0) c.args.names.now) c.args.self.now
       (g.C.Chip.told c.args.chip.now) c.loop-i.self (g.C.Chip.told c.loop-i.chip)
-      c.page_at-unit.ensures.page c.page_at-unit.ensures.number
+      (omega (arith, c.loop-i-test.true, c.len-i-end.ensures.all)) c.page_at-unit.ensures.page c.page_at-unit.ensures.number
       (sym c.has_page.ensures ∙ w.if-has_page.false) c.loop-i.invariant)
 ]
 
@@ -77,3 +80,19 @@ returns-in_err-write_out-clause-framed g c = λ u page is.
 
 pub returns-clause-framed : goal.returns-clause-framed
 returns-clause-framed g c = c.loop-i.invariant.framed
+
+pub returns-in_err-write_out-clause-changed : goal.returns-in_err-write_out-clause-changed
+returns-in_err-write_out-clause-changed g c =
+    unwritten_spends c.loop-i.i c.page_at-unit.result.0 c.page_at-unit.result.1
+    (map (λ n. n.0) c.args.names.now) c.args.self.now (g.C.Chip.told c.args.chip.now) c.loop-i.self
+    (g.C.Chip.told c.loop-i.chip) (g.C.Chip.told c.write_out.new.chip)
+    (omega (arith, c.loop-i-test.true, c.len-i-end.ensures.all))
+    (sym c.has_page.ensures ∙ c.if-has_page.true) c.in_err-write_out.ensures.idle
+    c.page_at-unit.ensures.page c.page_at-unit.ensures.number c.loop-i.invariant
+    c.in_err-write_out.ensures.costs
+
+pub returns-clause-changed : goal.returns-clause-changed
+returns-clause-changed g c =
+    spends_all c.loop-i.i (map (λ n. n.0) c.args.names.now) c.args.self.now.pool.order
+    (frames_in c.args.self.now) (g.C.Chip.told c.args.chip.now) (g.C.Chip.told c.loop-i.chip)
+    c.loop-i.invariant.spends
