@@ -10,7 +10,7 @@ ghost use Rattle.record_locks.specs.Standing.{state_of};
 ghost use Rattle.store_steps.specs.Keeps.{limits_of};
 ghost use Rattle.page_writing.specs.Spending.{ErasesAndLogs};
 ghost use Rattle.page_frames.specs.Pages.{IsFramed, KeepsFramed};
-ghost use Rattle.transactions.specs.Costs.{framed_pages, CommitCosts};
+ghost use Rattle.transactions.specs.Costs.{pages_to_write, CommitCosts};
 ghost use Rattle.ipl_store.specs.Calls.{IsSound, KeepsHolds, Calls, early_fault, entry_fault};
 
 use crate::Store;
@@ -84,7 +84,7 @@ impl Store {
             → C.told chip.new ≡ C.told chip.old }
         // Where the status place has a clean sector.
         ensures costs { 0 < room_of self.old.transactions.pages.parts.status
-            → Spends (CommitCosts (framed_pages self.old.transactions))
+            → Spends (CommitCosts (pages_to_write self.old.transactions s))
             (C.told chip.old) (C.told chip.new) }
     {
         self.admit(self.refuses_end(s))?;

@@ -50,7 +50,7 @@ changed_at names frames u page number few is =
     let unit_is : number / 15 ≡ u = omega (arith, few, is) in
     let page_is : number % 15 ≡ page = omega (arith, few, is) in
     λ i. has_some (logs_of frames (unit_is i) (page_is i))
-        && is_on_page names (unit_is i) (page_is i)
+    && is_on_page names (unit_is i) (page_is i)
 
 and_off : (a b : Bool) → b ≡ false → (a && b) ≡ false
 and_off true b off = off
@@ -69,7 +69,7 @@ spends_passed n u page names order frames before after less few at off =
     ∙ and_off (has_some (logs_of frames u page)) (is_on_page names u page) off)))
 
 -- or it is written out, however that ends
-pub costs_more : (n : ℕ) (before mid after : Told) (t : Places) → SpendsOn n before mid
+costs_more : (n : ℕ) (before mid after : Told) (t : Places) → SpendsOn n before mid
     → Spends (ErasesAndLogs t) mid after → SpendsOn (n + 1) before after
 costs_more n before mid after t = spends_then (Costs n n (3 * n) (5 ∷ [])) (ErasesAndLogs t)
     (Costs (n + 1) (n + 1) (3 * (n + 1)) (5 ∷ [])) before mid after (λ later earlier one two.
@@ -91,6 +91,7 @@ spends_more n u page names order frames now before mid after t less few at on st
         → is_changed frames names (get_or order n 0) ≡ (has_some l && is_on_page names u page)
     is l here = changed_at names frames u page (get_or order n 0) few at
         ∙ ap (λ (records : List Record). has_some records && is_on_page names u page) here
+
     by_records : (l : List Record) → logs_of frames u page ≡ l
         → SpendsOn (changed_below (n + 1) names frames order) before after
     by_records [] none =

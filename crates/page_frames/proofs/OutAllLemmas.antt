@@ -1,14 +1,12 @@
 -- The pages of names, written out one after the other in the order of pages.
-use Rattle.std.proofs.Common.{◌≡◌, ◌<◌, ◌≤◌, ◌+◌, ◌*◌, ◌∷◌, ◌++◌, ◌⊎◌, ◌==◌, ◌&&◌, ◌||◌, ℕ, zero, suc, Bool, true, false, List, [], All, Contains, Option, Some, None, Ok, Err, length, get_or, refl, sym, ◌∙◌, ap, subst, inl, inr, arith}
+use Rattle.std.proofs.Common.{◌≡◌, ◌<◌, ◌≤◌, ◌+◌, ◌*◌, ◌∷◌, ◌⊎◌, ◌==◌, ◌&&◌, ◌||◌, ℕ, zero, suc, Bool, true, false, List, [], All, Contains, Option, Some, None, Ok, Err, length, get_or, refl, sym, ◌∙◌, ap, subst, inl, inr, arith}
 use Rattle.std.specs.Prelude.{slice_index_or}
 use Rattle.std.specs.Option.{option_map, option_map_or}
 use Rattle.std.proofs.lemmas.Bool.{cases_eq, eq-eqb, false≢true}
-use Rattle.ipl_meaning.specs.Tables.{Places}
 use Rattle.chip_trait.specs.Told.{Told, IsConsistent}
 use Rattle.ipl_base.specs.Places.{home_of}
 use Rattle.ipl_base.specs.declared.fault.ChipFault.{ChipFault}
-use Rattle.unit_io.specs.Costs.{Costs, Spends}
-use Rattle.unit_io.proofs.CostLemmas.{costs_none, costs_then, costs_at_most, spends_none, spends_then, spends_weaker}
+use Rattle.unit_io.specs.Costs.{Spends}
 use Rattle.buffer_pool.specs.Pools.{PoolView, IsThere, AreOnce}
 use Rattle.buffer_pool.specs.Index.{page_number}
 use Rattle.pending_writes.specs.Frames.{Frame, Frames, logs_of}
@@ -25,7 +23,7 @@ use Rattle.page_frames.proofs.HeldLemmas.{none_some}
 use Rattle.page_frames.specs.declared.pages.Pages.{Pages}
 use Rattle.page_frames.specs.Pages.{frames_in, KeepsFramed, IsReady, Upholds, emptied}
 use Rattle.page_frames.specs.Changed.{is_home, is_on_page, changed_pages}
-use Rattle.page_frames.proofs.ChangedLemmas.{changed_below, SpendsOn, none_below, costs_more, spends_passed, spends_more, spends_all}
+use Rattle.page_frames.proofs.ChangedLemmas.{changed_below, SpendsOn, none_below, spends_passed, spends_more, spends_all}
 use Rattle.page_frames.proofs.FrameLemmas.{emptied_out}
 use Rattle.page_frames.proofs.FramedLemmas.{out_framed}
 use Rattle.page_frames.proofs.UpholdLemmas.{upholds_none, upholds_then, upholds_weaker}
@@ -44,7 +42,6 @@ pub record IsOutBelow (n : ℕ) (names : List ℕ) (first : Pages) (before : Tol
   pub status : now.parts.status ≡ first.parts.status
   pub out : AreOutBelow n names first.pool.order (frames_in now)
   pub framed : KeepsFramed first now
-  pub costs : Spends (Costs n n (3 * n) (5 ∷ [])) before after
   pub still : (u page : ℕ) → logs_of (frames_in first) u page ≡ []
       → logs_of (frames_in now) u page ≡ []
   pub spends : SpendsOn (changed_below n names (frames_in first) first.pool.order) before after
@@ -57,7 +54,6 @@ none_out names first before ready = record {
   status = refl;
   out = λ u page k few less. absurd (omega (arith, less));
   framed = λ u page is. is;
-  costs = spends_none (Costs 0 0 0 (5 ∷ [])) before (costs_none (5 ∷ []));
   still = λ u page none. none;
   spends = none_below names first.pool.order (frames_in first) before;
 }
@@ -120,9 +116,6 @@ passed_out n u page names first before now after less few at off so_far = record
       (at ∙ ap (λ (l : List ℕ). slice_index_or l n 0) so_far.order) (λ v q none. none)
       (λ on. absurd (false≢true (sym off ∙ on))) so_far.out;
   framed = so_far.framed;
-  costs = spends_weaker (Costs n n (3 * n) (5 ∷ [])) (Costs (n + 1) (n + 1) (3 * (n + 1)) (5 ∷ []))
-      before after (λ added costs. costs_at_most n (n + 1) n (n + 1) (3 * n) (3 * (n + 1)) (5 ∷ [])
-      (5 ∷ []) added (omega arith) (omega arith) (omega arith) (λ kind has. has) costs) so_far.costs;
   still = so_far.still;
   spends = spends_passed n u page names first.pool.order (frames_in first) before after less few
       (at ∙ ap (λ (l : List ℕ). slice_index_or l n 0) so_far.order) off so_far.spends;
@@ -154,7 +147,6 @@ written_out n u page names first before mid between now after consistent then_co
           (λ on. ap (λ (F : Frames). logs_of F u page) is ∙ emptied_out (frames_in mid) u page)
           so_far.out;
       framed = λ v q there. out_framed u page mid now is v q (so_far.framed v q there);
-      costs = costs_more n before between after mid.parts.directory so_far.costs costs;
       still = λ v q none. ap (λ (F : Frames). logs_of F v q) is
           ∙ still_out (frames_in mid) u page v q (so_far.still v q none);
       spends = spends_more n u page names first.pool.order (frames_in first) (frames_in mid) before
@@ -175,25 +167,14 @@ unwritten_upholds n count names first before mid between now after e consistent 
     (upholds_then (14 * n) 14 first mid now (Err e) before between after consistent then_consistent
     so_far.upholds did)
 
-pub unwritten_costs : (n count : ℕ) (names : List ℕ) (first : Pages) (before : Told) (mid : Pages)
-    (between after : Told) → n < count → IsOutBelow n names first before mid between
-    → Spends (ErasesAndLogs mid.parts.directory) between after
-    → Spends (Costs count count (3 * count) (5 ∷ [])) before after
-unwritten_costs n count names first before mid between after less so_far costs =
-    spends_weaker (Costs (n + 1) (n + 1) (3 * (n + 1)) (5 ∷ []))
-    (Costs count count (3 * count) (5 ∷ [])) before after (λ added is.
-    costs_at_most (n + 1) count (n + 1) count (3 * (n + 1)) (3 * count) (5 ∷ []) (5 ∷ []) added
-    (omega (arith, less)) (omega (arith, less)) (omega (arith, less)) (λ kind has. has) is)
-    (costs_more n before between after mid.parts.directory so_far.costs costs)
-
-pub unwritten_spends : (n u page : ℕ) (names : List ℕ) (first : Pages) (before : Told)
+pub unwritten_costs : (n u page : ℕ) (names : List ℕ) (first : Pages) (before : Told)
     (mid : Pages) (between after : Told) → n < length first.pool.order
     → is_on_page names u page ≡ true → (logs_of (frames_in mid) u page ≡ [] → after ≡ between)
     → page < 15 → page_number u page ≡ slice_index_or mid.pool.order n 0
     → IsOutBelow n names first before mid between
     → Spends (ErasesAndLogs mid.parts.directory) between after
     → SpendsOn (changed_pages first names) before after
-unwritten_spends n u page names first before mid between after less on idle few at so_far costs =
+unwritten_costs n u page names first before mid between after less on idle few at so_far costs =
     spends_all (n + 1) names first.pool.order (frames_in first) before after
     (spends_more n u page names first.pool.order (frames_in first) (frames_in mid) before between
     after mid.parts.directory less few

@@ -1,5 +1,5 @@
 //! The records of a session, written out before it is committed.
-ghost use Rattle.std.specs.Prelude.{◌≡◌, ◌<◌, ◌+◌, ◌*◌, ◌^◌, ◌/◌, ◌%◌, [], ◌∷◌, All, map, length, OnOk};
+ghost use Rattle.std.specs.Prelude.{◌≡◌, ◌<◌, ◌+◌, ◌*◌, ◌^◌, ◌/◌, ◌%◌, [], ◌∷◌, All, map, OnOk};
 ghost use Rattle.unit_io.specs.Costs.{Costs, Spends};
 ghost use Rattle.store_steps.specs.Numbers.{IsOut};
 ghost use Rattle.page_frames.specs.Complete.{Completes};
@@ -48,14 +48,10 @@ impl Pages {
         ensures status { self.new.parts.status ≡ self.old.parts.status }
         // At most one erase for each page of the names that has records in memory, and one log sector
         // outside the places that are erased.
-        ensures changed { Spends (Costs (changed_pages self.old (map (λ n. n.0) names.now))
+        ensures costs { Spends (Costs (changed_pages self.old (map (λ n. n.0) names.now))
             (changed_pages self.old (map (λ n. n.0) names.now))
             (3 * changed_pages self.old (map (λ n. n.0) names.now)) (5 ∷ []))
             (C.told chip.old) (C.told chip.new) }
-        // At most one erase for each page in a frame, and one log sector outside the places that are
-        // erased.
-        ensures costs { Spends (Costs (length self.old.pool.order) (length self.old.pool.order)
-            (3 * length self.old.pool.order) (5 ∷ [])) (C.told chip.old) (C.told chip.new) }
     {
         for i in 0..self.pool.len() {
             self.pool.facts();

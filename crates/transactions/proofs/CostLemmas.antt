@@ -1,10 +1,28 @@
 -- What a commit costs.
-use Rattle.std.proofs.Common.{ℕ, ◌+◌, ◌*◌, [], ◌∷◌, ◌++◌, arith}
+use Rattle.std.proofs.Common.{◌≡◌, ℕ, ◌+◌, ◌*◌, List, [], ◌∷◌, ◌++◌, sym, subst, arith}
 use Rattle.std.proofs.lemmas.List.Elements.{Contains-append_left, Contains-append_right}
 use Rattle.chip_trait.specs.Told.{Told}
 use Rattle.unit_io.specs.Costs.{ProgramsAt, Spends}
-use Rattle.unit_io.proofs.CostLemmas.{costs_then, costs_at_most, programs_at_cost, spends_then, spends_weaker}
+use Rattle.unit_io.proofs.CostLemmas.{costs_none, costs_then, costs_at_most, programs_at_cost, spends_none, spends_then, spends_weaker}
+use Rattle.page_frames.specs.declared.pages.Pages.{Pages}
+use Rattle.page_frames.specs.Changed.{changed_pages}
 use Rattle.transactions.specs.Costs.{PagesOut, CommitCosts}
+
+-- nothing was done
+pub no_cost : (k : ℕ) (old new : Told) → new ≡ old → Spends (PagesOut k) old new
+no_cost k old new same = subst (λ (t : Told). Spends (PagesOut k) old t) (sym same)
+    (spends_none (PagesOut k) old (costs_at_most 0 k 0 k 0 (3 * k) (5 ∷ []) (5 ∷ []) []
+    (omega arith) (omega arith) (omega arith) (λ kind has. has) (costs_none (5 ∷ []))))
+
+-- the pages of names were written out, where nothing was done before
+pub pages_out_cost : (old mid : Pages) (names written : List ℕ) (before between after : Told)
+    → mid ≡ old → names ≡ written → between ≡ before
+    → Spends (PagesOut (changed_pages mid names)) between after
+    → Spends (PagesOut (changed_pages old written)) before after
+pages_out_cost old mid names written before between after same also idle did =
+    subst (λ (p : Pages). Spends (PagesOut (changed_pages p written)) before after) same
+    (subst (λ (l : List ℕ). Spends (PagesOut (changed_pages mid l)) before after) also
+    (subst (λ (t : Told). Spends (PagesOut (changed_pages mid names)) t after) idle did))
 
 -- no number was added
 pub pages_cost : (k : ℕ) (old new : Told) → Spends (PagesOut k) old new

@@ -10,7 +10,7 @@ ghost use Rattle.store_steps.specs.Numbers.{IsOut};
 ghost use Rattle.page_frames.specs.Complete.{Completes};
 ghost use Rattle.page_frames.specs.Pages.{frames_in, KeepsFramed, Upholds};
 ghost use Rattle.transactions.specs.Turns.{IsInOrder, Turns};
-ghost use Rattle.transactions.specs.Costs.{framed_pages, PagesOut, CommitCosts};
+ghost use Rattle.transactions.specs.Costs.{pages_to_write, PagesOut, CommitCosts};
 
 use crate::Transactions;
 use chip_trait::Chip;
@@ -40,7 +40,7 @@ impl Transactions {
         ensures sessions { self.new.sessions ≡ self.old.sessions }
         ensures framed { KeepsFramed self.old.pages self.new.pages }
         ensures costs { 0 < room_of self.old.pages.parts.status
-            → Spends (PagesOut (framed_pages self.old)) (C.told chip.old) (C.told chip.new) }
+            → Spends (PagesOut (pages_to_write self.old s)) (C.told chip.old) (C.told chip.new) }
     {
         self.pages.ready_status(chip, kept)?;
         self.pages.write_names_out(chip, self.sessions.written(s))
@@ -87,7 +87,7 @@ impl Transactions {
         ensures framed { KeepsFramed self.old.pages self.new.pages }
         ensures idle { written_of self.old.sessions s ≡ [] → C.told chip.new ≡ C.told chip.old }
         ensures costs { 0 < room_of self.old.pages.parts.status
-            → Spends (CommitCosts (framed_pages self.old)) (C.told chip.old) (C.told chip.new) }
+            → Spends (CommitCosts (pages_to_write self.old s)) (C.told chip.old) (C.told chip.new) }
     {
         let Some(tid) = self.sessions.number(s) else {
             unreachable!("the session is open");

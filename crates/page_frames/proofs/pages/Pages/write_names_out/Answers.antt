@@ -1,7 +1,6 @@
-use Rattle.std.proofs.Common.{◌*◌, ◌∷◌, [], ℕ, arith, map, sym, ◌∙◌, subst, Err}
+use Rattle.std.proofs.Common.{◌*◌, arith, map, sym, ◌∙◌, Err}
 use Rattle.std.proofs.lemmas.Result.{err_from_is_err_and}
-use Rattle.unit_io.specs.Costs.{Costs, Spends}
-use Rattle.page_frames.proofs.OutAllLemmas.{none_out, passed_out, written_out, unwritten_upholds, unwritten_costs, unwritten_spends, framed_unit, names_out}
+use Rattle.page_frames.proofs.OutAllLemmas.{none_out, passed_out, written_out, unwritten_upholds, unwritten_costs, framed_unit, names_out}
 use Rattle.page_frames.specs.Pages.{frames_in}
 use Rattle.page_frames.proofs.ChangedLemmas.{spends_all}
 use Rattle.page_frames.proofs.CompleteLemmas.{completes_then}
@@ -27,15 +26,6 @@ returns-in_err-write_out-clause-upholds g c =
     c.write_out.new.self (g.C.Chip.told c.write_out.new.chip) c.in_err-write_out.field-0.0
     (g.met.C.Chip.consistent c.args.chip.now) (g.met.C.Chip.consistent c.loop-i.chip)
     c.loop-i-test.true c.len-i-end.ensures.few c.loop-i.invariant c.in_err-write_out.ensures.upholds)
-
-pub returns-in_err-write_out-clause-costs : goal.returns-in_err-write_out-clause-costs
-returns-in_err-write_out-clause-costs g c =
-    let old = g.C.Chip.told c.args.chip.now in
-    let new = g.C.Chip.told c.write_out.new.chip in
-    subst (λ (n : ℕ). Spends (Costs n n (3 * n) (5 ∷ [])) old new) c.len-i-end.ensures.all
-    (unwritten_costs c.loop-i.i c.len-i-end.result (map (λ n. n.0) c.args.names.now)
-    c.args.self.now old c.loop-i.self (g.C.Chip.told c.loop-i.chip) new c.loop-i-test.true
-    c.loop-i.invariant c.in_err-write_out.ensures.costs)
 
 pub loop-i-preserved : goal.loop-i-preserved
 loop-i-preserved g c = elim c.if-has_page.branch [
@@ -81,9 +71,9 @@ returns-in_err-write_out-clause-framed g c = λ u page is.
 pub returns-clause-framed : goal.returns-clause-framed
 returns-clause-framed g c = c.loop-i.invariant.framed
 
-pub returns-in_err-write_out-clause-changed : goal.returns-in_err-write_out-clause-changed
-returns-in_err-write_out-clause-changed g c =
-    unwritten_spends c.loop-i.i c.page_at-unit.result.0 c.page_at-unit.result.1
+pub returns-in_err-write_out-clause-costs : goal.returns-in_err-write_out-clause-costs
+returns-in_err-write_out-clause-costs g c =
+    unwritten_costs c.loop-i.i c.page_at-unit.result.0 c.page_at-unit.result.1
     (map (λ n. n.0) c.args.names.now) c.args.self.now (g.C.Chip.told c.args.chip.now) c.loop-i.self
     (g.C.Chip.told c.loop-i.chip) (g.C.Chip.told c.write_out.new.chip)
     (omega (arith, c.loop-i-test.true, c.len-i-end.ensures.all))
@@ -91,8 +81,8 @@ returns-in_err-write_out-clause-changed g c =
     c.page_at-unit.ensures.page c.page_at-unit.ensures.number c.loop-i.invariant
     c.in_err-write_out.ensures.costs
 
-pub returns-clause-changed : goal.returns-clause-changed
-returns-clause-changed g c =
+pub returns-clause-costs : goal.returns-clause-costs
+returns-clause-costs g c =
     spends_all c.loop-i.i (map (λ n. n.0) c.args.names.now) c.args.self.now.pool.order
     (frames_in c.args.self.now) (g.C.Chip.told c.args.chip.now) (g.C.Chip.told c.loop-i.chip)
     c.loop-i.invariant.spends

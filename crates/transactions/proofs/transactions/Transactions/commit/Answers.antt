@@ -1,11 +1,11 @@
-use Rattle.std.proofs.Common.{◌^◌, sym, ◌∙◌}
+use Rattle.std.proofs.Common.{◌^◌, refl, sym, ◌∙◌}
 use Rattle.std.proofs.lemmas.Option.{none-some}
 use Rattle.std.proofs.lemmas.Result.{err_from_is_err_and}
 use Rattle.record_locks.specs.Held.{written_of}
 use Rattle.page_frames.proofs.FramedLemmas.{pool_framed}
-use Rattle.transactions.specs.Costs.{framed_pages}
+use Rattle.transactions.specs.Costs.{pages_to_write}
 use Rattle.transactions.proofs.CommitLemmas.{empty_committed, committed, not_committed, wrote_nothing, wrote_some}
-use Rattle.transactions.proofs.CostLemmas.{pages_cost, commit_cost}
+use Rattle.transactions.proofs.CostLemmas.{no_cost, pages_cost, commit_cost}
 use Rattle.transactions.proofs.OpenLemmas.{ends_numbered}
 use Rattle.transactions.proofs.transactions.Transactions.commit.Goals as goal
 
@@ -44,7 +44,7 @@ returns-in_err-write_session_out-clause-idle g c = λ none. absurd
 pub returns-in_err-write_session_out-clause-costs :
     goal.returns-in_err-write_session_out-clause-costs
 returns-in_err-write_session_out-clause-costs g c = λ room.
-    pages_cost (framed_pages c.args.self.now) (g.C.Chip.told c.args.chip.now)
+    pages_cost (pages_to_write c.args.self.now c.args.s) (g.C.Chip.told c.args.chip.now)
     (g.C.Chip.told c.write_session_out.new.chip) (c.in_err-write_session_out.ensures.costs room)
 
 pub returns-clause-turns : goal.returns-clause-turns
@@ -63,7 +63,7 @@ returns-clause-idle g c = λ none. absurd
 
 pub returns-clause-costs : goal.returns-clause-costs
 returns-clause-costs g c = λ room.
-    commit_cost (framed_pages c.args.self.now)
+    commit_cost (pages_to_write c.args.self.now c.args.s)
     c.write_session_out.new.self.pages.parts.status.place (g.C.Chip.told c.args.chip.now)
     (g.C.Chip.told c.write_session_out.new.chip) (g.C.Chip.told c.commit_number.new.chip)
     (c.in_ok-write_session_out.ensures.costs room) c.commit_number.ensures.costs
@@ -89,3 +89,9 @@ returns-in_err-write_session_out-clause-framed g c = c.in_err-write_session_out.
 pub returns-clause-framed : goal.returns-clause-framed
 returns-clause-framed g c = λ u page is.
     c.commit_number.ensures.framed u page (c.in_ok-write_session_out.ensures.framed u page is)
+
+pub returns-then-is_empty-clause-costs : goal.returns-then-is_empty-clause-costs
+returns-then-is_empty-clause-costs g c = λ room.
+    let k = pages_to_write c.args.self.now c.args.s in
+    let told = g.C.Chip.told c.args.chip.now in
+    pages_cost k told told (no_cost k told told refl)

@@ -1,10 +1,13 @@
-use Rattle.std.proofs.Common.{ℕ, ◌+◌, ◌*◌, ◌^◌, List, Err, OnOk, subst, arith}
+use Rattle.std.proofs.Common.{ℕ, ◌+◌, ◌*◌, ◌^◌, List, map, Err, OnOk, subst, arith}
 use Rattle.std.specs.List.{All}
 use Rattle.std.proofs.lemmas.Result.{err_from_is_err_and}
+use Rattle.record_locks.specs.Held.{written_of}
 use Rattle.store_steps.specs.Numbers.{IsOut}
 use Rattle.page_frames.specs.Pages.{frames_in}
 use Rattle.page_frames.proofs.UpholdLemmas.{upholds_then, upholds_weaker}
 use Rattle.page_frames.proofs.CompleteLemmas.{completes_then}
+use Rattle.transactions.specs.Costs.{pages_to_write}
+use Rattle.transactions.proofs.CostLemmas.{no_cost, pages_out_cost}
 use Rattle.transactions.proofs.transactions.Transactions.write_session_out.Goals as goal
 
 pub returns-in_err-ready_status-clause-upholds : goal.returns-in_err-ready_status-clause-upholds
@@ -47,3 +50,17 @@ returns-in_err-ready_status-clause-framed g c = c.in_err-ready_status.ensures.fr
 pub returns-clause-framed : goal.returns-clause-framed
 returns-clause-framed g c = λ u page is.
     c.write_names_out.ensures.framed u page (c.in_ok-ready_status.ensures.framed u page is)
+
+pub returns-in_err-ready_status-clause-costs : goal.returns-in_err-ready_status-clause-costs
+returns-in_err-ready_status-clause-costs g c = λ room.
+    no_cost (pages_to_write c.args.self.now c.args.s) (g.C.Chip.told c.args.chip.now)
+    (g.C.Chip.told c.ready_status.new.chip) (c.in_err-ready_status.ensures.idle room).1
+
+pub returns-clause-costs : goal.returns-clause-costs
+returns-clause-costs g c = λ room.
+    let (same, idle) = c.in_ok-ready_status.ensures.idle room in
+    pages_out_cost c.args.self.now.pages c.ready_status.new.self
+    (map (λ n. n.0) c.written.result.now) (written_of c.args.self.now.sessions c.args.s)
+    (g.C.Chip.told c.args.chip.now) (g.C.Chip.told c.ready_status.new.chip)
+    (g.C.Chip.told c.write_names_out.new.chip) same c.written.ensures.names idle
+    c.write_names_out.ensures.costs
