@@ -225,7 +225,8 @@ module _ (a b : ScriptStore) (before after : Told) (t : Tables)
           let bytes = subst (λ (n : ℕ). IsByteChart n (chart_of x)) (sym suits) (reads x told) in
           let below = few_found (a.store.units + 4) (chart_of x) shown.layout
           (counter_of a.store) bytes shown.fits.mirrors.laid shown.fits.mirrors.numbers.above in
-          let number = subst (λ (n : ℕ). counter_of b.store ≤ greatest_found (chart_of x) n + 1 + 2 ^ 14)
+          let number = subst (λ (n : ℕ).
+          counter_of b.store ≤ greatest_found (chart_of x) n + 1 + 2 ^ 14)
           (sym suits) (opens.number x told) in
           omega (arith, below, number)
 

@@ -59,7 +59,8 @@ abbrev pub IsEntry : ScriptStore → Option StoreFault → Type 0
 IsEntry a entry = (entry ≡ None) ⊎ ((entry ≡ Some store.Spent) × (LAST_NUMBER < counter_of a.store))
 
 pub up_entry : (a : ScriptStore) → a.store.down ≡ false → IsEntry a (entry_fault a.store)
-up_entry a up = subst (IsEntry a) (sym (ap (λ (down : Bool). if down then Some store.Down else rest) up))
+up_entry a up = subst (IsEntry a)
+    (sym (ap (λ (down : Bool). if down then Some store.Down else rest) up))
     (by_spent (nat_lt LAST_NUMBER (counter_of a.store)) refl)
   where
     rest : Option StoreFault
@@ -120,9 +121,9 @@ module _ {T : Type 0} (say : T → Reply) (c : Command) (next : State → State)
       → LeadsTo next first.memory before answer last.memory after
       → LeadsTo (λ state. (step (limits_of first.units) state c).0) first.memory before answer
       last.memory after
-  leads_on answer leads = accepted_lead first.units c first.memory last.memory answer before after free
-      (next_states_are_alike next (λ state. (accepted state c).0) first.memory last.memory answer before
-      after (λ places y it state fits. sym (nexts state)) leads)
+  leads_on answer leads = accepted_lead first.units c first.memory last.memory answer before after
+      free (next_states_are_alike next (λ state. (accepted state c).0) first.memory last.memory
+      answer before after (λ places y it state fits. sym (nexts state)) leads)
 
   few_drawn : counter_of b.store ≤ counter_of a.store + most
       → counter_of b.store ≤ counter_of a.store + WORK_DRAWS
@@ -139,8 +140,8 @@ module _ {T : Type 0} (say : T → Reply) (c : Command) (next : State → State)
   done_does found did replies running counts = record {
     works = works_so a b before after runs.up units c (Ok (say found))
         (leads_are_work c first last (Ok (say found)) before after consistent runs.sound.made.units
-        units runs.up (leads_on (Ok (say found)) (answers_advance (TurnsMapOf next) next first.memory
-        last.memory (Ok found) (Ok (say found)) before after refl did.leads))
+        units runs.up (leads_on (Ok (say found)) (answers_advance (TurnsMapOf next) next
+        first.memory last.memory (Ok found) (Ok (say found)) before after refl did.leads))
         (λ state keeps x told. ap (λ (y : Stepped). y.1) (accepted_are_done
         (limits_of first.units) a.store.transactions.sessions state c
         (keeps.up runs.up).sessions free)
@@ -223,7 +224,8 @@ module _ {T : Type 0} (say : T → Reply) (c : Command) (refusal : Option Refusa
       (subst (λ (o : Option StoreFault). Calls (early_fault o refusal) next most a.store before
       result b.store after) none calls)
   by_entry entry (inr (is, late)) calls =
-      let (answer, same, still) = calls.refuses store.Spent (ap (λ (o : Option StoreFault). early_fault o refusal) is) in
+      let (answer, same, still) = calls.refuses store.Spent
+      (ap (λ (o : Option StoreFault). early_fault o refusal) is) in
       idle_does store.Spent (spent_does c a before runs consistent late) answer same still
 
   -- that the store refuses once its numbers are used up

@@ -58,7 +58,8 @@ script_keeping = record {
   counter = next_number;
   does = λ e. Unit {0};
   cause = StoreCause;
-  each = λ limits s t state h keeps told. keeps_each limits (view_of s.store) t state h keeps.kept told;
+  each = λ limits s t state h keeps told.
+      keeps_each limits (view_of s.store) t state h keeps.kept told;
   still = script_still;
   caused = cause_longer;
 }

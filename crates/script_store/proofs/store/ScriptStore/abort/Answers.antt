@@ -15,12 +15,14 @@ use Rattle.script_store.proofs.store.ScriptStore.abort.Goals as goal
 pub returns : goal.returns
 returns g c =
     let store = c.args.self.now.store in
-    let refusal = refuses_end (limits_of store.units) (state_of store.transactions.sessions) c.args.s in
+    let refusal = refuses_end (limits_of store.units) (state_of store.transactions.sessions)
+    c.args.s in
     let before = g.C.Chip.told c.args.chip.now in
     let after = g.C.Chip.told c.abort.new._chip in
     subst (λ (r : Result Reply Fault). Does (command.Abort c.args.s) c.args.self.now before r
     (record { store = c.abort.new.self }) after) (sym c.reply_of.ensures)
-    (ends_do (λ v. reply.Ok) (command.Abort c.args.s) refusal (λ state. after_abort state c.args.s) (0) c.args.self.now
+    (ends_do (λ v. reply.Ok) (command.Abort c.args.s) refusal (λ state. after_abort state c.args.s)
+    0 c.args.self.now
     (record { store = c.abort.new.self }) before after c.abort.result c.requires.runs
     (g.met.C.Chip.consistent c.args.chip.now) (omega arith) refl (λ state. refl)
     (on_ok c.abort.result (λ state x told shown. refl)) c.abort.ensures.calls)

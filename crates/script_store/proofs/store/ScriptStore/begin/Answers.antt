@@ -15,12 +15,14 @@ use Rattle.script_store.proofs.store.ScriptStore.begin.Goals as goal
 pub returns : goal.returns
 returns g c =
     let store = c.args.self.now.store in
-    let refusal = refuses_begin (limits_of store.units) (state_of store.transactions.sessions) c.args.s in
+    let refusal = refuses_begin (limits_of store.units) (state_of store.transactions.sessions)
+    c.args.s in
     let before = g.C.Chip.told c.args.chip.now in
     let after = g.C.Chip.told c.begin.new._chip in
     subst (λ (r : Result Reply Fault). Does (command.Begin c.args.s) c.args.self.now before r
     (record { store = c.begin.new.self }) after) (sym c.reply_of.ensures)
-    (calls_do (λ v. reply.Ok) (command.Begin c.args.s) refusal (λ state. after_begin state c.args.s) (1) c.args.self.now
+    (calls_do (λ v. reply.Ok) (command.Begin c.args.s) refusal
+    (λ state. after_begin state c.args.s) 1 c.args.self.now
     (record { store = c.begin.new.self }) before after c.begin.result c.requires.runs
     (g.met.C.Chip.consistent c.args.chip.now) (omega arith) refl (λ state. refl)
     (on_ok c.begin.result (λ state x told shown. refl)) c.begin.ensures.calls)

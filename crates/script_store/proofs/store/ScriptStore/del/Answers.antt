@@ -15,12 +15,14 @@ use Rattle.script_store.proofs.store.ScriptStore.del.Goals as goal
 pub returns : goal.returns
 returns g c =
     let store = c.args.self.now.store in
-    let refusal = refuses_del (limits_of store.units) (state_of store.transactions.sessions) c.args.s c.args.n in
+    let refusal = refuses_del (limits_of store.units) (state_of store.transactions.sessions)
+    c.args.s c.args.n in
     let before = g.C.Chip.told c.args.chip.now in
     let after = g.C.Chip.told c.del.new.chip in
     subst (λ (r : Result Reply Fault). Does (command.Del c.args.s c.args.n) c.args.self.now before r
     (record { store = c.del.new.self }) after) (sym c.reply_of.ensures)
-    (calls_do (λ v. reply.Ok) (command.Del c.args.s c.args.n) refusal (λ state. after_write state c.args.s (c.args.n, None)) (14) c.args.self.now
+    (calls_do (λ v. reply.Ok) (command.Del c.args.s c.args.n) refusal
+    (λ state. after_write state c.args.s (c.args.n, None)) 14 c.args.self.now
     (record { store = c.del.new.self }) before after c.del.result c.requires.runs
     (g.met.C.Chip.consistent c.args.chip.now) (omega arith) refl (λ state. refl)
     (on_ok c.del.result (λ state x told shown. refl)) c.del.ensures.calls)

@@ -9,7 +9,8 @@ pub returns-in-Ok-clause-calls : goal.returns-in-Ok-clause-calls
 returns-in-Ok-clause-calls g c =
     let store = c.args.self.now.store in
     found_calls (option_map (λ (b : Bor (List ℕ)). b.now)) (early_fault (entry_fault store)
-    (refuses_name (limits_of store.units) c.args.n)) (λ state. state) 14 store (g.C.Chip.told c.args.chip.now) c.committed.result
+    (refuses_name (limits_of store.units) c.args.n)) (λ state. state) 14 store
+    (g.C.Chip.told c.args.chip.now) c.committed.result
     c.in-Ok.found c.copied.result c.committed.follows.lender-at-none
     (g.C.Chip.told c.committed.new.chip) c.in-Ok.is c.copied.ensures
     c.committed.follows.holds-at-none.calls
@@ -23,6 +24,7 @@ pub returns-in-Err-clause-calls : goal.returns-in-Err-clause-calls
 returns-in-Err-clause-calls g c =
     let store = c.args.self.now.store in
     failed_calls (option_map (λ (b : Bor (List ℕ)). b.now)) (early_fault (entry_fault store)
-    (refuses_name (limits_of store.units) c.args.n)) (λ state. state) 14 store (g.C.Chip.told c.args.chip.now) c.committed.result
+    (refuses_name (limits_of store.units) c.args.n)) (λ state. state) 14 store
+    (g.C.Chip.told c.args.chip.now) c.committed.result
     c.in-Err.fault c.committed.follows.lender-at-none (g.C.Chip.told c.committed.new.chip)
     c.in-Err.is c.committed.follows.holds-at-none.calls

@@ -11,7 +11,8 @@ pub returns-in-Ok-clause-calls : goal.returns-in-Ok-clause-calls
 returns-in-Ok-clause-calls g c =
     let store = c.args.self.now.store in
     found_calls (option_map (λ (b : Bor (List ℕ)). b.now)) (early_fault (entry_fault store)
-    (refuses_get (limits_of store.units) (state_of store.transactions.sessions) c.args.s c.args.n)) (λ state. state) 14 store (g.C.Chip.told c.args.chip.now) c.get.result
+    (refuses_get (limits_of store.units) (state_of store.transactions.sessions) c.args.s c.args.n))
+    (λ state. state) 14 store (g.C.Chip.told c.args.chip.now) c.get.result
     c.in-Ok.found c.copied.result c.get.follows.lender-at-none
     (g.C.Chip.told c.get.new.chip) c.in-Ok.is c.copied.ensures
     c.get.follows.holds-at-none.calls
@@ -25,6 +26,7 @@ pub returns-in-Err-clause-calls : goal.returns-in-Err-clause-calls
 returns-in-Err-clause-calls g c =
     let store = c.args.self.now.store in
     failed_calls (option_map (λ (b : Bor (List ℕ)). b.now)) (early_fault (entry_fault store)
-    (refuses_get (limits_of store.units) (state_of store.transactions.sessions) c.args.s c.args.n)) (λ state. state) 14 store (g.C.Chip.told c.args.chip.now) c.get.result
+    (refuses_get (limits_of store.units) (state_of store.transactions.sessions) c.args.s c.args.n))
+    (λ state. state) 14 store (g.C.Chip.told c.args.chip.now) c.get.result
     c.in-Err.fault c.get.follows.lender-at-none (g.C.Chip.told c.get.new.chip)
     c.in-Err.is c.get.follows.holds-at-none.calls

@@ -12,7 +12,9 @@ pub returns-in-Ok-clause-calls : goal.returns-in-Ok-clause-calls
 returns-in-Ok-clause-calls g c =
     let store = c.args.self.now.store in
     found_calls (option_map (λ (b : Bor (List ℕ)). b.now)) (early_fault (entry_fault store)
-    (refuses_share (limits_of store.units) (state_of store.transactions.sessions) c.args.s c.args.n)) (λ state. after_share state c.args.s c.args.n) 14 store (g.C.Chip.told c.args.chip.now) c.share.result
+    (refuses_share (limits_of store.units) (state_of store.transactions.sessions) c.args.s
+    c.args.n)) (λ state. after_share state c.args.s c.args.n) 14 store
+    (g.C.Chip.told c.args.chip.now) c.share.result
     c.in-Ok.found c.copied.result c.share.follows.lender-at-none
     (g.C.Chip.told c.share.new.chip) c.in-Ok.is c.copied.ensures
     c.share.follows.holds-at-none.calls
@@ -26,6 +28,8 @@ pub returns-in-Err-clause-calls : goal.returns-in-Err-clause-calls
 returns-in-Err-clause-calls g c =
     let store = c.args.self.now.store in
     failed_calls (option_map (λ (b : Bor (List ℕ)). b.now)) (early_fault (entry_fault store)
-    (refuses_share (limits_of store.units) (state_of store.transactions.sessions) c.args.s c.args.n)) (λ state. after_share state c.args.s c.args.n) 14 store (g.C.Chip.told c.args.chip.now) c.share.result
+    (refuses_share (limits_of store.units) (state_of store.transactions.sessions) c.args.s
+    c.args.n)) (λ state. after_share state c.args.s c.args.n) 14 store
+    (g.C.Chip.told c.args.chip.now) c.share.result
     c.in-Err.fault c.share.follows.lender-at-none (g.C.Chip.told c.share.new.chip)
     c.in-Err.is c.share.follows.holds-at-none.calls

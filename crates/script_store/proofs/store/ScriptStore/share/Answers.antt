@@ -21,7 +21,8 @@ returns g c =
     let after = g.C.Chip.told c.see_shared.new.chip in
     subst (λ (r : Result Reply Fault). Does (command.Share c.args.s c.args.n) c.args.self.now
     before r c.see_shared.new.self after) (sym c.found_of.ensures)
-    (calls_do found_reply (command.Share c.args.s c.args.n) refusal (λ state. after_share state c.args.s c.args.n) 14
+    (calls_do found_reply (command.Share c.args.s c.args.n) refusal
+    (λ state. after_share state c.args.s c.args.n) 14
     c.args.self.now c.see_shared.new.self before after c.see_shared.result c.requires.runs
     (g.met.C.Chip.consistent c.args.chip.now) (omega arith) refl (λ state. refl)
     (seen_replies c.args.s c.args.n store before c.see_shared.result c.see_shared.ensures.seen)
