@@ -125,7 +125,8 @@ passed_out n u page names first before now after less few at off so_far = record
 pub written_out : (n u page : ℕ) (names : List ℕ) (first : Pages) (before : Told) (mid : Pages)
     (between : Told) (now : Pages) (after : Told) → IsConsistent before → IsConsistent between
     → n < length first.pool.order → is_on_page names u page ≡ true
-    → (logs_of (frames_in mid) u page ≡ [] → after ≡ between) → page < 15 → page_number u page ≡ slice_index_or mid.pool.order n 0
+    → (logs_of (frames_in mid) u page ≡ [] → after ≡ between) → page < 15
+    → page_number u page ≡ slice_index_or mid.pool.order n 0
     → IsOutBelow n names first before mid between
     → Upholds {T = Unit {0}} 14 mid between (Ok tt) now after
     → frames_in now ≡ emptied (frames_in mid) u page → now.pool.order ≡ mid.pool.order
