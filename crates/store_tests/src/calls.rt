@@ -1,0 +1,129 @@
+//! Calls of a store with the answers that they are to give, and the chips that these are made on.
+ghost use Rattle.std.specs.Prelude.{◌≡◌, ◌≤◌, OnOk, IfOk};
+ghost use Rattle.chip_mem.specs.Views.{told_of};
+ghost use Rattle.ipl_store.specs.Calls.{IsSound};
+
+use chip_mem::MemChip;
+use ipl_base::{ChipFault, Refusal, StoreFault};
+use ipl_store::Store;
+use restart::format;
+use std::alloc::Global;
+use std::process::Abort;
+use std::test::Fail;
+
+/// A call of a store. Sessions come first, then names or pages, then values.
+#[derive(Clone, Copy, Debug, PartialEq, Eq)]
+pub(crate) enum Call<'a> {
+    Begin(u32),
+    Get(u32, u32),
+    Share(u32, u32),
+    Put(u32, u32, &'a [u8]),
+    Del(u32, u32),
+    Commit(u32),
+    Abort(u32),
+    Committed(u32),
+    Hold(u32, u32),
+    Release(u32, u32),
+    Merge(u32),
+}
+
+/// What a call answers. One that lends nothing answers as one that finds nothing.
+pub(crate) type Answer<'a> = Result<Option<&'a [u8]>, StoreFault>;
+
+/// The answer of a call that was done, and of one that found no record.
+pub(crate) const DONE: Answer<'static> = Ok(None);
+
+pub(crate) const NONE: Answer<'static> = Ok(None);
+
+/// The answer of each call of a store that is down.
+pub(crate) const DOWN: Answer<'static> = Err(StoreFault::Down);
+
+/// The answer of a call that found these bytes.
+pub(crate) fn found(bytes: &[u8]) -> Answer<'_> {
+    Ok(Some(bytes))
+}
+
+/// The answer of a call that is refused so.
+pub(crate) fn refused(refusal: Refusal) -> Answer<'static> {
+    Err(StoreFault::Refused(refusal))
+}
+
+/// The answer of a call that a fault of the chip ended.
+pub(crate) fn failed(fault: ChipFault) -> Answer<'static> {
+    Err(StoreFault::Chip(fault))
+}
+
+/// The answer of a call that lends nothing.
+fn ended<'a>(done: Result<(), StoreFault>) -> Answer<'a> {
+    match done {
+        Ok(()) => DONE,
+        Err(fault) => Err(fault),
+    }
+}
+
+/// Whether a call gives this answer.
+pub(crate) fn gives(
+    store: &mut Store,
+    chip: &mut MemChip,
+    call: Call<'_>,
+    answer: Answer<'_>,
+) -> bool
+    requires sound { IsSound (told_of chip.old).places store.old }
+    ensures sound { IsSound (told_of chip.old).places store.new }
+    ensures places { (told_of chip.new).places ≡ (told_of chip.old).places }
+{
+    match call {
+        Call::Begin(s) => ended(store.begin(chip, s)) == answer,
+        Call::Get(s, n) => store.get(chip, s, n) == answer,
+        Call::Share(s, n) => store.share(chip, s, n) == answer,
+        Call::Put(s, n, value) => ended(store.put(chip, s, n, value)) == answer,
+        Call::Del(s, n) => ended(store.del(chip, s, n)) == answer,
+        Call::Commit(s) => ended(store.commit(chip, s)) == answer,
+        Call::Abort(s) => ended(store.abort(chip, s)) == answer,
+        Call::Committed(n) => store.committed(chip, n) == answer,
+        Call::Hold(unit, page) => ended(store.hold(chip, unit, page)) == answer,
+        Call::Release(unit, page) => ended(store.release(chip, unit, page)) == answer,
+        Call::Merge(unit) => ended(store.merge(chip, unit)) == answer,
+    }
+}
+
+/// Makes calls, one after another. Each gives its answer.
+pub(crate) fn call_all(
+    rt: &impl Abort,
+    store: &mut Store,
+    chip: &mut MemChip,
+    cases: &[(Call<'_>, Answer<'_>)],
+)
+    requires sound { IsSound (told_of chip.old).places store.old }
+    ensures sound { IsSound (told_of chip.old).places store.new }
+    ensures places { (told_of chip.new).places ≡ (told_of chip.old).places }
+{
+    for (number, (call, answer)) in cases.iter().enumerate() {
+        assert!(rt;
+            gives(store, chip, *call, *answer),
+            "call {number}: {call:?}"
+        );
+    }
+}
+
+/// A chip that a format left, with room for so many events.
+pub(crate) fn formatted(alloc: Global, places: u32, room: u64) -> Result<MemChip, Fail> {
+    let mut chip = MemChip::new(alloc, places, room)?;
+    if format(&mut chip).is_err() {
+        return Err(Fail::from("no format"));
+    }
+    Ok(chip.image(alloc, u64::MAX, &[])?)
+}
+
+/// The store of a chip that is opened.
+pub(crate) fn opened(alloc: Global, chip: &mut MemChip, frames: u32) -> Result<Store, Fail>
+    requires two { 2 ≤ frames }
+    requires few { frames ≤ 64 }
+    ensures sound { IfOk result (λ store. IsSound (told_of chip.new).places store) }
+    ensures places { (told_of chip.new).places ≡ (told_of chip.old).places }
+{
+    match Store::open(alloc, chip, frames) {
+        Ok(store) => Ok(store),
+        Err(_) => Err(Fail::from("the chip isn't opened")),
+    }
+}
