@@ -1,5 +1,5 @@
 //! Calls of a store with the answers that they are to give, and the chips that these are made on.
-ghost use Rattle.std.specs.Prelude.{◌≡◌, ◌≤◌, OnOk, IfOk};
+ghost use Rattle.std.specs.Prelude.{◌≡◌, ◌≤◌, IfOk};
 ghost use Rattle.chip_mem.specs.Views.{told_of};
 ghost use Rattle.ipl_store.specs.Calls.{IsSound};
 

@@ -1,0 +1,97 @@
+//! Few frames and many, and pages that are held in them.
+ghost use Rattle.std.specs.Prelude.{◌≤◌};
+
+use crate::calls::{Answer, Call, DONE, NONE, call_all, formatted, found, opened, refused};
+use ipl_base::Refusal;
+use std::alloc::Global;
+use std::process::Abort;
+use std::test::Fail;
+
+/// How many pages are asked for, more than there may be frames.
+const PAGES: u32 = 66;
+
+/// Each page is written, and some are seen by the session. All are committed, and some seen again.
+fn over_all_pages(alloc: Global) -> Result<Vec<(Call<'static>, Answer<'static>)>, Fail> {
+    let mut calls = Vec::new(alloc);
+    calls.push((Call::Begin(0), DONE))?;
+    calls.push((Call::Begin(1), DONE))?;
+    calls.push((Call::Hold(0, 3), DONE))?;
+    for page in 0..PAGES {
+        calls.push((Call::Put(0, 64 * page, b"new"), DONE))?;
+    }
+    for turn in 0..10 {
+        calls.push((Call::Get(0, 448 * turn), found(b"new")))?;
+    }
+    calls.push((Call::Get(1, 0), NONE))?;
+    calls.push((Call::Put(1, 0, b"no"), refused(Refusal::Conflict(0))))?;
+    calls.push((Call::Commit(0), DONE))?;
+    for turn in 0..10 {
+        calls.push((Call::Committed(320 * turn), found(b"new")))?;
+    }
+    calls.push((Call::Del(1, 64), DONE))?;
+    calls.push((Call::Merge(0), DONE))?;
+    calls.push((Call::Release(0, 3), DONE))?;
+    calls.push((Call::Committed(64), found(b"new")))?;
+    calls.push((Call::Commit(1), DONE))?;
+    calls.push((Call::Committed(64), NONE))?;
+    calls.push((Call::Committed(0), found(b"new")))?;
+    Ok(calls)
+}
+
+/// Makes the same calls with each number of frames from the first to below the last.
+fn call_with_frames(rt: &impl Abort, alloc: Global, first: u32, last: u32) -> Result<(), Fail>
+    requires two { 2 ≤ first }
+    requires few { last ≤ 65 }
+{
+    let fresh = formatted(alloc, 9, 20000)?;
+    let calls = over_all_pages(alloc)?;
+    for frames in first..last {
+        let mut chip = fresh.image(alloc, u64::MAX, &[])?;
+        let mut store = opened(alloc, &mut chip, frames)?;
+        call_all(rt, &mut store, &mut chip, &calls);
+    }
+    Ok(())
+}
+
+#[test]
+fn few_frames_give_the_same_answers(rt: HostRuntime) -> Result<(), Fail> {
+    call_with_frames(&rt, rt.alloc(), 2, 24)
+}
+
+#[test]
+fn many_frames_give_the_same_answers(rt: HostRuntime) -> Result<(), Fail> {
+    call_with_frames(&rt, rt.alloc(), 24, 65)
+}
+
+#[test]
+fn three_pages_take_turns_in_two_frames(rt: HostRuntime) -> Result<(), Fail> {
+    let alloc = rt.alloc();
+    let mut chip = formatted(alloc, 5, 2000)?;
+    let mut store = opened(alloc, &mut chip, 2)?;
+    let turns = [
+        (Call::Begin(0), DONE),
+        (Call::Put(0, 0, b"\xaa"), DONE),
+        (Call::Put(0, 64, b"\xbb"), DONE),
+        (Call::Put(0, 128, b"\xcc"), DONE),
+        (Call::Get(0, 0), found(b"\xaa")),
+        (Call::Get(0, 64), found(b"\xbb")),
+        (Call::Get(0, 128), found(b"\xcc")),
+        (Call::Hold(0, 0), DONE),
+        (Call::Hold(0, 0), DONE),
+        (Call::Hold(0, 1), refused(Refusal::HoldsFull)),
+        (Call::Release(0, 1), refused(Refusal::NotHeld)),
+        // The page that is held stays while others pass.
+        (Call::Get(0, 64), found(b"\xbb")),
+        (Call::Get(0, 128), found(b"\xcc")),
+    ];
+    call_all(&rt, &mut store, &mut chip, &turns);
+    let asked = chip.events().len();
+    let held = [
+        (Call::Get(0, 0), found(b"\xaa")),
+        (Call::Release(0, 0), DONE),
+        (Call::Release(0, 0), refused(Refusal::NotHeld)),
+    ];
+    call_all(&rt, &mut store, &mut chip, &held);
+    assert_eq!(rt; chip.events().len(), asked);
+    Ok(())
+}
