@@ -135,10 +135,13 @@ opening_fault places x t fault none sound is =
     let few : carried_count (among t.active) shape.log ≤ 12 =
     subst (λ (a : List ℕ). carried_count (among a) shape.log ≤ 12) (sym none)
     (rw (carried_none (records_of shape.log)) (omega arith)) in
-    inr (sound, record {
-      fault = fault;
-      is = refl;
-      unit = is.unit;
-      low = is.low;
-      page = sym (fault_with_few x (source_of t shape is.unit) _ few) ∙ is.fault;
-    })
+    inr (
+      sound,
+      record {
+        fault = fault;
+        is = refl;
+        unit = is.unit;
+        low = is.low;
+        page = sym (fault_with_few x (source_of t shape is.unit) _ few) ∙ is.fault;
+      },
+    )

@@ -7,16 +7,25 @@ pub free_one-requires : goal.free_one-requires
 free_one-requires c =
     left_within c.overflow_laws.ensures.drops c.args.parts.now.overflow c.args.unit
     c.drop_unit-left.result 0 _ c.facts-2.ensures c.drop_unit-left.ensures.left
-    (omega (arith, c.requires.overflow, in_use_moved c.args.parts.now.directory c.args.unit
-    c.args.place c.args.used c.move_home.new.directory c.move_home.ensures))
+    (omega (
+      arith,
+      c.requires.overflow,
+      in_use_moved c.args.parts.now.directory c.args.unit
+          c.args.place c.args.used c.move_home.new.directory c.move_home.ensures,
+    ))
 
 pub free_one-requires-2 : goal.free_one-requires-2
 free_one-requires-2 c =
     let first = c.free_one.ensures.all in
     left_within c.overflow_laws.ensures.drops c.args.parts.now.overflow c.args.unit
     c.drop_unit-left.result 1 _ c.facts-2.ensures c.drop_unit-left.ensures.left
-    (omega (arith, c.requires.overflow, first, in_use_moved c.args.parts.now.directory c.args.unit
-    c.args.place c.args.used c.move_home.new.directory c.move_home.ensures))
+    (omega (
+      arith,
+      c.requires.overflow,
+      first,
+      in_use_moved c.args.parts.now.directory c.args.unit
+          c.args.place c.args.used c.move_home.new.directory c.move_home.ensures,
+    ))
 
 pub returns-clause-moved : goal.returns-clause-moved
 returns-clause-moved c =
