@@ -16,3 +16,4 @@ pub mod OpenLemmas
 pub mod OverflowLemmas
 pub mod KnownLemmas
 pub mod ReadingLemmas
+pub mod SpentLemmas

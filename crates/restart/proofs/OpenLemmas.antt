@@ -16,13 +16,14 @@ use Rattle.opening_rules.specs.Live.{sectors, is_at, is_log_spot, is_overflow_pl
 use Rattle.opening_rules.specs.Faults.{TellsImageFault, size_fault, not_formatted, other_geometry, missing, bad_header, header_tests, header_fault, first_fault, greatest_of_heads, greatest_of_commits, greatest_of_logs, greatest_found, spent, no_spare, holds_live}
 use Rattle.opening_rules.specs.LaidOut.{place_of, layout_in}
 use Rattle.ipl_format.specs.Whole.{IsWhole}
-use Rattle.opening_rules.specs.Laws.{MayBeRead}
+use Rattle.opening_rules.specs.Laws.{MayBeRead, IsByteChart}
 use Rattle.ipl_base.proofs.FirstLemmas.{none_before}
 use Rattle.opening_rules.proofs.ChosenLemmas.{chosen_is_best}
 use Rattle.opening_rules.proofs.PartLemmas.{six_parts}
 use Rattle.opening_rules.proofs.ContentsLemmas.{whole_sectors_make_byte_charts}
 use Rattle.opening_rules.proofs.NoFaultLemmas.{no_fault_is_laid}
 use Rattle.opening_rules.proofs.TellsLemmas.{tells_exit, tells_past}
+use Rattle.restart.specs.Bytes.{IsRestWhole}
 use Rattle.restart.specs.Looks.{IsMissed}
 use Rattle.restart.specs.Notes.{Notes, IsNoted}
 use Rattle.restart.specs.Filled.{is_home, is_used, AreUsed, AreAdopted}
@@ -98,7 +99,7 @@ number_is c heads current status size places first least greatest same one two t
 
 -- ---- to the chart
 
-size_none : (places : ℕ) → 5 ≤ places → places ≤ 1028 → size_fault places ≡ None
+pub size_none : (places : ℕ) → 5 ≤ places → places ≤ 1028 → size_fault places ≡ None
 size_none places least most = rw (le-leb 5 places least, le-leb places 1028 most) refl
 
 or_parts : (a b : Bool) → (a || b) ≡ false → (a ≡ false) × (b ≡ false)
@@ -208,16 +209,24 @@ has_free heads current status notes d units places count four some two within th
       let none : is_used (at current) units status.place (is_held heads notes) winner.place ≡ false = sym (used.used_are winner.place low) ∙ here in
       not_at (at current 0) winner winner.place (home_from (at current) units winner.place 0 (or_parts _ _ (or_parts _ _ none).0).0 (omega arith)) is refl
 
--- where there is no fault, the contents are laid out
-pub laid : (x : Contents) (places : ℕ) (heads : List (Option KeptHeader)) (current : List (Option Winner)) (status : Winner) → ShowsHeaders (chart_of x) places heads current status
-    → ((p : ℕ) → p < places → IsWhole (x p 0))
-    → ((p s : ℕ) → p < places → 1 ≤ s → s < 256 → (p ≡ status.place) ⊎ (is_log_spot (at heads) (at current) p s ≡ true) → IsWhole (x p s))
-    → first_fault (chart_of x) places ≡ None → Laid places (chart_of x) (layout_in (chart_of x) places)
-laid x places heads current status shows first rest none =
-    no_fault_is_laid (chart_of x) places (whole_sectors_make_byte_charts x places (λ p s low within may. elim (cases_eq s 0) [
+-- what was read beyond the headers is whole
+pub rest_whole : (x : Contents) (places : ℕ) (heads : List (Option KeptHeader)) (current : List (Option Winner)) (status : Winner)
+    → ((s : ℕ) → 1 ≤ s → s < 256 → IsWhole (x status.place s))
+    → ((p s : ℕ) → s < 256 → p * 256 + s < places * 256 → is_log_spot (at heads) (at current) p s ≡ true → IsWhole (x p s))
+    → IsRestWhole x places heads current status
+rest_whole x places heads current status commits logs = λ p s low some within where_it_is. elim where_it_is [
+  | inl here ↦ subst (λ (q : ℕ). IsWhole (x q s)) (sym here) (commits s some within)
+  | inr spot ↦ logs p s within (omega (arith, low, within)) spot
+]
+
+-- what was read is whole, and so it is bytes
+pub read_bytes : (x : Contents) (places : ℕ) (heads : List (Option KeptHeader)) (current : List (Option Winner)) (status : Winner) → ShowsHeaders (chart_of x) places heads current status
+    → ((p : ℕ) → p < places → IsWhole (x p 0)) → IsRestWhole x places heads current status → IsByteChart places (chart_of x)
+read_bytes x places heads current status shows first rest =
+    whole_sectors_make_byte_charts x places (λ p s low within may. elim (cases_eq s 0) [
       | inl zero_s ↦ subst (λ (t : ℕ). IsWhole (x p t)) (sym zero_s) (first p low)
       | inr some ↦ rest p s low (omega (arith, some)) within (of_tables p s some may)
-    ])) none
+    ])
   where
     of_tables : (p s : ℕ) → s ≢ 0 → MayBeRead places (chart_of x) p s → (p ≡ status.place) ⊎ (is_log_spot (at heads) (at current) p s ≡ true)
     of_tables p s some (inl zero_s) = absurd (some zero_s)
@@ -226,3 +235,10 @@ laid x places heads current status shows first rest none =
     of_tables p s some (inr (inr spot)) =
         inr (subst (λ (h : ℕ → Option KeptHeader). is_log_spot h (at current) p s ≡ true) (sym shows.heads_are)
         (subst (λ (cur : ℕ → Option Winner). is_log_spot (header_at (chart_of x) places) cur p s ≡ true) (sym shows.current_are) spot))
+
+-- where there is no fault, the contents are laid out
+pub laid : (x : Contents) (places : ℕ) (heads : List (Option KeptHeader)) (current : List (Option Winner)) (status : Winner) → ShowsHeaders (chart_of x) places heads current status
+    → ((p : ℕ) → p < places → IsWhole (x p 0)) → IsRestWhole x places heads current status
+    → first_fault (chart_of x) places ≡ None → Laid places (chart_of x) (layout_in (chart_of x) places)
+laid x places heads current status shows first rest none =
+    no_fault_is_laid (chart_of x) places (read_bytes x places heads current status shows first rest) none

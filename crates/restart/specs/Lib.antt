@@ -2,6 +2,7 @@ pub mod Writes
 pub mod Events
 pub mod Fresh
 pub mod Looks
+pub mod Bytes
 pub mod Taken
 pub mod Notes
 pub mod Scanned

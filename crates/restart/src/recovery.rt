@@ -1,16 +1,18 @@
 //! The opening of a chip.
-ghost use Rattle.std.specs.Prelude.{◌≡◌, ◌≢◌, ◌⊎◌, ◌<◌, ◌≤◌, ◌+◌, ◌-◌, ◌*◌, ◌^◌, ℕ, [], length, true, Some, None, IfOk, OnOk};
+ghost use Rattle.std.specs.Prelude.{◌≡◌, ◌≢◌, ◌<◌, ◌≤◌, ◌+◌, ◌-◌, ◌*◌, ◌^◌, ℕ, [], length, Some, None, IfOk, IfErr, OnOk};
 ghost use Rattle.chip_trait.specs.Told.{Told};
+ghost use Rattle.ipl_base.specs.declared.fault.ImageFault.TheVariants.{Spent};
 ghost use Rattle.ipl_meaning.specs.Chart.{chart_of};
 ghost use Rattle.ipl_meaning.specs.Layout.{Laid};
 ghost use Rattle.ipl_meaning.specs.Mirrors.{Mirrors};
 ghost use Rattle.unit_io.specs.Reads.{OfContents};
 ghost use Rattle.opening_rules.specs.First.{at, count_below};
 ghost use Rattle.opening_rules.specs.Chosen.{Winner as Chosen};
-ghost use Rattle.opening_rules.specs.Live.{is_log_spot, marks};
+ghost use Rattle.opening_rules.specs.Live.{marks};
 ghost use Rattle.opening_rules.specs.Faults.{TellsImageFault, header_fault, first_fault};
 ghost use Rattle.opening_rules.specs.LaidOut.{layout_in};
 ghost use Rattle.ipl_format.specs.Whole.{IsWhole};
+ghost use Rattle.restart.specs.Bytes.{IsRestWhole, ReadsBytes};
 ghost use Rattle.restart.specs.Looks.{Looks, HasCause};
 ghost use Rattle.txn_status.specs.ReadingIn.{status_in};
 ghost use Rattle.merge_rules.specs.Known.{KnowsPlaces};
@@ -91,9 +93,9 @@ fn read_rest<C: Chip>(
         status.new ≡ status_in (chart_of x) winner.now.place winner.now.head.generation)) }
     ensures placed { OnOk result (status.new.place ≡ winner.now.place) }
     ensures whole { OnOk result (OfContents (C.told chip.old) (λ x.
-        (p s : ℕ) → p < geometry → 1 ≤ s → s < 256
-        → (p ≡ winner.now.place) ⊎ (is_log_spot (at heads.now) (at current.now) p s ≡ true)
-        → IsWhole (x p s))) }
+        IsRestWhole x geometry heads.now current.now winner.now)) }
+    ensures spent { IfErr result (λ e. e ≡ Spent → OfContents (C.told chip.old) (λ x.
+        IsRestWhole x geometry heads.now current.now winner.now)) }
     ensures left { IfOk result (λ n. n < 2 ^ 63) }
     ensures two { OnOk result (count_below (is_held heads.now noted.new) (length heads.now) ≤ 2) }
     ensures none { OnOk result (overflow.new.in_use ≡ []) }
@@ -133,6 +135,7 @@ fn open<C: Chip>(
     ensures mirrors { OnOk result (OfContents (C.told chip.old) (λ x.
         Mirrors geometry (chart_of x) (layout_in (chart_of x) geometry)
         (tables_of directory.new overflow.new status.new counter.new))) }
+    ensures bytes { ReadsBytes geometry (C.told chip.old) result }
     ensures known { OnOk result (KnowsPlaces geometry
         (tables_of directory.new overflow.new status.new counter.new)) }
     ensures free { OnOk result (HasFree directory.new) }
@@ -226,6 +229,9 @@ pub fn recover<C: Chip>(
         Mirrors (C.told chip.old).places (chart_of x)
         (layout_in (chart_of x) (C.told chip.old).places)
         (tables_of directory.new overflow.new status.new counter.new))) }
+
+    // What it read is bytes, also where it fails since the numbers are used up.
+    ensures bytes { ReadsBytes (C.told chip.old).places (C.told chip.old) result }
 
     // Whether the chip tells its contents or not, the tables know each of its places, a place is free,
     // and numbers are left.

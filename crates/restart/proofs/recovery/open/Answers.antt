@@ -6,7 +6,8 @@ use Rattle.opened_tables.proofs.OpenedLemmas.{opened_tables_mirror}
 use Rattle.restart.specs.Shown.{is_held}
 use Rattle.restart.proofs.LookLemmas.{reads_then, looks_done, looks_then}
 use Rattle.restart.proofs.CommitLemmas.{opened_status}
-use Rattle.restart.proofs.OpenLemmas.{all_tells, used_of, opened, has_free, laid}
+use Rattle.restart.proofs.OpenLemmas.{all_tells, used_of, opened, has_free, read_bytes, laid}
+use Rattle.restart.proofs.SpentLemmas.{header_unspent, tells_unspent, headers_tell_first, failed_bytes}
 use Rattle.restart.proofs.OverflowLemmas.{opened_overflow}
 use Rattle.restart.proofs.KnownLemmas.{knows_places}
 use Rattle.restart.proofs.recovery.open.Goals as goal
@@ -75,3 +76,25 @@ returns-clause-free g c =
     has_free c.read_headers.new.heads c.read_headers.new.current c.in_ok-winner.winner c.read_rest.new.noted c.fill.new.directory (length c.read_headers.new.current) c.args.geometry
     (count_below (is_held c.read_headers.new.heads c.read_rest.new.noted) (length c.read_headers.new.heads)) (omega arith) (omega arith) c.in_ok-greatest.ensures.two c.in_ok-winner.ensures.within
     (c.in_ok-winner.ensures.there 0 (omega arith)) (used_of (omega arith) c.fill.ensures.used) c.fill.ensures.adopted
+
+pub returns-in_err-winner-clause-bytes : goal.returns-in_err-winner-clause-bytes
+returns-in_err-winner-clause-bytes g c =
+    let old = g.C.Chip.told c.args.chip.now in
+    let exit = c.from_residual.ensures.1 in
+    failed_bytes c.args.geometry c.from_residual.result _ old old (g.C.Chip.told c.read_headers.new.chip) exit c.in_err-winner.ensures.looks.cause
+    (λ x told. headers_tell_first (chart_of x) c.args.geometry c.from_residual.result _ (omega arith) (omega arith) exit (c.in_err-winner.ensures.fault x told))
+    (λ is x told. absurd (tells_unspent _ _ (header_unspent (chart_of x) c.args.geometry) (c.in_err-winner.ensures.fault x told) is))
+
+pub returns-in_err-greatest-clause-bytes : goal.returns-in_err-greatest-clause-bytes
+returns-in_err-greatest-clause-bytes g c =
+    let old = g.C.Chip.told c.args.chip.now in
+    let mid = g.C.Chip.told c.read_headers.new.chip in
+    failed_bytes c.args.geometry c.from_residual-in_err-greatest.result _ old mid (g.C.Chip.told c.read_rest.new.chip) c.from_residual-in_err-greatest.ensures.1
+    c.in_err-greatest.ensures.looks.cause (returns-in_err-greatest-clause-fault g c)
+    (λ is x told. read_bytes x c.args.geometry c.read_headers.new.heads c.read_headers.new.current c.in_ok-winner.winner (c.in_ok-winner.ensures.shown x told)
+    (c.in_ok-winner.ensures.whole x told) (c.in_err-greatest.ensures.spent is x (c.read_headers.ensures.looks.reads.contents ∙ told)))
+
+pub returns-clause-bytes : goal.returns-clause-bytes
+returns-clause-bytes g c = λ x told.
+    read_bytes x c.args.geometry c.read_headers.new.heads c.read_headers.new.current c.in_ok-winner.winner (c.in_ok-winner.ensures.shown x told)
+    (c.in_ok-winner.ensures.whole x told) (c.in_ok-greatest.ensures.whole x (c.read_headers.ensures.looks.reads.contents ∙ told))

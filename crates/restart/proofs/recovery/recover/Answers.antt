@@ -6,6 +6,7 @@ use Rattle.opening_rules.specs.Faults.{TellsImageFault, first_fault}
 use Rattle.opening_rules.specs.LaidOut.{layout_in}
 use Rattle.merge_rules.specs.Known.{KnowsPlaces}
 use Rattle.opened_tables.specs.Opened.{AreOpened, tables_of}
+use Rattle.restart.specs.Bytes.{ReadsBytes}
 use Rattle.restart.proofs.recovery.recover.Goals as goal
 
 pub returns-clause-fault : goal.returns-clause-fault
@@ -28,3 +29,7 @@ returns-clause-mirrors g c =
     let made = tables_of c.open.new.directory c.open.new.overflow c.open.new.status c.open.new.counter in
     subst (λ (n : ℕ). OnOk c.open.result (OfContents (g.C.Chip.told c.args.chip.now) (λ x. Mirrors n (chart_of x) (layout_in (chart_of x) n) made)))
     (c.scratch.view_is ∙ c.requires.scratch) c.open.ensures.mirrors
+
+pub returns-clause-bytes : goal.returns-clause-bytes
+returns-clause-bytes g c =
+    subst (λ (n : ℕ). ReadsBytes n (g.C.Chip.told c.args.chip.now) c.open.result) (c.scratch.view_is ∙ c.requires.scratch) c.open.ensures.bytes

@@ -1,0 +1,118 @@
+-- That the numbers are used up is told after all was read, and what was read is bytes then.
+use Rattle.std.proofs.Common.{◌≡◌, ◌≢◌, ◌⊎◌, ◌-◌, [], inl, inr, ℕ, zero, suc, Bool, true, false, List, Option, Some, None, Result, Ok, Err, IfErr, ◌≤◌, if◌then◌else◌, refl, sym, ◌∙◌, ap}
+use Rattle.std.specs.Result.{IsErrAnd}
+use Rattle.std.specs.Option.{option_or}
+use Rattle.std.proofs.lemmas.Bool.{cases_Bool}
+use Rattle.chip_trait.specs.Told.{Told}
+use Rattle.ipl_base.specs.declared.fault.ImageFault.{ImageFault}
+use Rattle.ipl_base.specs.declared.fault.ImageFault.TheVariants.{Geometry, NotFormatted, Missing, Spent}
+use Rattle.ipl_base.specs.First.{first_below}
+use Rattle.ipl_format.specs.Sector.{Sector}
+use Rattle.ipl_meaning.specs.Chart.{Chart, chart_of}
+use Rattle.opening_rules.specs.First.{first_of}
+use Rattle.opening_rules.specs.Chosen.{KeptHeader, Winner, current_at, status_at}
+use Rattle.opening_rules.specs.Live.{sectors, Mark, mark_of, marks, commit_at, live_at}
+use Rattle.opening_rules.specs.Payloads.{is_commit_payload}
+use Rattle.opening_rules.specs.Faults.{TellsImageFault, is_image, malformed, not_formatted, other_geometry, missing, bad_header, header_tests, header_fault, commit_test, commit_fault, is_log_well, log_test, log_fault, first_fault}
+use Rattle.opening_rules.specs.Laws.{IsByteChart}
+use Rattle.opening_rules.proofs.TellsLemmas.{tells_past, tells_here}
+use Rattle.unit_io.specs.Reads.{OfContents}
+use Rattle.restart.specs.Bytes.{ReadsBytes}
+use Rattle.restart.specs.Looks.{HasCause}
+use Rattle.restart.proofs.OpenLemmas.{size_none}
+
+-- ---- no other fault is that the numbers are used up
+
+none_unspent : first_of {A = ImageFault} [] ≢ Some Spent
+none_unspent is = absurd (cc is)
+
+or_unspent : (a b : Option ImageFault) → a ≢ Some Spent → b ≢ Some Spent → option_or a b ≢ Some Spent
+or_unspent None b one two = two
+or_unspent (Some e) b one two = one
+
+below_unspent : (f : ℕ → Option ImageFault) (n : ℕ) → ((k : ℕ) → f k ≢ Some Spent) → first_below f n ≢ Some Spent
+below_unspent f zero each = λ is. absurd (cc is)
+below_unspent f (suc n) each = or_unspent (first_below f n) (f n) (below_unspent f n each) (each n)
+
+if_unspent : (well : Bool) (e : ImageFault) → e ≢ Spent → (if well then None else Some e) ≢ Some Spent
+if_unspent true e other = λ is. absurd (cc is)
+if_unspent false e other = λ is. other (let same : Some e ≡ Some Spent = is in cc same)
+
+not_formatted_unspent : (o : Option Winner) → not_formatted o ≢ Some Spent
+not_formatted_unspent None = λ is. absurd (cc is)
+not_formatted_unspent (Some winner) = λ is. absurd (cc is)
+
+foreign_unspent : (foreign : Bool) → (if foreign then Some Geometry else None) ≢ Some Spent
+foreign_unspent true = λ is. absurd (cc is)
+foreign_unspent false = λ is. absurd (cc is)
+
+other_unspent : (o : Option Winner) → other_geometry o ≢ Some Spent
+other_unspent None = λ is. absurd (cc is)
+other_unspent (Some winner) = foreign_unspent winner.head.foreign
+
+missing_unspent : (u : ℕ) (o : Option Winner) → missing u o ≢ Some Spent
+missing_unspent u None = λ is. absurd (cc is)
+missing_unspent u (Some winner) = λ is. absurd (cc is)
+
+bad_unspent : (o : Option Winner) → bad_header o ≢ Some Spent
+bad_unspent None = λ is. absurd (cc is)
+bad_unspent (Some winner) = if_unspent winner.head.well (malformed winner.place 0) (λ is. absurd (cc is))
+
+pub header_unspent : (c : Chart) (places : ℕ) → header_fault c places ≢ Some Spent
+header_unspent c places =
+    or_unspent _ _ (not_formatted_unspent (status_at c places))
+    (or_unspent _ _ (other_unspent (status_at c places))
+    (or_unspent _ _ (below_unspent _ (places - 4) (λ u. other_unspent (current_at c places u)))
+    (or_unspent _ _ (below_unspent _ (places - 4) (λ u. missing_unspent u (current_at c places u)))
+    (or_unspent _ _ (below_unspent _ (places - 4) (λ u. bad_unspent (current_at c places u)))
+    (or_unspent _ _ (bad_unspent (status_at c places)) none_unspent)))))
+
+commit_test_unspent : (p s : ℕ) (o : Option Sector) → commit_test p s o ≢ Some Spent
+commit_test_unspent p s None = λ is. absurd (cc is)
+commit_test_unspent p s (Some sector) = if_unspent (is_commit_payload sector.payload) (malformed p s) (λ is. absurd (cc is))
+
+commit_unspent : (c : Chart) (status : Option Winner) (s : ℕ) → commit_fault c status s ≢ Some Spent
+commit_unspent c None s = λ is. absurd (cc is)
+commit_unspent c (Some winner) s = commit_test_unspent winner.place s (commit_at c (Some winner) s)
+
+pub commits_unspent : (c : Chart) (status : Option Winner) → first_below (commit_fault c status) sectors ≢ Some Spent
+commits_unspent c status = below_unspent (commit_fault c status) sectors (commit_unspent c status)
+
+log_test_unspent : (heads : ℕ → Option KeptHeader) (earlier : List Mark) (k : ℕ) (o : Option Sector) → log_test heads earlier k o ≢ Some Spent
+log_test_unspent heads earlier k None = λ is. absurd (cc is)
+log_test_unspent heads earlier k (Some sector) =
+    if_unspent (is_log_well (mark_of heads k sector) earlier sector.payload) _ (λ is. absurd (cc is))
+
+pub logs_unspent : (heads : ℕ → Option KeptHeader) (current : ℕ → Option Winner) (c : Chart) (n : ℕ) → first_below (log_fault heads current c) n ≢ Some Spent
+logs_unspent heads current c n =
+    below_unspent (log_fault heads current c) n (λ k. log_test_unspent heads (marks heads current c k) k (live_at heads current c k))
+
+-- ---- where it failed
+
+-- so a call whose faults are others tells another one
+pub tells_unspent : (fault : Option ImageFault) (e : ImageFault) → fault ≢ Some Spent → (is_image e ≡ true → fault ≡ Some e) → e ≡ Spent → ⊥
+tells_unspent fault e other says is = other (says (ap is_image is) ∙ ap Some is)
+
+-- what is known of a fault is known at the exit of a `?`
+pub spent_exit : {T P : Type 0} (r : Result T ImageFault) (e : ImageFault) → IsErrAnd r (λ y. y ≡ e) → (e ≡ Spent → P) → IfErr r (λ y. y ≡ Spent → P)
+spent_exit (Ok v) e exit says = absurd exit
+spent_exit (Err y) e exit says = λ is. says (sym exit ∙ is)
+
+-- a fault of the headers is the first one
+pub headers_tell_first : {T : Type 0} (c : Chart) (places : ℕ) (r : Result T ImageFault) (e : ImageFault) → 5 ≤ places → places ≤ 1028 → IsErrAnd r (λ y. y ≡ e)
+    → (is_image e ≡ true → header_fault c places ≡ Some e) → TellsImageFault (first_fault c places) r
+headers_tell_first c places r e least most exit says = tells_past _ _ r (size_none places least most) (tells_here _ _ r e exit says)
+
+-- with a fault of what it read: its numbers are used up, or it has the first fault
+pub failed_bytes : (places : ℕ) (r : Result (Unit {0}) ImageFault) (e : ImageFault) (told mid new : Told) → IsErrAnd r (λ y. y ≡ e) → HasCause e mid new
+    → OfContents told (λ x. TellsImageFault (first_fault (chart_of x) places) r)
+    → (e ≡ Spent → OfContents told (λ x. IsByteChart places (chart_of x)))
+    → ReadsBytes places told r
+failed_bytes places (Ok v) e told mid new exit cause tells spent = absurd exit
+failed_bytes places (Err y) e told mid new exit cause tells spent = λ x holds unread unstopped why. elim why [
+  | inl is ↦ spent (sym exit ∙ is) x holds
+  | inr none ↦ elim (cases_Bool (is_image y)) [
+    | inl image ↦ (let some : None ≡ Some y = sym none ∙ tells x holds image in absurd (cc some))
+    | inr other ↦ absurd (unread (exit ∙ (cause (ap is_image (sym exit) ∙ other)).fault))
+  ]
+]
