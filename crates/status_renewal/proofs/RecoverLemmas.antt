@@ -4,7 +4,7 @@ use Rattle.std.proofs.lemmas.Bool.{cases_Bool, false≢true}
 use Rattle.chip_trait.specs.Story.{Contents, held}
 use Rattle.chip_trait.specs.Told.{History, Told, Counts, IsConsistent}
 use Rattle.ipl_base.specs.declared.fault.ChipFault.{ChipFault}
-use Rattle.ipl_base.specs.declared.fault.ChipFault.TheVariants.{ReadFault, Stopped}
+use Rattle.ipl_base.specs.declared.fault.ChipFault.TheVariants.{ReadFault, Stopped, Damaged}
 use Rattle.ipl_base.specs.declared.fault.ImageFault.{ImageFault}
 use Rattle.ipl_base.specs.declared.fault.ImageFault.TheVariants.{Chip}
 use Rattle.ipl_rules.specs.State.{Map}
@@ -113,10 +113,16 @@ same_chip a b e = cc
 stopped_is_no_read : ◌≡◌ {A = ImageFault} (Chip Stopped) (Chip ReadFault) → ⊥
 stopped_is_no_read e = cc
 
+damaged_is_no_read : (p s stored computed : ℕ)
+    → ◌≡◌ {A = ImageFault} (Chip (Damaged p s stored computed)) (Chip ReadFault) → ⊥
+damaged_is_no_read p s stored computed e = cc
+
 pub reading_cause : (e : ImageFault) (old new : Told) → HasCause e old new → OpeningCause e old new
 reading_cause e old new cause = record {
   read = λ is. (cause (ap is_image is)).rose;
   stopped = λ is. absurd (stopped_is_no_read (sym is ∙ (cause (ap is_image is)).fault));
+  damaged = λ p s stored computed is same.
+      damaged_is_no_read p s stored computed (sym is ∙ (cause (ap is_image is)).fault);
 }
 
 pub renewing_cause : (fault : ChipFault) (old mid new : Told) → Counts old mid
@@ -130,6 +136,11 @@ renewing_cause fault old mid new counts cause = record {
       let rose : RenewCause Stopped mid new =
       subst (λ (f : ChipFault). RenewCause f mid new) (same_chip fault Stopped is) cause in
       omega (arith, counts.writes, rose);
+  damaged = λ p s stored computed is.
+      let differ : RenewCause (Damaged p s stored computed) mid new =
+      subst (λ (f : ChipFault). RenewCause f mid new)
+      (same_chip fault (Damaged p s stored computed) is) cause in
+      differ.1;
 }
 
 -- ---- what a power cut leaves

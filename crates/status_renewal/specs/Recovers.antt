@@ -4,7 +4,7 @@ use Rattle.ipl_base.specs.declared.limits.TheConstants.{RESERVED_PLACES}
 use Rattle.chip_trait.specs.Story.{Contents}
 use Rattle.chip_trait.specs.Told.{History, Told, Rose}
 use Rattle.ipl_base.specs.declared.fault.ChipFault.{ChipFault}
-use Rattle.ipl_base.specs.declared.fault.ChipFault.TheVariants.{ReadFault, Stopped}
+use Rattle.ipl_base.specs.declared.fault.ChipFault.TheVariants.{ReadFault, Stopped, Damaged}
 use Rattle.ipl_base.specs.declared.fault.ImageFault.{ImageFault}
 use Rattle.ipl_base.specs.declared.fault.ImageFault.TheVariants.{Chip}
 use Rattle.ipl_rules.specs.State.{Map}
@@ -102,7 +102,9 @@ pub record HoldsOpened (places : ℕ) (after : Tables) : Type 0 where
   pub known : KnowsPlaces places after
   pub room : 191 ≤ room_of after.status
 
--- why it fails: a read or a write failed, and its count rose; or the chip has a fault
+-- why it fails: a read or a write failed, and its count rose; or the chip has a fault, and where a
+-- sector is damaged its sums differ
 pub record OpeningCause (e : ImageFault) (old new : Told) : Type 0 where
   pub read : e ≡ Chip ReadFault → Rose old.read_faults new.read_faults
   pub stopped : e ≡ Chip Stopped → Rose old.write_faults new.write_faults
+  pub damaged : (p s stored computed : ℕ) → e ≡ Chip (Damaged p s stored computed) → stored ≢ computed

@@ -2,6 +2,7 @@
 ghost use Rattle.std.specs.Prelude.{◌≡◌, ◌≤◌, ◌<◌, ◌+◌, ◌-◌, ◌^◌, [], length, OnOk};
 ghost use Rattle.ipl_meaning.specs.Chart.{chart_of};
 ghost use Rattle.opening_rules.specs.Faults.{greatest_found};
+ghost use Rattle.restart.specs.Bytes.{ReadsBytes};
 ghost use Rattle.selective_merge.specs.Moving.{tables_of};
 ghost use Rattle.unit_io.specs.Accounts.{Accounts};
 ghost use Rattle.unit_io.specs.Costs.{Spends};
@@ -47,6 +48,9 @@ pub fn recover<C: Chip>(
     // Why it fails over what the chip holds: where that has no fault and its pages say a map, only
     // where a call of the chip failed.
     ensures complete { CompletesOpening (C.told chip.old).places result (C.told chip.old) }
+
+    // What it read is bytes, also where it fails since the numbers are used up.
+    ensures bytes { ReadsBytes (C.told chip.old).places (C.told chip.old) result }
 
     // What the tables have, whatever the chip tells.
     ensures holds { OnOk result (HoldsOpened (C.told chip.old).places (tables_of parts.new)) }

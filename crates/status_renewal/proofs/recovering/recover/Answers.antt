@@ -188,3 +188,17 @@ returns-in_err-renew-clause-tells g c = λ x told.
     (subst (λ n. FailsAsRenewal n t (Err fault) mid) reads.counts.places
     c.in_err-renew.ensures.fault x (reads.contents ∙ told) it parts.1
     (λ is. no_read (ap Chip is)) (λ is. no_stop (ap Chip is))))
+
+pub returns-in_err-recover-clause-bytes : goal.returns-in_err-recover-clause-bytes
+returns-in_err-recover-clause-bytes g c = λ x told.
+    let e = err_from_is_err_and c.from_residual.result c.from_residual.ensures.1 in
+    rw (e.1 ∙ ap Err e.2) (c.in_err-recover.ensures.bytes x told)
+
+pub returns-in_err-renew-clause-bytes : goal.returns-in_err-renew-clause-bytes
+returns-in_err-renew-clause-bytes g c = λ x told.
+    let e = err_from_is_err_and c.from_residual-in_err-renew.result
+    c.from_residual-in_err-renew.ensures.1 in
+    rw (e.1 ∙ ap Err e.2) (λ no_read no_stop why. c.in_ok-recover.ensures.bytes x told)
+
+pub returns-clause-bytes : goal.returns-clause-bytes
+returns-clause-bytes g c = λ x told. c.in_ok-recover.ensures.bytes x told
