@@ -15,6 +15,7 @@ use Rattle.ipl_meaning.specs.Rests.{StoryRests}
 use Rattle.ipl_meaning.specs.Stands.{Stands}
 use Rattle.ipl_meaning.specs.Tables.{Tables}
 use Rattle.opening_rules.specs.Faults.{greatest_found}
+use Rattle.restart.specs.Bytes.{ReadsBytes}
 use Rattle.unit_io.specs.Accounts.{Accounts}
 use Rattle.unit_io.specs.Costs.{Spends}
 use Rattle.unit_io.specs.Leads.{IsSteady}
@@ -51,14 +52,15 @@ Restarts before old after new = LeadsTo {T = Unit {0}} {E = ChipFault}
     (λ state. after_restart state) before old (Ok tt) after new
 
 -- What an opening does to the chip, which fails so or leaves these tables: what it tells, what a
--- power cut leaves, that a faulty chip is only read, when it may fail, how many erases it makes,
--- and why it fails.
+-- power cut leaves, that a faulty chip is only read, when it may fail, that what it read is bytes,
+-- how many erases it makes, and why it fails.
 pub record Tries (places : ℕ) (old : Told) (result : Result (Unit {0}) ImageFault) (t : Tables)
     (new : Told) : Type 0 where
   pub tells : RecoversTold places old result t new
   pub steps : RecoversInSteps places old result t new
   pub looks : LooksAtFaults places old new
   pub complete : CompletesOpening places result old
+  pub bytes : ReadsBytes places old result
   pub costs : Spends (ErasesAtMost (places - 3)) old new
   pub accounts : Accounts OpeningCause result old new
 
