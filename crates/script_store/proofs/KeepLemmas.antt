@@ -1,5 +1,5 @@
 -- How the store of a script keeps a state, from how the store of records does.
-use Rattle.std.proofs.Common.{ℕ, ◌≡◌, ◌≤◌, ◌<◌, ◌+◌, ◌^◌, max, arith, Bool, true, false, ◌∷◌, [], Option, List, Result, MatchResult, Ok, Err, is_ok, if◌then◌else◌, sym, ap, subst}
+use Rattle.std.proofs.Common.{ℕ, ◌≡◌, ◌≤◌, ◌<◌, ◌+◌, ◌^◌, max, arith, Bool, true, false, ◌∷◌, [], Option, List, Result, MatchResult, Ok, Err, OnOk, is_ok, if◌then◌else◌, sym, ap, subst}
 use Rattle.std.specs.FinMap.{get}
 use Rattle.std.proofs.lemmas.Result.{on_err_weaker}
 use Rattle.chip_trait.specs.Story.{Contents}
@@ -12,7 +12,7 @@ use Rattle.store_trait.specs.Keeping.{FOUND_NUMBER, LAST_NUMBER, WORK_DRAWS, LOO
 use Rattle.store_steps.specs.Keeps.{store_keeping}
 use Rattle.ipl_store.specs.Calls.{view_of, counter_of}
 use Rattle.script_store.specs.declared.store.ScriptStore.{ScriptStore}
-use Rattle.script_store.specs.Keeps.{next_number, script_keeping}
+use Rattle.script_store.specs.Keeps.{IsRunning, next_number, script_keeping}
 
 -- ---- numbers
 
@@ -55,6 +55,18 @@ draws_found n IsSpent a b left never = record {
   most = within_found (next_number a) FOUND_NUMBER (next_number b) n left;
   spent = λ is. absurd (never is);
 }
+
+-- ---- going on
+
+-- a store that runs for a chip runs for no other one
+pub suits_still : {T : Type 0} (a b : ScriptStore) (places : ℕ) → IsRunning places a
+    → (result : Result T Fault) → OnOk result (IsRunning places b)
+    → OnOk result ((others : ℕ) → IsRunning others a → IsRunning others b)
+suits_still a b places runs (Err fault) running = tt
+suits_still a b places runs (Ok v) running = λ others also.
+    let was = runs.sound.made.units in
+    let is = also.sound.made.units in
+    subst (λ (n : ℕ). IsRunning n b) (omega (arith, was, is)) running
 
 -- ---- work, and looking up
 

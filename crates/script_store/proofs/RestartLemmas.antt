@@ -1,5 +1,6 @@
 -- A chip that is opened again is the work of a restart.
-use Rattle.std.proofs.Common.{ℕ, ◌≡◌, ◌≢◌, ◌⊎◌, inl, inr, ◌≤◌, ◌<◌, ◌+◌, ◌^◌, arith, Bool, true, false, [], None, Some, Result, Ok, Err, MatchResult, IfErr, OnOk, if◌then◌else◌, refl, sym, ◌∙◌, ap, subst}
+use Rattle.std.proofs.Common.{ℕ, ◌≡◌, ◌≢◌, ◌⊎◌, inl, inr, ◌≤◌, ◌<◌, ◌+◌, ◌^◌, arith, Bool, true, false, [], None, Some, Result, Ok, Err, OnOk, if◌then◌else◌, refl, sym, ◌∙◌, ap, subst}
+use Rattle.chip_trait.specs.Story.{Contents}
 use Rattle.chip_trait.specs.Told.{History, Told, IsConsistent}
 use Rattle.ipl_base.specs.declared.fault.ChipFault.TheVariants.{ReadFault, Stopped, Damaged, Malformed}
 use Rattle.ipl_base.specs.declared.fault.ImageFault.{ImageFault}
@@ -22,7 +23,6 @@ use Rattle.opening_rules.proofs.LaidLemmas.{laid_has_no_fault, laid_is_fine_or_s
 use Rattle.opening_rules.proofs.NoFaultLemmas.{no_fault_is_laid}
 use Rattle.opening_rules.proofs.NumberLemmas.{greatest_is_found}
 use Rattle.unit_io.specs.Leads.{IsSteady}
-use Rattle.unit_io.specs.Reads.{OfContents}
 use Rattle.steps.specs.Laws.{Preserves}
 use Rattle.status_renewal.specs.Recovers.{IsOpeningFault, FailsByCallAlone, OpeningCause}
 use Rattle.status_renewal.proofs.ReadyLemmas.{layouts_say}
@@ -39,16 +39,6 @@ use Rattle.ipl_store.specs.Openings.{Opens, Reopens, Restarts, Tries}
 use Rattle.script_store.specs.declared.store.ScriptStore.{ScriptStore}
 use Rattle.script_store.specs.Keeps.{IsRunning, next_number, script_keeping, Does}
 use Rattle.script_store.proofs.KeepLemmas.{counted_few, works_so, draws_found}
-
--- ---- what is to be known of the opening besides
-
--- the sectors that it read are bytes, where it was done or failed though all calls of the chip were done
-abbrev pub ReadsBytes : ℕ → Told → Result (Unit {0}) ImageFault → Type 0
-ReadsBytes places told result = OfContents told (λ x. MatchResult result
-    (λ v. IsByteChart places (chart_of x))
-    (λ e. e ≢ image.Chip ReadFault → e ≢ image.Chip Stopped
-    → (e ≡ image.Spent) ⊎ (first_fault (chart_of x) places ≡ None)
-    → IsByteChart places (chart_of x)))
 
 -- ---- the answer
 
@@ -164,11 +154,26 @@ rose_for (image.NoSpare n) before after cause fails =
       | inr is ↦ absurd (cc is)
     ]
 
+-- and its cause
+image_cause : (e : ImageFault) (before after : Told) → OpeningCause e before after
+    → ImageCause e before after
+image_cause (image.Chip ReadFault) before after cause = cause.read refl
+image_cause (image.Chip Stopped) before after cause = cause.stopped refl
+image_cause (image.Chip (Damaged p s stored computed)) before after cause =
+    cause.damaged p s stored computed refl
+image_cause (image.Chip (Malformed p s)) before after cause = tt
+image_cause image.Geometry before after cause = tt
+image_cause image.NotFormatted before after cause = tt
+image_cause (image.Missing u) before after cause = tt
+image_cause image.Spent before after cause = tt
+image_cause (image.NoSpare n) before after cause = tt
+
 -- the fault is that the numbers are used up, or the chart has none
-spent_or_none : (places : ℕ) (c : Chart) (it : Layout) (e : ImageFault) → Laid places c it
-    → IsOpeningFault places c e → (e ≡ image.Spent) ⊎ (first_fault c places ≡ None)
-spent_or_none places c it e laid (inr (none, fault, is)) = inr none
-spent_or_none places c it e laid (inl first) = elim (laid_is_fine_or_spent c places it laid) [
+spent_or_none : (places : ℕ) (x : Contents) (it : Layout) (e : ImageFault)
+    → Laid places (chart_of x) it → IsOpeningFault places x e
+    → (e ≡ image.Spent) ⊎ (first_fault (chart_of x) places ≡ None)
+spent_or_none places x it e laid (inr fault) = inr fault.0
+spent_or_none places x it e laid (inl first) = elim (laid_is_fine_or_spent (chart_of x) places it laid) [
   | inl none ↦ inr none
   | inr spent ↦ inl (let both : Some e ≡ Some image.Spent = sym first ∙ spent in cc both)
 ]
@@ -202,9 +207,8 @@ module _ (a b : ScriptStore) (before after : Told) (t : Tables)
   opened_does : Opens before.places before b.store after
       → Tries before.places before (Ok tt) t after
       → Restarts (memory_of_store a.store) before (memory_of_store b.store) after
-      → ReadsBytes before.places before (Ok tt)
       → Does command.Restart a before (Ok reply.Ok) b after
-  opened_does opens tries leads reads = record {
+  opened_does opens tries leads = record {
     works = works_so a b before after runs.up units command.Restart (Ok reply.Ok)
         (leads_are_work command.Restart first last (Ok reply.Ok) before after consistent suits units
         runs.up (answers_advance (TurnsMapOf (λ state. after_restart state))
@@ -222,7 +226,7 @@ module _ (a b : ScriptStore) (before after : Told) (t : Tables)
       few : DrawsFew WORK_DRAWS first before last
       few state keeps x told =
           let shown = (keeps.up runs.up).contents x told in
-          let bytes = subst (λ (n : ℕ). IsByteChart n (chart_of x)) (sym suits) (reads x told) in
+          let bytes = subst (λ (n : ℕ). IsByteChart n (chart_of x)) (sym suits) (tries.bytes x told) in
           let below = few_found (a.store.units + 4) (chart_of x) shown.layout
           (counter_of a.store) bytes shown.fits.mirrors.laid shown.fits.mirrors.numbers.above in
           let number = subst (λ (n : ℕ).
@@ -231,9 +235,8 @@ module _ (a b : ScriptStore) (before after : Told) (t : Tables)
           omega (arith, below, number)
 
   failed_does : (e : ImageFault) → b.store.down ≡ true
-      → Tries before.places before (Err e) t after → ReadsBytes before.places before (Err e)
-      → ImageCause e before after → Does command.Restart a before (Err (Image e)) b after
-  failed_does e down tries reads cause = record {
+      → Tries before.places before (Err e) t after → Does command.Restart a before (Err (Image e)) b after
+  failed_does e down tries = record {
     works = works_down a b before after runs.up units down (Image e)
         (faults_that_leave_down command.Restart first
         (left a b before after runs.up units down) (Image e) before after consistent suits units
@@ -246,7 +249,7 @@ module _ (a b : ScriptStore) (before after : Told) (t : Tables)
         (let none = none_drawn in omega (arith, none)) (λ spent. absurd (cc spent));
     running = tt;
     counts = tries.accounts.counts;
-    cause = cause;
+    cause = image_cause e before after tries.accounts.cause;
   }
     where
       none_drawn : next_number b ≡ 0
@@ -295,8 +298,8 @@ module _ (a b : ScriptStore) (before after : Told) (t : Tables)
           fails : e ≢ image.Chip ReadFault → e ≢ image.Chip Stopped → FailsByCallAlone e
           fails unread unstopped =
               let fault = tries.tells x told unread unstopped in
-              let bytes = reads x told unread unstopped
-              (spent_or_none before.places (chart_of x) shown.layout e laid fault) in
+              let bytes = tries.bytes x told unread unstopped
+              (spent_or_none before.places x shown.layout e laid fault) in
               let none = laid_has_no_fault (chart_of x) before.places shown.layout bytes laid above
               in
               let in_it = no_fault_is_laid (chart_of x) before.places bytes none in
@@ -309,8 +312,6 @@ module _ (a b : ScriptStore) (before after : Told) (t : Tables)
       → Reopens before.places before result b.store after
       → Tries before.places before result t after
       → OnOk result (Restarts (memory_of_store a.store) before (memory_of_store b.store) after)
-      → ReadsBytes before.places before result
-      → IfErr result (λ e. ImageCause e before after)
       → Does command.Restart a before (restarted result) b after
-  restart_does (Ok v) opens tries leads reads cause = opened_does opens tries leads reads
-  restart_does (Err e) down tries leads reads cause = failed_does e down tries reads cause
+  restart_does (Ok v) opens tries leads = opened_does opens tries leads
+  restart_does (Err e) down tries leads = failed_does e down tries

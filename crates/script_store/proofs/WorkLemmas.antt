@@ -10,6 +10,7 @@ use Rattle.ipl_base.specs.declared.fault.StoreFault.{StoreFault}
 use Rattle.ipl_base.specs.declared.fault.StoreFault.TheVariants as store
 use Rattle.ipl_rules.specs.State.{State}
 use Rattle.ipl_model.specs.declared.command.Command.{Command}
+use Rattle.ipl_model.specs.declared.command.Command.TheVariants as command
 use Rattle.ipl_model.specs.declared.reply.Reply.{Reply}
 use Rattle.ipl_model.specs.declared.reply.Reply.TheVariants as reply
 use Rattle.ipl_model.specs.Step.{Stepped, refusal_of, accepted, step}
@@ -22,7 +23,7 @@ use Rattle.store_trait.specs.Keeping.{LAST_NUMBER, WORK_DRAWS, ChipRose}
 use Rattle.store_steps.specs.Advances.{TurnsMapOf, LeadsTo}
 use Rattle.store_steps.specs.Keeps.{View, limits_of, ShowsState, StoreCause}
 use Rattle.store_steps.proofs.AdvanceLemmas.{answers_advance}
-use Rattle.store_steps.proofs.LeadLemmas.{next_states_are_alike}
+use Rattle.store_steps.proofs.LeadLemmas.{memory_leads, next_states_are_alike}
 use Rattle.store_steps.proofs.RefusalLemmas.{refusals_answer, accepted_are_done, refusals_lead, accepted_lead}
 use Rattle.store_steps.proofs.KeepLemmas.{leads_are_work}
 use Rattle.store_steps.proofs.FaultLemmas.{idle_faults_are_work}
@@ -97,6 +98,29 @@ module _ (c : Command) (a : ScriptStore) (told : Told) (runs : IsRunning told.pl
         (limits_of a.store.units) a.store.transactions.sessions state c r
         (keeps.up runs.up).sessions is))
         (λ state keeps x there. omega arith) tt);
+    draws = draws_few WORK_DRAWS _ a a runs.up (omega arith) (λ spent. absurd (cc spent));
+    running = runs;
+    counts = counts_none told;
+    cause = tt;
+  }
+
+-- a line that is no command
+module _ (a : ScriptStore) (told : Told) (runs : IsRunning told.places a)
+    (consistent : IsConsistent told) where
+  abbrev same : View
+  same = view_of a.store
+
+  pub syntax_does : Does command.Syntax a told (Ok reply.Syntax) a told
+  syntax_does = record {
+    works = works_so a a told told runs.up refl command.Syntax (Ok reply.Syntax)
+        (leads_are_work command.Syntax same same (Ok reply.Syntax) told told consistent
+        runs.sound.made.units refl runs.up
+        (answers_advance (TurnsMapOf (λ state. state)) (λ state. state) same.memory same.memory
+        (Ok tt) (Ok reply.Syntax) told told refl
+        (memory_leads (λ state. state) same.memory same.memory told
+        (λ places c it state settled fits. fits) (λ places c it state fits. refl)
+        (λ p s counted. counted)))
+        (λ state keeps x there. refl) (λ state keeps x there. omega arith) tt);
     draws = draws_few WORK_DRAWS _ a a runs.up (omega arith) (λ spent. absurd (cc spent));
     running = runs;
     counts = counts_none told;

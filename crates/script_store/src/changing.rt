@@ -65,4 +65,15 @@ impl ScriptStore {
     {
         reply_of(self.store.merge(chip, unit))
     }
+
+    /// Opens the chip again, whatever the memory has: all sessions are dropped.
+    pub(crate) fn restart<C: Chip>(&mut self, chip: &mut C) -> Result<Reply, Fault>
+        requires runs { IsRunning (C.told chip.old).places self.old }
+        ensures { Does command.Restart self.old (C.told chip.old) result self.new (C.told chip.new) }
+    {
+        match self.store.open_chip(chip) {
+            Ok(()) => Ok(Reply::Ok),
+            Err(fault) => Err(Fault::Image(fault)),
+        }
+    }
 }

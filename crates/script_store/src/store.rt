@@ -2,10 +2,14 @@
 ghost use Rattle.std.specs.Prelude.{◌≡◌, ◌≤◌};
 ghost use Rattle.chip_trait.specs.Told.{Told};
 ghost use Rattle.ipl_rules.specs.State.{State, Limits};
-ghost use Rattle.script_store.specs.Keeps.{KeepsScript};
+ghost use Rattle.store_trait.specs.Keeping.{IsSingle};
+ghost use Rattle.script_store.specs.Keeps.{IsRunning, KeepsScript, Does, script_keeping};
 
-use ipl_base::UNIT_NAMES;
+use chip_trait::Chip;
+use ipl_base::{UNIT_NAMES, Value};
+use ipl_model::{Command, Reply};
 use ipl_store::Store;
+use store_trait::Fault;
 
 /// The units of a chip, at most.
 const MOST_UNITS: u32 = 1_024;
@@ -34,5 +38,42 @@ impl ScriptStore {
             return 0;
         }
         UNIT_NAMES * self.store.units()
+    }
+
+    /// Does the work of a command that has one line as its reply, and answers that line.
+    fn answer<C: Chip>(&mut self, chip: &mut C, command: &Command) -> Result<Reply, Fault>
+        requires single { IsSingle command.now }
+        requires runs { IsRunning (C.told chip.old).places self.old }
+        ensures { Does command.now self.old (C.told chip.old) result self.new (C.told chip.new) }
+    {
+        match command {
+            Command::Begin(s) => self.begin(chip, *s),
+            Command::Get(s, n) => self.get(chip, *s, *n),
+            Command::Share(s, n) => self.share(chip, *s, *n),
+            Command::Put(s, n, bytes) => self.put(chip, *s, *n, bytes),
+            Command::Del(s, n) => self.del(chip, *s, *n),
+            Command::Commit(s) => self.commit(chip, *s),
+            Command::Abort(s) => self.abort(chip, *s),
+            Command::List(_, _) => unreachable!("a list has more lines than one"),
+            Command::Merge(unit) => self.merge(chip, *unit),
+            Command::Restart => self.restart(chip),
+            Command::Syntax => Ok(Reply::Syntax),
+        }
+    }
+}
+
+impl store_trait::Store for ScriptStore {
+    ghost keeping = { script_keeping };
+
+    fn names(&self) -> u32 {
+        self.limit()
+    }
+
+    fn work<C: Chip>(&mut self, chip: &mut C, command: &Command) -> Result<Reply, Fault> {
+        self.answer(chip, command)
+    }
+
+    fn look_up<C: Chip>(&mut self, chip: &mut C, n: u32) -> Result<Option<Value>, Fault> {
+        self.look(chip, n)
     }
 }

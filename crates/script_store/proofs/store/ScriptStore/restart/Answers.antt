@@ -1,0 +1,32 @@
+use Rattle.std.proofs.Common.{Result, subst}
+use Rattle.ipl_base.specs.declared.fault.ImageFault.{ImageFault}
+use Rattle.ipl_model.specs.declared.command.Command.TheVariants as command
+use Rattle.page_frames.specs.Pages.{tables_in}
+use Rattle.script_store.specs.declared.store.ScriptStore.{ScriptStore}
+use Rattle.script_store.specs.Keeps.{Does}
+use Rattle.script_store.proofs.RestartLemmas.{restarted, restart_does}
+use Rattle.script_store.proofs.store.ScriptStore.restart.Goals as goal
+
+pub returns-in-Ok : goal.returns-in-Ok
+returns-in-Ok g c =
+    let before = g.C.Chip.told c.args.chip.now in
+    let after = g.C.Chip.told c.open_chip.new.chip in
+    let b : ScriptStore = record { store = c.open_chip.new.self } in
+    subst (λ (r : Result (Unit {0}) ImageFault). Does command.Restart c.args.self.now before
+    (restarted r) b after) c.in-Ok.is
+    (restart_does c.args.self.now b before after (tables_in b.store.transactions.pages)
+    c.requires.runs (g.met.C.Chip.consistent c.args.chip.now) c.open_chip.ensures.sound
+    c.open_chip.result c.open_chip.ensures.opens c.open_chip.ensures.tries
+    c.open_chip.ensures.leads)
+
+pub returns-in-Err : goal.returns-in-Err
+returns-in-Err g c =
+    let before = g.C.Chip.told c.args.chip.now in
+    let after = g.C.Chip.told c.open_chip.new.chip in
+    let b : ScriptStore = record { store = c.open_chip.new.self } in
+    subst (λ (r : Result (Unit {0}) ImageFault). Does command.Restart c.args.self.now before
+    (restarted r) b after) c.in-Err.is
+    (restart_does c.args.self.now b before after (tables_in b.store.transactions.pages)
+    c.requires.runs (g.met.C.Chip.consistent c.args.chip.now) c.open_chip.ensures.sound
+    c.open_chip.result c.open_chip.ensures.opens c.open_chip.ensures.tries
+    c.open_chip.ensures.leads)

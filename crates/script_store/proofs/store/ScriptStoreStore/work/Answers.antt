@@ -1,0 +1,19 @@
+use Rattle.script_store.proofs.KeepLemmas.{suits_still}
+use Rattle.script_store.proofs.store.ScriptStoreStore.work.Goals as goal
+
+pub returns-clause-suited : goal.returns-clause-suited
+returns-clause-suited g c =
+    suits_still c.args.self.now c.answer.new.self (g.C.Chip.told c.args.chip.now).places
+    c.requires.suits c.answer.result c.answer.ensures.running
+
+pub returns-clause-works : goal.returns-clause-works
+returns-clause-works g c = c.answer.ensures.works
+
+pub returns-clause-draws : goal.returns-clause-draws
+returns-clause-draws g c = c.answer.ensures.draws
+
+pub returns-clause-counts : goal.returns-clause-counts
+returns-clause-counts g c = c.answer.ensures.counts
+
+pub returns-clause-cause : goal.returns-clause-cause
+returns-clause-cause g c = c.answer.ensures.cause
