@@ -1,11 +1,11 @@
 -- That the numbers are used up is told after all was read, and what was read is bytes then.
-use Rattle.std.proofs.Common.{◌≡◌, ◌≢◌, ◌⊎◌, ◌-◌, [], inl, inr, ℕ, zero, suc, Bool, true, false, List, Option, Some, None, Result, Ok, Err, IfErr, ◌≤◌, if◌then◌else◌, refl, sym, ◌∙◌, ap}
+use Rattle.std.proofs.Common.{◌≡◌, ◌≢◌, ◌-◌, [], inl, inr, ℕ, zero, suc, Bool, true, false, List, Option, Some, None, Result, Ok, Err, IfErr, ◌≤◌, if◌then◌else◌, sym, ◌∙◌, ap}
 use Rattle.std.specs.Result.{IsErrAnd}
 use Rattle.std.specs.Option.{option_or}
 use Rattle.std.proofs.lemmas.Bool.{cases_Bool}
 use Rattle.chip_trait.specs.Told.{Told}
 use Rattle.ipl_base.specs.declared.fault.ImageFault.{ImageFault}
-use Rattle.ipl_base.specs.declared.fault.ImageFault.TheVariants.{Geometry, NotFormatted, Missing, Spent}
+use Rattle.ipl_base.specs.declared.fault.ImageFault.TheVariants.{Geometry, Spent}
 use Rattle.ipl_base.specs.First.{first_below}
 use Rattle.ipl_format.specs.Sector.{Sector}
 use Rattle.ipl_meaning.specs.Chart.{Chart, chart_of}
@@ -13,7 +13,7 @@ use Rattle.opening_rules.specs.First.{first_of}
 use Rattle.opening_rules.specs.Chosen.{KeptHeader, Winner, current_at, status_at}
 use Rattle.opening_rules.specs.Live.{sectors, Mark, mark_of, marks, commit_at, live_at}
 use Rattle.opening_rules.specs.Payloads.{is_commit_payload}
-use Rattle.opening_rules.specs.Faults.{TellsImageFault, is_image, malformed, not_formatted, other_geometry, missing, bad_header, header_tests, header_fault, commit_test, commit_fault, is_log_well, log_test, log_fault, first_fault}
+use Rattle.opening_rules.specs.Faults.{TellsImageFault, is_image, malformed, not_formatted, other_geometry, missing, bad_header, header_fault, commit_test, commit_fault, is_log_well, log_test, log_fault, first_fault}
 use Rattle.opening_rules.specs.Laws.{IsByteChart}
 use Rattle.opening_rules.proofs.TellsLemmas.{tells_past, tells_here}
 use Rattle.unit_io.specs.Reads.{OfContents}
