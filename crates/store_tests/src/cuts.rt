@@ -1,0 +1,153 @@
+//! What power cuts leave where one sector is open: it is as it was, whole or torn.
+use crate::calls::{Answer, Call, DONE, NONE, call_all, formatted, found, opened};
+use crate::writes::{committing, seven_commits_beside, sixteen_commits};
+use chip_mem::{Choice, MemChip, Pick};
+use chip_trait::Event;
+use std::alloc::Global;
+use std::process::Abort;
+use std::test::Fail;
+
+/// What a cut leaves of a sector.
+#[derive(Clone, Copy, Debug, PartialEq, Eq)]
+enum Left {
+    Old,
+    Whole,
+    Torn,
+}
+
+/// The number of the last event that programs a sector.
+fn last_program(chip: &MemChip, place: u32, sector: u32) -> Option<usize> {
+    let mut last = None;
+    for (number, event) in chip.events().iter().enumerate() {
+        if let Event::Program(p, s, _) = event {
+            if *p == place && *s == sector {
+                last = Some(number);
+            }
+        }
+    }
+    last
+}
+
+/// What is left of a sector that an event of this number programs.
+fn choice(left: Left, number: usize, bytes: &[u8; 512]) -> Choice {
+    match left {
+        Left::Old => Choice::Old,
+        Left::Whole => Choice::After(number as u64),
+        Left::Torn => {
+            let mut torn = [0xff; 512];
+            torn[..40].copy_from_slice(&bytes[..40]);
+            Choice::Bytes(torn)
+        }
+    }
+}
+
+/// The chip that a cut leaves right after the last event that programs this sector.
+fn cut_in(
+    alloc: Global,
+    chip: &MemChip,
+    place: u32,
+    sector: u32,
+    left: Left,
+) -> Result<MemChip, Fail> {
+    let Some(number) = last_program(chip, place, sector) else {
+        return Err(Fail::from("the sector isn't programmed"));
+    };
+    let Some(Event::Program(_, _, bytes)) = chip.events().get(number) else {
+        return Err(Fail::from("another event"));
+    };
+    let pick = Pick {
+        place,
+        sector,
+        choice: choice(left, number, bytes),
+    };
+    Ok(chip.image(alloc, (number as u64).saturating_add(1), &[pick])?)
+}
+
+/// Opens a chip, and makes calls. Each gives its answer.
+fn call_left(
+    rt: &impl Abort,
+    alloc: Global,
+    mut chip: MemChip,
+    cases: &[(Call<'_>, Answer<'_>)],
+) -> Result<MemChip, Fail> {
+    let mut store = opened(alloc, &mut chip, 16)?;
+    call_all(rt, &mut store, &mut chip, cases);
+    Ok(chip)
+}
+
+/// A chip of so many places after a commit of two bytes at name 5.
+fn committed(rt: &impl Abort, alloc: Global, places: u32) -> Result<MemChip, Fail> {
+    let mut calls = Vec::new(alloc);
+    committing(&mut calls, 0, 5, b"hi")?;
+    call_left(rt, alloc, formatted(alloc, places, 2000)?, &calls)
+}
+
+#[test]
+fn a_commit_counts_where_its_sector_is_whole(rt: HostRuntime) -> Result<(), Fail> {
+    let alloc = rt.alloc();
+    let chip = committed(&rt, alloc, 5)?;
+    for (left, answer) in [
+        (Left::Old, NONE),
+        (Left::Torn, NONE),
+        (Left::Whole, found(b"hi")),
+    ] {
+        let image = cut_in(alloc, &chip, 2, 1, left)?;
+        call_left(&rt, alloc, image, &[(Call::Committed(5), answer)])?;
+    }
+    Ok(())
+}
+
+#[test]
+fn an_opening_that_is_cut_keeps_the_records(rt: HostRuntime) -> Result<(), Fail> {
+    let alloc = rt.alloc();
+    let chip = committed(&rt, alloc, 6)?;
+    let records = [
+        (Call::Committed(4), NONE),
+        (Call::Committed(5), found(b"hi")),
+        (Call::Committed(6), NONE),
+    ];
+    let image = chip.image(alloc, u64::MAX, &[])?;
+    let reopened = call_left(&rt, alloc, image, &records)?;
+    // Two units, the first of which was merged from place 0 to place 4: the new status place is 0.
+    let Some(header) = last_program(&reopened, 0, 0) else {
+        return Err(Fail::from("the new status place is another one"));
+    };
+    let before = reopened.image(alloc, header as u64, &[])?;
+    call_left(&rt, alloc, before, &records)?;
+    for left in [Left::Old, Left::Torn, Left::Whole] {
+        let cut = cut_in(alloc, &reopened, 0, 0, left)?;
+        call_left(&rt, alloc, cut, &records)?;
+    }
+    Ok(())
+}
+
+#[test]
+fn a_merge_that_is_cut_keeps_the_records(rt: HostRuntime) -> Result<(), Fail> {
+    let alloc = rt.alloc();
+    let calls = sixteen_commits(alloc)?;
+    let chip = call_left(&rt, alloc, formatted(alloc, 5, 2000)?, &calls)?;
+    for left in [Left::Old, Left::Torn, Left::Whole] {
+        let cut = cut_in(alloc, &chip, 0, 0, left)?;
+        call_left(&rt, alloc, cut, &[(Call::Committed(5), found(&[15]))])?;
+    }
+    Ok(())
+}
+
+#[test]
+fn a_merge_that_empties_an_overflow_place_is_cut(rt: HostRuntime) -> Result<(), Fail> {
+    let alloc = rt.alloc();
+    let mut calls = seven_commits_beside(alloc)?;
+    calls.push((Call::Abort(0), DONE))?;
+    committing(&mut calls, 1, 64, b"h")?;
+    let chip = call_left(&rt, alloc, formatted(alloc, 5, 3000)?, &calls)?;
+    let records = [
+        (Call::Committed(0), NONE),
+        (Call::Committed(39), NONE),
+        (Call::Committed(64), found(&[7])),
+    ];
+    for left in [Left::Old, Left::Torn, Left::Whole] {
+        let cut = cut_in(alloc, &chip, 3, 0, left)?;
+        call_left(&rt, alloc, cut, &records)?;
+    }
+    Ok(())
+}
