@@ -55,12 +55,22 @@ fn call_with_frames(rt: &impl Abort, alloc: Global, first: u32, last: u32) -> Re
 
 #[test]
 fn few_frames_give_the_same_answers(rt: HostRuntime) -> Result<(), Fail> {
-    call_with_frames(&rt, rt.alloc(), 2, 24)
+    call_with_frames(&rt, rt.alloc(), 2, 18)
+}
+
+#[test]
+fn some_frames_give_the_same_answers(rt: HostRuntime) -> Result<(), Fail> {
+    call_with_frames(&rt, rt.alloc(), 18, 34)
+}
+
+#[test]
+fn more_frames_give_the_same_answers(rt: HostRuntime) -> Result<(), Fail> {
+    call_with_frames(&rt, rt.alloc(), 34, 50)
 }
 
 #[test]
 fn many_frames_give_the_same_answers(rt: HostRuntime) -> Result<(), Fail> {
-    call_with_frames(&rt, rt.alloc(), 24, 65)
+    call_with_frames(&rt, rt.alloc(), 50, 65)
 }
 
 #[test]
