@@ -19,7 +19,8 @@ unfolding data_header_bytes
 header_bytes units = bytes-append (word units ++ no_pieces) (0 ∷ [])
     (bytes-append (word units) no_pieces (bytes-word units) (bytes-replicate 15 0 (omega arith))) (bytes-cons 0 [] (omega arith) bytes-nil)
 
-formatted_bytes : (places : ℕ) → 5 ≤ places → places ≤ 1028 → IsByteChart places (formatted places)
+-- the payloads of a chip that was just formatted are bytes
+pub formatted_bytes : (places : ℕ) → 5 ≤ places → places ≤ 1028 → IsByteChart places (formatted places)
 formatted_bytes places least most p s sector low within read is = elim (cases_eq s 0) [
   | inr other ↦ absurd (no_sector places least most p s sector other is)
   | inl first ↦ elim (header_is places least most p sector (ap (λ (t : ℕ). formatted places p t) (sym first) ∙ is)) [

@@ -2,13 +2,14 @@ use Rattle.std.proofs.Common.{refl, ◌∙◌}
 use Rattle.pending_writes.specs.Frames.{IsAbortedFrame}
 use Rattle.buffer_pool.proofs.HoldingLemmas.{nothing_keeps, both_keep}
 use Rattle.frame_changes.specs.Views.{frames_of}
-use Rattle.frame_changes.proofs.NameLemmas.{no_names, names_turn, names_all, aborts_join}
+use Rattle.store_steps.proofs.ChangeLemmas.{named_none, aborts_joined}
+use Rattle.frame_changes.proofs.NameLemmas.{names_turn, names_all}
 use Rattle.frame_changes.proofs.ends.drop_names.Goals as goal
 
 pub loop-name-init : goal.loop-name-init
 loop-name-init c =
     let p = c.args.pool.now in
-    (no_names (IsAbortedFrame c.args.tid) (frames_of p), nothing_keeps p, refl)
+    (named_none (IsAbortedFrame c.args.tid) (aborts_joined c.args.tid) (frames_of p), nothing_keeps p, refl)
 
 pub loop-name-preserved : goal.loop-name-preserved
 loop-name-preserved c =
@@ -17,7 +18,7 @@ loop-name-preserved c =
     let did = c.drop_home.ensures in
     let new = c.drop_home.new.pool in (
       names_turn (IsAbortedFrame c.args.tid) c.args.names.now l.name-index (frames_of c.args.pool.now)
-          (frames_of l.pool) so.0 (aborts_join c.args.tid) (frames_of new) (record { 0 = 0 })
+          (frames_of l.pool) so.0 (aborts_joined c.args.tid) (frames_of new) (record { 0 = 0 })
           c.loop-name-test.true did.changes,
       both_keep c.args.pool.now l.pool new so.1 did.pins,
       did.order ∙ so.2,

@@ -2,13 +2,14 @@ use Rattle.std.proofs.Common.{refl, ◌∙◌}
 use Rattle.pending_writes.specs.Frames.{IsCommittedFrame}
 use Rattle.buffer_pool.proofs.HoldingLemmas.{nothing_keeps, both_keep}
 use Rattle.frame_changes.specs.Views.{frames_of}
-use Rattle.frame_changes.proofs.NameLemmas.{no_names, names_turn, names_all, commits_join}
+use Rattle.store_steps.proofs.ChangeLemmas.{named_none, commits_joined}
+use Rattle.frame_changes.proofs.NameLemmas.{names_turn, names_all}
 use Rattle.frame_changes.proofs.ends.settle_names.Goals as goal
 
 pub loop-name-init : goal.loop-name-init
 loop-name-init c =
     let p = c.args.pool.now in
-    (no_names (IsCommittedFrame c.args.tid) (frames_of p), nothing_keeps p, refl)
+    (named_none (IsCommittedFrame c.args.tid) (commits_joined c.args.tid) (frames_of p), nothing_keeps p, refl)
 
 pub loop-name-preserved : goal.loop-name-preserved
 loop-name-preserved c =
@@ -17,7 +18,7 @@ loop-name-preserved c =
     let did = c.settle_home.ensures in
     let new = c.settle_home.new.pool in (
       names_turn (IsCommittedFrame c.args.tid) c.args.names.now l.name-index (frames_of c.args.pool.now)
-          (frames_of l.pool) so.0 (commits_join c.args.tid) (frames_of new) (record { 0 = 0 })
+          (frames_of l.pool) so.0 (commits_joined c.args.tid) (frames_of new) (record { 0 = 0 })
           c.loop-name-test.true did.changes,
       both_keep c.args.pool.now l.pool new so.1 did.pins,
       did.order ∙ so.2,
