@@ -4,6 +4,6 @@ pub mod RunLemmas
 mod AnswerLemmas
 mod GoesLemmas
 pub mod CauseLemmas
-mod AlongLemmas
-mod CompleteLemmas
-mod EndLemmas
+pub mod AlongLemmas
+pub mod CompleteLemmas
+pub mod EndLemmas

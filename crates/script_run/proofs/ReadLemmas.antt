@@ -1,10 +1,11 @@
 -- Reads of the script, and what stands beside the chip over them.
-use Rattle.std.proofs.Common.{◌≡◌, ℕ, ◌+◌, List, drop, Some, ◌∙◌, ap, arith}
+use Rattle.std.proofs.Common.{◌≡◌, ℕ, ◌+◌, List, drop, Some, Result, Ok, Err, ◌∙◌, ap, arith}
+use Rattle.std.specs.Prelude.{OnOk}
 use Rattle.std.specs.Option.{option_map}
 use Rattle.std.proofs.lemmas.List.{drop-drop, length-drop}
 use Rattle.chip_trait.specs.Told.{Told, Beside, IsBeside, Grew, IsNext}
 use Rattle.store_trait.specs.Onward.{Onward, Further}
-use Rattle.script_run.specs.Goes.{HasRead}
+use Rattle.script_run.specs.Goes.{HasRead, ReadsAll}
 
 pub further_read : (old new : Told) (n : ℕ) → IsBeside old new
     → new.beside ≡ record old.beside { left = option_map (λ l. drop n l) old.beside.left; script_bytes = new.beside.script_bytes; script_faults = new.beside.script_faults }
@@ -61,3 +62,18 @@ pub read_once : (old mid new : Told) (n : ℕ) (buffer : List ℕ) → mid.besid
     → ((source : List ℕ) → old.beside.left ≡ Some source → IsNext source buffer n) → Onward mid new → HasRead n old new
 read_once old mid new n buffer read next on = λ source told.
     (ap (λ (b : Beside). b.left) on.keeps ∙ ap (λ (b : Beside). b.left) read ∙ ap (option_map (λ l. drop n l)) told, (next source told).within)
+
+-- where a read found no byte, nothing was left
+pub read_ended : (old mid new : Told) (n : ℕ) (buffer : List ℕ) → mid.beside ≡ record old.beside { left = option_map (λ l. drop n l) old.beside.left; script_bytes = mid.beside.script_bytes; script_faults = mid.beside.script_faults }
+    → ((source : List ℕ) → old.beside.left ≡ Some source → IsNext source buffer n) → Onward mid new → n ≡ 0 → ReadsAll old new
+read_ended old mid new n buffer read next on none = λ source told.
+    left_then old mid new n source read on told ∙ ap (λ (k : ℕ). Some (drop k source)) none ∙ ap Some ((next source told).ends none)
+
+-- so all was read, however the last line was answered
+read_all : (first old mid new : Told) (n : ℕ) → HasRead n first old → ReadsAll old mid → Onward mid new → ReadsAll first new
+read_all first old mid new n read all on = λ source told.
+    ap (λ (b : Beside). b.left) on.keeps ∙ all (drop n source) (read source told).0
+
+pub all_answered : {E : Type 0} (result : Result (Unit {0}) E) (first old mid new : Told) (n : ℕ) → HasRead n first old → ReadsAll old mid → Onward mid new → OnOk result (ReadsAll first new)
+all_answered (Ok u) first old mid new n read all on = read_all first old mid new n read all on
+all_answered (Err e) first old mid new n read all on = tt

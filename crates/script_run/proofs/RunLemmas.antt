@@ -100,15 +100,15 @@ pub all_or_said : (P : Event → Type 0) (story : Story) → AllOf P story → A
 all_or_said P [] all = tt
 all_or_said P (e ∷ story) all = (or_said P e all.0, all_or_said P story all.1)
 
-twice_added : (later earlier : Story) (h : History) → adds_all later (adds_all earlier h) ≡ adds_all (later ++ earlier) h
+pub twice_added : (later earlier : Story) (h : History) → adds_all later (adds_all earlier h) ≡ adds_all (later ++ earlier) h
 twice_added later earlier h = ap (λ (story : Story). record { start = h.start; story = story }) (sym (append_assoc later earlier h.story))
 
 -- what is said changes no image
-said_image : (checks : List ℕ → Bool) (start : Contents) (piece : List ℕ) (story : Story) (x : Contents) → IsNoChanceImage checks start (Said piece ∷ story) x → IsNoChanceImage checks start story x
+pub said_image : (checks : List ℕ → Bool) (start : Contents) (piece : List ℕ) (story : Story) (x : Contents) → IsNoChanceImage checks start (Said piece ∷ story) x → IsNoChanceImage checks start story x
 said_image checks start piece story x is = record { image = is.image; chance = is.chance }
 
 -- an image of more events, as one of the story behind them
-regrouped : (checks : List ℕ → Bool) (h : History) (later earlier : Story) (x : Contents) → IsNoChanceImage checks h.start ((later ++ earlier) ++ h.story) x → IsNoChanceImage checks h.start (later ++ (earlier ++ h.story)) x
+pub regrouped : (checks : List ℕ → Bool) (h : History) (later earlier : Story) (x : Contents) → IsNoChanceImage checks h.start ((later ++ earlier) ++ h.story) x → IsNoChanceImage checks h.start (later ++ (earlier ++ h.story)) x
 regrouped checks h later earlier x is = subst (λ (story : Story). IsNoChanceImage checks h.start story x) (append_assoc later earlier h.story) is
 
 -- ---- over stores of one kind

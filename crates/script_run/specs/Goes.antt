@@ -29,6 +29,10 @@ abbrev pub HasRead : ℕ → Told → Told → Type 0
 HasRead n old new = (source : List ℕ) → old.beside.left ≡ Some source
     → (new.beside.left ≡ Some (drop n source)) × (n ≤ length source)
 
+-- all of the source was read, where it is told
+abbrev pub ReadsAll : Told → Told → Type 0
+ReadsAll old new = (source : List ℕ) → old.beside.left ≡ Some source → new.beside.left ≡ Some []
+
 -- how far lines were said where a run stopped in them: a line couldn't be said, or all that was
 -- said are whole lines
 abbrev pub SaysPart : Stop → List (List ℕ) → List (List ℕ) → Type 0

@@ -1,9 +1,9 @@
 //! A script to its end, in whatever pieces its bytes come.
-ghost use Rattle.std.specs.Prelude.{◌≡◌, ◌≤◌, ◌+◌, ◌-◌, ◌*◌, ◌^◌, ◌∷◌, ◌<◌, max, [], ℕ, List, length, IfOk, IfErr, IsErrOf};
+ghost use Rattle.std.specs.Prelude.{◌≡◌, ◌≤◌, ◌+◌, ◌-◌, ◌*◌, ◌^◌, ◌∷◌, ◌<◌, max, [], ℕ, List, length, IfOk, OnOk, IfErr, IsErrOf};
 ghost use Rattle.chip_trait.specs.Told.{Told, Grew};
 ghost use Rattle.store_trait.specs.Onward.{Onward, Further};
 ghost use Rattle.store_trait.specs.Keeping.{Draws, FOUND_NUMBER, COMMAND_DRAWS, SCRIPT_DRAWS};
-ghost use Rattle.script_run.specs.Goes.{Along, CompletesOver, HasRead, StopCause, TakesBytes, TakesNext, RunsScript};
+ghost use Rattle.script_run.specs.Goes.{Along, CompletesOver, HasRead, ReadsAll, StopCause, TakesBytes, TakesNext, RunsScript};
 
 use crate::Stop;
 use crate::answer::answer_line;
@@ -84,6 +84,7 @@ fn take_next<S: Store, D: Desk>(
     ensures bytes { IfOk result
         (λ n. Grew (D.told desk.old).beside.script_bytes n (D.told desk.new).beside.script_bytes) }
     ensures read { IfOk result (λ n. HasRead n (D.told desk.old) (D.told desk.new)) }
+    ensures ended { IfOk result (λ n. n ≡ 0 → ReadsAll (D.told desk.old) (D.told desk.new)) }
     ensures few { IfOk result (λ n. n ≤ length piece.old) }
 {
     match desk.read_script(piece) {
@@ -108,6 +109,7 @@ pub fn run_script<S: Store, D: Desk>(store: &mut S, desk: &mut D) -> Result<(), 
     ensures exact { IsErrOf result Stop.TooLong
         → Grew (D.told desk.old).beside.script_bytes 4294967295 (D.told desk.new).beside.script_bytes }
     ensures long { IsErrOf result Stop.TooLong → HasRead 4294967295 (D.told desk.old) (D.told desk.new) }
+    ensures all { OnOk result (ReadsAll (D.told desk.old) (D.told desk.new)) }
 {
     let mut line = LineBuffer::new();
     let mut piece = [0u8; PIECE];

@@ -6,7 +6,7 @@ use Rattle.store_trait.specs.Keeping.{Stays}
 use Rattle.script_run.specs.declared.fault.Stop.{Stop}
 use Rattle.script_run.specs.Goes.{Answers, HasRead, StopCause}
 use Rattle.store_trait.proofs.OnwardLemmas.{further_none, further_then}
-use Rattle.script_run.proofs.ReadLemmas.{grew_none, grew_then, read_none, read_then}
+use Rattle.script_run.proofs.ReadLemmas.{grew_none, grew_then, read_none, read_then, all_answered}
 use Rattle.script_run.proofs.CauseLemmas.{cause_earlier}
 use Rattle.script_run.proofs.GoesLemmas.{Running, running_none, running_more, running_stopped, running_failed, running_last, stays_later, stops_weaker, ends_later}
 use Rattle.script_run.proofs.CompleteLemmas.{completes_none, completes_more, completes_then, completes_stop, completes_ok, completes_long}
@@ -84,6 +84,12 @@ pub returns-clause-long : goal.returns-clause-long
 returns-clause-long g c = λ x.
     let total : c.loop-total.total ≡ 4294967295 = omega (arith, c.loop-total.invariant.few, c.loop-total-test.false) in
     subst (λ (n : ℕ). HasRead n (g.D.Chip.told c.args.desk.now) (g.D.Chip.told c.loop-total.desk)) total c.loop-total.invariant.read
+
+pub returns-then-count-eq0-clause-all : goal.returns-then-count-eq0-clause-all
+returns-then-count-eq0-clause-all g c =
+    let at = g.D.Chip.told in
+    all_answered c.answer_line.result (at c.args.desk.now) (at c.loop-total.desk) (at c.take_next.new.desk) (at c.answer_line.new.desk) c.loop-total.total c.loop-total.invariant.read
+    (c.in_ok-count.ensures.ended c.if-count-eq0.true) c.answer_line.ensures.along.beside
 
 pub returns-clause-completes : goal.returns-clause-completes
 returns-clause-completes g c = λ limits keeps. completes_long (c.loop-total.invariant.completes limits keeps) (omega (arith, c.loop-total.invariant.few))

@@ -4,7 +4,7 @@ use Rattle.std.proofs.lemmas.Result.{err_from_is_err_and}
 use Rattle.store_trait.specs.Keeping.{Stays}
 use Rattle.script_run.proofs.GoesLemmas.{holds_beside, took, stopped, stopped_at_once, stays_later}
 use Rattle.script_run.proofs.RunLemmas.{run_weaker}
-use Rattle.script_run.proofs.ReadLemmas.{further_read, further_failed, read_once}
+use Rattle.script_run.proofs.ReadLemmas.{further_read, further_failed, read_once, read_ended}
 use Rattle.script_run.proofs.AlongLemmas.{along_more, along_later, along_stop, along_ok, along_unread}
 use Rattle.script_run.proofs.CompleteLemmas.{completes_more, completes_stop, completes_ok, completes_later, completes_unread}
 use Rattle.script_run.proofs.run.take_next.Goals as goal
@@ -65,6 +65,12 @@ returns-in_ok-take_piece-in-Ok-clause-read g c =
     let at = g.D.Chip.told in
     let r = c.in-Ok.ensures in
     read_once (at c.args.desk.now) (at c.read_script.new.self) (at c.take_piece.new.desk) c.in-Ok.count c.read_script.new.buf r.bytes.0 r.bytes.2 c.take_piece.ensures.along.beside
+
+pub returns-in_ok-take_piece-in-Ok-clause-ended : goal.returns-in_ok-take_piece-in-Ok-clause-ended
+returns-in_ok-take_piece-in-Ok-clause-ended g c = λ none.
+    let at = g.D.Chip.told in
+    let r = c.in-Ok.ensures in
+    read_ended (at c.args.desk.now) (at c.read_script.new.self) (at c.take_piece.new.desk) c.in-Ok.count c.read_script.new.buf r.bytes.0 r.bytes.2 c.take_piece.ensures.along.beside none
 
 pub returns-in_err-take_piece-in-Ok-clause-completes : goal.returns-in_err-take_piece-in-Ok-clause-completes
 returns-in_err-take_piece-in-Ok-clause-completes g c = λ limits keeps.
