@@ -1,0 +1,3 @@
+pub mod WordLemmas
+mod CountLemmas
+mod ListLemmas

@@ -1,0 +1,7 @@
+mod WorkLemmas
+mod SourceLemmas
+mod OrderLemmas
+mod DoneLemmas
+mod TakenLemmas
+mod SaidLemmas
+mod TrialLemmas

@@ -1,0 +1,25 @@
+use Rattle.std.proofs.Common.{◌≡◌, ◌≤◌, ◌*◌, Some}
+use Rattle.ipl_rules.specs.State.{State, Limits}
+use Rattle.chip_trait.specs.Told.{History}
+use Rattle.store_trait.specs.Keeping.{LOOK_UP_DRAWS}
+use Rattle.script_run.specs.Goes.{KeepsSome}
+use Rattle.script_run.proofs.AlongLemmas.{SoFar}
+use Rattle.script_run.proofs.CompleteLemmas.{CompletesSoFar}
+use Rattle.trial_commands.specs.Summary.{record_lines}
+use Rattle.trial_run.specs.Trial.{IsTaken}
+use Rattle.trial_run.proofs.take.take_below.Given as goal
+
+-- the records of the names below n are taken
+abbrev pub invariant-loop-n : goal.invariant-loop-n
+invariant-loop-n g l =
+    let told = g.D.Chip.told in
+    let k = g.S.Store.keeping in
+    record {
+      takes : (limits : Limits) → l.names ≤ limits.names → (state : State) (h : History)
+          → k.holds limits l.fn.store (told l.fn.desk) state → (told l.fn.desk).history ≡ Some h
+          → IsTaken k limits state (record_lines state.map l.n) l.fn.records l.fn.store h l.records l.store (told l.desk);
+      along : SoFar k (LOOK_UP_DRAWS * l.n) l.fn.store (told l.fn.desk) l.store (told l.desk);
+      completes : (limits : Limits) → l.names ≤ limits.names → KeepsSome k limits l.fn.store (told l.fn.desk)
+          → CompletesSoFar k limits (LOOK_UP_DRAWS * l.n) l.fn.store (told l.fn.desk) l.store (told l.desk);
+      few : l.records.count ≤ l.n;
+    }

@@ -1,0 +1,46 @@
+//! A whole trial.
+ghost use Rattle.std.specs.Prelude.{◌≡◌, ◌≤◌, IfErr};
+ghost use Rattle.chip_trait.specs.Told.{Told};
+ghost use Rattle.store_trait.specs.Onward.{Onward};
+ghost use Rattle.store_trait.specs.Keeping.{SCRIPT_DRAWS};
+ghost use Rattle.script_run.specs.Goes.{Along, CompletesOver};
+ghost use Rattle.trial_commands.specs.Words.{trial_commands};
+ghost use Rattle.trial_run.specs.Trial.{RunsTrial, IsTrialStop};
+
+use crate::say::say_lines;
+use crate::take::take_all;
+use crate::work::do_all;
+use chip_trait::Desk;
+use script_run::Stop;
+use store_trait::Store;
+use trial_commands::{Records, Tally, TrialCommands, summary_lines};
+
+/// Does the commands of a seed, so many, looks the records up, and says the summary, to its end or to
+/// the first fault. The names of the commands are made for `units` units, at most 1,024. Whatever moment
+/// the power is cut at, the chip stands for the records after the first of the commands, and after all
+/// of them from the first line on.
+pub fn run_trial<S: Store, D: Desk>(
+    store: &mut S,
+    desk: &mut D,
+    units: u32,
+    seed: u32,
+    count: u32,
+) -> Result<(), Stop>
+    requires units { units ≤ 1024 }
+    requires suits { S.keeping.suits store.old (D.told desk.old).places }
+    ensures run { RunsTrial S.keeping (trial_commands units seed count) store.old (D.told desk.old)
+        result store.new (D.told desk.new) }
+    // It draws no more numbers than a script may.
+    ensures along { Along S.keeping Onward SCRIPT_DRAWS store.old (D.told desk.old) result store.new
+        (D.told desk.new) }
+    ensures completes { CompletesOver S.keeping SCRIPT_DRAWS store.old (D.told desk.old) result
+        store.new (D.told desk.new) }
+    ensures stops { IfErr result IsTrialStop }
+{
+    let mut commands = TrialCommands::of(units, seed);
+    let mut tally = Tally::new();
+    do_all(store, desk, &mut commands, &mut tally, count)?;
+    let mut records = Records::new();
+    take_all(store, desk, &mut records)?;
+    say_lines(desk, &summary_lines(&tally, &records))
+}
