@@ -4,7 +4,7 @@ ghost use Rattle.chip_mem.specs.Views.{told_of};
 ghost use Rattle.ipl_store.specs.Calls.{IsSound};
 
 use chip_mem::MemChip;
-use ipl_base::{ChipFault, Refusal, StoreFault};
+use ipl_base::{ChipFault, ImageFault, Refusal, StoreFault};
 use ipl_store::Store;
 use restart::format;
 use std::alloc::Global;
@@ -112,6 +112,13 @@ pub(crate) fn formatted(alloc: Global, places: u32, room: u64) -> Result<MemChip
     if format(&mut chip).is_err() {
         return Err(Fail::from("no format"));
     }
+    left_of(alloc, &chip)
+}
+
+/// What a power cut leaves of a chip, where each open sector is as it was meant to be.
+pub(crate) fn left_of(alloc: Global, chip: &MemChip) -> Result<MemChip, Fail>
+    ensures places { IfOk result (λ left. (told_of left).places ≡ (told_of chip.now).places) }
+{
     Ok(chip.image(alloc, u64::MAX, &[])?)
 }
 
@@ -126,4 +133,25 @@ pub(crate) fn opened(alloc: Global, chip: &mut MemChip, frames: u32) -> Result<S
         Ok(store) => Ok(store),
         Err(_) => Err(Fail::from("the chip isn't opened")),
     }
+}
+
+/// Opens the chip of a store again, or another of as many places.
+pub(crate) fn reopened(store: Store, chip: &mut MemChip) -> (Store, Result<(), ImageFault>)
+    requires sound { IsSound (told_of chip.old).places store }
+    ensures sound { IsSound (told_of chip.new).places result.0 }
+    ensures places { (told_of chip.new).places ≡ (told_of chip.old).places }
+{
+    store.reopen(chip)
+}
+
+/// Opens a chip with sixteen frames, and makes calls. Each gives its answer.
+pub(crate) fn call_left(
+    rt: &impl Abort,
+    alloc: Global,
+    mut chip: MemChip,
+    cases: &[(Call<'_>, Answer<'_>)],
+) -> Result<MemChip, Fail> {
+    let mut store = opened(alloc, &mut chip, 16)?;
+    call_all(rt, &mut store, &mut chip, cases);
+    Ok(chip)
 }

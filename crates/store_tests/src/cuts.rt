@@ -1,6 +1,6 @@
 //! What power cuts leave where one sector is open: it is as it was, whole or torn.
-use crate::calls::{Answer, Call, DONE, NONE, call_all, formatted, found, opened};
-use crate::writes::{committing, seven_commits_beside, sixteen_commits};
+use crate::calls::{Call, DONE, NONE, call_left, formatted, found, left_of};
+use crate::scripts::{committing, seven_commits_beside, sixteen_commits};
 use chip_mem::{Choice, MemChip, Pick};
 use chip_trait::Event;
 use std::alloc::Global;
@@ -63,18 +63,6 @@ fn cut_in(
     Ok(chip.image(alloc, (number as u64).saturating_add(1), &[pick])?)
 }
 
-/// Opens a chip, and makes calls. Each gives its answer.
-fn call_left(
-    rt: &impl Abort,
-    alloc: Global,
-    mut chip: MemChip,
-    cases: &[(Call<'_>, Answer<'_>)],
-) -> Result<MemChip, Fail> {
-    let mut store = opened(alloc, &mut chip, 16)?;
-    call_all(rt, &mut store, &mut chip, cases);
-    Ok(chip)
-}
-
 /// A chip of so many places after a commit of two bytes at name 5.
 fn committed(rt: &impl Abort, alloc: Global, places: u32) -> Result<MemChip, Fail> {
     let mut calls = Vec::new(alloc);
@@ -106,7 +94,7 @@ fn an_opening_that_is_cut_keeps_the_records(rt: HostRuntime) -> Result<(), Fail>
         (Call::Committed(5), found(b"hi")),
         (Call::Committed(6), NONE),
     ];
-    let image = chip.image(alloc, u64::MAX, &[])?;
+    let image = left_of(alloc, &chip)?;
     let reopened = call_left(&rt, alloc, image, &records)?;
     // Two units, the first of which was merged from place 0 to place 4: the new status place is 0.
     let Some(header) = last_program(&reopened, 0, 0) else {

@@ -1,0 +1,84 @@
+//! Calls that fill a log sector, a log and a status place.
+use crate::calls::{Answer, Call, DONE};
+use std::alloc::Global;
+use std::test::Fail;
+
+/// Values of one byte, one after another.
+pub(crate) const SIX: &[u8] = &[1, 2, 3, 4, 5, 6];
+
+const SEVEN: &[u8] = &[1, 2, 3, 4, 5, 6, 7];
+
+pub(crate) const FIFTEEN: &[u8] = &[1, 2, 3, 4, 5, 6, 7, 8, 9, 10, 11, 12, 13, 14, 15];
+
+const SIXTEEN: &[u8] = &[1, 2, 3, 4, 5, 6, 7, 8, 9, 10, 11, 12, 13, 14, 15, 16];
+
+/// The longest value. The record of a put of it takes a quarter of a log sector.
+pub(crate) const LONGEST: &[u8] = &[0x61; 108];
+
+/// A session that begins, puts a value and is committed.
+pub(crate) fn committing<'a>(
+    calls: &mut Vec<(Call<'a>, Answer<'a>)>,
+    session: u32,
+    name: u32,
+    value: &'a [u8],
+) -> Result<(), Fail> {
+    calls.push((Call::Begin(session), DONE))?;
+    calls.push((Call::Put(session, name, value), DONE))?;
+    calls.push((Call::Commit(session), DONE))?;
+    Ok(())
+}
+
+/// Commits of a name by a session, one after another, each of one of these bytes.
+pub(crate) fn commits<'a>(
+    calls: &mut Vec<(Call<'a>, Answer<'a>)>,
+    session: u32,
+    name: u32,
+    values: &'a [u8],
+) -> Result<(), Fail> {
+    for value in values.chunks(1) {
+        committing(calls, session, name, value)?;
+    }
+    Ok(())
+}
+
+/// Sixteen commits of name 5, one after another, the last of value 16.
+pub(crate) fn sixteen_commits(
+    alloc: Global,
+) -> Result<Vec<(Call<'static>, Answer<'static>)>, Fail> {
+    let mut calls = Vec::new(alloc);
+    commits(&mut calls, 0, 5, SIXTEEN)?;
+    Ok(calls)
+}
+
+/// Session 0 begins, puts long values at so many names, and stays open.
+pub(crate) fn long_puts(
+    alloc: Global,
+    count: u32,
+) -> Result<Vec<(Call<'static>, Answer<'static>)>, Fail> {
+    let mut calls = Vec::new(alloc);
+    calls.push((Call::Begin(0), DONE))?;
+    for name in 0..count {
+        calls.push((Call::Put(0, name, LONGEST), DONE))?;
+    }
+    Ok(calls)
+}
+
+/// Session 0 puts long values at forty names, which take nine log sectors, and stays open.
+/// Session 1 commits name 64 seven times.
+pub(crate) fn seven_commits_beside(
+    alloc: Global,
+) -> Result<Vec<(Call<'static>, Answer<'static>)>, Fail> {
+    let mut calls = long_puts(alloc, 40)?;
+    commits(&mut calls, 1, 64, SEVEN)?;
+    Ok(calls)
+}
+
+/// On a chip of two units, 255 commits fill the status place: seven of unit 0, beside an open
+/// session, and 248 of unit 1.
+pub(crate) fn status_filled(alloc: Global) -> Result<Vec<(Call<'static>, Answer<'static>)>, Fail> {
+    let mut calls = seven_commits_beside(alloc)?;
+    for _ in 0..248 {
+        committing(&mut calls, 2, 960, b"a")?;
+    }
+    Ok(calls)
+}
