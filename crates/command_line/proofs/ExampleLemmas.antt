@@ -6,7 +6,7 @@ use Rattle.command_line.specs.Ipl.{ipl_command}
 use Rattle.command_line.specs.Chip.{Chip, ram, file}
 use Rattle.command_line.specs.Asked.{Asks, asked_of}
 use Rattle.command_line.specs.Choice.{choice_of}
-use Rattle.command_line.specs.Laws.{NothingTogether, WordExamples, NoWordExamples}
+use Rattle.command_line.specs.Laws.{NothingTogether, WordExamples, FrameExamples, TrialExamples, NoWordExamples, NoFrameExamples, NoTrialExamples}
 use Rattle.command_line.specs.declared.choice.Choice.TheVariants.{Nothing}
 
 pub words : WordExamples
@@ -20,6 +20,27 @@ words = record {
   says_its_view = refl;
   memory = refl;
   in_file = refl;
+}
+
+pub frames : FrameExamples
+unfolding asked_of ipl_command clap_on_literals
+frames = record {
+  least = refl;
+  most = refl;
+  attached = refl;
+  plus = refl;
+  leading_zero = refl;
+  with_format = refl;
+  before_chip = refl;
+}
+
+pub trials : TrialExamples
+unfolding asked_of ipl_command clap_on_literals
+trials = record {
+  least = refl;
+  most = refl;
+  in_any_order = refl;
+  with_frames = refl;
 }
 
 pub no_words : NoWordExamples
@@ -36,11 +57,40 @@ no_words = record {
   twice = refl;
   valued = refl;
   short = refl;
-  option = refl;
   help = refl;
   help_of = refl;
   help_word = refl;
   version = refl;
+  version_of = refl;
+}
+
+pub no_frames : NoFrameExamples
+unfolding asked_of ipl_command clap_on_literals
+no_frames = record {
+  too_few = refl;
+  too_many = refl;
+  none = refl;
+  empty = refl;
+  minus = refl;
+  word = refl;
+  twice = refl;
+  short = refl;
+  at_format = refl;
+  at_serial = refl;
+}
+
+pub no_trials : NoTrialExamples
+unfolding asked_of ipl_command clap_on_literals
+no_trials = record {
+  no_seed = refl;
+  no_count = refl;
+  no_chip = refl;
+  seed_too_large = refl;
+  count_too_large = refl;
+  minus = refl;
+  too_many_frames = refl;
+  format_flag = refl;
+  seed_at_run = refl;
 }
 
 -- a chip is something

@@ -1,4 +1,5 @@
 pub mod AskedLemmas
 pub mod NumberLemmas
 pub mod ChipLemmas
+pub mod OptionLemmas
 pub mod ExampleLemmas

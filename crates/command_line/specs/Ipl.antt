@@ -1,8 +1,9 @@
 -- The command that the words are read by, in clap's own definitions.
-use Rattle.std.specs.Prelude.{true, codes, Some}
-use Rattle.clap.specs.Words.{App, Rule, new_app, new_rule, with_rule, with_subcommand}
+use Rattle.std.specs.Prelude.{ℕ, true, [], ◌∷◌, codes, Some}
+use Rattle.clap.specs.Words.{App, Rule, Text, new_app, new_rule, with_rule, with_subcommand}
 use Rattle.clap.specs.Simple.{Shape, on_top}
 use Rattle.clap.specs.declared.builder.action.ArgAction.TheVariants.{SetTrue}
+use Rattle.clap.specs.declared.builder.value_parser.ValueParser.TheVariants.{Unsigned}
 
 -- CHIP, one word that has to be there
 abbrev pub chip_rule : Rule
@@ -12,17 +13,36 @@ chip_rule = record (new_rule (codes "chip")) { required = true }
 abbrev pub format_rule : Rule
 format_rule = record (new_rule (codes "format")) { long = Some (codes "format"); action = Some SetTrue }
 
+-- an option with one value, a number within the bounds
+abbrev pub number_rule : Text → ℕ → ℕ → Rule
+number_rule id low high =
+    record (new_rule id) { long = Some id; parser = Some (Unsigned low high) }
+
+-- --frames N, which is 16 where it isn't given
+abbrev pub frames_rule : Rule
+frames_rule = record (number_rule (codes "frames") 2 64) { defaults = codes "16" ∷ [] }
+
+-- an option that has to be there, with a number within the bounds
+abbrev pub wanted_rule : Text → ℕ → ℕ → Rule
+wanted_rule id low high = record (number_rule id low high) { required = true }
+
 -- format CHIP
 abbrev pub format_command : App
 format_command = with_rule (new_app (codes "format")) chip_rule
 
--- run CHIP [--format]
+-- run CHIP [--frames N] [--format]
 abbrev pub run_command : App
-run_command = with_rule (with_rule (new_app (codes "run")) chip_rule) format_rule
+run_command = with_rule (with_rule (with_rule (new_app (codes "run")) chip_rule) frames_rule)
+    format_rule
 
 -- serial CHIP
 abbrev pub serial_command : App
 serial_command = with_rule (new_app (codes "serial")) chip_rule
+
+-- trial CHIP --seed N --count N [--frames N]
+abbrev pub trial_command : App
+trial_command = with_rule (with_rule (with_rule (with_rule (new_app (codes "trial")) chip_rule)
+    (wanted_rule (codes "seed") 0 4294967295)) (wanted_rule (codes "count") 0 1000000)) frames_rule
 
 -- the words come without the program's name, and none of them asks for help or a version
 abbrev pub bare : Shape → Shape
@@ -36,5 +56,6 @@ bare s = record s {
 -- ipl
 unfoldable pub ipl_command : App
 ipl_command =
-    with_subcommand (with_subcommand (with_subcommand (on_top bare (new_app (codes "ipl")))
-    format_command.top) run_command.top) serial_command.top
+    with_subcommand (with_subcommand (with_subcommand (with_subcommand
+    (on_top bare (new_app (codes "ipl"))) format_command.top) run_command.top) serial_command.top)
+    trial_command.top

@@ -1,10 +1,12 @@
 -- What the words of the command line are, by laws and by examples.
-use Rattle.std.specs.Prelude.{◌≡◌, ◌<◌, ◌^◌, ℕ, List, [], ◌∷◌, ◌++◌, length, codes, Some, None, true, false}
+use Rattle.std.specs.Prelude.{◌≡◌, ◌<◌, ◌^◌, ℕ, List, [], ◌∷◌, ◌++◌, length, codes}
+use Rattle.std.specs.Prelude.{Option, Some, None, true, false}
 use Rattle.std.specs.Fmt.{decimal}
 use Rattle.clap.specs.Words.{Text}
 use Rattle.command_line.specs.Chip.{Chip, chip_of, ram, file}
 use Rattle.command_line.specs.Choice.{chosen, requested}
-use Rattle.command_line.specs.declared.asked.Request.TheVariants.{Format, Run, Serial}
+use Rattle.command_line.specs.declared.asked.Request.{Request}
+use Rattle.command_line.specs.declared.asked.Request.TheVariants.{Format, Run, Serial, Trial}
 use Rattle.command_line.specs.declared.choice.Choice.TheVariants as choice
 
 -- the word that spells a chip
@@ -51,15 +53,47 @@ pub record NoChipExamples : Type 0 where
 -- valid words, and what they ask
 pub record WordExamples : Type 0 where
   pub formats : requested (codes "format" ∷ codes "ram:5" ∷ []) ≡ Some Format
-  pub runs : requested (codes "run" ∷ codes "ram:5" ∷ []) ≡ Some (Run false)
-  pub formats_first : requested (codes "run" ∷ codes "ram:5" ∷ codes "--format" ∷ []) ≡ Some (Run true)
-  pub flag_before : requested (codes "run" ∷ codes "--format" ∷ codes "ram:5" ∷ []) ≡ Some (Run true)
-  pub chip_behind_dashes : requested (codes "run" ∷ codes "--" ∷ codes "ram:5" ∷ []) ≡ Some (Run false)
+  pub runs : requested (codes "run" ∷ codes "ram:5" ∷ []) ≡ Some (Run 16 false)
+  pub formats_first : requested (codes "run" ∷ codes "ram:5" ∷ codes "--format" ∷ [])
+      ≡ Some (Run 16 true)
+  pub flag_before : requested (codes "run" ∷ codes "--format" ∷ codes "ram:5" ∷ [])
+      ≡ Some (Run 16 true)
+  pub chip_behind_dashes : requested (codes "run" ∷ codes "--" ∷ codes "ram:5" ∷ [])
+      ≡ Some (Run 16 false)
   pub says_its_view : requested (codes "serial" ∷ codes "ram:5" ∷ []) ≡ Some Serial
   pub memory : chosen (codes "run" ∷ codes "ram:5" ∷ []) ≡ choice.Ram 5
   pub in_file : chosen (codes "run" ∷ codes "file:5:a:b" ∷ []) ≡ choice.File 5 (codes "a:b")
 
--- and words that aren't
+-- what `run` asks of a chip with these words behind it
+abbrev pub run_with : List Text → Option Request
+run_with words = requested (codes "run" ∷ codes "ram:5" ∷ words)
+
+-- valid words with a number of frames
+pub record FrameExamples : Type 0 where
+  pub least : run_with (codes "--frames" ∷ codes "2" ∷ []) ≡ Some (Run 2 false)
+  pub most : run_with (codes "--frames" ∷ codes "64" ∷ []) ≡ Some (Run 64 false)
+  pub attached : run_with (codes "--frames=16" ∷ []) ≡ Some (Run 16 false)
+  pub plus : run_with (codes "--frames" ∷ codes "+16" ∷ []) ≡ Some (Run 16 false)
+  pub leading_zero : run_with (codes "--frames" ∷ codes "016" ∷ []) ≡ Some (Run 16 false)
+  pub with_format : run_with (codes "--frames=4" ∷ codes "--format" ∷ []) ≡ Some (Run 4 true)
+  pub before_chip : requested (codes "run" ∷ codes "--frames=4" ∷ codes "ram:5" ∷ [])
+      ≡ Some (Run 4 false)
+
+-- what `trial` asks of a chip with these words behind it
+abbrev pub trial_with : List Text → Option Request
+trial_with words = requested (codes "trial" ∷ codes "ram:5" ∷ words)
+
+-- valid words of trials
+pub record TrialExamples : Type 0 where
+  pub least : trial_with (codes "--seed=0" ∷ codes "--count=0" ∷ []) ≡ Some (Trial 0 0 16)
+  pub most : trial_with (codes "--seed=4294967295" ∷ codes "--count=1000000" ∷ [])
+      ≡ Some (Trial 4294967295 1000000 16)
+  pub in_any_order : trial_with (codes "--count" ∷ codes "7" ∷ codes "--seed" ∷ codes "+08" ∷ [])
+      ≡ Some (Trial 8 7 16)
+  pub with_frames : trial_with (codes "--seed=1" ∷ codes "--count=3" ∷ codes "--frames=2" ∷ [])
+      ≡ Some (Trial 1 3 2)
+
+-- words that aren't valid
 pub record NoWordExamples : Type 0 where
   pub nothing : requested [] ≡ None
   pub unknown : requested (codes "walk" ∷ []) ≡ None
@@ -69,11 +103,39 @@ pub record NoWordExamples : Type 0 where
   pub other_chip : requested (codes "run" ∷ codes "ram:05" ∷ []) ≡ None
   pub format_flag : requested (codes "format" ∷ codes "ram:5" ∷ codes "--format" ∷ []) ≡ None
   pub view_flag : requested (codes "serial" ∷ codes "ram:5" ∷ codes "--format" ∷ []) ≡ None
-  pub twice : requested (codes "run" ∷ codes "ram:5" ∷ codes "--format" ∷ codes "--format" ∷ []) ≡ None
+  pub twice : requested (codes "run" ∷ codes "ram:5" ∷ codes "--format" ∷ codes "--format" ∷ [])
+      ≡ None
   pub valued : requested (codes "run" ∷ codes "ram:5" ∷ codes "--format=true" ∷ []) ≡ None
   pub short : requested (codes "run" ∷ codes "ram:5" ∷ codes "-f" ∷ []) ≡ None
-  pub option : requested (codes "run" ∷ codes "ram:5" ∷ codes "--frames" ∷ codes "4" ∷ []) ≡ None
   pub help : requested (codes "--help" ∷ []) ≡ None
   pub help_of : requested (codes "run" ∷ codes "--help" ∷ []) ≡ None
   pub help_word : requested (codes "help" ∷ []) ≡ None
   pub version : requested (codes "--version" ∷ []) ≡ None
+  pub version_of : requested (codes "run" ∷ codes "ram:5" ∷ codes "--version" ∷ []) ≡ None
+
+-- and such with a number of frames
+pub record NoFrameExamples : Type 0 where
+  pub too_few : run_with (codes "--frames" ∷ codes "1" ∷ []) ≡ None
+  pub too_many : run_with (codes "--frames" ∷ codes "65" ∷ []) ≡ None
+  pub none : run_with (codes "--frames" ∷ []) ≡ None
+  pub empty : run_with (codes "--frames=" ∷ []) ≡ None
+  pub minus : run_with (codes "--frames=-4" ∷ []) ≡ None
+  pub word : run_with (codes "--frames=four" ∷ []) ≡ None
+  pub twice : run_with (codes "--frames=4" ∷ codes "--frames=4" ∷ []) ≡ None
+  pub short : run_with (codes "-f" ∷ codes "4" ∷ []) ≡ None
+  pub at_format : requested (codes "format" ∷ codes "ram:5" ∷ codes "--frames=4" ∷ []) ≡ None
+  pub at_serial : requested (codes "serial" ∷ codes "ram:5" ∷ codes "--frames=4" ∷ []) ≡ None
+
+-- and such of trials
+pub record NoTrialExamples : Type 0 where
+  pub no_seed : trial_with (codes "--count=3" ∷ []) ≡ None
+  pub no_count : trial_with (codes "--seed=1" ∷ []) ≡ None
+  pub no_chip : requested (codes "trial" ∷ codes "--seed=1" ∷ codes "--count=3" ∷ []) ≡ None
+  pub seed_too_large : trial_with (codes "--seed=4294967296" ∷ codes "--count=3" ∷ []) ≡ None
+  pub count_too_large : trial_with (codes "--seed=1" ∷ codes "--count=1000001" ∷ []) ≡ None
+  pub minus : trial_with (codes "--seed=-1" ∷ codes "--count=3" ∷ []) ≡ None
+  pub too_many_frames : trial_with (codes "--seed=1" ∷ codes "--count=3" ∷ codes "--frames=65" ∷ [])
+      ≡ None
+  pub format_flag : trial_with (codes "--seed=1" ∷ codes "--count=3" ∷ codes "--format" ∷ [])
+      ≡ None
+  pub seed_at_run : run_with (codes "--seed=1" ∷ []) ≡ None

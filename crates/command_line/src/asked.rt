@@ -3,7 +3,9 @@ ghost use Rattle.std.specs.Prelude.{◌≡◌, IfOk, map};
 ghost use Rattle.std.specs.Option.{option_map, option_and_then};
 ghost use Rattle.std.specs.String.{string_bytes};
 ghost use Rattle.clap.specs.Words.{found_of, rows_of, subcommand_rows_of, first_of};
-ghost use Rattle.command_line.specs.Asked.{view, is_set, request_at, asked_at, asked_of};
+ghost use Rattle.command_line.specs.Chip.{word_view};
+ghost use Rattle.command_line.specs.Asked.{view, is_set, number_in, number_at, frames_at, run_at};
+ghost use Rattle.command_line.specs.Asked.{trial_at, request_at, chip_at, asked_at, asked_of};
 
 use crate::chip_word::{ChipWord, chip_word};
 use crate::command;
@@ -15,10 +17,13 @@ use std::alloc::{AllocError, Global};
 #[derive(Clone, Copy, Debug, PartialEq, Eq)]
 pub enum Request {
     Format,
-    /// A script is run, over a chip that is formatted first where that is asked.
-    Run { format: bool },
+    /// A script is run with so many page frames, over a chip that is formatted first where that is
+    /// asked.
+    Run { frames: u32, format: bool },
     /// The serial view of a script is said.
     Serial,
+    /// So many transactions that a seed chooses are run, with so many page frames.
+    Trial { seed: u32, count: u32, frames: u32 },
 }
 
 /// All that valid words ask.
@@ -45,6 +50,61 @@ fn is_set(matches: &ArgMatches<'_>, id: &str) -> bool
     }
 }
 
+/// The number that a text writes, where it is from `low` to `high`, and else `low`. Clap has tested
+/// the text before, and no clause says so.
+fn number_in(text: &str, low: u32, high: u32) -> u32
+    ensures { result ≡ number_in low high text.now }
+{
+    match text.parse::<u32>() {
+        Ok(number) => {
+            if low <= number && number <= high {
+                number
+            } else {
+                low
+            }
+        }
+        Err(_) => low,
+    }
+}
+
+/// The number at an option, and `low` where no text is found.
+fn number_at(matches: &ArgMatches<'_>, id: &str, low: u32, high: u32) -> u32
+    ensures { result ≡ number_at low high id.now (rows_of (found_of matches.now)) }
+{
+    match text(matches, id) {
+        Some(word) => number_in(word, low, high),
+        None => low,
+    }
+}
+
+/// The number of page frames.
+fn frames_at(matches: &ArgMatches<'_>) -> u32
+    ensures { result ≡ frames_at (rows_of (found_of matches.now)) }
+{
+    number_at(matches, "frames", 2, 64)
+}
+
+/// What `run` asks to be done.
+fn run_at(matches: &ArgMatches<'_>) -> Request
+    ensures { result ≡ run_at (rows_of (found_of matches.now)) }
+{
+    Request::Run {
+        frames: frames_at(matches),
+        format: is_set(matches, "format"),
+    }
+}
+
+/// What `trial` asks to be done.
+fn trial_at(matches: &ArgMatches<'_>) -> Request
+    ensures { result ≡ trial_at (rows_of (found_of matches.now)) }
+{
+    Request::Trial {
+        seed: number_at(matches, "seed", 0, 4294967295),
+        count: number_at(matches, "count", 0, 1000000),
+        frames: frames_at(matches),
+    }
+}
+
 /// What a subcommand asks to be done.
 fn request_at(name: &str, matches: &ArgMatches<'_>) -> Request
     ensures { result ≡ request_at name.now (rows_of (found_of matches.now)) }
@@ -55,16 +115,24 @@ fn request_at(name: &str, matches: &ArgMatches<'_>) -> Request
     if name == "serial" {
         return Request::Serial;
     }
-    Request::Run {
-        format: is_set(matches, "format"),
+    if name == "trial" {
+        return trial_at(matches);
     }
+    run_at(matches)
+}
+
+/// The chip that CHIP names.
+fn chip_at<'a>(matches: &ArgMatches<'a>) -> Option<ChipWord<'a>>
+    ensures { option_map word_view result ≡ chip_at (rows_of (found_of matches.now)) }
+{
+    chip_word(text(matches, "chip")?)
 }
 
 /// What a subcommand asks, and `None` where its CHIP is none.
 fn asked_at<'a>(name: &str, matches: &ArgMatches<'a>) -> Option<Asked<'a>>
     ensures { option_map view result ≡ asked_at name.now (rows_of (found_of matches.now)) }
 {
-    let chip = chip_word(text(matches, "chip")?)?;
+    let chip = chip_at(matches)?;
     let request = request_at(name, matches);
     Some(Asked { request, chip })
 }

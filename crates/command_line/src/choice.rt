@@ -1,6 +1,7 @@
 //! The calls that read the words.
-ghost use Rattle.std.specs.Prelude.{◌≡◌, List, ℕ, IfOk, map};
+ghost use Rattle.std.specs.Prelude.{◌≡◌, List, ℕ, IfOk, IfSome, map};
 ghost use Rattle.std.specs.String.{string_bytes};
+ghost use Rattle.command_line.specs.Asked.{IsInBounds};
 ghost use Rattle.command_line.specs.Choice.{chosen, requested};
 
 use crate::asked::{Request, asked_by};
@@ -64,9 +65,11 @@ pub fn chip_choice(alloc: Global, words: &[String]) -> Result<Choice, OutOfMemor
     }
 }
 
-/// What the words ask to be done, and `None` where they aren't valid. Want of memory is its one fault.
+/// What the words ask to be done, with numbers within their bounds, and `None` where they aren't
+/// valid. Want of memory is its one fault.
 pub fn request(alloc: Global, words: &[String]) -> Result<Option<Request>, OutOfMemory>
-    ensures { IfOk result (λ request. request ≡ requested (map string_bytes words.now)) }
+    ensures asked { IfOk result (λ request. request ≡ requested (map string_bytes words.now)) }
+    ensures bounds { IfOk result (λ request. IfSome request IsInBounds) }
 {
     match asked_by(alloc, words)? {
         None => Ok(None),

@@ -2,8 +2,11 @@
 ghost use Rattle.std.specs.Prelude.{◌≡◌, IfOk, false};
 ghost use Rattle.clap.specs.Words.{app_of, rule_of};
 ghost use Rattle.clap.specs.declared.builder.command.Command.TheViews.{out-Command as fields_of};
-ghost use Rattle.command_line.specs.Ipl.{ipl_command, chip_rule, format_rule, format_command, run_command, serial_command};
+ghost use Rattle.command_line.specs.Ipl.{chip_rule, format_rule, number_rule, frames_rule};
+ghost use Rattle.command_line.specs.Ipl.{wanted_rule, format_command, run_command, serial_command};
+ghost use Rattle.command_line.specs.Ipl.{trial_command, ipl_command};
 
+use clap::builder::ValueParser;
 use clap::{Arg, ArgAction, Command};
 use std::alloc::{AllocError, Global};
 
@@ -25,6 +28,32 @@ fn format_flag<'a>(alloc: Global) -> Arg<'a>
         .action(ArgAction::SetTrue)
 }
 
+/// An option with one value, a number from `low` to `high`.
+fn number_option<'a>(alloc: Global, id: &'a str, low: u64, high: u64) -> Arg<'a>
+    ensures rule { rule_of result ≡ number_rule id.entry.now low high }
+    ensures local { result.global ≡ false }
+{
+    Arg::new(alloc, id)
+        .long(id)
+        .value_parser(ValueParser::unsigned(low, high))
+}
+
+/// `--frames N`.
+fn frames_option<'a>(alloc: Global) -> Arg<'a>
+    ensures rule { rule_of result ≡ frames_rule }
+    ensures local { result.global ≡ false }
+{
+    number_option(alloc, "frames", 2, 64).default_value("16")
+}
+
+/// An option that has to be there, with a number from `low` to `high`.
+fn wanted_option<'a>(alloc: Global, id: &'a str, low: u64, high: u64) -> Arg<'a>
+    ensures rule { rule_of result ≡ wanted_rule id.entry.now low high }
+    ensures local { result.global ≡ false }
+{
+    number_option(alloc, id, low, high).required(true)
+}
+
 /// `format CHIP`.
 fn format_part<'a>(alloc: Global) -> Result<Command<'a>, AllocError>
     ensures app { IfOk result (λ c. app_of c ≡ format_command) }
@@ -33,13 +62,14 @@ fn format_part<'a>(alloc: Global) -> Result<Command<'a>, AllocError>
     Command::new(alloc, "format").arg(chip_argument(alloc))
 }
 
-/// `run CHIP [--format]`.
+/// `run CHIP [--frames N] [--format]`.
 fn run_part<'a>(alloc: Global) -> Result<Command<'a>, AllocError>
     ensures app { IfOk result (λ c. app_of c ≡ run_command) }
     ensures local { IfOk result (λ c. (fields_of c).has_globals ≡ false) }
 {
     Command::new(alloc, "run")
         .arg(chip_argument(alloc))?
+        .arg(frames_option(alloc))?
         .arg(format_flag(alloc))
 }
 
@@ -49,6 +79,18 @@ fn serial_part<'a>(alloc: Global) -> Result<Command<'a>, AllocError>
     ensures local { IfOk result (λ c. (fields_of c).has_globals ≡ false) }
 {
     Command::new(alloc, "serial").arg(chip_argument(alloc))
+}
+
+/// `trial CHIP --seed N --count N [--frames N]`.
+fn trial_part<'a>(alloc: Global) -> Result<Command<'a>, AllocError>
+    ensures app { IfOk result (λ c. app_of c ≡ trial_command) }
+    ensures local { IfOk result (λ c. (fields_of c).has_globals ≡ false) }
+{
+    Command::new(alloc, "trial")
+        .arg(chip_argument(alloc))?
+        .arg(wanted_option(alloc, "seed", 0, 4294967295))?
+        .arg(wanted_option(alloc, "count", 0, 1000000))?
+        .arg(frames_option(alloc))
 }
 
 /// The command `ipl`.
@@ -62,5 +104,6 @@ pub(crate) fn ipl<'a>(alloc: Global) -> Result<Command<'a>, AllocError>
         .disable_version_flag(true)
         .subcommand(format_part(alloc)?)?
         .subcommand(run_part(alloc)?)?
-        .subcommand(serial_part(alloc)?)
+        .subcommand(serial_part(alloc)?)?
+        .subcommand(trial_part(alloc)?)
 }

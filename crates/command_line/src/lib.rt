@@ -1,6 +1,7 @@
-//! The words of the command line: what they ask, and the chip that they choose. Which words are valid
-//! is clap's own definition, over the command that stands in specs/Ipl.antt. It stands on `plain_text`
-//! for numbers. A contract sees words as lists of bytes.
+//! The words of the command line: what they ask, and the chip that they choose. Which words are
+//! valid is clap's own definition, over the command that stands in specs/Ipl.antt, and the grammar
+//! of CHIP in specs/Chip.antt. The number in CHIP is read by `plain_text`, the number at an option
+//! by `str::parse`. A contract sees words as lists of bytes.
 #![tactic(auto)]
 
 mod asked;

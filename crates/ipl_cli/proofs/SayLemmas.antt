@@ -16,12 +16,20 @@ same_contents piece None = refl
 same_contents piece (Some x) = refl
 
 -- the first bytes of a piece were said, where there was room
-pub fails_part : (piece : List ℕ) (count : ℕ) (old new : MemChip) (had_room : Bool) → OnTrue had_room (told_of new ≡ appended (Said (take count piece)) (told_of old)) → OnFalse had_room (new ≡ old) → FailsToSay piece (told_of old) (told_of new)
+pub fails_part : (piece : List ℕ) (count : ℕ) (old new : MemChip) (had_room : Bool)
+    → OnTrue had_room (told_of new ≡ appended (Said (take count piece)) (told_of old))
+    → OnFalse had_room (new ≡ old) → FailsToSay piece (told_of old) (told_of new)
 fails_part piece count old new true said unsaid = record {
   places = ap (λ (t : Told). t.places) said;
   settled = ap (λ (t : Told). t.settled) said;
-  history = inl (take count piece, (drop count piece, take-append-drop count piece), ap (λ (t : Told). t.history) said);
-  contents = ap (λ (t : Told). t.contents) said ∙ same_contents (take count piece) (told_of old).contents;
+  history = inl (
+    take count piece,
+    (drop count piece, take-append-drop count piece),
+    ap
+        (λ (t : Told). t.history) said,
+  );
+  contents = ap (λ (t : Told). t.contents) said ∙ same_contents (take count piece)
+      (told_of old).contents;
 }
 fails_part piece count old new false said unsaid = record {
   places = ap (λ (chip : MemChip). chip.places) unsaid;

@@ -1,33 +1,30 @@
 -- What the end of the program says.
-use Rattle.std.proofs.Common.{◌≡◌, ◌≢◌, ◌⊎◌, ◌<◌, ◌==◌, ℕ, Bool, true, false, [], List, ◌++◌, Option, Some, None, Result, Ok, Err, inl, inr, refl, sym, ◌∙◌, ap, subst, arith}
-use Rattle.std.proofs.lemmas.List.Elements.{All-nil}
-use Rattle.chip_trait.specs.Told.{History, Told, Counts, Rose, Grew}
+use Rattle.std.proofs.Common.{◌≡◌, ◌≢◌, ◌⊎◌, ◌==◌, ℕ, true, false, Some, None, Result, Ok, Err, inl, inr, refl, sym, ◌∙◌, ap, subst, arith}
+use Rattle.chip_trait.specs.Told.{History, Told, Counts, Rose, Grew, IsConsistent}
 use Rattle.ipl_base.specs.Places.{IsGeometry}
 use Rattle.ipl_base.specs.declared.fault.ChipFault.TheVariants.{ReadFault, Stopped, Damaged, Malformed}
 use Rattle.ipl_base.specs.declared.fault.ImageFault.{ImageFault}
 use Rattle.ipl_base.specs.declared.fault.ImageFault.TheVariants as image
 use Rattle.ipl_base.specs.declared.fault.FormatFault.{FormatFault}
 use Rattle.ipl_base.specs.declared.fault.FormatFault.TheVariants as format
-use Rattle.ipl_rules.specs.State.{Map}
-use Rattle.unit_io.specs.ReadsAt.{Anywhere, IsReadAt}
+use Rattle.ipl_meaning.specs.Chart.{chart_of}
+use Rattle.opening_rules.proofs.CauseLemmas.{faults_are_caused}
 use Rattle.restart.specs.Fresh.{Formats}
-use Rattle.unit_store.specs.declared.store.UnitStore.{UnitStore}
 use Rattle.restart.proofs.LookLemmas.{reads_none}
-use Rattle.unit_store.proofs.OpenLemmas.{fine_or_spent, sound_is_opened, spent_is_found}
+use Rattle.store_trait.specs.Keeping.{ChipRose}
+use Rattle.script_run.specs.Goes.{ReadsAll}
 use Rattle.command_line.specs.declared.asked.Request.{Request}
-use Rattle.command_line.specs.declared.asked.Request.TheVariants.{Format, Run, Serial}
+use Rattle.command_line.specs.declared.asked.Request.TheVariants.{Format, Run, Serial, Trial}
 use Rattle.program_end.specs.Ends.{status_of, fault_status}
-use Rattle.program_end.specs.declared.end.End.{End}
 use Rattle.program_end.specs.declared.end.End.TheVariants.{Words, Chip, OutOfMemory, Script, Output, TooLong}
-use Rattle.ipl_cli.specs.Ending.{AskedFor, Ending, IsUntouched, but_noted, note_at, status_at}
+use Rattle.ipl_cli.specs.Ending.{AskedFor, AsksOpened, AsksFormatted, AsksAnew, AtStatus, Ending, IsUntouched, but_noted, status_at}
+use Rattle.ipl_cli.specs.Trials.{TrialLeaves}
 use Rattle.ipl_cli.specs.Views.{ViewsTold, OnlyViews, OnlyHears, SerialLeaves}
-use Rattle.ipl_cli.specs.Top.{IsAtFault, OpenedCause, FormattedCause, ChipCause, IsTooLong, RequestCause, EndCause, Runs, RunsOpened, RunsFormatted, StopsEarly, IsStopped, RunsOrStops, IsLaidOut, LaysOut, OnlyLooks, format_end, FormatLeaves, FormattedLeaves, OpenedLeaves, EndLeaves, Ends, IsCalm, Suffices, EndsInTime, IsSpent, IsStray}
-use Rattle.ipl_cli.specs.Runs.{StartsFormatted, StartsOpened, RunCause, RunsOver}
-use Rattle.ipl_cli.proofs.EndLemmas.{stopped_early, formatted_stops, opened_stops, runs_none}
-use Rattle.ipl_cli.proofs.ViewLemmas.{serial_left, untouched_hears, hears_views, hears_only}
-
-some_one : {X : Type 0} {a b : X} → Some a ≡ Some b → a ≡ b
-some_one e = cc
+use Rattle.ipl_cli.specs.Top.{HasFault, IsLaidWell, LaidCause, StrayCause, OpenedCause, FormatCause, AnewCause, FormattedCause, ChipCause, IsTooLong, EndCause, RunsOpened, RunsFormatted, LaysOut, OnlyLooks, EndsAtFault, format_end, FormatLeaves, FormattedLeaves, OpenedLeaves, EndLeaves, Ends, RefusesFaults, StrayCause, SpentCause, UntouchedOrRuns, IsCalm, IsTold, Suffices, EndsInTime}
+use Rattle.ipl_cli.proofs.EndLemmas.{stopped_early, untouched_runs}
+use Rattle.ipl_cli.proofs.StartLemmas.{opened_excused, stands_well}
+use Rattle.ipl_cli.proofs.ViewLemmas.{untouched_hears, hears_views, hears_only}
+use Rattle.ipl_cli.proofs.StatusLemmas.{chip_status, above_zero, not_zero}
 
 -- ---- a format that fails
 
@@ -38,243 +35,96 @@ untouched old new is = subst (λ (t : Told). t ≡ but_noted old t.beside.noted)
 pub no_memory : (asked : AskedFor) (t : Told) → EndLeaves asked (Err OutOfMemory) t t
 no_memory None t = refl
 no_memory (Some Format) t = refl
-no_memory (Some (Run true)) t = refl
-no_memory (Some (Run false)) t = refl
+no_memory (Some (Run frames true)) t = refl
+no_memory (Some (Run frames false)) t = refl
 no_memory (Some Serial) t = untouched_hears t t refl
+no_memory (Some (Trial seed count frames)) t = refl
 
 abbrev failed : FormatFault → Result (Unit {0}) FormatFault
 failed fault = Err fault
 
-module _ (old new : Told) (counts : Counts old new) where
-  pub failed_format : (fault : FormatFault) → (failed fault ≡ failed format.Geometry → new ≡ old) → ((h : History) → old.history ≡ Some h → Formats {A = Unit {0}} old.places h (Err fault) new) → FormatLeaves (Err (format_end fault)) old new
-  failed_format format.Geometry same formats = untouched old new (same refl)
-  failed_format format.Stopped same formats = stopped_early format.Stopped old new counts formats
-
-  pub failed_start : (fault : FormatFault) → (failed fault ≡ failed format.Geometry → new ≡ old) → ((h : History) → old.history ≡ Some h → Formats {A = Unit {0}} old.places h (Err fault) new) → FormattedLeaves (Err (format_end fault)) old new
-  failed_start format.Geometry same formats = untouched old new (same refl)
-  failed_start format.Stopped same formats = λ h script settled told left. inr (stopped_early format.Stopped old new counts formats h told)
-
--- ---- a run that stops
-
-pub formatted_left : (old mid new : Told) (store then : UnitStore) → StartsFormatted old store mid → Counts old mid → (end : End) → RunsOver (Err end) store mid then new → RunCause end mid new → FormattedLeaves (Err end) old new
-formatted_left old mid new store then s counts Words run cause = absurd cause
-formatted_left old mid new store then s counts (Chip e) run cause =
-    subst (λ (e : ImageFault). FormattedLeaves (Err (Chip e)) old new) (sym cause.0) (λ h script settled told left. inl (formatted_stops old mid new store then s counts run.0 run.1 h script settled told left))
-formatted_left old mid new store then s counts OutOfMemory run cause = absurd cause
-formatted_left old mid new store then s counts Script run cause = formatted_stops old mid new store then s counts run.0 run.1
-formatted_left old mid new store then s counts Output run cause = formatted_stops old mid new store then s counts run.0 run.1
-formatted_left old mid new store then s counts TooLong run cause = formatted_stops old mid new store then s counts run.0 run.1
-
-pub opened_left : (old mid new : Told) (store then : UnitStore) → StartsOpened old store mid → Counts old mid → (end : End) → RunsOver (Err end) store mid then new → RunCause end mid new → OpenedLeaves (Err end) old new
-opened_left old mid new store then s counts Words run cause = absurd cause
-opened_left old mid new store then s counts (Chip e) run cause = (opened_stops old mid new store then s counts run.0 run.1, λ apart. absurd (apart cause.0))
-opened_left old mid new store then s counts OutOfMemory run cause = absurd cause
-opened_left old mid new store then s counts Script run cause = opened_stops old mid new store then s counts run.0 run.1
-opened_left old mid new store then s counts Output run cause = opened_stops old mid new store then s counts run.0 run.1
-opened_left old mid new store then s counts TooLong run cause = opened_stops old mid new store then s counts run.0 run.1
-
--- ---- statuses
-
--- a fault of the chip has the status 3, 4 or 9
-chip_status : (e : ImageFault) → (fault_status e ≡ 3) ⊎ (fault_status e ≡ 4) ⊎ (fault_status e ≡ 9)
-chip_status image.Geometry = inr (inl refl)
-chip_status image.NotFormatted = inr (inl refl)
-chip_status (image.Missing u) = inr (inl refl)
-chip_status (image.Chip ReadFault) = inl refl
-chip_status (image.Chip Stopped) = inl refl
-chip_status (image.Chip (Damaged p s stored computed)) = inr (inl refl)
-chip_status (image.Chip (Malformed p s)) = inr (inl refl)
-chip_status image.Spent = inr (inr refl)
-chip_status (image.NoSpare n) = inr (inl refl)
-
--- no end has the status 0
-above_zero : (end : End) → 0 < status_of end
-above_zero Words = omega arith
-above_zero (Chip e) = omega (arith, chip_status e)
-above_zero OutOfMemory = omega arith
-above_zero Script = omega arith
-above_zero Output = omega arith
-above_zero TooLong = omega arith
-
-not_zero : (n : ℕ) → 0 < n → (n == 0) ≡ false
-not_zero n low = grind (arith, low)
-
--- ---- a note says nothing, and leaves the chip
-
-module _ (old mid : Told) (noted : Option (List ℕ)) where
-  abbrev then : Told
-  then = but_noted mid noted
-
-  formatted_cause : (e : ImageFault) → FormattedCause e old mid → FormattedCause e old then
-  formatted_cause image.Geometry c = c
-  formatted_cause image.NotFormatted c = c
-  formatted_cause (image.Missing u) c = c
-  formatted_cause (image.Chip ReadFault) c = c
-  formatted_cause (image.Chip Stopped) c = c
-  formatted_cause (image.Chip (Damaged p s stored computed)) c = c
-  formatted_cause (image.Chip (Malformed p s)) c = c
-  formatted_cause image.Spent c = c
-  formatted_cause (image.NoSpare n) c = c
-
-  opened_cause : (e : ImageFault) → OpenedCause e old mid → OpenedCause e old then
-  opened_cause image.Geometry c = c
-  opened_cause image.NotFormatted c = c
-  opened_cause (image.Missing u) c = c
-  opened_cause (image.Chip ReadFault) c = c
-  opened_cause (image.Chip Stopped) c = c
-  opened_cause (image.Chip (Damaged p s stored computed)) c = c
-  opened_cause (image.Chip (Malformed p s)) c = c
-  opened_cause image.Spent c = c
-  opened_cause (image.NoSpare n) c = c
-
-  request_cause : (request : Request) (end : End) → RequestCause request end old mid → RequestCause request end old then
-  request_cause request Words c = c
-  request_cause Format (Chip e) c = formatted_cause e c
-  request_cause (Run true) (Chip e) c = formatted_cause e c
-  request_cause (Run false) (Chip e) c = opened_cause e c
-  request_cause Serial (Chip e) c = c
-  request_cause request OutOfMemory c = c
-  request_cause Format Script c = c
-  request_cause (Run formats) Script c = c
-  request_cause Serial Script c = c
-  request_cause request Output c = c
-  request_cause Format TooLong c = c
-  request_cause (Run formats) TooLong c = record { grew = c.grew; told = c.told }
-  request_cause Serial TooLong c = record { grew = c.grew; told = c.told }
-
-  end_cause : (asked : AskedFor) (ending : Ending) → EndCause asked ending old mid → EndCause asked ending old then
-  end_cause None (Ok u) c = c
-  end_cause None (Err end) c = c
-  end_cause (Some request) (Ok u) c = c
-  end_cause (Some request) (Err end) c = request_cause request end c
-
-  runs_noted : {places : ℕ} {m : Map} {script : List ℕ} {h : History} {first : List _} {done : Bool} → Runs places m script h first old mid done → Runs places m script h first old then done
-  runs_noted r = record {
-    added = r.added;
-    history = r.history;
-    each_moment = r.each_moment;
-    replies = r.replies;
-    is_prefix = r.is_prefix;
-    lawful = r.lawful;
-    plain = r.plain;
-    rests = r.rests;
-    bare = r.bare;
-    read = r.read;
-    unread = r.unread;
-    script_is = r.script_is;
-    left_is = r.left_is;
-    all = r.all;
-  }
-
-  stops_noted : {places : ℕ} {h : History} → StopsEarly places h old mid → StopsEarly places h old then
-  stops_noted s = record { stopped = s.stopped; fault = s.fault; formats = s.formats; counts = s.counts; noted = ap (λ (t : Told). but_noted t noted) s.noted }
-
-  laid_out_noted : {places : ℕ} {h : History} {done : Bool} → IsLaidOut places h old mid done → IsLaidOut places h old then done
-  laid_out_noted l = record { added = l.added; says = l.says; history = l.history; rests = l.rests; bare = l.bare; lawful = l.lawful; left_is = l.left_is; all = l.all }
-
-  looks_noted : OnlyLooks old mid → OnlyLooks old then
-  looks_noted l = record { read = l.read; reads = l.reads; noted = ap (λ (t : Told). but_noted t noted) l.noted }
-
-  untouched_noted : IsUntouched old mid → IsUntouched old then
-  untouched_noted is = ap (λ (t : Told). but_noted t noted) is
-
-  formatted_noted : {done : Bool} → RunsFormatted old mid done → RunsFormatted old then done
-  formatted_noted runs = λ h script settled told left. runs_noted (runs h script settled told left)
-
-  opened_noted : {done : Bool} → RunsOpened old mid done → RunsOpened old then done
-  opened_noted runs = λ h script settled told left m rests none. runs_noted (runs h script settled told left m rests none)
-
-  stopped_noted : IsStopped old mid → IsStopped old then
-  stopped_noted stops = λ h told. stops_noted (stops h told)
-
-  either_noted : RunsOrStops old mid → RunsOrStops old then
-  either_noted left = λ h script settled told left_is. elim (left h script settled told left_is) [
-    | inl runs ↦ inl (runs_noted runs)
-    | inr stops ↦ inr (stops_noted stops)
-  ]
-
-  lays_out_noted : {done : Bool} → LaysOut old mid done → LaysOut old then done
-  lays_out_noted lays = λ h told. laid_out_noted (lays h told)
-
-  format_left : (ending : Ending) → FormatLeaves ending old mid → FormatLeaves ending old then
-  format_left (Ok u) l = lays_out_noted l
-  format_left (Err Words) l = l
-  format_left (Err (Chip image.Geometry)) l = untouched_noted l
-  format_left (Err (Chip image.NotFormatted)) l = stopped_noted l
-  format_left (Err (Chip (image.Missing u))) l = stopped_noted l
-  format_left (Err (Chip (image.Chip e))) l = stopped_noted l
-  format_left (Err (Chip image.Spent)) l = stopped_noted l
-  format_left (Err (Chip (image.NoSpare n))) l = stopped_noted l
-  format_left (Err OutOfMemory) l = untouched_noted l
-  format_left (Err Script) l = l
-  format_left (Err Output) l = lays_out_noted l
-  format_left (Err TooLong) l = l
-
-  formatted_run_left : (ending : Ending) → FormattedLeaves ending old mid → FormattedLeaves ending old then
-  formatted_run_left (Ok u) l = formatted_noted l
-  formatted_run_left (Err Words) l = l
-  formatted_run_left (Err (Chip image.Geometry)) l = untouched_noted l
-  formatted_run_left (Err (Chip image.NotFormatted)) l = either_noted l
-  formatted_run_left (Err (Chip (image.Missing u))) l = either_noted l
-  formatted_run_left (Err (Chip (image.Chip e))) l = either_noted l
-  formatted_run_left (Err (Chip image.Spent)) l = either_noted l
-  formatted_run_left (Err (Chip (image.NoSpare n))) l = either_noted l
-  formatted_run_left (Err OutOfMemory) l = untouched_noted l
-  formatted_run_left (Err Script) l = formatted_noted l
-  formatted_run_left (Err Output) l = formatted_noted l
-  formatted_run_left (Err TooLong) l = formatted_noted l
-
-  opened_run_left : (ending : Ending) → OpenedLeaves ending old mid → OpenedLeaves ending old then
-  opened_run_left (Ok u) l = opened_noted l
-  opened_run_left (Err Words) l = l
-  opened_run_left (Err (Chip e)) l = (opened_noted l.0, λ apart. looks_noted (l.1 apart))
-  opened_run_left (Err OutOfMemory) l = untouched_noted l
-  opened_run_left (Err Script) l = opened_noted l
-  opened_run_left (Err Output) l = opened_noted l
-  opened_run_left (Err TooLong) l = opened_noted l
-
-  end_left : (asked : AskedFor) (ending : Ending) → EndLeaves asked ending old mid → EndLeaves asked ending old then
-  end_left None ending l = untouched_noted l
-  end_left (Some Format) ending l = format_left ending l
-  end_left (Some (Run true)) ending l = formatted_run_left ending l
-  end_left (Some (Run false)) ending l = opened_run_left ending l
-  end_left (Some Serial) ending l = serial_left old mid noted ending l
-
--- all that is to be known of the end
-pub ends : (asked : AskedFor) (ending : Ending) (old mid new : Told) (status : ℕ) → EndCause asked ending old mid → EndLeaves asked ending old mid → mid.beside.noted ≡ old.beside.noted → status ≡ status_at ending
-    → new ≡ but_noted mid new.beside.noted → ((bytes : List ℕ) → new.beside.noted ≡ Some bytes → (before : List ℕ) × (mid.beside.noted ≡ Some before) × (bytes ≡ before ++ note_at ending)) → Ends asked old new status
-ends asked ending old mid new status cause leaves same status_is only noted = record {
-  ending = ending;
-  status_is = status_is;
-  noted = λ bytes told. let (before, was, is) = noted bytes told in (before, sym same ∙ was, is);
-  cause = subst (EndCause asked ending old) (sym only) (end_cause old mid new.beside.noted asked ending cause);
-  leaves = subst (EndLeaves asked ending old) (sym only) (end_left old mid new.beside.noted asked ending leaves);
-}
+pub failed_format : (old new : Told) → Counts old new → (fault : FormatFault)
+    → (failed fault ≡ failed format.Geometry → new ≡ old)
+    → ((h : History) → old.history ≡ Some h → Formats {A = Unit {0}} old.places h (Err fault) new)
+    → FormatLeaves (Err (format_end fault)) old new
+failed_format old new counts format.Geometry same formats = untouched old new (same refl)
+failed_format old new counts format.Stopped same formats = stopped_early format.Stopped old new
+    counts formats
 
 -- ---- by the status
-
-untouched_runs : (old new : Told) → IsUntouched old new → RunsOpened old new false
-untouched_runs old new is = λ h script settled told left m rests none.
-    runs_none old.places m script h [] (All-nil (IsReadAt Anywhere)) rests none old new (ap (λ (t : Told). t.history) is ∙ told) (ap (λ (t : Told). t.beside.left) is ∙ left)
 
 untouched_looks : (old new : Told) → IsUntouched old new → OnlyLooks old new
 untouched_looks old new is = record { read = old; reads = reads_none old; noted = is }
 
-module _ (old new : Told) where
-  opened_by : (ending : Ending) → OpenedLeaves ending old new → RunsOpened old new (status_at ending == 0)
-  opened_by (Ok u) l = l
-  opened_by (Err Words) l = absurd l
-  opened_by (Err (Chip e)) l = subst (RunsOpened old new) (sym (not_zero (fault_status e) (above_zero (Chip e)))) l.0
-  opened_by (Err OutOfMemory) l = untouched_runs old new l
-  opened_by (Err Script) l = l
-  opened_by (Err Output) l = l
-  opened_by (Err TooLong) l = l
+none_is_some : {X : Type 0} {x : X} → None ≡ Some x → ⊥
+none_is_some e = cc
 
-  formatted_by : (ending : Ending) → FormattedLeaves ending old new → status_at ending ≡ 0 → RunsFormatted old new true
-  formatted_by (Ok u) l is = l
+module _ (old new : Told) where
+  opened_by : (ending : Ending) → OpenedLeaves ending old new → RunsOpened old new ending
+  opened_by (Ok u) l = l.runs
+  opened_by (Err Words) l = absurd l
+  opened_by (Err (Chip e)) l = l.runs
+  opened_by (Err OutOfMemory) l = untouched_runs old new l
+  opened_by (Err Script) l = l.runs
+  opened_by (Err Output) l = l.runs
+  opened_by (Err TooLong) l = l.runs
+
+  -- a chip that has a fault was only read
+  abbrev Refuses : ImageFault → ℕ → Type 0
+  Refuses e status = OnlyLooks old new × ((status ≡ fault_status e) ⊎ (status ≡ 3) ⊎ (status ≡ 5))
+
+  at_fault : (e ended : ImageFault) → EndsAtFault e ended
+      → (fault_status ended ≡ fault_status e) ⊎ (fault_status ended ≡ 3) ⊎ (fault_status ended ≡ 5)
+  at_fault e ended (inl same) = inl (ap fault_status same)
+  at_fault e ended (inr (inl read)) = inr (inl (ap fault_status read))
+  at_fault e ended (inr (inr stopped)) = inr (inl (ap fault_status stopped))
+
+  laid_never : IsLaidWell old → (e : ImageFault) → HasFault old e → ⊥
+  laid_never laid e has = none_is_some (sym (laid has.contents has.told) ∙ has.fault)
+
+  refuses_by : (ending : Ending) → OpenedLeaves ending old new
+      → RefusesFaults old new (status_at ending)
+  refuses_by (Ok u) l e has = absurd (laid_never l.laid e has)
+  refuses_by (Err Words) l e has = absurd l
+  refuses_by (Err (Chip ended)) l e has = let is = l.refused e has in (is.0, at_fault e ended is.1)
+  refuses_by (Err OutOfMemory) l e has = (untouched_looks old new l, inr (inr refl))
+  refuses_by (Err Script) l e has = absurd (laid_never l.laid e has)
+  refuses_by (Err Output) l e has = absurd (laid_never l.laid e has)
+  refuses_by (Err TooLong) l e has = absurd (laid_never l.laid e has)
+
+  abbrev Opened : Type 0
+  Opened = IsLaidWell old × IsGeometry old.places
+
+  laid_by : (ending : Ending) → OpenedLeaves ending old new
+      → (status_at ending ≡ 0) ⊎ (status_at ending ≡ 6) ⊎ (status_at ending ≡ 7) ⊎
+      (status_at ending ≡ 8) → Opened
+  laid_by (Ok u) l is = (l.laid, l.fits)
+  laid_by (Err Words) l is = absurd l
+  laid_by (Err (Chip e)) l is = absurd (omega (arith, is, chip_status e))
+  laid_by (Err OutOfMemory) l is = absurd (omega (arith, is))
+  laid_by (Err Script) l is = (l.laid, l.fits)
+  laid_by (Err Output) l is = (l.laid, l.fits)
+  laid_by (Err TooLong) l is = (l.laid, l.fits)
+
+  formatted_by : (ending : Ending) → FormattedLeaves ending old new → status_at ending ≡ 0
+      → RunsFormatted old new (Ok tt)
+  formatted_by (Ok u) l is = l.0
   formatted_by (Err end) l is = absurd (omega (arith, is, above_zero end))
 
-  part_by : (ending : Ending) → FormattedLeaves ending old new → (status_at ending ≡ 6) ⊎ (status_at ending ≡ 7) ⊎ (status_at ending ≡ 8) → RunsFormatted old new false
+  -- at the end of the script all of it was read
+  opened_read : (ending : Ending) → OpenedLeaves ending old new → status_at ending ≡ 0
+      → ReadsAll old new
+  opened_read (Ok u) l is = l.read refl
+  opened_read (Err end) l is = absurd (omega (arith, is, above_zero end))
+
+  formatted_read : (ending : Ending) → FormattedLeaves ending old new → status_at ending ≡ 0
+      → ReadsAll old new
+  formatted_read (Ok u) l is = l.1
+  formatted_read (Err end) l is = absurd (omega (arith, is, above_zero end))
+
+  part_by : (ending : Ending) → FormattedLeaves ending old new
+      → (status_at ending ≡ 6) ⊎ (status_at ending ≡ 7) ⊎ (status_at ending ≡ 8)
+      → RunsFormatted old new ending
   part_by (Ok u) l is = absurd (omega (arith, is))
   part_by (Err Words) l is = absurd l
   part_by (Err (Chip e)) l is = absurd (omega (arith, is, chip_status e))
@@ -283,28 +133,30 @@ module _ (old new : Told) where
   part_by (Err Output) l is = l
   part_by (Err TooLong) l is = l
 
-  stops_by : (ending : Ending) → FormattedLeaves ending old new → status_at ending ≡ 3 → RunsOrStops old new
+  stops_by : (ending : Ending) → FormattedLeaves ending old new
+      → (status_at ending ≡ 3) ⊎ (status_at ending ≡ 4) ⊎ (status_at ending ≡ 9)
+      → UntouchedOrRuns old new ending
   stops_by (Ok u) l is = absurd (omega (arith, is))
   stops_by (Err Words) l is = absurd l
-  stops_by (Err (Chip image.Geometry)) l is = absurd (omega (arith, is))
-  stops_by (Err (Chip image.NotFormatted)) l is = l
-  stops_by (Err (Chip (image.Missing u))) l is = l
-  stops_by (Err (Chip (image.Chip e))) l is = l
-  stops_by (Err (Chip image.Spent)) l is = l
-  stops_by (Err (Chip (image.NoSpare n))) l is = l
+  stops_by (Err (Chip e)) (inl other) is = inl (other.0, other.2)
+  stops_by (Err (Chip e)) (inr ran) is = inr ran.1
   stops_by (Err OutOfMemory) l is = absurd (omega (arith, is))
   stops_by (Err Script) l is = absurd (omega (arith, is))
   stops_by (Err Output) l is = absurd (omega (arith, is))
   stops_by (Err TooLong) l is = absurd (omega (arith, is))
 
-  formats_by : (ending : Ending) → FormatLeaves ending old new → status_at ending ≡ 0 → LaysOut old new true
+  formats_by : (ending : Ending) → FormatLeaves ending old new → status_at ending ≡ 0
+      → LaysOut old new true
   formats_by (Ok u) l is = l
   formats_by (Err end) l is = absurd (omega (arith, is, above_zero end))
 
-  views_by : (ending : Ending) → SerialLeaves ending old new → ViewsTold old new (status_at ending == 0)
+  views_by : (ending : Ending) → SerialLeaves ending old new
+      → ViewsTold old new (status_at ending == 0)
   views_by (Ok u) l = l.0
   views_by (Err Words) l = absurd l
-  views_by (Err (Chip e)) l = subst (ViewsTold old new) (sym (not_zero (fault_status e) (above_zero (Chip e)))) (hears_views old new (untouched_hears old new l))
+  views_by (Err (Chip e)) l = subst (ViewsTold old new)
+      (sym (not_zero (fault_status e) (above_zero (Chip e)))) (hears_views old new
+      (untouched_hears old new l))
   views_by (Err OutOfMemory) l = hears_views old new l
   views_by (Err Script) l = l.0
   views_by (Err Output) l = l.0
@@ -319,29 +171,26 @@ module _ (old new : Told) where
   only_views_by (Err Output) l = l.1
   only_views_by (Err TooLong) l = l.1
 
-  -- what is wrong with contents, but that their numbers are used up, keeps them from standing for a map
-  stray : (e : ImageFault) → fault_status e ≡ 4 → IsAtFault old e → IsStray old
-  stray e is fault x told m stands = elim (fine_or_spent old.places x m stands) [
-    | inl none ↦ no_fault (sym none ∙ fault x told)
-    | inr spent ↦ let same : image.Spent ≡ e = some_one (sym spent ∙ fault x told) in omega (arith, is, ap fault_status same)
-  ]
-    where
-      no_fault : None ≡ Some e → ⊥
-      no_fault same = cc
+  -- contents that have a fault, but that their numbers are used up, stand for no map
+  laid_image : (e : ImageFault) → fault_status e ≡ 4 → LaidCause e old new → StrayCause old new
+  laid_image e is (inl first) = inl (λ x told m stands.
+      let spent = stands_well old.places (chart_of x) m stands e (first x told) in
+      omega (arith, is, ap fault_status spent))
+  laid_image e is (inr met) = inr met
 
   -- a status of a fault of the chip is that of an image, or a count rose, or numbers are used up
-  opened_image : (e : ImageFault) → OpenedCause e old new → fault_status e ≡ 4 → IsStray old
-  opened_image image.Geometry c is = stray image.Geometry is c
-  opened_image image.NotFormatted c is = stray image.NotFormatted is c
-  opened_image (image.Missing u) c is = stray (image.Missing u) is c
+  opened_image : (e : ImageFault) → OpenedCause e old new → fault_status e ≡ 4 → StrayCause old new
+  opened_image image.Geometry c is = laid_image image.Geometry is c
+  opened_image image.NotFormatted c is = laid_image image.NotFormatted is c
+  opened_image (image.Missing u) c is = laid_image (image.Missing u) is c
   opened_image (image.Chip ReadFault) c is = absurd (omega (arith, is))
   opened_image (image.Chip Stopped) c is = absurd (omega (arith, is))
-  opened_image (image.Chip (Damaged p s stored computed)) c is = stray (image.Chip (Damaged p s stored computed)) is c.1
-  opened_image (image.Chip (Malformed p s)) c is = stray (image.Chip (Malformed p s)) is c
+  opened_image (image.Chip (Damaged p s stored computed)) c is = c.1
+  opened_image (image.Chip (Malformed p s)) c is = c
   opened_image image.Spent c is = absurd (omega (arith, is))
-  opened_image (image.NoSpare n) c is = stray (image.NoSpare n) is c
+  opened_image (image.NoSpare n) c is = laid_image (image.NoSpare n) is c
 
-  opened_chip : (e : ImageFault) → OpenedCause e old new → fault_status e ≡ 3 → Rose old.read_faults new.read_faults ⊎ Rose old.write_faults new.write_faults
+  opened_chip : (e : ImageFault) → OpenedCause e old new → fault_status e ≡ 3 → ChipRose old new
   opened_chip image.Geometry c is = absurd (omega (arith, is))
   opened_chip image.NotFormatted c is = absurd (omega (arith, is))
   opened_chip (image.Missing u) c is = absurd (omega (arith, is))
@@ -352,7 +201,12 @@ module _ (old new : Told) where
   opened_chip image.Spent c is = absurd (omega (arith, is))
   opened_chip (image.NoSpare n) c is = absurd (omega (arith, is))
 
-  opened_spent : (e : ImageFault) → OpenedCause e old new → fault_status e ≡ 9 → IsSpent old
+  spent_first : LaidCause image.Spent old new → SpentCause old new
+  spent_first (inl first) = inl (λ x told. faults_are_caused (chart_of x) old.places image.Spent
+      (first x told))
+  spent_first (inr met) = inr met
+
+  opened_spent : (e : ImageFault) → OpenedCause e old new → fault_status e ≡ 9 → SpentCause old new
   opened_spent image.Geometry c is = absurd (omega (arith, is))
   opened_spent image.NotFormatted c is = absurd (omega (arith, is))
   opened_spent (image.Missing u) c is = absurd (omega (arith, is))
@@ -360,20 +214,69 @@ module _ (old new : Told) where
   opened_spent (image.Chip Stopped) c is = absurd (omega (arith, is))
   opened_spent (image.Chip (Damaged p s stored computed)) c is = absurd (omega (arith, is))
   opened_spent (image.Chip (Malformed p s)) c is = absurd (omega (arith, is))
-  opened_spent image.Spent c is = λ x told. spent_is_found x old.places (c x told)
+  opened_spent image.Spent c is = spent_first c
   opened_spent (image.NoSpare n) c is = absurd (omega (arith, is))
 
-  -- what formats the chip meets no fault of what the chip holds
-  formatted_image : (e : ImageFault) → FormattedCause e old new → (fault_status e ≡ 4 → ¬ IsGeometry old.places) × (fault_status e ≡ 3 → Rose old.write_faults new.write_faults) × (fault_status e ≢ 9)
-  formatted_image image.Geometry c = (λ is. c, λ is. absurd (omega (arith, is)), λ is. omega (arith, is))
-  formatted_image image.NotFormatted c = absurd c
-  formatted_image (image.Missing u) c = absurd c
-  formatted_image (image.Chip ReadFault) c = absurd c
-  formatted_image (image.Chip Stopped) c = (λ is. absurd (omega (arith, is)), λ is. c, λ is. omega (arith, is))
-  formatted_image (image.Chip (Damaged p s stored computed)) c = absurd c
-  formatted_image (image.Chip (Malformed p s)) c = absurd c
-  formatted_image image.Spent c = absurd c
-  formatted_image (image.NoSpare n) c = absurd c
+  -- a format meets no fault of what the chip holds
+  format_image : (e : ImageFault) → FormatCause e old new
+      → (fault_status e ≡ 4 → ¬ IsGeometry old.places) × (fault_status e ≡ 3 → Rose old.write_faults
+      new.write_faults) × (fault_status e ≢ 9)
+  format_image image.Geometry c = (
+    λ is. c,
+    λ is. absurd (omega (arith, is)),
+    λ is. omega
+        (arith, is),
+  )
+  format_image image.NotFormatted c = absurd c
+  format_image (image.Missing u) c = absurd c
+  format_image (image.Chip ReadFault) c = absurd c
+  format_image (image.Chip Stopped) c = (
+    λ is. absurd (omega (arith, is)),
+    λ is. c,
+    λ is. omega
+        (arith, is),
+  )
+  format_image (image.Chip (Damaged p s stored computed)) c = absurd c
+  format_image (image.Chip (Malformed p s)) c = absurd c
+  format_image image.Spent c = absurd c
+  format_image (image.NoSpare n) c = absurd c
+
+  -- a run over a chip that was formatted meets one only where it isn't told, or a call failed
+  formatted_image : (e : ImageFault) → FormattedCause e old new → fault_status e ≡ 4
+      → (¬ IsGeometry old.places) ⊎ AnewCause old new
+  formatted_image image.Geometry c is = c
+  formatted_image image.NotFormatted c is = inr c
+  formatted_image (image.Missing u) c is = inr c
+  formatted_image (image.Chip ReadFault) c is = absurd (omega (arith, is))
+  formatted_image (image.Chip Stopped) c is = absurd (omega (arith, is))
+  formatted_image (image.Chip (Damaged p s stored computed)) c is = inr c.1
+  formatted_image (image.Chip (Malformed p s)) c is = inr c
+  formatted_image image.Spent c is = absurd (omega (arith, is))
+  formatted_image (image.NoSpare n) c is = inr c
+
+  formatted_chip : (e : ImageFault) → FormattedCause e old new → fault_status e ≡ 3
+      → ChipRose old new
+  formatted_chip image.Geometry c is = absurd (omega (arith, is))
+  formatted_chip image.NotFormatted c is = absurd (omega (arith, is))
+  formatted_chip (image.Missing u) c is = absurd (omega (arith, is))
+  formatted_chip (image.Chip ReadFault) c is = inl c
+  formatted_chip (image.Chip Stopped) c is = inr c
+  formatted_chip (image.Chip (Damaged p s stored computed)) c is = absurd (omega (arith, is))
+  formatted_chip (image.Chip (Malformed p s)) c is = absurd (omega (arith, is))
+  formatted_chip image.Spent c is = absurd (omega (arith, is))
+  formatted_chip (image.NoSpare n) c is = absurd (omega (arith, is))
+
+  formatted_spent : (e : ImageFault) → FormattedCause e old new → fault_status e ≡ 9
+      → AnewCause old new
+  formatted_spent image.Geometry c is = absurd (omega (arith, is))
+  formatted_spent image.NotFormatted c is = absurd (omega (arith, is))
+  formatted_spent (image.Missing u) c is = absurd (omega (arith, is))
+  formatted_spent (image.Chip ReadFault) c is = absurd (omega (arith, is))
+  formatted_spent (image.Chip Stopped) c is = absurd (omega (arith, is))
+  formatted_spent (image.Chip (Damaged p s stored computed)) c is = absurd (omega (arith, is))
+  formatted_spent (image.Chip (Malformed p s)) c is = absurd (omega (arith, is))
+  formatted_spent image.Spent c is = c
+  formatted_spent (image.NoSpare n) c is = absurd (omega (arith, is))
 
 -- ---- by the words
 
@@ -381,23 +284,61 @@ module _ (asked : AskedFor) (old new : Told) (status : ℕ) (e : Ends asked old 
   leaves_of : (request : Request) → asked ≡ Some request → EndLeaves (Some request) e.ending old new
   leaves_of request is = subst (λ (a : AskedFor). EndLeaves a e.ending old new) is e.leaves
 
-  pub end_opened : asked ≡ Some (Run false) → RunsOpened old new (status == 0)
-  end_opened is = subst (λ (n : ℕ). RunsOpened old new (n == 0)) (sym e.status_is) (opened_by old new e.ending (leaves_of (Run false) is))
+  pub end_opened : AsksOpened asked → AtStatus (RunsOpened old new) status
+  end_opened (frames, is) = (
+    e.ending,
+    e.status_is,
+    opened_by old new e.ending
+        (leaves_of (Run frames false) is),
+  )
 
-  pub end_formatted : asked ≡ Some (Run true) → status ≡ 0 → RunsFormatted old new true
-  end_formatted is at = formatted_by old new e.ending (leaves_of (Run true) is) (sym e.status_is ∙ at)
+  pub end_refuses : AsksOpened asked → RefusesFaults old new status
+  end_refuses (frames, is) = subst (RefusesFaults old new) (sym e.status_is) (refuses_by old new
+      e.ending (leaves_of (Run frames false) is))
 
-  pub end_part : asked ≡ Some (Run true) → (status ≡ 6) ⊎ (status ≡ 7) ⊎ (status ≡ 8) → RunsFormatted old new false
-  end_part is at = part_by old new e.ending (leaves_of (Run true) is) (rw e.status_is at at)
+  pub end_laid : AsksOpened asked → (status ≡ 0) ⊎ (status ≡ 6) ⊎ (status ≡ 7) ⊎ (status ≡ 8)
+      → IsLaidWell old × IsGeometry old.places
+  end_laid (frames, is) at = laid_by old new e.ending (leaves_of (Run frames false) is)
+      (rw e.status_is at at)
 
-  pub end_stops : asked ≡ Some (Run true) → status ≡ 3 → RunsOrStops old new
-  end_stops is at = stops_by old new e.ending (leaves_of (Run true) is) (sym e.status_is ∙ at)
+  pub end_read : AsksOpened asked ⊎ AsksFormatted asked → status ≡ 0 → ReadsAll old new
+  end_read (inl (frames, is)) at = opened_read old new e.ending (leaves_of (Run frames false) is)
+      (sym e.status_is ∙ at)
+  end_read (inr (frames, is)) at = formatted_read old new e.ending (leaves_of (Run frames true) is)
+      (sym e.status_is ∙ at)
+
+  pub end_formatted : AsksFormatted asked → status ≡ 0 → RunsFormatted old new (Ok tt)
+  end_formatted (frames, is) at = formatted_by old new e.ending (leaves_of (Run frames true) is)
+      (sym e.status_is ∙ at)
+
+  pub end_part : AsksFormatted asked → (status ≡ 6) ⊎ (status ≡ 7) ⊎ (status ≡ 8)
+      → AtStatus (RunsFormatted old new) status
+  end_part (frames, is) at = (
+    e.ending,
+    e.status_is,
+    part_by old new e.ending
+        (leaves_of (Run frames true) is) (rw e.status_is at at),
+  )
+
+  pub end_stops : AsksFormatted asked → (status ≡ 3) ⊎ (status ≡ 4) ⊎ (status ≡ 9)
+      → AtStatus (UntouchedOrRuns old new) status
+  end_stops (frames, is) at = (
+    e.ending,
+    e.status_is,
+    stops_by old new e.ending
+        (leaves_of (Run frames true) is) (rw e.status_is at at),
+  )
+
+  pub end_trials : (seed count frames : ℕ) → asked ≡ Some (Trial seed count frames)
+      → AtStatus (λ ending. TrialLeaves seed count ending old new) status
+  end_trials seed count frames is = (e.ending, e.status_is, leaves_of (Trial seed count frames) is)
 
   pub end_formats : asked ≡ Some Format → status ≡ 0 → LaysOut old new true
   end_formats is at = formats_by old new e.ending (leaves_of Format is) (sym e.status_is ∙ at)
 
   pub end_views : asked ≡ Some Serial → ViewsTold old new (status == 0)
-  end_views is = subst (λ (n : ℕ). ViewsTold old new (n == 0)) (sym e.status_is) (views_by old new e.ending (leaves_of Serial is))
+  end_views is = subst (λ (n : ℕ). ViewsTold old new (n == 0)) (sym e.status_is) (views_by old new
+      e.ending (leaves_of Serial is))
 
   pub end_only_views : asked ≡ Some Serial → OnlyViews old new
   end_only_views is = only_views_by old new e.ending (leaves_of Serial is)
@@ -405,7 +346,8 @@ module _ (asked : AskedFor) (old new : Told) (status : ℕ) (e : Ends asked old 
 -- ---- by the status alone
 
 module _ (old new : Told) where
-  early_by : (asked : AskedFor) (ending : Ending) → EndCause asked ending old new → EndLeaves asked ending old new → status_at ending ≡ 2 → IsUntouched old new
+  early_by : (asked : AskedFor) (ending : Ending) → EndCause asked ending old new
+      → EndLeaves asked ending old new → status_at ending ≡ 2 → IsUntouched old new
   early_by None ending c l is = l
   early_by (Some request) (Ok u) c l is = absurd (omega (arith, is))
   early_by (Some request) (Err Words) c l is = absurd c
@@ -421,68 +363,77 @@ module _ (old new : Told) where
   wanting_untouched : (asked : AskedFor) → IsUntouched old new → Wanting asked
   wanting_untouched asked l = (untouched_hears old new l, λ apart. l)
 
-  wanting_by : (asked : AskedFor) (ending : Ending) → EndCause asked ending old new → EndLeaves asked ending old new → status_at ending ≡ 5 → Wanting asked
+  wanting_by : (asked : AskedFor) (ending : Ending) → EndCause asked ending old new
+      → EndLeaves asked ending old new → status_at ending ≡ 5 → Wanting asked
   wanting_by None ending c l is = wanting_untouched None l
   wanting_by (Some request) (Ok u) c l is = absurd (omega (arith, is))
   wanting_by (Some request) (Err Words) c l is = absurd c
   wanting_by (Some request) (Err (Chip e)) c l is = absurd (omega (arith, is, chip_status e))
   wanting_by (Some Format) (Err OutOfMemory) c l is = wanting_untouched (Some Format) l
-  wanting_by (Some (Run true)) (Err OutOfMemory) c l is = wanting_untouched (Some (Run true)) l
-  wanting_by (Some (Run false)) (Err OutOfMemory) c l is = wanting_untouched (Some (Run false)) l
+  wanting_by (Some (Run frames true)) (Err OutOfMemory) c l is = wanting_untouched
+      (Some (Run frames true)) l
+  wanting_by (Some (Run frames false)) (Err OutOfMemory) c l is = wanting_untouched
+      (Some (Run frames false)) l
+  wanting_by (Some (Trial seed count frames)) (Err OutOfMemory) c l is = wanting_untouched
+      (Some (Trial seed count frames)) l
   wanting_by (Some Serial) (Err OutOfMemory) c l is = (l, λ apart. absurd (apart refl))
   wanting_by (Some request) (Err Script) c l is = absurd (omega (arith, is))
   wanting_by (Some request) (Err Output) c l is = absurd (omega (arith, is))
   wanting_by (Some request) (Err TooLong) c l is = absurd (omega (arith, is))
 
-  -- a format that fails without a failed write left the chip untouched
-  format_looks : (e : ImageFault) → FormattedCause e old new → FormatLeaves (Err (Chip e)) old new → fault_status e ≢ 3 → OnlyLooks old new
-  format_looks image.Geometry c l other = untouched_looks old new l
-  format_looks image.NotFormatted c l other = absurd c
-  format_looks (image.Missing u) c l other = absurd c
-  format_looks (image.Chip ReadFault) c l other = absurd c
-  format_looks (image.Chip Stopped) c l other = absurd (other refl)
-  format_looks (image.Chip (Damaged p s stored computed)) c l other = absurd c
-  format_looks (image.Chip (Malformed p s)) c l other = absurd c
-  format_looks image.Spent c l other = absurd c
-  format_looks (image.NoSpare n) c l other = absurd c
+  -- another number of places was left alone
+  format_other : (e : ImageFault) → FormatCause e old new → FormatLeaves (Err (Chip e)) old new
+      → fault_status e ≡ 4 → IsUntouched old new
+  format_other image.Geometry c l is = l
+  format_other image.NotFormatted c l is = absurd c
+  format_other (image.Missing u) c l is = absurd c
+  format_other (image.Chip ReadFault) c l is = absurd c
+  format_other (image.Chip Stopped) c l is = absurd (omega (arith, is))
+  format_other (image.Chip (Damaged p s stored computed)) c l is = absurd c
+  format_other (image.Chip (Malformed p s)) c l is = absurd c
+  format_other image.Spent c l is = absurd c
+  format_other (image.NoSpare n) c l is = absurd c
 
-  formatted_looks : (e : ImageFault) → FormattedCause e old new → FormattedLeaves (Err (Chip e)) old new → fault_status e ≢ 3 → OnlyLooks old new
-  formatted_looks image.Geometry c l other = untouched_looks old new l
-  formatted_looks image.NotFormatted c l other = absurd c
-  formatted_looks (image.Missing u) c l other = absurd c
-  formatted_looks (image.Chip ReadFault) c l other = absurd c
-  formatted_looks (image.Chip Stopped) c l other = absurd (other refl)
-  formatted_looks (image.Chip (Damaged p s stored computed)) c l other = absurd c
-  formatted_looks (image.Chip (Malformed p s)) c l other = absurd c
-  formatted_looks image.Spent c l other = absurd c
-  formatted_looks (image.NoSpare n) c l other = absurd c
+  formatted_other : (e : ImageFault) → FormattedLeaves (Err (Chip e)) old new
+      → ¬ IsGeometry old.places → IsUntouched old new
+  formatted_other e (inl other) misfit = other.2
+  formatted_other e (inr ran) misfit = absurd (misfit ran.0)
 
-  not_stopped : (e : ImageFault) → fault_status e ≢ 3 → e ≢ image.Chip Stopped
-  not_stopped e other is = other (ap fault_status is)
+  trial_other : (seed count : ℕ) (e : ImageFault) → TrialLeaves seed count (Err (Chip e)) old new
+      → ¬ IsGeometry old.places → IsUntouched old new
+  trial_other seed count e (inl other) misfit = other.2
+  trial_other seed count e (inr tried) misfit = absurd (misfit tried.0)
 
-  chip_looks : (request : Request) (e : ImageFault) → ChipCause request e old new → EndLeaves (Some request) (Err (Chip e)) old new → fault_status e ≢ 3 → OnlyLooks old new
-  chip_looks Format e c l other = format_looks e c l other
-  chip_looks (Run true) e c l other = formatted_looks e c l other
-  chip_looks (Run false) e c l other = l.1 (not_stopped e other)
-  chip_looks Serial e c l other = untouched_looks old new l
+  chip_other : (request : Request) (e : ImageFault) → ChipCause request e old new
+      → EndLeaves (Some request) (Err (Chip e)) old new → fault_status e ≡ 4
+      → ¬ IsGeometry old.places → IsUntouched old new
+  chip_other Format e c l is misfit = format_other e c l is
+  chip_other (Run frames true) e c l is misfit = formatted_other e l misfit
+  chip_other (Run frames false) e c l is misfit = l.other misfit
+  chip_other Serial e c l is misfit = l
+  chip_other (Trial seed count frames) e c l is misfit = trial_other seed count e l misfit
 
-  looks_by : (asked : AskedFor) (ending : Ending) → EndCause asked ending old new → EndLeaves asked ending old new → (status_at ending ≡ 4) ⊎ (status_at ending ≡ 9) → OnlyLooks old new
-  looks_by None ending c l is = untouched_looks old new l
-  looks_by (Some request) (Ok u) c l is = absurd (omega (arith, is))
-  looks_by (Some request) (Err Words) c l is = absurd c
-  looks_by (Some request) (Err (Chip e)) c l is = chip_looks request e c l (λ three. omega (arith, is, three))
-  looks_by (Some request) (Err OutOfMemory) c l is = absurd (omega (arith, is))
-  looks_by (Some request) (Err Script) c l is = absurd (omega (arith, is))
-  looks_by (Some request) (Err Output) c l is = absurd (omega (arith, is))
-  looks_by (Some request) (Err TooLong) c l is = absurd (omega (arith, is))
+  other_by : (asked : AskedFor) (ending : Ending) → EndCause asked ending old new
+      → EndLeaves asked ending old new → status_at ending ≡ 4 → ¬ IsGeometry old.places
+      → IsUntouched old new
+  other_by None ending c l is misfit = l
+  other_by (Some request) (Ok u) c l is misfit = absurd (omega (arith, is))
+  other_by (Some request) (Err Words) c l is misfit = absurd c
+  other_by (Some request) (Err (Chip e)) c l is misfit = chip_other request e c l is misfit
+  other_by (Some request) (Err OutOfMemory) c l is misfit = absurd (omega (arith, is))
+  other_by (Some request) (Err Script) c l is misfit = absurd (omega (arith, is))
+  other_by (Some request) (Err Output) c l is misfit = absurd (omega (arith, is))
+  other_by (Some request) (Err TooLong) c l is misfit = absurd (omega (arith, is))
 
   -- words that aren't valid, and no memory for them
-  none_status : (ending : Ending) → EndCause None ending old new → (status_at ending ≡ 2) ⊎ (status_at ending ≡ 5)
+  none_status : (ending : Ending) → EndCause None ending old new
+      → (status_at ending ≡ 2) ⊎ (status_at ending ≡ 5)
   none_status (Ok u) c = absurd c
   none_status (Err end) (inl is) = inl (ap status_of is)
   none_status (Err end) (inr is) = inr (ap status_of is)
 
-  words_by : (asked : AskedFor) (ending : Ending) → EndCause asked ending old new → status_at ending ≡ 2 → asked ≡ None
+  words_by : (asked : AskedFor) (ending : Ending) → EndCause asked ending old new
+      → status_at ending ≡ 2 → asked ≡ None
   words_by None ending c is = refl
   words_by (Some request) (Ok u) c is = absurd (omega (arith, is))
   words_by (Some request) (Err Words) c is = absurd c
@@ -493,27 +444,52 @@ module _ (old new : Told) where
   words_by (Some request) (Err TooLong) c is = absurd (omega (arith, is))
 
   -- what ends with a fault of the chip, by the request
-  chip_by : (request : Request) (e : ImageFault) → ChipCause request e old new → fault_status e ≡ 3 → Rose old.read_faults new.read_faults ⊎ Rose old.write_faults new.write_faults
-  chip_by Format e c is = inr ((formatted_image old new e c).1 is)
-  chip_by (Run true) e c is = inr ((formatted_image old new e c).1 is)
-  chip_by (Run false) e c is = opened_chip old new e c is
+  chip_by : (request : Request) (e : ImageFault) → ChipCause request e old new → fault_status e ≡ 3
+      → ChipRose old new
+  chip_by Format e c is = inr ((format_image old new e c).1 is)
+  chip_by (Run frames true) e c is = formatted_chip old new e c is
+  chip_by (Run frames false) e c is = opened_chip old new e c is
+  chip_by (Trial seed count frames) e c is = formatted_chip old new e c is
   chip_by Serial e c is = absurd (omega (arith, is, ap fault_status c.0))
 
-  image_by : (request : Request) (e : ImageFault) → ChipCause request e old new → fault_status e ≡ 4 → ¬ IsGeometry old.places ⊎ ((Some request ≡ Some (Run false)) × IsStray old)
-  image_by Format e c is = inl ((formatted_image old new e c).0 is)
-  image_by (Run true) e c is = inl ((formatted_image old new e c).0 is)
-  image_by (Run false) e c is = inr (refl, opened_image old new e c is)
+  abbrev Imaged : AskedFor → Type 0
+  Imaged asked = (¬ IsGeometry old.places) ⊎ (AsksOpened asked × StrayCause old new) ⊎
+      (AsksAnew asked × AnewCause old new)
+
+  image_by : (request : Request) (e : ImageFault) → ChipCause request e old new → fault_status e ≡ 4
+      → Imaged (Some request)
+  image_by Format e c is = inl ((format_image old new e c).0 is)
+  image_by (Run frames true) e c is = elim (formatted_image old new e c is) [
+    | inl other ↦ inl other
+    | inr anew ↦ inr (inr (inl (frames, refl), anew))
+  ]
+  image_by (Trial seed count frames) e c is = elim (formatted_image old new e c is) [
+    | inl other ↦ inl other
+    | inr anew ↦ inr (inr (inr (seed, count, frames, refl), anew))
+  ]
+  image_by (Run frames false) e c is = inr (inl ((frames, refl), opened_image old new e c is))
   image_by Serial e c is = inl c.1
 
-  spent_by : (request : Request) (e : ImageFault) → ChipCause request e old new → fault_status e ≡ 9 → (Some request ≡ Some (Run false)) × IsSpent old
-  spent_by Format e c is = absurd ((formatted_image old new e c).2 is)
-  spent_by (Run true) e c is = absurd ((formatted_image old new e c).2 is)
-  spent_by (Run false) e c is = (refl, opened_spent old new e c is)
+  abbrev Spends : AskedFor → Type 0
+  Spends asked = (AsksOpened asked × SpentCause old new) ⊎ (AsksAnew asked × AnewCause old new)
+
+  spent_by : (request : Request) (e : ImageFault) → ChipCause request e old new → fault_status e ≡ 9
+      → Spends (Some request)
+  spent_by Format e c is = absurd ((format_image old new e c).2 is)
+  spent_by (Run frames true) e c is = inr (inl (frames, refl), formatted_spent old new e c is)
+  spent_by (Trial seed count frames) e c is = inr (
+    inr (seed, count, frames, refl),
+    formatted_spent
+        old new e c is,
+  )
+  spent_by (Run frames false) e c is = inl ((frames, refl), opened_spent old new e c is)
   spent_by Serial e c is = absurd (omega (arith, is, ap fault_status c.0))
 
   -- a status of a fault of the chip comes with one
-  fault_by : (n : ℕ) → n ≢ 0 → n ≢ 2 → n ≢ 5 → n ≢ 6 → n ≢ 7 → n ≢ 8 → (asked : AskedFor) (ending : Ending) → EndCause asked ending old new → status_at ending ≡ n
-      → (request : Request) × (e : ImageFault) × (asked ≡ Some request) × (fault_status e ≡ n) × ChipCause request e old new
+  fault_by : (n : ℕ) → n ≢ 0 → n ≢ 2 → n ≢ 5 → n ≢ 6 → n ≢ 7 → n ≢ 8
+      → (asked : AskedFor) (ending : Ending) → EndCause asked ending old new → status_at ending ≡ n
+      → (request : Request) × (e : ImageFault) × (asked ≡ Some request) × (fault_status e ≡ n) ×
+      ChipCause request e old new
   fault_by n a b d f g h None ending c is = absurd (omega (arith, none_status ending c, is, b, d))
   fault_by n a b d f g h (Some request) (Ok u) c is = absurd (omega (arith, is, a))
   fault_by n a b d f g h (Some request) (Err Words) c is = absurd c
@@ -523,19 +499,22 @@ module _ (old new : Told) where
   fault_by n a b d f g h (Some request) (Err Output) c is = absurd (omega (arith, is, g))
   fault_by n a b d f g h (Some request) (Err TooLong) c is = absurd (omega (arith, is, h))
 
-  script_by : (asked : AskedFor) (ending : Ending) → EndCause asked ending old new → status_at ending ≡ 6 → Rose old.beside.script_faults new.beside.script_faults
+  script_by : (asked : AskedFor) (ending : Ending) → EndCause asked ending old new
+      → status_at ending ≡ 6 → Rose old.beside.script_faults new.beside.script_faults
   script_by None ending c is = absurd (omega (arith, none_status ending c, is))
   script_by (Some request) (Ok u) c is = absurd (omega (arith, is))
   script_by (Some request) (Err Words) c is = absurd c
   script_by (Some request) (Err (Chip e)) c is = absurd (omega (arith, is, chip_status e))
   script_by (Some request) (Err OutOfMemory) c is = absurd (omega (arith, is))
   script_by (Some Format) (Err Script) c is = absurd c
-  script_by (Some (Run formats)) (Err Script) c is = c
+  script_by (Some (Run frames formats)) (Err Script) c is = c
   script_by (Some Serial) (Err Script) c is = c
+  script_by (Some (Trial seed count frames)) (Err Script) c is = absurd c
   script_by (Some request) (Err Output) c is = absurd (omega (arith, is))
   script_by (Some request) (Err TooLong) c is = absurd (omega (arith, is))
 
-  output_by : (asked : AskedFor) (ending : Ending) → EndCause asked ending old new → status_at ending ≡ 7 → Rose old.beside.say_faults new.beside.say_faults
+  output_by : (asked : AskedFor) (ending : Ending) → EndCause asked ending old new
+      → status_at ending ≡ 7 → Rose old.beside.say_faults new.beside.say_faults
   output_by None ending c is = absurd (omega (arith, none_status ending c, is))
   output_by (Some request) (Ok u) c is = absurd (omega (arith, is))
   output_by (Some request) (Err Words) c is = absurd c
@@ -545,7 +524,8 @@ module _ (old new : Told) where
   output_by (Some request) (Err Output) c is = c
   output_by (Some request) (Err TooLong) c is = absurd (omega (arith, is))
 
-  long_by : (asked : AskedFor) (ending : Ending) → EndCause asked ending old new → status_at ending ≡ 8 → IsTooLong old new
+  long_by : (asked : AskedFor) (ending : Ending) → EndCause asked ending old new
+      → status_at ending ≡ 8 → IsTooLong old new
   long_by None ending c is = absurd (omega (arith, none_status ending c, is))
   long_by (Some request) (Ok u) c is = absurd (omega (arith, is))
   long_by (Some request) (Err Words) c is = absurd c
@@ -554,63 +534,74 @@ module _ (old new : Told) where
   long_by (Some request) (Err Script) c is = absurd (omega (arith, is))
   long_by (Some request) (Err Output) c is = absurd (omega (arith, is))
   long_by (Some Format) (Err TooLong) c is = absurd c
-  long_by (Some (Run formats)) (Err TooLong) c is = c
+  long_by (Some (Run frames formats)) (Err TooLong) c is = c
   long_by (Some Serial) (Err TooLong) c is = c
+  long_by (Some (Trial seed count frames)) (Err TooLong) c is = absurd c
 
 -- ---- completeness
 
-module _ (old new : Told) (calm : IsCalm old new) where
-  formatted_never : IsGeometry old.places → (e : ImageFault) → ¬ FormattedCause e old new
-  formatted_never fits image.Geometry c = c fits
-  formatted_never fits image.NotFormatted c = c
-  formatted_never fits (image.Missing u) c = c
-  formatted_never fits (image.Chip ReadFault) c = c
-  formatted_never fits (image.Chip Stopped) c = calm.writes c
-  formatted_never fits (image.Chip (Damaged p s stored computed)) c = c
-  formatted_never fits (image.Chip (Malformed p s)) c = c
-  formatted_never fits image.Spent c = c
-  formatted_never fits (image.NoSpare n) c = c
+module _ (old new : Told) (consistent : IsConsistent old) (calm : IsCalm old new) where
+  never_rose : ¬ ChipRose old new
+  never_rose (inl read) = calm.reads read
+  never_rose (inr written) = calm.writes written
 
-  -- sound contents have no fault
-  sound_never : Suffices (Run false) old → (e : ImageFault) → ¬ IsAtFault old e
-  sound_never (x, m, told, sound) e fault = no_fault (sym (sound_is_opened old.places x m sound) ∙ fault x told)
-    where
-      no_fault : None ≡ Some e → ⊥
-      no_fault same = cc
+  format_never : IsGeometry old.places → (e : ImageFault) → ¬ FormatCause e old new
+  format_never fits image.Geometry c = c fits
+  format_never fits image.NotFormatted c = c
+  format_never fits (image.Missing u) c = c
+  format_never fits (image.Chip ReadFault) c = c
+  format_never fits (image.Chip Stopped) c = calm.writes c
+  format_never fits (image.Chip (Damaged p s stored computed)) c = c
+  format_never fits (image.Chip (Malformed p s)) c = c
+  format_never fits image.Spent c = c
+  format_never fits (image.NoSpare n) c = c
 
-  opened_never : Suffices (Run false) old → (e : ImageFault) → ¬ OpenedCause e old new
-  opened_never holds image.Geometry c = sound_never holds image.Geometry c
-  opened_never holds image.NotFormatted c = sound_never holds image.NotFormatted c
-  opened_never holds (image.Missing u) c = sound_never holds (image.Missing u) c
-  opened_never holds (image.Chip ReadFault) c = calm.reads c
-  opened_never holds (image.Chip Stopped) c = calm.writes c
-  opened_never holds (image.Chip (Damaged p s stored computed)) c = sound_never holds (image.Chip (Damaged p s stored computed)) c.1
-  opened_never holds (image.Chip (Malformed p s)) c = sound_never holds (image.Chip (Malformed p s)) c
-  opened_never holds image.Spent c = sound_never holds image.Spent c
-  opened_never holds (image.NoSpare n) c = sound_never holds (image.NoSpare n) c
+  anew_never : IsTold old → ¬ AnewCause old new
+  anew_never told anew = never_rose (anew told.history told.steady)
 
-  chip_never : (request : Request) → Suffices request old → (e : ImageFault) → ¬ ChipCause request e old new
-  chip_never Format holds e c = formatted_never holds e c
-  chip_never (Run true) holds e c = formatted_never holds e c
-  chip_never (Run false) holds e c = opened_never holds e c
+  geometry_never : IsTold old → ¬ ((¬ IsGeometry old.places) ⊎ AnewCause old new)
+  geometry_never told (inl other) = other told.fits
+  geometry_never told (inr anew) = anew_never told anew
+
+  formatted_never : IsTold old → (e : ImageFault) → ¬ FormattedCause e old new
+  formatted_never told image.Geometry c = geometry_never told c
+  formatted_never told image.NotFormatted c = anew_never told c
+  formatted_never told (image.Missing u) c = anew_never told c
+  formatted_never told (image.Chip ReadFault) c = calm.reads c
+  formatted_never told (image.Chip Stopped) c = calm.writes c
+  formatted_never told (image.Chip (Damaged p s stored computed)) c = anew_never told c.1
+  formatted_never told (image.Chip (Malformed p s)) c = anew_never told c
+  formatted_never told image.Spent c = anew_never told c
+  formatted_never told (image.NoSpare n) c = anew_never told c
+
+  chip_never : (request : Request) → Suffices request old → (e : ImageFault)
+      → ¬ ChipCause request e old new
+  chip_never Format holds e c = format_never holds e c
+  chip_never (Run frames true) holds e c = formatted_never holds e c
+  chip_never (Run frames false) holds e c = never_rose (opened_excused old consistent holds e new c)
   chip_never Serial holds e c = c.1 holds
+  chip_never (Trial seed count frames) holds e c = formatted_never holds e c
 
   never_long : EndsInTime old new → ¬ IsTooLong old new
   never_long (inl short) long = omega (arith, short, long.grew.at_least)
-  never_long (inr (source, told, short)) long = let many = long.told source told in omega (arith, short, many)
+  never_long (inr (source, told, short)) long = let many = long.told source told in omega
+      (arith, short, many)
 
-  complete_by : (request : Request) → Suffices request old → EndsInTime old new → (ending : Ending) → EndCause (Some request) ending old new → (status_at ending ≡ 0) ⊎ (status_at ending ≡ 5)
+  complete_by : (request : Request) → Suffices request old → EndsInTime old new → (ending : Ending)
+      → EndCause (Some request) ending old new → (status_at ending ≡ 0) ⊎ (status_at ending ≡ 5)
   complete_by request holds time (Ok u) c = inl refl
   complete_by request holds time (Err Words) c = absurd c
   complete_by request holds time (Err (Chip e)) c = absurd (chip_never request holds e c)
   complete_by request holds time (Err OutOfMemory) c = inr refl
   complete_by Format holds time (Err Script) c = absurd c
-  complete_by (Run formats) holds time (Err Script) c = absurd (calm.script c)
+  complete_by (Run frames formats) holds time (Err Script) c = absurd (calm.script c)
   complete_by Serial holds time (Err Script) c = absurd (calm.script c)
+  complete_by (Trial seed count frames) holds time (Err Script) c = absurd c
   complete_by request holds time (Err Output) c = absurd (calm.says c)
   complete_by Format holds time (Err TooLong) c = absurd c
-  complete_by (Run formats) holds time (Err TooLong) c = absurd (never_long time c)
+  complete_by (Run frames formats) holds time (Err TooLong) c = absurd (never_long time c)
   complete_by Serial holds time (Err TooLong) c = absurd (never_long time c)
+  complete_by (Trial seed count frames) holds time (Err TooLong) c = absurd c
 
 module _ (asked : AskedFor) (old new : Told) (status : ℕ) (e : Ends asked old new status) where
   pub end_early : status ≡ 2 → IsUntouched old new
@@ -619,26 +610,36 @@ module _ (asked : AskedFor) (old new : Told) (status : ℕ) (e : Ends asked old 
   pub end_wanting : status ≡ 5 → OnlyHears old new × (asked ≢ Some Serial → IsUntouched old new)
   end_wanting at = wanting_by old new asked e.ending e.cause e.leaves (sym e.status_is ∙ at)
 
-  pub end_looks : (status ≡ 4) ⊎ (status ≡ 9) → OnlyLooks old new
-  end_looks at = looks_by old new asked e.ending e.cause e.leaves (rw e.status_is at at)
+  pub end_other : status ≡ 4 → ¬ IsGeometry old.places → IsUntouched old new
+  end_other at = other_by old new asked e.ending e.cause e.leaves (sym e.status_is ∙ at)
 
   pub end_words : status ≡ 2 → asked ≡ None
   end_words at = words_by old new asked e.ending e.cause (sym e.status_is ∙ at)
 
-  pub end_chip : status ≡ 3 → Rose old.read_faults new.read_faults ⊎ Rose old.write_faults new.write_faults
+  pub end_chip : status ≡ 3 → ChipRose old new
   end_chip at =
-      let (request, fault, is, at_3, cause) = fault_by old new 3 (omega arith) (omega arith) (omega arith) (omega arith) (omega arith) (omega arith) asked e.ending e.cause (sym e.status_is ∙ at) in
+      let (request, fault, is, at_3, cause) = fault_by old new 3 (omega arith) (omega arith)
+      (omega arith) (omega arith) (omega arith) (omega arith) asked e.ending e.cause
+      (sym e.status_is ∙ at) in
       chip_by old new request fault cause at_3
 
-  pub end_image : status ≡ 4 → ¬ IsGeometry old.places ⊎ ((asked ≡ Some (Run false)) × IsStray old)
+  pub end_image : status ≡ 4 → (¬ IsGeometry old.places) ⊎ (AsksOpened asked × StrayCause old new) ⊎
+      (AsksAnew asked × AnewCause old new)
   end_image at =
-      let (request, fault, is, at_4, cause) = fault_by old new 4 (omega arith) (omega arith) (omega arith) (omega arith) (omega arith) (omega arith) asked e.ending e.cause (sym e.status_is ∙ at) in
-      rw is (image_by old new request fault cause at_4)
+      let (request, fault, is, at_4, cause) = fault_by old new 4 (omega arith) (omega arith)
+      (omega arith) (omega arith) (omega arith) (omega arith) asked e.ending e.cause
+      (sym e.status_is ∙ at) in
+      subst (λ (a : AskedFor). (¬ IsGeometry old.places) ⊎ (AsksOpened a × StrayCause old new) ⊎
+      (AsksAnew a × AnewCause old new)) (sym is) (image_by old new request fault cause at_4)
 
-  pub end_spent : status ≡ 9 → (asked ≡ Some (Run false)) × IsSpent old
+  pub end_spent : status ≡ 9 → (AsksOpened asked × SpentCause old new) ⊎ (AsksAnew asked × AnewCause
+      old new)
   end_spent at =
-      let (request, fault, is, at_9, cause) = fault_by old new 9 (omega arith) (omega arith) (omega arith) (omega arith) (omega arith) (omega arith) asked e.ending e.cause (sym e.status_is ∙ at) in
-      rw is (spent_by old new request fault cause at_9)
+      let (request, fault, is, at_9, cause) = fault_by old new 9 (omega arith) (omega arith)
+      (omega arith) (omega arith) (omega arith) (omega arith) asked e.ending e.cause
+      (sym e.status_is ∙ at) in
+      subst (λ (a : AskedFor). (AsksOpened a × SpentCause old new) ⊎ (AsksAnew a × AnewCause old
+      new)) (sym is) (spent_by old new request fault cause at_9)
 
   pub end_script : status ≡ 6 → Rose old.beside.script_faults new.beside.script_faults
   end_script at = script_by old new asked e.ending e.cause (sym e.status_is ∙ at)
@@ -650,7 +651,11 @@ module _ (asked : AskedFor) (old new : Told) (status : ℕ) (e : Ends asked old 
   end_long at = (long_by old new asked e.ending e.cause (sym e.status_is ∙ at)).grew
 
   pub end_invalid : asked ≡ None → (status ≡ 2) ⊎ (status ≡ 5)
-  end_invalid is = rw e.status_is (none_status old new e.ending (subst (λ (a : AskedFor). EndCause a e.ending old new) is e.cause))
+  end_invalid is = rw e.status_is (none_status old new e.ending (subst (λ (a : AskedFor). EndCause a
+      e.ending old new) is e.cause))
 
-  pub end_completes : (request : Request) → asked ≡ Some request → Suffices request old → IsCalm old new → EndsInTime old new → (status ≡ 0) ⊎ (status ≡ 5)
-  end_completes request is holds calm time = rw e.status_is (complete_by old new calm request holds time e.ending (subst (λ (a : AskedFor). EndCause a e.ending old new) is e.cause))
+  pub end_completes : IsConsistent old → (request : Request) → asked ≡ Some request
+      → Suffices request old → IsCalm old new → EndsInTime old new → (status ≡ 0) ⊎ (status ≡ 5)
+  end_completes consistent request is holds calm time = rw e.status_is (complete_by old new
+      consistent calm request holds time e.ending (subst (λ (a : AskedFor). EndCause a e.ending old
+      new) is e.cause))

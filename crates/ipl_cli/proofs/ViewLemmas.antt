@@ -17,7 +17,8 @@ use Rattle.ipl_cli.specs.Views.{Views, ViewsTold, OnlyViews, OnlyHears, SerialLe
 -- ---- a view that is said, or stops
 
 module _ (old new : Told) where
-  views_of : (script : List ℕ) (result : Result (Unit {0}) ViewStop) → SaysView (limits_for (old.places - 4)) script old result new
+  views_of : (script : List ℕ) (result : Result (Unit {0}) ViewStop)
+      → SaysView (limits_for (old.places - 4)) script old result new
       → Views old.places script old new (is_ok result)
   views_of script result v = record {
     said = v.says.said;
@@ -30,10 +31,14 @@ module _ (old new : Told) where
   }
 
   abbrev Says : ℕ → Result (Unit {0}) ViewStop → Type 0
-  Says places result = (script : List ℕ) → old.beside.left ≡ Some script → SaysView (limits_for (places - 4)) script old result new
+  Says places result = (script : List ℕ) → old.beside.left ≡ Some script
+      → SaysView (limits_for (places - 4)) script old result new
 
-  views_told : (places : ℕ) → places ≡ old.places → (result : Result (Unit {0}) ViewStop) → Says places result → ViewsTold old new (is_ok result)
-  views_told places same result says = λ script left. views_of script result (subst (λ (n : ℕ). SaysView (limits_for (n - 4)) script old result new) same (says script left))
+  views_told : (places : ℕ) → places ≡ old.places → (result : Result (Unit {0}) ViewStop)
+      → Says places result → ViewsTold old new (is_ok result)
+  views_told places same result says = λ script left. views_of script result
+      (subst (λ (n : ℕ). SaysView (limits_for (n - 4)) script old result new) same
+      (says script left))
 
   abbrev failed : ViewStop → Result (Unit {0}) ViewStop
   failed fault = Err fault
@@ -41,14 +46,35 @@ module _ (old new : Told) where
   only_viewed : OnlySays old new → OnlyViews old new
   only_viewed says = record { viewed = new; says = says; noted = refl }
 
-  pub said_view : (places : ℕ) → places ≡ old.places → Says places (Ok tt) → OnlySays old new → SerialLeaves (Ok tt) old new
+  pub said_view : (places : ℕ) → places ≡ old.places → Says places (Ok tt) → OnlySays old new
+      → SerialLeaves (Ok tt) old new
   said_view places same says only = (views_told places same (Ok tt) says, only_viewed only)
 
-  pub failed_view : (places : ℕ) → places ≡ old.places → (fault : ViewStop) → Says places (Err fault) → OnlySays old new → (IsErrOf (failed fault) stop.OutOfMemory → ReadsScript old new) → SerialLeaves (Err (view_end fault)) old new
-  failed_view places same stop.OutOfMemory says only early = record { heard = new; reads = early refl; noted = refl }
-  failed_view places same stop.Script says only early = (views_told places same (Err stop.Script) says, only_viewed only)
-  failed_view places same stop.TooLong says only early = (views_told places same (Err stop.TooLong) says, only_viewed only)
-  failed_view places same stop.Output says only early = (views_told places same (Err stop.Output) says, only_viewed only)
+  pub failed_view : (places : ℕ) → places ≡ old.places → (fault : ViewStop)
+      → Says places (Err fault) → OnlySays old new
+      → (IsErrOf (failed fault) stop.OutOfMemory → ReadsScript old new)
+      → SerialLeaves (Err (view_end fault)) old new
+  failed_view places same stop.OutOfMemory says only early = record {
+    heard = new;
+    reads = early
+        refl;
+    noted = refl;
+  }
+  failed_view places same stop.Script says only early = (
+    views_told places same (Err stop.Script)
+        says,
+    only_viewed only,
+  )
+  failed_view places same stop.TooLong says only early = (
+    views_told places same (Err stop.TooLong)
+        says,
+    only_viewed only,
+  )
+  failed_view places same stop.Output says only early = (
+    views_told places same (Err stop.Output)
+        says,
+    only_viewed only,
+  )
 
 -- ---- a note says nothing
 
@@ -68,10 +94,20 @@ module _ (old mid : Told) (noted : Option (List ℕ)) where
   }
 
   only_noted : OnlyViews old mid → OnlyViews old then
-  only_noted o = record { viewed = o.viewed; says = o.says; noted = ap (λ (t : Told). but_noted t noted) o.noted }
+  only_noted o = record {
+    viewed = o.viewed;
+    says = o.says;
+    noted = ap (λ (t : Told). but_noted t
+        noted) o.noted;
+  }
 
   hears_noted : OnlyHears old mid → OnlyHears old then
-  hears_noted o = record { heard = o.heard; reads = o.reads; noted = ap (λ (t : Told). but_noted t noted) o.noted }
+  hears_noted o = record {
+    heard = o.heard;
+    reads = o.reads;
+    noted = ap (λ (t : Told). but_noted t
+        noted) o.noted;
+  }
 
   pub serial_left : (ending : Ending) → SerialLeaves ending old mid → SerialLeaves ending old then
   serial_left (Ok u) l = (views_noted l.0, only_noted l.1)
@@ -106,7 +142,14 @@ module _ (old new : Told) where
   -- nothing was said
   only_reads : (heard : Told) → ReadsScript old heard → OnlySays old heard
   only_reads heard r = record {
-    still = record { places = r.further.places; settled = r.settled; contents = r.contents; pieces = []; history = r.history ∙ same_history old.history };
+    still = record {
+      places = r.further.places;
+      settled = r.settled;
+      contents = r.contents;
+      pieces =
+          [];
+      history = r.history ∙ same_history old.history;
+    };
     further = r.further;
   }
 

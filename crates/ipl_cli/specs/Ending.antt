@@ -1,13 +1,29 @@
 -- How the program ends, and what is noted of it.
-use Rattle.std.specs.Prelude.{◌≡◌, ℕ, List, [], Option, Result, Ok, Err}
-use Rattle.chip_trait.specs.Told.{Told}
+use Rattle.std.specs.Prelude.{◌≡◌, ◌⊎◌, ℕ, true, false, List, [], Option, Some, Result, Ok, Err}
+use Rattle.chip_trait.specs.Told.{History, Told, Counts}
+use Rattle.ipl_base.specs.declared.fault.FormatFault.{FormatFault}
+use Rattle.restart.specs.Fresh.{Formats}
 use Rattle.command_line.specs.declared.asked.Request.{Request}
+use Rattle.command_line.specs.declared.asked.Request.TheVariants.{Run, Trial}
 use Rattle.program_end.specs.Ends.{status_of, note_of}
 use Rattle.program_end.specs.declared.end.End.{End}
 
 -- what the words ask, where they are valid
 abbrev pub AskedFor : Type 0
 AskedFor = Option Request
+
+-- they ask for a run over a chip that is opened, with so many page frames
+abbrev pub AsksOpened : AskedFor → Type 0
+AsksOpened asked = (frames : ℕ) × (asked ≡ Some (Run frames false))
+
+-- they ask for a run over a chip that is formatted first
+abbrev pub AsksFormatted : AskedFor → Type 0
+AsksFormatted asked = (frames : ℕ) × (asked ≡ Some (Run frames true))
+
+-- or for a trial, which formats it first too
+abbrev pub AsksAnew : AskedFor → Type 0
+AsksAnew asked = AsksFormatted asked
+    ⊎ ((seed : ℕ) × (count : ℕ) × (frames : ℕ) × (asked ≡ Some (Trial seed count frames)))
 
 -- how the program ends: what was asked was done to its end, or it ends before
 abbrev pub Ending : Type 0
@@ -30,3 +46,23 @@ but_noted t noted = record t { beside = record t.beside { noted = noted } }
 -- nothing was done but noted
 abbrev pub IsUntouched : Told → Told → Type 0
 IsUntouched old new = new ≡ but_noted old new.beside.noted
+
+-- this is so of an ending with that status
+abbrev pub AtStatus : (Ending → Type 0) → ℕ → Type 0
+AtStatus P status = (ending : Ending) × (status ≡ status_at ending) × P ending
+
+-- ---- a format that was stopped
+
+-- What a format leaves that was stopped: an earlier part of its events, or all. Nothing was said,
+-- and
+-- nothing read of the script.
+pub record StopsEarly (places : ℕ) (h : History) (old new : Told) : Type 0 where
+  pub stopped : Told
+  pub fault : FormatFault
+  pub formats : Formats {A = Unit {0}} places h (Err fault) stopped
+  pub counts : Counts old stopped
+  pub noted : new ≡ but_noted stopped new.beside.noted
+
+-- a format was stopped, over a chip that tells its history
+abbrev pub IsStopped : Told → Told → Type 0
+IsStopped old new = (h : History) → old.history ≡ Some h → StopsEarly old.places h old new

@@ -1,5 +1,6 @@
 pub mod Ending
 pub mod Views
+pub mod Trials
 pub mod Top
 pub mod Runs
 pub mod Failing

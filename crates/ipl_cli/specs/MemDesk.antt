@@ -33,9 +33,17 @@ desk_consistently d =
 
 -- beside a new desk's chip stands the script, and nothing was read, said or noted
 abbrev pub new_beside : List ℕ → Beside
-new_beside script = record { left = Some script; script_bytes = 0; script_faults = 0; say_faults = 0; noted = Some [] }
+new_beside script = record {
+  left = Some script;
+  script_bytes = 0;
+  script_faults = 0;
+  say_faults =
+      0;
+  noted = Some [];
+}
 
--- how many reads of the script and sayings there were, which of them fail, and how many bytes each read gives at most
+-- how many reads of the script and sayings there were, which of them fail, and how many bytes each
+-- read gives at most
 pub record DeskPlan : Type 0 where
   pub reads : ℕ
   pub says : ℕ
@@ -44,28 +52,45 @@ pub record DeskPlan : Type 0 where
   pub cuts : List ℕ
 
 abbrev pub desk_plan : MemDesk → DeskPlan
-desk_plan d = record { reads = d.reads; says = d.says; failing_reads = d.failing_reads.items; failing_says = d.failing_says.items; cuts = d.cuts.items }
+desk_plan d = record {
+  reads = d.reads;
+  says = d.says;
+  failing_reads = d.failing_reads.items;
+  failing_says = d.failing_says.items;
+  cuts = d.cuts.items;
+}
 
 -- of a new desk
 abbrev pub new_desk_plan : List ℕ → DeskPlan
-new_desk_plan cuts = record { reads = 0; says = 0; failing_reads = []; failing_says = []; cuts = cuts }
+new_desk_plan cuts = record {
+  reads = 0;
+  says = 0;
+  failing_reads = [];
+  failing_says = [];
+  cuts =
+      cuts;
+}
 
 -- the next read is one of those that fail
 abbrev pub read_fails : DeskPlan → Bool
 read_fails plan = list_any (λ k. k == plan.reads) plan.failing_reads
 
--- how many bytes the next read gives into a buffer of so many: at most its cut, where that is above 0
+-- how many bytes the next read gives into a buffer of so many: at most its cut, where that is above
+-- 0
 abbrev pub read_count : DeskPlan → ℕ → ℕ → ℕ
 read_count plan room left =
     let cut = get_or plan.cuts plan.reads 0 in
     min (if nat_lt 0 cut then cut else room) (min room left)
 
--- what the chip tells after a saying that keeps so many bytes of its piece: they are said, unless there are none or there is
+-- what the chip tells after a saying that keeps so many bytes of its piece: they are said, unless
+-- there are none or there is
 -- no room
 abbrev pub told_in_part : ℕ → List ℕ → Plan → Told → Told
-told_in_part kept piece plan t = if nat_lt 0 kept && not (is_full plan) then appended (Said (take kept piece)) t else t
+told_in_part kept piece plan t = if nat_lt 0 kept && not (is_full plan) then appended
+    (Said (take kept piece)) t else t
 
 -- the noted bytes after a piece more: they are told while they are at most 1,024
 abbrev pub noted_with : Option (List ℕ) → List ℕ → Option (List ℕ)
 noted_with None piece = None
-noted_with (Some bytes) piece = if nat_le (length bytes + length piece) 1024 then Some (bytes ++ piece) else None
+noted_with (Some bytes) piece = if nat_le (length bytes + length piece) 1024 then Some
+    (bytes ++ piece) else None

@@ -2,7 +2,8 @@
 use Rattle.std.specs.Prelude.{ℕ, None}
 use Rattle.chip_trait.specs.Told.{Told, IsConsistent}
 
--- The counts of the chip and of the streams; of what is held, asked, read and said it tells nothing.
+-- The counts of the chip and of the streams; of what is held, asked, read and said it tells
+-- nothing.
 abbrev pub real_told : Told → ℕ → ℕ → ℕ → Told
 real_told chip script_bytes script_faults say_faults = record {
   places = chip.places;
@@ -11,10 +12,19 @@ real_told chip script_bytes script_faults say_faults = record {
   contents = None;
   read_faults = chip.read_faults;
   write_faults = chip.write_faults;
-  beside = record { left = None; script_bytes = script_bytes; script_faults = script_faults; say_faults = say_faults; noted = None };
+  beside = record {
+    left = None;
+    script_bytes = script_bytes;
+    script_faults = script_faults;
+    say_faults = say_faults;
+    noted = None;
+  };
 }
 
 -- which is consistent
 pub real_consistently : (chip : Told) (script_bytes script_faults say_faults : ℕ)
     → IsConsistent (real_told chip script_bytes script_faults say_faults)
-real_consistently chip script_bytes script_faults say_faults = record { settled = λ x e. cc; replayed = λ h e settled. cc }
+real_consistently chip script_bytes script_faults say_faults = record {
+  settled = λ x e. cc;
+  replayed = λ h e settled. cc;
+}

@@ -1,55 +1,141 @@
 -- How the program starts and runs.
-use Rattle.std.specs.Prelude.{◌≡◌, ◌≤◌, ◌-◌, ◌^◌, ◌++◌, true, Some, Ok, Err}
-use Rattle.std.specs.FinMap.{empty}
-use Rattle.ipl_base.specs.declared.limits.TheConstants.{RESERVED_PLACES}
-use Rattle.chip_trait.specs.Story.{Story}
-use Rattle.chip_trait.specs.Lawful.{IsLawful}
-use Rattle.chip_trait.specs.Told.{History, Told, Rose, adds_all}
+use Rattle.std.specs.Prelude.{ℕ, ◌≡◌, ◌⊎◌, Result, Ok, Err, Some, OnOk, IfErr, IsErrOf}
+use Rattle.chip_trait.specs.Told.{History, Told, Counts, Rose, IsConsistent}
 use Rattle.ipl_base.specs.Places.{IsGeometry}
 use Rattle.ipl_base.specs.declared.fault.ChipFault.TheVariants.{Stopped}
+use Rattle.ipl_base.specs.declared.fault.FormatFault.{FormatFault}
+use Rattle.ipl_base.specs.declared.fault.ImageFault.{ImageFault}
 use Rattle.ipl_base.specs.declared.fault.ImageFault.TheVariants as image
-use Rattle.ipl_rules.specs.State.{at_rest}
+use Rattle.ipl_meaning.specs.Tables.{Tables}
+use Rattle.restart.specs.Fresh.{Formats}
+use Rattle.store_trait.specs.Onward.{Onward, Further}
+use Rattle.store_trait.specs.Keeping.{SCRIPT_DRAWS}
+use Rattle.store_trait.specs.declared.fault.Fault.TheVariants as fault
 use Rattle.script_run.specs.declared.fault.Stop.{Stop}
-use Rattle.script_run.specs.Goes.{RunsScript}
-use Rattle.restart.specs.Events.{format_events}
-use Rattle.restart.specs.Looks.{OnlyReads}
-use Rattle.unit_store.specs.declared.store.UnitStore.{UnitStore}
-use Rattle.unit_store.specs.Keeps.{KeepsUnit, Suits, limits_of, unit_keeping}
-use Rattle.unit_store.specs.Opens.{KeepsFound}
+use Rattle.script_run.specs.declared.fault.Stop.TheVariants as stop
+use Rattle.script_run.specs.Goes.{StopCause, CompletesOver, ReadsAll, RunsScript}
+use Rattle.page_frames.specs.Pages.{tables_in}
+use Rattle.ipl_store.specs.declared.store.Store.{Store}
+use Rattle.ipl_store.specs.Calls.{IsSound}
+use Rattle.ipl_store.specs.Openings.{Opens, Tries}
+use Rattle.script_store.specs.declared.store.ScriptStore.{ScriptStore}
+use Rattle.script_store.specs.Keeps.{IsRunning, script_keeping}
+use Rattle.trial_run.specs.Trial.{RunsTrial, IsTrialStop}
 use Rattle.program_end.specs.declared.end.End.{End}
 use Rattle.program_end.specs.declared.end.End.TheVariants.{Words, Chip, OutOfMemory, Script, Output, TooLong}
-use Rattle.ipl_cli.specs.Ending.{Ending}
+use Rattle.ipl_cli.specs.Ending.{Ending, IsStopped}
 use Rattle.ipl_cli.specs.Top.{IsTooLong}
+use Rattle.ipl_cli.specs.Trials.{commands_on}
 
--- The chip is formatted, and the store keeps no record on it.
-pub record StartsFormatted (old : Told) (store : UnitStore) (new : Told) : Type 0 where
+-- ---- the start
+
+-- The memory of a store for so many places, whose chip isn't opened yet; or the number of places
+-- can't be used, or memory was wanting.
+abbrev pub ClosesFor : ℕ → Result Store End → Type 0
+ClosesFor places (Ok store) = IsGeometry places × IsSound places store
+ClosesFor places (Err Words) = ⊥
+ClosesFor places (Err (Chip e)) = (¬ IsGeometry places) × (e ≡ image.Geometry)
+ClosesFor places (Err OutOfMemory) = IsGeometry places
+ClosesFor places (Err Script) = ⊥
+ClosesFor places (Err Output) = ⊥
+ClosesFor places (Err TooLong) = ⊥
+
+-- The chip was opened, and the store runs over it.
+pub record StartsOpened (old : Told) (store : ScriptStore) (new : Told) : Type 0 where
+  pub running : IsRunning old.places store
+  pub opens : Opens old.places old store.store new
+  pub tries : Tries old.places old (Ok tt) (tables_in store.store.transactions.pages) new
+
+-- the chip wasn't opened, and it ends so
+pub record IsNotOpened (end : End) (old new : Told) : Type 0 where
+  pub fault : ImageFault
+  pub end_is : end ≡ Chip fault
   pub fits : IsGeometry old.places
-  pub suits : Suits store new.places
-  pub left : store.counter ≤ 2 ^ 63
-  pub lawful : (h : History) → old.history ≡ Some h → (base : Story) → IsLawful base
-      → IsLawful (format_events old.places ++ base)
-  pub history : (h : History) → old.history ≡ Some h → new.history ≡ Some (adds_all (format_events old.places) h)
-  pub keeps : (h : History) → old.history ≡ Some h → old.settled ≡ true
-      → KeepsUnit (limits_of (old.places - RESERVED_PLACES)) store new (at_rest empty)
+  pub tables : Tables
+  pub tries : Tries old.places old (Err fault) tables new
 
--- The chip is opened, and the store keeps what was found.
-pub record StartsOpened (old : Told) (store : UnitStore) (new : Told) : Type 0 where
+-- the chip was opened, or it wasn't
+abbrev pub OpensOver : Result ScriptStore End → Told → Told → Type 0
+OpensOver (Ok store) old new = StartsOpened old store new
+OpensOver (Err end) old new = IsNotOpened end old new
+
+-- The chip was formatted.
+pub record WasFormatted (old new : Told) : Type 0 where
   pub fits : IsGeometry old.places
-  pub suits : Suits store new.places
-  pub left : store.counter ≤ 2 ^ 63
-  pub reads : OnlyReads old new
-  pub keeps : KeepsFound old store new
+  pub counts : Counts old new
+  pub settled : new.settled ≡ old.settled
+  pub consistent : IsConsistent new
+  pub formats : (h : History) → old.history ≡ Some h
+      → Formats {A = Unit {0}} {E = FormatFault} old.places h (Ok tt) new
 
--- when a run of a script ends before its end
-abbrev pub RunCause : End → Told → Told → Type 0
-RunCause Words old new = ⊥
-RunCause (Chip e) old new = (e ≡ image.Chip Stopped) × Rose old.write_faults new.write_faults
-RunCause OutOfMemory old new = ⊥
-RunCause Script old new = Rose old.beside.script_faults new.beside.script_faults
-RunCause Output old new = Rose old.beside.say_faults new.beside.say_faults
-RunCause TooLong old new = IsTooLong old new
+-- a format was stopped, since a write failed, and it ends so
+pub record IsNotFormatted (end : End) (old new : Told) : Type 0 where
+  pub end_is : end ≡ Chip (image.Chip Stopped)
+  pub fits : IsGeometry old.places
+  pub counts : Counts old new
+  pub rose : Rose old.write_faults new.write_faults
+  pub stops : IsStopped old new
 
--- the script was run to its end, or to where it stopped
-abbrev pub RunsOver : Ending → UnitStore → Told → UnitStore → Told → Type 0
-RunsOver (Ok u) before old then new = RunsScript unit_keeping before old (Ok tt) then new
-RunsOver (Err end) before old then new = (stop : Stop) × RunsScript unit_keeping before old (Err stop) then new
+-- the chip was formatted, or it wasn't
+abbrev pub FormatsFirst : Result (Unit {0}) End → Told → Told → Type 0
+FormatsFirst (Ok u) old new = WasFormatted old new
+FormatsFirst (Err end) old new = IsNotFormatted end old new
+
+-- The chip was formatted, and then opened.
+pub record StartsFormatted (old : Told) (store : ScriptStore) (new : Told) : Type 0 where
+  pub formatted : Told
+  pub formats : WasFormatted old formatted
+  pub opened : StartsOpened formatted store new
+
+-- It isn't started: there is no memory for a store, or none for so many places; the format was
+-- stopped; or the chip that was formatted wasn't opened.
+abbrev pub IsNotStarted : End → Told → Told → Type 0
+IsNotStarted end old new =
+    (ClosesFor old.places (Err end) × (new ≡ old))
+    ⊎ IsNotFormatted end old new
+    ⊎ ((formatted : Told) × WasFormatted old formatted × IsNotOpened end formatted new)
+
+-- ---- the run
+
+-- the end that a stop of the run is; numbers last for any script
+abbrev pub end_of : Stop → End
+end_of (stop.Store (fault.Chip e)) = Chip (image.Chip e)
+end_of (stop.Store (fault.Image e)) = Chip e
+end_of (stop.Store fault.Spent) = Chip image.Spent
+end_of stop.Script = Script
+end_of stop.Output = Output
+end_of stop.TooLong = TooLong
+
+abbrev pub ending_of : Result (Unit {0}) Stop → Ending
+ending_of (Ok u) = Ok u
+ending_of (Err s) = Err (end_of s)
+
+-- The script was run to its end, or to where it stopped, and it ends so.
+pub record RunsOver (ending : Ending) (before : ScriptStore) (old : Told) (then : ScriptStore)
+    (new : Told) : Type 0 where
+  pub result : Result (Unit {0}) Stop
+  pub ending_is : ending ≡ ending_of result
+  pub runs : RunsScript script_keeping before old result then new
+  pub completes : CompletesOver script_keeping SCRIPT_DRAWS before old result then new
+  pub cause : IfErr result (λ s. StopCause script_keeping old new s)
+  pub unspent : IsErrOf result (stop.Store fault.Spent) → ⊥
+  pub long : IsErrOf result stop.TooLong → IsTooLong old new
+  pub further : Further old new
+  pub read : OnOk result (ReadsAll old new)
+
+-- ---- the trial
+
+-- The commands of a seed were done over a store, to the end of the trial or to where it stopped,
+-- and
+-- it ends so.
+pub record TriesOver (seed count : ℕ) (ending : Ending) (before : ScriptStore) (old : Told)
+    (then : ScriptStore) (new : Told) : Type 0 where
+  pub result : Result (Unit {0}) Stop
+  pub ending_is : ending ≡ ending_of result
+  pub trial : RunsTrial script_keeping (commands_on old.places seed count) before old result then
+      new
+  pub completes : CompletesOver script_keeping SCRIPT_DRAWS before old result then new
+  pub cause : IfErr result (λ s. StopCause script_keeping old new s)
+  pub unspent : IsErrOf result (stop.Store fault.Spent) → ⊥
+  pub stops : IfErr result IsTrialStop
+  pub onward : Onward old new

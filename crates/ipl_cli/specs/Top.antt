@@ -16,64 +16,129 @@ use Rattle.ipl_base.specs.declared.fault.ImageFault.{ImageFault}
 use Rattle.ipl_base.specs.declared.fault.ImageFault.TheVariants as image
 use Rattle.ipl_rules.specs.State.{State, Map, at_rest}
 use Rattle.ipl_model.specs.Grammar.{commands_of}
-use Rattle.ipl_model.specs.Run.{joined, lines, IsNear}
+use Rattle.ipl_model.specs.Run.{joined, lines, after_all, IsNear}
 use Rattle.ipl_format.specs.Sector.{sector_in}
 use Rattle.ipl_meaning.specs.Chart.{chart_of}
 use Rattle.ipl_meaning.specs.Stands.{Stands}
 use Rattle.ipl_meaning.specs.Rests.{now, StoryRests}
+use Rattle.unit_io.specs.Leads.{IsSteady}
 use Rattle.unit_io.specs.Reads.{OfContents}
-use Rattle.unit_io.specs.Plain.{ArePlain}
-use Rattle.opening_rules.specs.Faults.{greatest_found}
-use Rattle.script_run.specs.Run.{SaysLines}
+use Rattle.opening_rules.specs.Faults.{first_fault, greatest_found}
 use Rattle.restart.specs.Events.{format_events}
 use Rattle.restart.specs.Fresh.{Formats}
 use Rattle.restart.specs.Looks.{OnlyReads}
-use Rattle.unit_store.specs.Bare.{HasNoLog}
-use Rattle.unit_store.specs.Keeps.{limits_of}
-use Rattle.unit_store.specs.Opens.{opening_fault, StandsWithNumbersLeft}
+use Rattle.store_trait.specs.Keeping.{ChipRose}
+use Rattle.store_steps.specs.Keeps.{limits_of}
+use Rattle.script_run.specs.Run.{SaysLines, EndsBetween, EndsUnsaid}
+use Rattle.script_run.specs.Goes.{ReadsAll}
 use Rattle.command_line.specs.declared.asked.Request.{Request}
-use Rattle.command_line.specs.declared.asked.Request.TheVariants.{Format, Run, Serial}
+use Rattle.command_line.specs.declared.asked.Request.TheVariants.{Format, Run, Serial, Trial}
 use Rattle.program_end.specs.declared.end.End.{End}
 use Rattle.program_end.specs.declared.end.End.TheVariants.{Words, Chip, OutOfMemory, Script, Output, TooLong}
-use Rattle.ipl_cli.specs.Ending.{AskedFor, Ending, IsUntouched, but_noted, note_at, status_at}
+use Rattle.program_end.specs.Ends.{fault_status}
+use Rattle.ipl_cli.specs.Ending.{AskedFor, Ending, StopsEarly, IsStopped, IsUntouched, but_noted, note_at, status_at}
+use Rattle.ipl_cli.specs.Trials.{TrialLeaves}
 use Rattle.ipl_cli.specs.Views.{ViewedCause, SerialLeaves}
+
+-- ---- what the chip holds
+
+-- where the chip tells what it holds, this is the first fault of that
+abbrev pub IsAtFault : Told → ImageFault → Type 0
+IsAtFault old e = OfContents old (λ x. first_fault (chart_of x) old.places ≡ Some e)
+
+-- where the chip tells what it holds, that has no fault as it is laid out
+abbrev pub IsLaidWell : Told → Type 0
+IsLaidWell old = OfContents old (λ x. first_fault (chart_of x) old.places ≡ None)
+
+-- where the chip tells what it holds, that stands for no map
+abbrev pub IsStray : Told → Type 0
+IsStray old = OfContents old (λ x. (m : Map) → ¬ Stands old.places (chart_of x) m)
+
+-- where the chip tells what it holds, a number of 2^63 or more is among that
+abbrev pub IsSpent : Told → Type 0
+IsSpent old = OfContents old (λ x. 2 ^ 63 ≤ greatest_found (chart_of x) old.places)
+
+-- the chip tells what it holds, and this is the first fault of that
+pub record HasFault (old : Told) (e : ImageFault) : Type 0 where
+  pub contents : Contents
+  pub told : old.contents ≡ Some contents
+  pub fault : first_fault (chart_of contents) old.places ≡ Some e
+
+-- The chip tells its history, no write has failed, its story rests on records, and no number that
+-- is
+-- found is 2^62 or more.
+pub record RestsWithNumbersLeft (t : Told) : Type 0 where
+  pub map : Map
+  pub history : History
+  pub steady : IsSteady history t
+  pub rests : StoryRests t.places map history
+  pub left : greatest_found (now history) t.places < 2 ^ 62
 
 -- ---- causes
 
--- where the chip tells what it holds, this is the first thing that is wrong with that
-abbrev pub IsAtFault : Told → ImageFault → Type 0
-IsAtFault old e = OfContents old (λ x. opening_fault x old.places ≡ Some e)
+-- The run met the fault once the chip was open: what the chip held had no fault as it was laid out,
+-- and where its story rested on records, a call of the chip failed.
+pub record IsMetLater (old new : Told) : Type 0 where
+  pub laid : IsLaidWell old
+  pub excuse : RestsWithNumbersLeft old → ChipRose old new
+
+-- a fault of how the chip is laid out was found when it was opened, or met later
+abbrev pub LaidCause : ImageFault → Told → Told → Type 0
+LaidCause e old new = IsAtFault old e ⊎ IsMetLater old new
+
+-- what the chip held stands for no map, or the fault was met later
+abbrev pub StrayCause : Told → Told → Type 0
+StrayCause old new = IsStray old ⊎ IsMetLater old new
 
 -- when a fault of the chip ends a run that opens it
 abbrev pub OpenedCause : ImageFault → Told → Told → Type 0
-OpenedCause image.Geometry old new = IsAtFault old image.Geometry
-OpenedCause image.NotFormatted old new = IsAtFault old image.NotFormatted
-OpenedCause (image.Missing u) old new = IsAtFault old (image.Missing u)
+OpenedCause image.Geometry old new = LaidCause image.Geometry old new
+OpenedCause image.NotFormatted old new = LaidCause image.NotFormatted old new
+OpenedCause (image.Missing u) old new = LaidCause (image.Missing u) old new
 OpenedCause (image.Chip ReadFault) old new = Rose old.read_faults new.read_faults
 OpenedCause (image.Chip Stopped) old new = Rose old.write_faults new.write_faults
-OpenedCause (image.Chip (Damaged p s stored computed)) old new = (stored ≢ computed)
-    × IsAtFault old (image.Chip (Damaged p s stored computed))
-OpenedCause (image.Chip (Malformed p s)) old new = IsAtFault old (image.Chip (Malformed p s))
-OpenedCause image.Spent old new = IsAtFault old image.Spent
-OpenedCause (image.NoSpare n) old new = IsAtFault old (image.NoSpare n)
+OpenedCause (image.Chip (Damaged p s stored computed)) old new =
+    (stored ≢ computed) × StrayCause old new
+OpenedCause (image.Chip (Malformed p s)) old new = StrayCause old new
+OpenedCause image.Spent old new = LaidCause image.Spent old new
+OpenedCause (image.NoSpare n) old new = LaidCause (image.NoSpare n) old new
 
--- when a fault of the chip ends what formats it
+-- when a fault of the chip ends a format
+abbrev pub FormatCause : ImageFault → Told → Told → Type 0
+FormatCause image.Geometry old new = ¬ IsGeometry old.places
+FormatCause image.NotFormatted old new = ⊥
+FormatCause (image.Missing u) old new = ⊥
+FormatCause (image.Chip ReadFault) old new = ⊥
+FormatCause (image.Chip Stopped) old new = Rose old.write_faults new.write_faults
+FormatCause (image.Chip (Damaged p s stored computed)) old new = ⊥
+FormatCause (image.Chip (Malformed p s)) old new = ⊥
+FormatCause image.Spent old new = ⊥
+FormatCause (image.NoSpare n) old new = ⊥
+
+-- What was just formatted is at fault: where the chip tells its history and no write had failed, a
+-- call of it failed.
+abbrev pub AnewCause : Told → Told → Type 0
+AnewCause old new = (h : History) → IsSteady h old → ChipRose old new
+
+-- when a fault of the chip ends a run that formats it first, or a trial
 abbrev pub FormattedCause : ImageFault → Told → Told → Type 0
-FormattedCause image.Geometry old new = ¬ IsGeometry old.places
-FormattedCause image.NotFormatted old new = ⊥
-FormattedCause (image.Missing u) old new = ⊥
-FormattedCause (image.Chip ReadFault) old new = ⊥
+FormattedCause image.Geometry old new = (¬ IsGeometry old.places) ⊎ AnewCause old new
+FormattedCause image.NotFormatted old new = AnewCause old new
+FormattedCause (image.Missing u) old new = AnewCause old new
+FormattedCause (image.Chip ReadFault) old new = Rose old.read_faults new.read_faults
 FormattedCause (image.Chip Stopped) old new = Rose old.write_faults new.write_faults
-FormattedCause (image.Chip (Damaged p s stored computed)) old new = ⊥
-FormattedCause (image.Chip (Malformed p s)) old new = ⊥
-FormattedCause image.Spent old new = ⊥
-FormattedCause (image.NoSpare n) old new = ⊥
+FormattedCause (image.Chip (Damaged p s stored computed)) old new =
+    (stored ≢ computed) × AnewCause old new
+FormattedCause (image.Chip (Malformed p s)) old new = AnewCause old new
+FormattedCause image.Spent old new = AnewCause old new
+FormattedCause (image.NoSpare n) old new = AnewCause old new
 
 -- when a fault of the chip ends what was asked
 abbrev pub ChipCause : Request → ImageFault → Told → Told → Type 0
-ChipCause Format e old new = FormattedCause e old new
-ChipCause (Run true) e old new = FormattedCause e old new
-ChipCause (Run false) e old new = OpenedCause e old new
+ChipCause Format e old new = FormatCause e old new
+ChipCause (Run frames true) e old new = FormattedCause e old new
+ChipCause (Run frames false) e old new = OpenedCause e old new
+ChipCause (Trial seed count frames) e old new = FormattedCause e old new
 ChipCause Serial e old new = ViewedCause e old new
 
 -- so many bytes of the script were read; where the script is told it has so many
@@ -87,12 +152,15 @@ RequestCause request Words old new = ⊥
 RequestCause request (Chip e) old new = ChipCause request e old new
 RequestCause request OutOfMemory old new = Unit {0}
 RequestCause Format Script old new = ⊥
-RequestCause (Run formats) Script old new = Rose old.beside.script_faults new.beside.script_faults
+RequestCause (Run frames formats) Script old new =
+    Rose old.beside.script_faults new.beside.script_faults
 RequestCause Serial Script old new = Rose old.beside.script_faults new.beside.script_faults
+RequestCause (Trial seed count frames) Script old new = ⊥
 RequestCause request Output old new = Rose old.beside.say_faults new.beside.say_faults
 RequestCause Format TooLong old new = ⊥
-RequestCause (Run formats) TooLong old new = IsTooLong old new
+RequestCause (Run frames formats) TooLong old new = IsTooLong old new
 RequestCause Serial TooLong old new = IsTooLong old new
+RequestCause (Trial seed count frames) TooLong old new = ⊥
 
 -- when the program ends so
 abbrev pub EndCause : AskedFor → Ending → Told → Told → Type 0
@@ -108,72 +176,95 @@ abbrev pub answers : ℕ → Map → List ℕ → List (List ℕ)
 answers places m script =
     lines (limits_of (places - RESERVED_PLACES)) (at_rest m) (commands_of script)
 
--- this is so of the model's state after the commands of which the bytes have the whole replies, or after one more
+-- this is so of the model's state after the commands of which the bytes have the whole replies, or
+-- after one more
 abbrev pub IsAbout : (State → Type 0) → ℕ → Map → List ℕ → List ℕ → Type 0
-IsAbout Q places m script bytes = IsNear Q (limits_of (places - RESERVED_PLACES)) (at_rest m) (commands_of script) bytes
+IsAbout Q places m script bytes =
+    IsNear Q (limits_of (places - RESERVED_PLACES)) (at_rest m) (commands_of script) bytes
 
 -- the contents stand for the records of such a state
 abbrev pub StandsAbout : ℕ → Map → List ℕ → List ℕ → Contents → Type 0
-StandsAbout places m script bytes x = IsAbout (λ s. Stands places (chart_of x) s.map) places m script bytes
+StandsAbout places m script bytes x =
+    IsAbout (λ s. Stands places (chart_of x) s.map) places m script bytes
 
--- What a run of a script leaves, from these records on, after these first events on a chip with this history. Whatever moment
--- the power is cut at, within a chip operation too, the chip stands for the records after the commands whose replies were
--- said, or after one more. What is said is a beginning of the model's text, line by line. No sector is programmed twice
--- between erases of its place. No log sector and no commit sector is programmed. Where no write failed, the story rests on such records at the end, and there is no log, so that
--- the next run may begin there. Where all is done, the whole text is said.
-pub record Runs (places : ℕ) (m : Map) (script : List ℕ) (h : History) (first : Story) (old new : Told)
-    (done : Bool) : Type 0 where
+-- the first commands of the script were answered with these lines, each said whole; Q is so of the
+-- state after them
+abbrev pub IsBetween : (State → Type 0) → ℕ → Map → List ℕ → List (List ℕ) → Type 0
+IsBetween Q places m script said =
+    EndsBetween (limits_of (places - RESERVED_PLACES)) (at_rest m) (commands_of script) said Q
+
+-- How far the script was answered, by the end: all of it; up to a line that couldn't be said, of a
+-- command that is done; or up to a command that isn't done. Q is so of the state then.
+abbrev pub EndsBy : Ending → (State → Type 0) → ℕ → Map → List ℕ → List (List ℕ) → Type 0
+EndsBy (Ok u) Q places m script said =
+    Q (after_all (limits_of (places - RESERVED_PLACES)) (at_rest m) (commands_of script))
+EndsBy (Err Words) Q places m script said = IsBetween Q places m script said
+EndsBy (Err (Chip e)) Q places m script said = IsBetween Q places m script said
+EndsBy (Err OutOfMemory) Q places m script said = IsBetween Q places m script said
+EndsBy (Err Script) Q places m script said = IsBetween Q places m script said
+EndsBy (Err Output) Q places m script said =
+    EndsUnsaid (limits_of (places - RESERVED_PLACES)) (at_rest m) (commands_of script) said Q
+EndsBy (Err TooLong) Q places m script said = IsBetween Q places m script said
+
+-- What a run of a script leaves, from these records on, after these first events on a chip with
+-- this
+-- history. Whatever moment the power is cut at, within a chip operation too, the chip stands for
+-- the
+-- records after the commands whose replies were said, or after one more. What is said is a
+-- beginning
+-- of the model's text, line by line. No sector is programmed twice between erases of its place.
+-- Where
+-- no write failed, none has, and the story rests on such records at the end, and by how the run
+-- ended
+-- exactly on those of the commands that are done: the next run may begin there. Where all is done,
+-- the whole text is said, and the script was read to its end.
+pub record Runs (places : ℕ) (m : Map) (script : List ℕ) (h : History) (first : Story)
+    (old new : Told) (ending : Ending) : Type 0 where
   pub added : Story
   pub history : new.history ≡ Some (adds_all added (adds_all first h))
   pub each_moment : AtEachMoment
-      (λ e. Leaves (says sector_in) (StandsAbout places m script (said e)) (adds_all first h) e) added
+      (λ e. Leaves (says sector_in) (StandsAbout places m script (said e)) (adds_all first h) e)
+      added
   pub replies : SaysLines (answers places m script) (pieces added)
   pub is_prefix : IsPrefix (said added) (joined (answers places m script))
   pub lawful : (base : Story) → IsLawful base → IsLawful (added ++ (first ++ base))
-  pub plain : ArePlain added
+  pub settled : Unrisen old new → new.settled ≡ true
   pub rests : Unrisen old new
-      → IsAbout (λ s. StoryRests places s.map (adds_all added (adds_all first h))) places m script (said added)
-  pub bare : Unrisen old new → HasNoLog places (now (adds_all added (adds_all first h)))
+      → IsAbout (λ s. StoryRests places s.map (adds_all added (adds_all first h))) places m script
+      (said added)
+  pub ends : EndsBy ending
+      (λ s. Unrisen old new → StoryRests places s.map (adds_all added (adds_all first h)))
+      places m script (pieces added)
   pub read : List ℕ
   pub unread : List ℕ
   pub script_is : script ≡ read ++ unread
   pub left_is : new.beside.left ≡ Some unread
-  pub all : done ≡ true
-      → (pieces added ≡ answers places m script) × (said added ≡ joined (answers places m script)) × (unread ≡ [])
+  pub all : ending ≡ Ok tt
+      → (pieces added ≡ answers places m script) × (said added ≡ joined (answers places m script))
+      × (unread ≡ [])
 
 -- over a settled chip that tells its history, and a script that is told
 abbrev pub OverTold : (ℕ → List ℕ → History → Type 0) → Told → Type 0
 OverTold P old = (h : History) (script : List ℕ) → old.settled ≡ true → old.history ≡ Some h
     → old.beside.left ≡ Some script → P old.places script h
 
--- The chip was opened, and the script was run: from the records on which its story rests, and there is no log. All events are
--- in this, those of the opening too.
-abbrev pub RunsOpened : Told → Told → Bool → Type 0
-RunsOpened old new done = OverTold
-    (λ places script h. (m : Map) → StoryRests places m h → HasNoLog places (now h)
-    → Runs places m script h [] old new done) old
+-- The chip was opened, and the script was run: from the records on which its story rests. All
+-- events
+-- are in this, those of the opening too.
+abbrev pub RunsOpened : Told → Told → Ending → Type 0
+RunsOpened old new ending = OverTold
+    (λ places script h. (m : Map) → StoryRests places m h
+    → Runs places m script h [] old new ending) old
 
 -- the chip was formatted, and the script was run from no records on
-abbrev pub RunsFormatted : Told → Told → Bool → Type 0
-RunsFormatted old new done = OverTold
-    (λ places script h. Runs places empty script h (format_events places) old new done) old
+abbrev pub RunsFormatted : Told → Told → Ending → Type 0
+RunsFormatted old new ending = OverTold
+    (λ places script h. Runs places empty script h (format_events places) old new ending) old
 
--- What a format leaves that was stopped: an earlier part of its events, or all. Nothing was said, and nothing read of the script.
-pub record StopsEarly (places : ℕ) (h : History) (old new : Told) : Type 0 where
-  pub stopped : Told
-  pub fault : FormatFault
-  pub formats : Formats {A = Unit {0}} places h (Err fault) stopped
-  pub counts : Counts old stopped
-  pub noted : new ≡ but_noted stopped new.beside.noted
-
--- a format was stopped, over a chip that tells its history
-abbrev pub IsStopped : Told → Told → Type 0
-IsStopped old new = (h : History) → old.history ≡ Some h → StopsEarly old.places h old new
-
--- a write failed in the run, or before it in the format
-abbrev pub RunsOrStops : Told → Told → Type 0
-RunsOrStops old new = OverTold
-    (λ places script h. Runs places empty script h (format_events places) old new false
+-- a call of the chip failed in the run, or before it in the format
+abbrev pub RunsOrStops : Told → Told → Ending → Type 0
+RunsOrStops old new ending = OverTold
+    (λ places script h. Runs places empty script h (format_events places) old new ending
     ⊎ StopsEarly places h old new) old
 
 -- ---- a format
@@ -182,15 +273,17 @@ RunsOrStops old new = OverTold
 abbrev pub ok_line : List ℕ
 ok_line = codes "ok\n"
 
--- What a format leaves of a chip with this history: no record, whatever the power is cut at from then on. It said its line, or
--- a beginning of it, or nothing, and read nothing of the script.
+-- What a format leaves of a chip with this history: no record, whatever the power is cut at from
+-- then
+-- on. It said its line, or a beginning of it, or nothing, and read nothing of the script.
 pub record IsLaidOut (places : ℕ) (h : History) (old new : Told) (done : Bool) : Type 0 where
   pub added : Story
   pub says : (added ≡ []) ⊎ ((part : List ℕ) × IsPrefix part ok_line × (added ≡ Said part ∷ []))
   pub history : new.history ≡ Some (adds_all added (adds_all (format_events places) h))
+  pub settled : new.settled ≡ old.settled
   pub rests : StoryRests places empty (adds_all added (adds_all (format_events places) h))
-  pub bare : HasNoLog places (now (adds_all added (adds_all (format_events places) h)))
-  pub lawful : (base : Story) → IsLawful base → IsLawful (added ++ (format_events places ++ base))
+  pub lawful : (base : Story) → IsLawful base
+      → IsLawful (added ++ (format_events places ++ base))
   pub left_is : new.beside.left ≡ old.beside.left
   pub all : done ≡ true → added ≡ Said ok_line ∷ []
 
@@ -216,16 +309,17 @@ FormatLeaves (Err Script) old new = ⊥
 FormatLeaves (Err Output) old new = LaysOut old new false
 FormatLeaves (Err TooLong) old new = ⊥
 
--- what a run leaves over a chip that is formatted first
+-- what a run leaves over a chip that is formatted first; another number of places was left alone
 abbrev pub FormattedLeaves : Ending → Told → Told → Type 0
-FormattedLeaves (Ok u) old new = RunsFormatted old new true
+FormattedLeaves (Ok u) old new = RunsFormatted old new (Ok u) × ReadsAll old new
 FormattedLeaves (Err Words) old new = ⊥
-FormattedLeaves (Err (Chip image.Geometry)) old new = IsUntouched old new
-FormattedLeaves (Err (Chip e)) old new = RunsOrStops old new
+FormattedLeaves (Err (Chip e)) old new =
+    ((¬ IsGeometry old.places) × (e ≡ image.Geometry) × IsUntouched old new)
+    ⊎ (IsGeometry old.places × RunsOrStops old new (Err (Chip e)))
 FormattedLeaves (Err OutOfMemory) old new = IsUntouched old new
-FormattedLeaves (Err Script) old new = RunsFormatted old new false
-FormattedLeaves (Err Output) old new = RunsFormatted old new false
-FormattedLeaves (Err TooLong) old new = RunsFormatted old new false
+FormattedLeaves (Err Script) old new = RunsFormatted old new (Err Script)
+FormattedLeaves (Err Output) old new = RunsFormatted old new (Err Output)
+FormattedLeaves (Err TooLong) old new = RunsFormatted old new (Err TooLong)
 
 -- nothing was done but reads of the chip, and a note
 pub record OnlyLooks (old new : Told) : Type 0 where
@@ -233,25 +327,50 @@ pub record OnlyLooks (old new : Told) : Type 0 where
   pub reads : OnlyReads old read
   pub noted : new ≡ but_noted read new.beside.noted
 
--- what a run leaves over a chip that is opened; only a failed write ends it with a fault of the chip once it is open
+-- the end is that fault of the chip, or a call of the chip failed
+abbrev pub EndsAtFault : ImageFault → ImageFault → Type 0
+EndsAtFault e ended = (ended ≡ e) ⊎ (ended ≡ image.Chip ReadFault) ⊎ (ended ≡ image.Chip Stopped)
+
+-- a chip that has a fault as it is laid out was only read, and the run ended with that fault
+abbrev pub IsRefused : ImageFault → Told → Told → Type 0
+IsRefused ended old new = (e : ImageFault) → HasFault old e
+    → OnlyLooks old new × EndsAtFault e ended
+
+-- what a run leaves over a chip that is opened, which ends with a fault of the chip
+pub record OpenedStops (e : ImageFault) (old new : Told) : Type 0 where
+  pub runs : RunsOpened old new (Err (Chip e))
+  pub refused : IsRefused e old new
+  pub other : ¬ IsGeometry old.places → IsUntouched old new
+
+-- What is left of a chip that was opened well. At the end of the script all of it was read.
+pub record OpenedRuns (old new : Told) (ending : Ending) : Type 0 where
+  pub runs : RunsOpened old new ending
+  pub read : ending ≡ Ok tt → ReadsAll old new
+  pub laid : IsLaidWell old
+  pub fits : IsGeometry old.places
+
+-- what a run leaves over a chip that is opened
 abbrev pub OpenedLeaves : Ending → Told → Told → Type 0
-OpenedLeaves (Ok u) old new = RunsOpened old new true
+OpenedLeaves (Ok u) old new = OpenedRuns old new (Ok u)
 OpenedLeaves (Err Words) old new = ⊥
-OpenedLeaves (Err (Chip e)) old new = RunsOpened old new false × (e ≢ image.Chip Stopped → OnlyLooks old new)
+OpenedLeaves (Err (Chip e)) old new = OpenedStops e old new
 OpenedLeaves (Err OutOfMemory) old new = IsUntouched old new
-OpenedLeaves (Err Script) old new = RunsOpened old new false
-OpenedLeaves (Err Output) old new = RunsOpened old new false
-OpenedLeaves (Err TooLong) old new = RunsOpened old new false
+OpenedLeaves (Err Script) old new = OpenedRuns old new (Err Script)
+OpenedLeaves (Err Output) old new = OpenedRuns old new (Err Output)
+OpenedLeaves (Err TooLong) old new = OpenedRuns old new (Err TooLong)
 
 -- what the program leaves, wherever it ends
 abbrev pub EndLeaves : AskedFor → Ending → Told → Told → Type 0
 EndLeaves None ending old new = IsUntouched old new
 EndLeaves (Some Format) ending old new = FormatLeaves ending old new
-EndLeaves (Some (Run true)) ending old new = FormattedLeaves ending old new
-EndLeaves (Some (Run false)) ending old new = OpenedLeaves ending old new
+EndLeaves (Some (Run frames true)) ending old new = FormattedLeaves ending old new
+EndLeaves (Some (Run frames false)) ending old new = OpenedLeaves ending old new
 EndLeaves (Some Serial) ending old new = SerialLeaves ending old new
+EndLeaves (Some (Trial seed count frames)) ending old new = TrialLeaves seed count ending old new
 
--- How the program ends: with its status and its line, which is noted alone; for a cause; and what it leaves.
+-- How the program ends: with its status and its line, which is noted alone; for a cause; and what
+-- it
+-- leaves.
 pub record Ends (asked : AskedFor) (old new : Told) (status : ℕ) : Type 0 where
   pub ending : Ending
   pub status_is : status ≡ status_at ending
@@ -259,6 +378,34 @@ pub record Ends (asked : AskedFor) (old new : Told) (status : ℕ) : Type 0 wher
       → (before : List ℕ) × (old.beside.noted ≡ Some before) × (bytes ≡ before ++ note_at ending)
   pub cause : EndCause asked ending old new
   pub leaves : EndLeaves asked ending old new
+
+-- the chip has as many places as before, and no count fell
+pub record NoneFalls (old new : Told) : Type 0 where
+  pub places : new.places ≡ old.places
+  pub reads : old.read_faults ≤ new.read_faults
+  pub writes : old.write_faults ≤ new.write_faults
+  pub says : old.beside.say_faults ≤ new.beside.say_faults
+  pub script : old.beside.script_faults ≤ new.beside.script_faults
+  pub bytes : old.beside.script_bytes ≤ new.beside.script_bytes
+
+-- ---- by the status
+
+-- A chip that has a fault as it is laid out was only read; the run ended with that fault's status,
+-- with 3 where a call of the chip failed, or for want of memory.
+abbrev pub RefusesFaults : Told → Told → ℕ → Type 0
+RefusesFaults old new status = (e : ImageFault) → HasFault old e
+    → OnlyLooks old new × ((status ≡ fault_status e) ⊎ (status ≡ 3) ⊎ (status ≡ 5))
+
+-- when a run over a chip that is opened ends with 9
+abbrev pub SpentCause : Told → Told → Type 0
+SpentCause old new = IsSpent old ⊎ IsMetLater old new
+
+-- nothing was done to a chip of another number of places, or it was formatted and the script run,
+-- or
+-- a part of that
+abbrev pub UntouchedOrRuns : Told → Told → Ending → Type 0
+UntouchedOrRuns old new ending = ((¬ IsGeometry old.places) × IsUntouched old new)
+    ⊎ RunsOrStops old new ending
 
 -- ---- completeness
 
@@ -269,24 +416,23 @@ pub record IsCalm (old new : Told) : Type 0 where
   pub script : ¬ Rose old.beside.script_faults new.beside.script_faults
   pub says : ¬ Rose old.beside.say_faults new.beside.say_faults
 
--- what a request asks of the chip: 5 to 1,028 places, and where it is opened, contents that stand for a map, with no
--- number of 2^63 or more
+-- the chip has 5 to 1,028 places, tells its history, and no write has failed
+pub record IsTold (t : Told) : Type 0 where
+  pub fits : IsGeometry t.places
+  pub history : History
+  pub steady : IsSteady history t
+
+-- what a request asks of the chip: 5 to 1,028 places; where commands are done, that it tells its
+-- history; and where it is opened, that its story rests on records, with numbers left
 abbrev pub Suffices : Request → Told → Type 0
 Suffices Format old = IsGeometry old.places
-Suffices (Run true) old = IsGeometry old.places
-Suffices (Run false) old = (x : Contents) × (m : Map) × (old.contents ≡ Some x) × StandsWithNumbersLeft old.places x m
+Suffices (Run frames true) old = IsTold old
+Suffices (Run frames false) old = RestsWithNumbersLeft old
 Suffices Serial old = IsGeometry old.places
+Suffices (Trial seed count frames) old = IsTold old
 
 -- the script ends in time: by the count of its bytes, or as it is told
 abbrev pub EndsInTime : Told → Told → Type 0
 EndsInTime old new =
     (new.beside.script_bytes < min (old.beside.script_bytes + 4294967295) (2 ^ 64 - 1))
     ⊎ ((source : List ℕ) × (old.beside.left ≡ Some source) × (length source < 4294967295))
-
--- the contents that the chip tells have a number of 2^63 or more
-abbrev pub IsSpent : Told → Type 0
-IsSpent old = OfContents old (λ x. 2 ^ 63 ≤ greatest_found (chart_of x) old.places)
-
--- the contents that the chip tells stand for no map
-abbrev pub IsStray : Told → Type 0
-IsStray old = OfContents old (λ x. (m : Map) → ¬ Stands old.places (chart_of x) m)

@@ -32,7 +32,8 @@ ViewedCause e old new = (e ≡ image.Geometry) × ¬ IsGeometry old.places
 abbrev pub view_on : ℕ → List ℕ → List (List ℕ)
 view_on places script = view_lines (limits_for (places - RESERVED_PLACES)) script
 
--- What the view of a script leaves. What is said is a beginning of its lines, one by one, and nothing else happened to the
+-- What the view of a script leaves. What is said is a beginning of its lines, one by one, and
+-- nothing else happened to the
 -- chip. Where all is done, all lines are said, and of the script nothing is left.
 pub record Views (places : ℕ) (script : List ℕ) (old new : Told) (done : Bool) : Type 0 where
   pub said : List (List ℕ)
@@ -45,7 +46,8 @@ pub record Views (places : ℕ) (script : List ℕ) (old new : Told) (done : Boo
 
 -- over a script that is told
 abbrev pub ViewsTold : Told → Told → Bool → Type 0
-ViewsTold old new done = (script : List ℕ) → old.beside.left ≡ Some script → Views old.places script old new done
+ViewsTold old new done = (script : List ℕ) → old.beside.left ≡ Some script
+    → Views old.places script old new done
 
 -- no sector was touched: pieces were said, the script was read, and the end was noted
 pub record OnlyViews (old new : Told) : Type 0 where

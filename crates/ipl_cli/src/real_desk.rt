@@ -39,6 +39,10 @@ impl<C: Chip + Drop> RealDesk<C> {
 }
 
 impl<C: Chip + Drop> Chip for RealDesk<C> {
+    ghost use Rattle.std.specs.Prelude.{◌<◌, MatchResult, OnOk, OnErr, IfSome};
+    ghost use Rattle.chip_trait.specs.declared.event.Event.TheVariants.{Read, Program, Erase, Barrier};
+    ghost use Rattle.chip_trait.specs.Told.{Appends, Misses, Breaks, Halts, Counts, Rose};
+
     ghost told = { λ d. real_told (C.told d.chip) d.script_bytes d.script_faults d.say_faults };
 
     ghost consistent = { λ d. real_consistently (C.told d.chip) d.script_bytes d.script_faults d.say_faults };
@@ -47,19 +51,61 @@ impl<C: Chip + Drop> Chip for RealDesk<C> {
         self.chip.units()
     }
 
-    fn read(&mut self, p: u32, s: u32, into: &mut [u8; 512]) -> Result<(), Failed> {
+    /// It is a read of the chip within.
+    fn read(&mut self, p: u32, s: u32, into: &mut [u8; 512]) -> Result<(), Failed>
+        requires place { p < (C.told self.old.chip).places }
+        requires sector { s < 256 }
+        ensures within { MatchResult result
+            (λ _. Appends (Read p s) (C.told self.old.chip) (C.told self.new.chip))
+            (λ _. Misses (Read p s) (C.told self.old.chip) (C.told self.new.chip)) }
+        ensures held { OnOk result (IfSome (C.told self.old.chip).contents (λ x. into.new ≡ x p s)) }
+        ensures counts { Counts
+            (real_told (C.told self.old.chip) self.old.script_bytes self.old.script_faults self.old.say_faults)
+            (real_told (C.told self.new.chip) self.new.script_bytes self.new.script_faults self.new.say_faults) }
+        ensures cause { OnErr result (Rose (C.told self.old.chip).read_faults (C.told self.new.chip).read_faults) }
+    {
         self.chip.read(p, s, into)
     }
 
-    fn program(&mut self, p: u32, s: u32, from: &[u8; 512]) -> Result<(), Failed> {
+    /// It is a programming of the chip within.
+    fn program(&mut self, p: u32, s: u32, from: &[u8; 512]) -> Result<(), Failed>
+        requires place { p < (C.told self.old.chip).places }
+        requires sector { s < 256 }
+        ensures within { MatchResult result
+            (λ _. Appends (Program p s from.now) (C.told self.old.chip) (C.told self.new.chip))
+            (λ _. Breaks (Program p s from.now) (C.told self.old.chip) (C.told self.new.chip)) }
+        ensures counts { Counts
+            (real_told (C.told self.old.chip) self.old.script_bytes self.old.script_faults self.old.say_faults)
+            (real_told (C.told self.new.chip) self.new.script_bytes self.new.script_faults self.new.say_faults) }
+        ensures cause { OnErr result (Rose (C.told self.old.chip).write_faults (C.told self.new.chip).write_faults) }
+    {
         self.chip.program(p, s, from)
     }
 
-    fn erase(&mut self, p: u32) -> Result<(), Failed> {
+    /// It is an erase of the chip within.
+    fn erase(&mut self, p: u32) -> Result<(), Failed>
+        requires { p < (C.told self.old.chip).places }
+        ensures within { MatchResult result
+            (λ _. Appends (Erase p) (C.told self.old.chip) (C.told self.new.chip))
+            (λ _. Breaks (Erase p) (C.told self.old.chip) (C.told self.new.chip)) }
+        ensures counts { Counts
+            (real_told (C.told self.old.chip) self.old.script_bytes self.old.script_faults self.old.say_faults)
+            (real_told (C.told self.new.chip) self.new.script_bytes self.new.script_faults self.new.say_faults) }
+        ensures cause { OnErr result (Rose (C.told self.old.chip).write_faults (C.told self.new.chip).write_faults) }
+    {
         self.chip.erase(p)
     }
 
-    fn barrier(&mut self) -> Result<(), Failed> {
+    /// It is a barrier of the chip within.
+    fn barrier(&mut self) -> Result<(), Failed>
+        ensures within { MatchResult result
+            (λ _. Appends Barrier (C.told self.old.chip) (C.told self.new.chip))
+            (λ _. Halts (C.told self.old.chip) (C.told self.new.chip)) }
+        ensures counts { Counts
+            (real_told (C.told self.old.chip) self.old.script_bytes self.old.script_faults self.old.say_faults)
+            (real_told (C.told self.new.chip) self.new.script_bytes self.new.script_faults self.new.say_faults) }
+        ensures cause { OnErr result (Rose (C.told self.old.chip).write_faults (C.told self.new.chip).write_faults) }
+    {
         self.chip.barrier()
     }
 }

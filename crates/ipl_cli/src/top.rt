@@ -1,27 +1,36 @@
 //! The program, over a desk.
-ghost use Rattle.std.specs.Prelude.{◌≡◌, ◌≢◌, ◌<◌, ◌≤◌, ◌⊎◌, ◌+◌, ◌++◌, ◌==◌, ◌^◌, true, false, map, List, ℕ, Some, None, IfOk, IfErr, OnOk};
+ghost use Rattle.std.specs.Prelude.{◌≡◌, ◌≢◌, ◌<◌, ◌≤◌, ◌⊎◌, ◌+◌, ◌++◌, ◌==◌, true, false, map, List, ℕ, Some, None, Ok, IfOk, IfErr};
 ghost use Rattle.std.specs.String.{string_bytes};
-ghost use Rattle.chip_trait.specs.Told.{History, Counts, Grew, Rose};
+ghost use Rattle.chip_trait.specs.Told.{Counts, Grew, Rose};
 ghost use Rattle.ipl_base.specs.Places.{IsGeometry};
+ghost use Rattle.store_trait.specs.Keeping.{FOUND_NUMBER};
 ghost use Rattle.store_trait.specs.Onward.{Further};
-ghost use Rattle.unit_store.specs.Keeps.{Suits};
+ghost use Rattle.script_run.specs.Goes.{ReadsAll};
+ghost use Rattle.script_store.specs.Keeps.{IsRunning, next_number};
+ghost use Rattle.ipl_store.specs.Calls.{IsSound};
 ghost use Rattle.command_line.specs.Choice.{requested};
-ghost use Rattle.command_line.specs.declared.asked.Request.TheVariants.{Format, Run, Serial};
-ghost use Rattle.ipl_cli.specs.Ending.{status_at, note_at, but_noted, IsUntouched};
+ghost use Rattle.command_line.specs.declared.asked.Request.{Request};
+ghost use Rattle.command_line.specs.declared.asked.Request.TheVariants.{Format, Run, Serial, Trial};
+ghost use Rattle.ipl_cli.specs.Trials.{TrialLeaves};
+ghost use Rattle.ipl_cli.specs.Ending.{AsksOpened, AsksFormatted, AsksAnew, AtStatus, status_at, note_at, but_noted, IsUntouched};
 ghost use Rattle.ipl_cli.specs.Views.{ViewsTold, OnlyViews, OnlyHears, SerialLeaves, view_end};
-ghost use Rattle.ipl_cli.specs.Top.{format_end, EndCause, RequestCause, FormatLeaves, FormattedLeaves, OpenedLeaves, EndLeaves, RunsOpened, RunsFormatted, RunsOrStops, LaysOut, OnlyLooks, IsAtFault, IsCalm, Suffices, EndsInTime, IsSpent, IsStray, Ends};
-ghost use Rattle.ipl_cli.specs.Runs.{StartsFormatted, StartsOpened, RunCause, RunsOver};
+ghost use Rattle.ipl_cli.specs.Top.{NoneFalls, format_end, EndCause, RequestCause, FormatLeaves, FormattedLeaves, OpenedLeaves, EndLeaves};
+ghost use Rattle.ipl_cli.specs.Top.{RunsOpened, RunsFormatted, UntouchedOrRuns, RefusesFaults, IsLaidWell, LaysOut};
+ghost use Rattle.ipl_cli.specs.Top.{StrayCause, SpentCause, AnewCause, IsCalm, Suffices, EndsInTime, Ends};
+ghost use Rattle.ipl_cli.specs.Runs.{StartsFormatted, StartsOpened, ClosesFor, FormatsFirst, OpensOver, IsNotStarted, RunsOver, TriesOver, end_of};
 
 use chip_trait::Desk;
 use command_line::{Request, request};
-use ipl_base::{ChipFault, FormatFault, Geometry, ImageFault, OpenFault};
+use ipl_base::{ChipFault, FormatFault, Geometry, ImageFault, RESERVED_PLACES};
+use ipl_store::Store;
 use program_end::{End, NoteLine, status};
 use restart::format;
 use script_run::{Stop, run_script};
+use script_store::ScriptStore;
 use serial_run::{ViewStop, say_serial_view};
 use std::alloc::Global;
 use store_trait::Fault;
-use unit_store::UnitStore;
+use trial_run::run_trial;
 
 /// What a format says.
 const OK_LINE: &[u8] = b"ok\n";
@@ -40,7 +49,7 @@ fn format_end(fault: FormatFault) -> End
 fn format_chip<D: Desk>(desk: &mut D) -> Result<(), End>
     ensures leaves { FormatLeaves result (D.told desk.old) (D.told desk.new) }
     ensures cause { EndCause (Some Format) result (D.told desk.old) (D.told desk.new) }
-    ensures noted { (D.told desk.new).beside.noted ≡ (D.told desk.old).beside.noted }
+    ensures further { Further (D.told desk.old) (D.told desk.new) }
 {
     match format(desk) {
         Ok(()) => match desk.say(OK_LINE) {
@@ -51,80 +60,160 @@ fn format_chip<D: Desk>(desk: &mut D) -> Result<(), End>
     }
 }
 
-/// Formats the chip, and makes the store of no record.
-fn start_formatted<D: Desk>(alloc: Global, desk: &mut D) -> Result<UnitStore, End>
-    ensures starts { IfOk result (λ store. StartsFormatted (D.told desk.old) store (D.told desk.new)) }
-    ensures leaves { IfErr result (λ end. FormattedLeaves (Err end) (D.told desk.old) (D.told desk.new)) }
-    ensures cause { IfErr result (λ end. RequestCause (Run true) end (D.told desk.old) (D.told desk.new)) }
-    ensures counts { Counts (D.told desk.old) (D.told desk.new) }
+/// The memory of a store for a chip of so many places, which isn't opened yet.
+fn closed(alloc: Global, places: u32, frames: u32) -> Result<Store, End>
+    requires two { 2 ≤ frames }
+    requires few { frames ≤ 64 }
+    ensures closes { ClosesFor places result }
 {
-    let Some(geometry) = Geometry::of(desk.units()) else {
+    let Some(geometry) = Geometry::of(places) else {
         return Err(End::Chip(ImageFault::Geometry));
     };
-    // Memory is taken before the chip is touched.
-    let Ok(store) = UnitStore::formatted(alloc, geometry) else {
-        return Err(End::OutOfMemory);
-    };
+    match Store::closed(alloc, geometry, frames) {
+        Ok(store) => Ok(store),
+        Err(_) => Err(End::OutOfMemory),
+    }
+}
+
+/// Formats the chip, before it is opened.
+fn format_first<D: Desk>(desk: &mut D) -> Result<(), End>
+    requires fits { IsGeometry (D.told desk.old).places }
+    ensures formats { FormatsFirst result (D.told desk.old) (D.told desk.new) }
+{
     match format(desk) {
-        Ok(()) => Ok(store),
+        Ok(()) => Ok(()),
         Err(fault) => Err(format_end(fault)),
     }
 }
 
 /// Opens the chip, and makes the store of what it holds.
-fn start_opened<D: Desk>(alloc: Global, desk: &mut D) -> Result<UnitStore, End>
-    ensures starts { IfOk result (λ store. StartsOpened (D.told desk.old) store (D.told desk.new)) }
-    ensures leaves { IfErr result (λ end. OpenedLeaves (Err end) (D.told desk.old) (D.told desk.new)) }
-    ensures cause { IfErr result (λ end. RequestCause (Run false) end (D.told desk.old) (D.told desk.new)) }
+fn open_over<D: Desk>(mut store: Store, desk: &mut D) -> Result<ScriptStore, End>
+    requires sound { IsSound (D.told desk.old).places store }
+    ensures opens { OpensOver result (D.told desk.old) (D.told desk.new) }
+{
+    match store.open_chip(desk) {
+        Ok(()) => Ok(ScriptStore::over(store)),
+        Err(fault) => Err(End::Chip(fault)),
+    }
+}
+
+/// Formats the chip, opens it, and makes the store of no record. Memory is taken before the chip is
+/// touched.
+fn start_formatted<D: Desk>(alloc: Global, frames: u32, desk: &mut D) -> Result<ScriptStore, End>
+    requires two { 2 ≤ frames }
+    requires few { frames ≤ 64 }
+    ensures starts { IfOk result (λ store. StartsFormatted (D.told desk.old) store (D.told desk.new)) }
+    ensures stops { IfErr result (λ end. IsNotStarted end (D.told desk.old) (D.told desk.new)) }
     ensures counts { Counts (D.told desk.old) (D.told desk.new) }
 {
-    match UnitStore::open(alloc, desk) {
-        Ok(store) => Ok(store),
-        Err(OpenFault::Image(fault)) => Err(End::Chip(fault)),
-        Err(OpenFault::OutOfMemory) => Err(End::OutOfMemory),
+    let store = closed(alloc, desk.units(), frames)?;
+    format_first(desk)?;
+    let started = open_over(store, desk)?;
+    Ok(started)
+}
+
+/// Opens the chip, and makes the store of what it holds. Memory is taken before the chip is touched.
+fn start_opened<D: Desk>(alloc: Global, frames: u32, desk: &mut D) -> Result<ScriptStore, End>
+    requires two { 2 ≤ frames }
+    requires few { frames ≤ 64 }
+    ensures starts { IfOk result (λ store. StartsOpened (D.told desk.old) store (D.told desk.new)) }
+    ensures leaves { IfErr result (λ end. OpenedLeaves (Err end) (D.told desk.old) (D.told desk.new)) }
+    ensures cause { IfErr result (λ end. RequestCause (Run frames false) end (D.told desk.old) (D.told desk.new)) }
+    ensures counts { Counts (D.told desk.old) (D.told desk.new) }
+{
+    let store = closed(alloc, desk.units(), frames)?;
+    let started = open_over(store, desk)?;
+    Ok(started)
+}
+
+/// The end that a stop of a run is. Numbers last for any script.
+fn end_of(stop: Stop) -> End
+    requires lasting { stop ≢ Stop.Store Fault.Spent }
+    ensures { result ≡ end_of stop }
+{
+    match stop {
+        Stop::Store(Fault::Chip(fault)) => End::Chip(ImageFault::Chip(fault)),
+        Stop::Store(Fault::Image(fault)) => End::Chip(fault),
+        Stop::Store(Fault::Spent) => unreachable!("the numbers last for any script"),
+        Stop::Script => End::Script,
+        Stop::Output => End::Output,
+        Stop::TooLong => End::TooLong,
     }
 }
 
 /// Runs the script over a store whose numbers last for it.
-fn run_over<D: Desk>(store: &mut UnitStore, desk: &mut D) -> Result<(), End>
-    requires suits { Suits store.old (D.told desk.old).places }
-    requires left { store.old.counter ≤ 2 ^ 63 }
+fn run_over<D: Desk>(store: &mut ScriptStore, desk: &mut D) -> Result<(), End>
+    requires running { IsRunning (D.told desk.old).places store.old }
+    requires left { next_number store.old ≤ FOUND_NUMBER }
     ensures runs { RunsOver result store.old (D.told desk.old) store.new (D.told desk.new) }
-    ensures cause { IfErr result (λ end. RunCause end (D.told desk.old) (D.told desk.new)) }
-    ensures further { Further (D.told desk.old) (D.told desk.new) }
 {
     match run_script(store, desk) {
         Ok(()) => Ok(()),
-        Err(Stop::Script) => Err(End::Script),
-        Err(Stop::Output) => Err(End::Output),
-        Err(Stop::TooLong) => Err(End::TooLong),
-        Err(Stop::Store(Fault::Chip(ChipFault::Stopped))) => {
-            Err(End::Chip(ImageFault::Chip(ChipFault::Stopped)))
-        }
-        Err(Stop::Store(Fault::Spent)) => unreachable!("the numbers last for any script"),
-        Err(Stop::Store(_)) => unreachable!("nothing is read from the chip"),
+        Err(stop) => Err(end_of(stop)),
     }
 }
 
 /// Runs the script over a chip that is formatted first.
-fn run_formatted<D: Desk>(alloc: Global, desk: &mut D) -> Result<(), End>
+fn run_formatted<D: Desk>(alloc: Global, frames: u32, desk: &mut D) -> Result<(), End>
+    requires two { 2 ≤ frames }
+    requires few { frames ≤ 64 }
     ensures leaves { FormattedLeaves result (D.told desk.old) (D.told desk.new) }
-    ensures cause { EndCause (Some (Run true)) result (D.told desk.old) (D.told desk.new) }
-    ensures noted { (D.told desk.new).beside.noted ≡ (D.told desk.old).beside.noted }
+    ensures cause { EndCause (Some (Run frames true)) result (D.told desk.old) (D.told desk.new) }
+    ensures further { Further (D.told desk.old) (D.told desk.new) }
 {
-    let mut store = start_formatted(alloc, desk)?;
+    let mut store = start_formatted(alloc, frames, desk)?;
     run_over(&mut store, desk)?;
     Ok(())
 }
 
 /// Runs the script over a chip that is opened.
-fn run_opened<D: Desk>(alloc: Global, desk: &mut D) -> Result<(), End>
+fn run_opened<D: Desk>(alloc: Global, frames: u32, desk: &mut D) -> Result<(), End>
+    requires two { 2 ≤ frames }
+    requires few { frames ≤ 64 }
     ensures leaves { OpenedLeaves result (D.told desk.old) (D.told desk.new) }
-    ensures cause { EndCause (Some (Run false)) result (D.told desk.old) (D.told desk.new) }
-    ensures noted { (D.told desk.new).beside.noted ≡ (D.told desk.old).beside.noted }
+    ensures cause { EndCause (Some (Run frames false)) result (D.told desk.old) (D.told desk.new) }
+    ensures further { Further (D.told desk.old) (D.told desk.new) }
 {
-    let mut store = start_opened(alloc, desk)?;
+    let mut store = start_opened(alloc, frames, desk)?;
     run_over(&mut store, desk)?;
+    Ok(())
+}
+
+/// Does the commands of a seed, so many, over a store whose numbers last for them, and says the
+/// summary.
+fn trial_over<D: Desk>(
+    store: &mut ScriptStore,
+    desk: &mut D,
+    seed: u32,
+    count: u32,
+) -> Result<(), End>
+    requires running { IsRunning (D.told desk.old).places store.old }
+    requires left { next_number store.old ≤ FOUND_NUMBER }
+    ensures tries { TriesOver seed count result store.old (D.told desk.old) store.new (D.told desk.new) }
+{
+    let units = desk.units() - RESERVED_PLACES;
+    match run_trial(store, desk, units, seed, count) {
+        Ok(()) => Ok(()),
+        Err(stop) => Err(end_of(stop)),
+    }
+}
+
+/// Does a trial over a chip that is formatted first.
+fn trial<D: Desk>(
+    alloc: Global,
+    frames: u32,
+    seed: u32,
+    count: u32,
+    desk: &mut D,
+) -> Result<(), End>
+    requires two { 2 ≤ frames }
+    requires few { frames ≤ 64 }
+    ensures leaves { TrialLeaves seed count result (D.told desk.old) (D.told desk.new) }
+    ensures cause { EndCause (Some (Trial seed count frames)) result (D.told desk.old) (D.told desk.new) }
+    ensures further { Further (D.told desk.old) (D.told desk.new) }
+{
+    let mut store = start_formatted(alloc, frames, desk)?;
+    trial_over(&mut store, desk, seed, count)?;
     Ok(())
 }
 
@@ -144,7 +233,7 @@ fn view_end(stop: ViewStop) -> End
 fn say_view<D: Desk>(alloc: Global, desk: &mut D) -> Result<(), End>
     ensures leaves { SerialLeaves result (D.told desk.old) (D.told desk.new) }
     ensures cause { EndCause (Some Serial) result (D.told desk.old) (D.told desk.new) }
-    ensures noted { (D.told desk.new).beside.noted ≡ (D.told desk.old).beside.noted }
+    ensures further { Further (D.told desk.old) (D.told desk.new) }
 {
     let Some(geometry) = Geometry::of(desk.units()) else {
         return Err(End::Chip(ImageFault::Geometry));
@@ -159,7 +248,7 @@ fn say_view<D: Desk>(alloc: Global, desk: &mut D) -> Result<(), End>
 fn run<D: Desk>(alloc: Global, words: &[String], desk: &mut D) -> Result<(), End>
     ensures leaves { EndLeaves (requested (map string_bytes words.now)) result (D.told desk.old) (D.told desk.new) }
     ensures cause { EndCause (requested (map string_bytes words.now)) result (D.told desk.old) (D.told desk.new) }
-    ensures noted { (D.told desk.new).beside.noted ≡ (D.told desk.old).beside.noted }
+    ensures further { Further (D.told desk.old) (D.told desk.new) }
 {
     let Ok(request) = request(alloc, words) else {
         return Err(End::OutOfMemory);
@@ -167,9 +256,26 @@ fn run<D: Desk>(alloc: Global, words: &[String], desk: &mut D) -> Result<(), End
     match request {
         None => Err(End::Words),
         Some(Request::Format) => format_chip(desk),
-        Some(Request::Run { format: true }) => run_formatted(alloc, desk),
-        Some(Request::Run { format: false }) => run_opened(alloc, desk),
+        Some(
+            Request::Run {
+                frames,
+                format: true,
+            },
+        ) => run_formatted(alloc, frames, desk),
+        Some(
+            Request::Run {
+                frames,
+                format: false,
+            },
+        ) => run_opened(alloc, frames, desk),
         Some(Request::Serial) => say_view(alloc, desk),
+        Some(
+            Request::Trial {
+                seed,
+                count,
+                frames,
+            },
+        ) => trial(alloc, frames, seed, count, desk),
     }
 }
 
@@ -191,25 +297,50 @@ fn finish<D: Desk>(ending: Result<(), End>, desk: &mut D) -> u8
 
 /// Does what the words ask for, notes the text of a fault, and answers the status of the process.
 pub fn top<D: Desk>(alloc: Global, words: &[String], desk: &mut D) -> u8
-    // The program ends with a status and a line for it, each for its cause, and leaves what that end leaves.
+    // The program ends with a status and a line for it, each for its cause, and leaves what that end
+    // leaves.
     ensures ends { Ends (requested (map string_bytes words.now)) (D.told desk.old) (D.told desk.new) result }
 
-    // The headline, over a chip that is opened: wherever the program ends. At 0 the whole script was run.
-    ensures opened { requested (map string_bytes words.now) ≡ Some (Run false)
-        → RunsOpened (D.told desk.old) (D.told desk.new) (result == 0) }
+    // The chip has as many places as before, and no count falls.
+    ensures counts { NoneFalls (D.told desk.old) (D.told desk.new) }
 
-    // The same over a chip that is formatted first. At 6, 7 and 8 a part of the script was run; at 3 too, or the format was
-    // stopped.
-    ensures formatted { requested (map string_bytes words.now) ≡ Some (Run true) → result ≡ 0
-        → RunsFormatted (D.told desk.old) (D.told desk.new) true }
-    ensures part { requested (map string_bytes words.now) ≡ Some (Run true)
-        → (result ≡ 6) ⊎ (result ≡ 7) ⊎ (result ≡ 8) → RunsFormatted (D.told desk.old) (D.told desk.new) false }
-    ensures stops { requested (map string_bytes words.now) ≡ Some (Run true) → result ≡ 3
-        → RunsOrStops (D.told desk.old) (D.told desk.new) }
+    // The headline, over a chip that is opened: wherever the program ends. At 0 the whole script was
+    // run, at 7 a line of a reply couldn't be said, and else it ended between commands.
+    ensures opened { AsksOpened (requested (map string_bytes words.now))
+        → AtStatus (RunsOpened (D.told desk.old) (D.told desk.new)) result }
+
+    // What is told of a chip that has a fault as it is laid out: it was only read, and the program
+    // ended with that fault. At 0, 6, 7 and 8 it had none.
+    ensures refuses { AsksOpened (requested (map string_bytes words.now))
+        → RefusesFaults (D.told desk.old) (D.told desk.new) result }
+    ensures laid { AsksOpened (requested (map string_bytes words.now))
+        → (result ≡ 0) ⊎ (result ≡ 6) ⊎ (result ≡ 7) ⊎ (result ≡ 8)
+        → IsLaidWell (D.told desk.old) × IsGeometry (D.told desk.old).places }
+
+    // At 0 the script was read to its end, whatever the chip tells.
+    ensures read { AsksOpened (requested (map string_bytes words.now)) ⊎ AsksFormatted (requested (map string_bytes words.now))
+        → result ≡ 0 → ReadsAll (D.told desk.old) (D.told desk.new) }
+
+    // The same over a chip that is formatted first. At 6, 7 and 8 a part of the script was run; at 3,
+    // 4 and 9 too, or the format was stopped, or another number of places was left alone.
+    ensures formatted { AsksFormatted (requested (map string_bytes words.now)) → result ≡ 0
+        → RunsFormatted (D.told desk.old) (D.told desk.new) (Ok tt) }
+    ensures part { AsksFormatted (requested (map string_bytes words.now))
+        → (result ≡ 6) ⊎ (result ≡ 7) ⊎ (result ≡ 8)
+        → AtStatus (RunsFormatted (D.told desk.old) (D.told desk.new)) result }
+    ensures stops { AsksFormatted (requested (map string_bytes words.now))
+        → (result ≡ 3) ⊎ (result ≡ 4) ⊎ (result ≡ 9)
+        → AtStatus (UntouchedOrRuns (D.told desk.old) (D.told desk.new)) result }
 
     // A format says its line at 0, and the chip has no record then, whatever moment the power is cut at.
     ensures formats { requested (map string_bytes words.now) ≡ Some Format → result ≡ 0
         → LaysOut (D.told desk.old) (D.told desk.new) true }
+
+    // A trial says its summary at 0, a beginning of it wherever it ends, and the chip has the records
+    // of the commands that are done.
+    ensures trials { (seed count frames : ℕ)
+        → requested (map string_bytes words.now) ≡ Some (Trial seed count frames)
+        → AtStatus (λ ending. TrialLeaves seed count ending (D.told desk.old) (D.told desk.new)) result }
 
     // A view is said at 0, and a part of it wherever else the program ends; no sector is touched.
     ensures views { requested (map string_bytes words.now) ≡ Some Serial
@@ -217,12 +348,13 @@ pub fn top<D: Desk>(alloc: Global, words: &[String], desk: &mut D) -> u8
     ensures untouched { requested (map string_bytes words.now) ≡ Some Serial
         → OnlyViews (D.told desk.old) (D.told desk.new) }
 
-    // At 2 nothing was asked of the chip, said or read, and so at 5, but that a view may have read its script. At 4 and 9
-    // nothing was done but reads of the chip.
+    // At 2 nothing was asked of the chip, said or read, and so at 5, but that a view may have read its
+    // script. At 4 a chip of another number of places was left alone.
     ensures early { result ≡ 2 → IsUntouched (D.told desk.old) (D.told desk.new) }
     ensures wanting { result ≡ 5 → OnlyHears (D.told desk.old) (D.told desk.new)
         × (requested (map string_bytes words.now) ≢ Some Serial → IsUntouched (D.told desk.old) (D.told desk.new)) }
-    ensures looks { (result ≡ 4) ⊎ (result ≡ 9) → OnlyLooks (D.told desk.old) (D.told desk.new) }
+    ensures other { result ≡ 4 → ¬ IsGeometry (D.told desk.old).places
+        → IsUntouched (D.told desk.old) (D.told desk.new) }
 
     // Each status but 0 and 5 comes only for its cause.
     ensures words { result ≡ 2 → requested (map string_bytes words.now) ≡ None }
@@ -231,16 +363,18 @@ pub fn top<D: Desk>(alloc: Global, words: &[String], desk: &mut D) -> u8
         ⊎ Rose (D.told desk.old).write_faults (D.told desk.new).write_faults }
     ensures image { result ≡ 4
         → ¬ IsGeometry (D.told desk.old).places
-        ⊎ ((requested (map string_bytes words.now) ≡ Some (Run false)) × IsStray (D.told desk.old)) }
+        ⊎ (AsksOpened (requested (map string_bytes words.now)) × StrayCause (D.told desk.old) (D.told desk.new))
+        ⊎ (AsksAnew (requested (map string_bytes words.now)) × AnewCause (D.told desk.old) (D.told desk.new)) }
     ensures script { result ≡ 6 → Rose (D.told desk.old).beside.script_faults (D.told desk.new).beside.script_faults }
     ensures output { result ≡ 7 → Rose (D.told desk.old).beside.say_faults (D.told desk.new).beside.say_faults }
     ensures too_long { result ≡ 8
         → Grew (D.told desk.old).beside.script_bytes 4294967295 (D.told desk.new).beside.script_bytes }
     ensures spent { result ≡ 9
-        → (requested (map string_bytes words.now) ≡ Some (Run false)) × IsSpent (D.told desk.old) }
+        → (AsksOpened (requested (map string_bytes words.now)) × SpentCause (D.told desk.old) (D.told desk.new))
+        ⊎ (AsksAnew (requested (map string_bytes words.now)) × AnewCause (D.told desk.old) (D.told desk.new)) }
 
-    // Words that aren't valid give 2, or 5. Where they are, the chip is such as they ask for, no count rises and the script ends
-    // in time, the answer is 0, or 5.
+    // Words that aren't valid give 2, or 5. Where they are, the chip is such as they ask for, no count
+    // rises and the script ends in time, the answer is 0, or 5.
     ensures invalid { requested (map string_bytes words.now) ≡ None → (result ≡ 2) ⊎ (result ≡ 5) }
     ensures completes { (request : Request) → requested (map string_bytes words.now) ≡ Some request
         → Suffices request (D.told desk.old)

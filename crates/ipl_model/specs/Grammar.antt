@@ -6,7 +6,7 @@ use Rattle.std.specs.Result.{result_ok}
 use Rattle.std.specs.Str.{bytes_eq}
 use Rattle.hex.specs.Hex.{decode_of}
 use Rattle.ipl_model.specs.declared.command.Command.{Command}
-use Rattle.ipl_model.specs.declared.command.Command.TheVariants.{Begin, Get, Put, Del, Commit, Abort, List as ListRecords, Syntax}
+use Rattle.ipl_model.specs.declared.command.Command.TheVariants.{Begin, Get, Share, Put, Del, Commit, Abort, List as ListRecords, Merge, Restart, Syntax}
 use Rattle.ipl_model.specs.declared.line.Line.{Line}
 use Rattle.ipl_model.specs.declared.line.Line.TheVariants.{Skip, Do}
 
@@ -50,17 +50,25 @@ abbrev pub numbers_and_value : List (List ℕ) → Option (ℕ × ℕ × List �
 numbers_and_value (s ∷ n ∷ v ∷ []) = option_and_then (λ session. option_and_then (λ name. option_map (λ bytes. (session, name, bytes)) (value_of v)) (number_of n)) (number_of s)
 numbers_and_value words = None
 
+-- the command, where no words stand behind its verb
+abbrev pub alone : Command → List (List ℕ) → Command
+alone command [] = command
+alone command (word ∷ words) = Syntax
+
 -- the command that words are
 abbrev pub command_of : List (List ℕ) → Command
 command_of [] = Syntax
 command_of (verb ∷ words) =
     if bytes_eq verb (codes "begin") then option_map_or Begin (one_number words) Syntax
     else if bytes_eq verb (codes "get") then option_map_or (λ a. Get a.0 a.1) (two_numbers words) Syntax
+    else if bytes_eq verb (codes "share") then option_map_or (λ a. Share a.0 a.1) (two_numbers words) Syntax
     else if bytes_eq verb (codes "put") then option_map_or (λ a. Put a.0 a.1 a.2) (numbers_and_value words) Syntax
     else if bytes_eq verb (codes "del") then option_map_or (λ a. Del a.0 a.1) (two_numbers words) Syntax
     else if bytes_eq verb (codes "commit") then option_map_or Commit (one_number words) Syntax
     else if bytes_eq verb (codes "abort") then option_map_or Abort (one_number words) Syntax
     else if bytes_eq verb (codes "list") then option_map_or (λ a. ListRecords a.0 a.1) (two_numbers words) Syntax
+    else if bytes_eq verb (codes "merge") then option_map_or Merge (one_number words) Syntax
+    else if bytes_eq verb (codes "restart") then alone Restart words
     else Syntax
 
 -- a line that is empty or begins with a `#` is skipped

@@ -1,21 +1,16 @@
 //! Runs over a chip in memory, cut after each event and failing at each call of the chip. What is left is opened, and its
 //! records are listed.
-use crate::runs::{
-    ITS_REPLIES, ONE_SESSION, desk_with, ends, formatted, left_by, lists, run, said,
-};
+use crate::runs::{ONE_SESSION, ROOM, desk_with, ends, formatted, left_by, lists, run, said};
 use chip_mem::{Choice, MemChip, Pick};
 use chip_trait::Event;
 use ipl_cli::MemDesk;
+use sector_format::Head;
 use std::alloc::Global;
 use std::process::Abort;
 use std::test::Fail;
 
 /// How many events a format of five places has.
 const FORMAT: usize = 9;
-
-/// How many sectors are read where such a chip is opened: five headers, the rest of the status place, the log sectors of
-/// unit 0 and its header again.
-const OPENING: usize = 5 + 255 + 15 + 1;
 
 /// What a list says of no record, of the first run's and of the second's besides.
 const NO_RECORD: &[u8] = b"end\n";
@@ -84,21 +79,33 @@ fn cut(alloc: Global, desk: &MemDesk, at: usize, left: Left) -> Result<MemChip, 
     Ok(desk.chip().image(alloc, at as u64, picks.as_slice())?)
 }
 
+/// How many events there are up to the first that programs a commit sector with numbers behind the first `start`, and it.
+fn commit_end(events: &[Event], start: usize) -> usize {
+    for (number, event) in events.iter().enumerate() {
+        if let Event::Program(_, sector, bytes) = event {
+            if number >= start && *sector > 0 && bytes[4] == Head::COMMIT {
+                return number + 1;
+            }
+        }
+    }
+    0
+}
+
 /// Cuts a desk after each of its events, from the first `start` on, and opens what is left. It lists what there was before,
-/// and from `with_header` events on, the last of which programs the new header, what was committed.
+/// and from `committed` events on, the last of which programs the commit sector, what was committed.
 fn cut_each(
     rt: &impl Abort,
     alloc: Global,
     desk: &MemDesk,
     start: usize,
-    with_header: usize,
+    committed: usize,
     before: &[u8],
     after: &[u8],
 ) -> Result<(), Fail> {
     for at in start..desk.chip().events().len() + 1 {
         for left in [Left::Old, Left::Whole, Left::Torn] {
-            // Only while the new header is open does it depend on what is left of it.
-            let is_new = at > with_header || (at == with_header && left == Left::Whole);
+            // Only while the commit sector is open does it depend on what is left of it.
+            let is_new = at > committed || (at == committed && left == Left::Whole);
             let records = if is_new { after } else { before };
             let image = cut(alloc, desk, at, left)?;
             assert!(rt; lists(alloc, image, records)?, "{left:?} after {at} events");
@@ -107,57 +114,60 @@ fn cut_each(
     Ok(())
 }
 
+/// How many events come before the first saying.
+fn before_the_first_saying(events: &[Event]) -> usize {
+    for (number, event) in events.iter().enumerate() {
+        if matches!(event, Event::Said(_)) {
+            return number;
+        }
+    }
+    events.len()
+}
+
 #[test]
 fn cut_after_each_event(rt: HostRuntime) -> Result<(), Fail> {
     let alloc = rt.alloc();
-    let mut desk = desk_with(alloc, ONE_SESSION, &[], 300)?;
+    let mut desk = desk_with(alloc, ONE_SESSION, &[], ROOM)?;
     assert_eq!(rt; run(alloc, &mut desk)?, 0);
     let events = desk.chip().events();
-    assert_eq!(rt; events.len(), 23);
-    assert!(rt; matches!(events.get(16), Some(Event::Program(2, 0, _))));
-    cut_each(&rt, alloc, &desk, FORMAT, 17, NO_RECORD, ONE_RECORD)
+    let committed = commit_end(events, before_the_first_saying(events));
+    assert!(rt; committed > FORMAT);
+    cut_each(&rt, alloc, &desk, FORMAT, committed, NO_RECORD, ONE_RECORD)
 }
 
 #[test]
 fn a_second_run_is_cut_after_each_event(rt: HostRuntime) -> Result<(), Fail> {
     let alloc = rt.alloc();
-    let mut first = desk_with(alloc, ONE_SESSION, &[], 300)?;
+    let mut first = desk_with(alloc, ONE_SESSION, &[], ROOM)?;
     assert_eq!(rt; run(alloc, &mut first)?, 0);
-    // The commit's last barrier is event 17, and its reply event 18.
-    assert!(rt; matches!(first.chip().events().get(18), Some(Event::Said(_))));
-    let image = cut(alloc, &first, 19, Left::Old)?;
+    let image = left_by(alloc, &first)?;
     let mut second = MemDesk::new(alloc, image, b"begin 0\nput 0 6 61\ncommit 0\n", &[])?;
     assert_eq!(rt; ends(alloc, "run ram:5", &mut second)?, 0);
     assert_eq!(rt;
         said(alloc, &second)?.as_slice(),
         b"ok\nok\nok\n".as_slice()
     );
-    // After the opening, which reads a base sector too: two replies, the commit's six events and its reply.
-    let header = OPENING + 7;
     let events = second.chip().events();
-    assert_eq!(rt; events.len(), header + 3);
-    assert!(rt; matches!(events.get(header), Some(Event::Program(0, 0, _))));
-    cut_each(&rt, alloc, &second, 0, header + 1, ONE_RECORD, TWO_RECORDS)
+    let committed = commit_end(events, before_the_first_saying(events));
+    assert!(rt; committed > 0);
+    cut_each(&rt, alloc, &second, 0, committed, ONE_RECORD, TWO_RECORDS)
 }
 
-/// From which call to below which, what is noted and what is said where that call fails, and what the chip lists after it.
-type Outcome<'a> = (u64, u64, &'a [u8], &'a [u8], Option<&'a [u8]>);
-
-/// Runs a script over a formatted chip whose call of this number fails.
+/// Runs a script over a chip whose call of this number fails: what is noted and said, and what the chip lists after it.
 fn fail(
     rt: &impl Abort,
     alloc: Global,
     line: &str,
     script: &[u8],
     call: u64,
-    outcome: Outcome<'_>,
+    noted: &[u8],
+    replies: &[u8],
+    listed: Option<&[u8]>,
 ) -> Result<(), Fail> {
-    let (_, _, noted, replies, listed) = outcome;
-    let mut chip = formatted(alloc, 5, 300)?;
+    let mut chip = formatted(alloc, 5, ROOM)?;
     chip.fail_at([call].to_vec(alloc)?);
     let mut desk = MemDesk::new(alloc, chip, script, &[])?;
-    let status = if noted.is_empty() { 0 } else { 3 };
-    assert_eq!(rt; ends(alloc, line, &mut desk)?, status, "call {call}");
+    assert_eq!(rt; ends(alloc, line, &mut desk)?, 3, "call {call}");
     assert_eq!(rt; desk.noted(), noted, "call {call}");
     assert_eq!(rt; said(alloc, &desk)?.as_slice(), replies, "call {call}");
     if let Some(records) = listed {
@@ -167,69 +177,59 @@ fn fail(
     Ok(())
 }
 
+/// How many of the first `number` events are calls of the chip.
+fn calls_before(events: &[Event], number: usize) -> u64 {
+    events
+        .iter()
+        .take(number)
+        .filter(|event| !matches!(event, Event::Said(_)))
+        .count() as u64
+}
+
+/// Each call of a run over a formatted chip fails in turn; of the first `silent` nothing is known of the chip after it.
+fn each_fails(
+    rt: &impl Abort,
+    alloc: Global,
+    line: &str,
+    script: &[u8],
+    silent: usize,
+) -> Result<(), Fail> {
+    let mut whole = MemDesk::new(alloc, formatted(alloc, 5, ROOM)?, script, &[])?;
+    assert_eq!(rt; ends(alloc, line, &mut whole)?, 0);
+    let events = whole.chip().events();
+    let committed = commit_end(events, before_the_first_saying(events));
+    let mut replies = Vec::new(alloc);
+    for (number, event) in events.iter().enumerate() {
+        // A program that fails isn't done.
+        let records = if number < committed {
+            NO_RECORD
+        } else {
+            ONE_RECORD
+        };
+        let listed = if number < silent { None } else { Some(records) };
+        let noted = match event {
+            Event::Said(piece) => {
+                replies.extend_from_slice(piece.bytes())?;
+                continue;
+            }
+            Event::Read(_, _) => READ_FAILED,
+            _ => WRITE_FAILED,
+        };
+        let call = calls_before(events, number);
+        fail(rt, alloc, line, script, call, noted, &replies, listed)?;
+    }
+    Ok(())
+}
+
 #[test]
 fn each_call_of_the_chip_fails(rt: HostRuntime) -> Result<(), Fail> {
     let alloc = rt.alloc();
-    // The format; of the commit an erase, a barrier, the page, a barrier and the header; its last barrier; none.
-    let begun = b"ok\nok\nvalue 6869\n".as_slice();
-    let cases = [
-        (0, 9, WRITE_FAILED, b"".as_slice(), None),
-        (9, 14, WRITE_FAILED, begun, Some(NO_RECORD)),
-        (14, 15, WRITE_FAILED, begun, Some(ONE_RECORD)),
-        (15, 16, b"", ITS_REPLIES, Some(ONE_RECORD)),
-    ];
-    for case in cases {
-        for call in case.0..case.1 {
-            fail(&rt, alloc, "run ram:5 --format", ONE_SESSION, call, case)?;
-        }
-    }
-    Ok(())
+    each_fails(&rt, alloc, "run ram:5 --format", ONE_SESSION, FORMAT)
 }
 
 #[test]
 fn each_call_of_a_run_that_opens_fails(rt: HostRuntime) -> Result<(), Fail> {
     let alloc = rt.alloc();
     let script = b"list 0 9\nbegin 0\nput 0 5 6869\ncommit 0\n";
-    // The opening, and then the commit as above.
-    let end = OPENING as u64;
-    let begun = b"end\nok\nok\n".as_slice();
-    let cases = [
-        (0, end, READ_FAILED, b"".as_slice(), Some(NO_RECORD)),
-        (end, end + 5, WRITE_FAILED, begun, Some(NO_RECORD)),
-        (end + 5, end + 6, WRITE_FAILED, begun, Some(ONE_RECORD)),
-        (
-            end + 6,
-            end + 7,
-            b"",
-            b"end\nok\nok\nok\n",
-            Some(ONE_RECORD),
-        ),
-    ];
-    for case in cases {
-        for call in case.0..case.1 {
-            fail(&rt, alloc, "run ram:5", script, call, case)?;
-        }
-    }
-    Ok(())
-}
-
-#[test]
-fn places_take_turns(rt: HostRuntime) -> Result<(), Fail> {
-    let alloc = rt.alloc();
-    let script =
-        b"begin 0\nput 0 5 61\ncommit 0\nbegin 0\nput 0 5 62\ncommit 0\nbegin 0\nput 0 5 63\ncommit 0\n";
-    let mut desk = desk_with(alloc, script, &[], 60)?;
-    assert_eq!(rt; run(alloc, &mut desk)?, 0);
-    let mut erased = Vec::new(alloc);
-    let mut generations = Vec::new(alloc);
-    for (number, event) in desk.chip().events().iter().enumerate() {
-        match event {
-            Event::Erase(place) if number >= FORMAT => erased.push(*place)?,
-            Event::Program(_, 0, bytes) => generations.push(bytes[19])?,
-            _ => {}
-        }
-    }
-    assert_eq!(rt; erased.as_slice(), [2, 0, 2].as_slice());
-    assert_eq!(rt; generations.as_slice(), [1, 2, 4, 6, 8].as_slice());
-    Ok(())
+    each_fails(&rt, alloc, "run ram:5", script, 0)
 }

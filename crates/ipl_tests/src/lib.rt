@@ -1,12 +1,16 @@
 //! Tests of the program over desks in memory: what it says and notes, what power cuts and faults of the chip leave, what is
-//! opened of changed chips, and serial views. They stand in a crate of their own so that the crates below are proved once.
+//! opened of changed chips, trials and serial views. They stand in a crate of their own so that the crates below are proved once.
 #![tactic(auto)]
 
+#[cfg(test)]
+mod chains;
 #[cfg(test)]
 mod cuts;
 #[cfg(test)]
 mod openings;
 #[cfg(test)]
 mod runs;
+#[cfg(test)]
+mod trials;
 #[cfg(test)]
 mod views;

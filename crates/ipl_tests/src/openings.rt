@@ -1,5 +1,5 @@
 //! Chips that a format or a run left and that were changed after it, opened; and how much an opening reads.
-use crate::runs::{desk_with, ends, formatted, left_by, run, said};
+use crate::runs::{ROOM, desk_with, ends, formatted, left_by, run, said};
 use chip_mem::MemChip;
 use chip_trait::{Chip, Event};
 use crc_sum::crc32_parts;
@@ -84,7 +84,7 @@ fn changed(
     alloc: Global,
     sectors: &[(u32, u32, Head, &[u8])],
 ) -> Result<MemChip, Fail> {
-    let mut chip = formatted(alloc, 5, 2000)?;
+    let mut chip = formatted(alloc, 5, ROOM)?;
     for (place, sector, head, payload) in sectors {
         put(rt, &mut chip, *place, *sector, *head, payload);
     }
@@ -168,7 +168,7 @@ fn the_first_fault_is_noted(rt: HostRuntime) -> Result<(), Fail> {
 fn a_unit_has_sixteen_live_sectors_in_overflow_places(rt: HostRuntime) -> Result<(), Fail> {
     let alloc = rt.alloc();
     for (most, fault) in [(16, ""), (17, "malformed place 2 sector 17")] {
-        let mut chip = formatted(alloc, 5, 2000)?;
+        let mut chip = formatted(alloc, 5, ROOM)?;
         put(&rt, &mut chip, 2, 0, OVERFLOW, &[]);
         for sector in 1..most + 1 {
             let serial = u64::from(sector) + 9;
@@ -179,58 +179,70 @@ fn a_unit_has_sixteen_live_sectors_in_overflow_places(rt: HostRuntime) -> Result
     Ok(())
 }
 
-/// A chip after one commit. Its record stands at place 2, sector 1.
-fn with_record(rt: &impl Abort, alloc: Global) -> Result<MemChip, Fail> {
-    let mut desk = desk_with(alloc, b"begin 0\nput 0 5 6869\ncommit 0\n", &[], 2000)?;
+/// A chip after one commit and a merge, so that its record stands in a base sector, and the place of that.
+fn with_record(rt: &impl Abort, alloc: Global) -> Result<(MemChip, u32), Fail> {
+    let script = b"begin 0\nput 0 5 6869\ncommit 0\nmerge 0\n";
+    let mut desk = desk_with(alloc, script, &[], ROOM)?;
     assert_eq!(rt; run(alloc, &mut desk)?, 0);
-    left_by(alloc, &desk)
+    let mut home = 0;
+    for event in desk.chip().events() {
+        if let Event::Program(place, 1, bytes) = event {
+            if bytes[4] == Head::BASE {
+                home = *place;
+            }
+        }
+    }
+    Ok((left_by(alloc, &desk)?, home))
 }
 
 #[test]
-fn a_base_sector_that_reads_badly_is_noted(rt: HostRuntime) -> Result<(), Fail> {
+fn a_base_sector_that_reads_badly_is_noted_when_it_is_read(rt: HostRuntime) -> Result<(), Fail> {
     let alloc = rt.alloc();
-    let mut chip = with_record(&rt, alloc)?;
+    let (mut chip, home) = with_record(&rt, alloc)?;
     let mut bytes = [0; 512];
-    assert!(rt; 2 < chip.units());
-    assert!(rt; chip.read(2, 1, &mut bytes).is_ok());
+    assert!(rt; home < chip.units());
+    assert!(rt; chip.read(home, 1, &mut bytes).is_ok());
     bytes[40] ^= 1;
-    assert!(rt; 2 < chip.units());
-    chip.alter(2, 1, &bytes);
+    assert!(rt; home < chip.units());
+    chip.alter(home, 1, &bytes);
     let stored = u32::from_be_bytes([bytes[28], bytes[29], bytes[30], bytes[31]]);
     let computed = crc32_parts(&bytes[..28], &bytes[32..]);
     let sums = format!(in alloc; "stored {stored:08x} computed {computed:08x}")?;
-    let fault = format!(in alloc; "damaged place 2 sector 1 {sums}")?;
+    let fault = format!(in alloc; "damaged place {home} sector 1 {sums}")?;
     check(&rt, alloc, chip, fault.as_str())?;
-    let mut chip = with_record(&rt, alloc)?;
-    assert!(rt; 2 < chip.units());
-    chip.alter(2, 1, &[0xff; 512]);
-    check(&rt, alloc, chip, "malformed place 2 sector 1")
+    let (mut chip, home) = with_record(&rt, alloc)?;
+    assert!(rt; home < chip.units());
+    chip.alter(home, 1, &[0xff; 512]);
+    let fault = format!(in alloc; "malformed place {home} sector 1")?;
+    check(&rt, alloc, chip, fault.as_str())
 }
 
-/// How many sectors an opening reads, where it asks for nothing else.
+/// How many sectors were read.
+fn count_reads(chip: &MemChip) -> usize {
+    chip.events()
+        .iter()
+        .filter(|event| matches!(event, Event::Read(_, _)))
+        .count()
+}
+
+/// How many sectors an opening reads, where the script asks for nothing else.
 fn reads(rt: &impl Abort, alloc: Global, line: &str, chip: MemChip) -> Result<usize, Fail> {
     let mut desk = MemDesk::new(alloc, chip, b"", &[])?;
     assert_eq!(rt; ends(alloc, line, &mut desk)?, 0);
-    let events = desk.chip().events();
-    for event in events {
-        assert!(rt; matches!(event, Event::Read(_, _)));
-    }
-    Ok(events.len())
+    Ok(count_reads(desk.chip()))
 }
 
 #[test]
 fn an_opening_reads_only_what_counts(rt: HostRuntime) -> Result<(), Fail> {
     let alloc = rt.alloc();
-    // The headers, the rest of the status place, the log sectors of each unit, and the header of unit 0 again.
-    let small = formatted(alloc, 5, 2000)?;
-    assert_eq!(rt; reads(&rt, alloc, "run ram:5", small)?, 5 + 255 + 15 + 1);
-    let large = formatted(alloc, 257, 5000)?;
+    // The headers, the rest of the status place, and the log sectors of each unit; and then, so that
+    // a new status place has the numbers that are still wanted, each unit's header and its log again.
+    let small = formatted(alloc, 5, ROOM)?;
+    assert_eq!(rt; reads(&rt, alloc, "run ram:5", small)?, 5 + 255 + 15 + 16);
+    let large = formatted(alloc, 257, 3 * ROOM)?;
     assert_eq!(rt;
         reads(&rt, alloc, "run ram:257", large)?,
-        257 + 255 + 253 * 15 + 1
+        257 + 255 + 253 * 15 + 253 * 16
     );
-    // And the one base sector.
-    let written = with_record(&rt, alloc)?;
-    assert_eq!(rt; reads(&rt, alloc, "run ram:5", written)?, 276 + 1);
     Ok(())
 }

@@ -7,6 +7,9 @@ use restart::format;
 use std::alloc::Global;
 use std::test::Fail;
 
+/// Room for the events of a format, some openings and some commits.
+pub(crate) const ROOM: u64 = 4000;
+
 /// One session: a put that is seen, committed and seen again, and a name that has no record.
 pub(crate) const ONE_SESSION: &[u8] =
     b"begin 0\nput 0 5 6869\nget 0 5\ncommit 0\nbegin 0\nget 0 5\nget 0 6\nabort 0";
@@ -92,7 +95,7 @@ fn long_put(alloc: Global, digits: u32) -> Result<Vec<u8>, Fail> {
 fn a_script_of_one_session(rt: HostRuntime) -> Result<(), Fail> {
     let alloc = rt.alloc();
     for cuts in [&[][..], &[1; 80], &[1, 2, 3, 5, 1, 7, 30]] {
-        let mut desk = desk_with(alloc, ONE_SESSION, cuts, 60)?;
+        let mut desk = desk_with(alloc, ONE_SESSION, cuts, ROOM)?;
         assert_eq!(rt; run(alloc, &mut desk)?, 0);
         assert_eq!(rt; said(alloc, &desk)?.as_slice(), ITS_REPLIES);
         assert_eq!(rt; desk.noted().len(), 0);
@@ -107,10 +110,7 @@ fn lines_of_every_kind(rt: HostRuntime) -> Result<(), Fail> {
         (b"", b""),
         (b"\n\n# a comment\n", b""),
         (b"begin 0\nbegin 0\n", b"ok\nerr 5 alreadyopen\n"),
-        (
-            b"begin 1\nbegin 32\n",
-            b"err 2 badsession\nerr 2 badsession\n",
-        ),
+        (b"begin 1\nbegin 32\n", b"ok\nerr 2 badsession\n"),
         (b"get 0 960\nget 0 959\n", b"err 3 badname\nerr 6 notopen\n"),
         (
             b"begin 0\nput 0 5 -\nget 0 5\nput 0 5 abc\n",
@@ -130,7 +130,7 @@ fn lines_of_every_kind(rt: HostRuntime) -> Result<(), Fail> {
         ),
     ];
     for (script, replies) in cases {
-        let mut desk = desk_with(alloc, script, &[], 60)?;
+        let mut desk = desk_with(alloc, script, &[], ROOM)?;
         assert_eq!(rt; run(alloc, &mut desk)?, 0);
         assert_eq!(rt; said(alloc, &desk)?.as_slice(), replies);
     }
@@ -144,7 +144,7 @@ fn long_lines(rt: HostRuntime) -> Result<(), Fail> {
         (1016, b"err 4 toolong\n".as_slice()),
         (1018, b"err 1 syntax\n"),
     ] {
-        let mut desk = desk_with(alloc, &long_put(alloc, digits)?, &[], 60)?;
+        let mut desk = desk_with(alloc, &long_put(alloc, digits)?, &[], ROOM)?;
         assert_eq!(rt; run(alloc, &mut desk)?, 0);
         assert_eq!(rt; said(alloc, &desk)?.as_slice(), reply);
     }
@@ -159,7 +159,7 @@ fn a_long_comment(rt: HostRuntime) -> Result<(), Fail> {
         script.push(b'x')?;
     }
     script.extend_from_slice(b"\nbegin 0\n")?;
-    let mut desk = desk_with(alloc, &script, &[], 60)?;
+    let mut desk = desk_with(alloc, &script, &[], ROOM)?;
     assert_eq!(rt; run(alloc, &mut desk)?, 0);
     assert_eq!(rt; said(alloc, &desk)?.as_slice(), b"ok\n".as_slice());
     Ok(())
@@ -168,7 +168,7 @@ fn a_long_comment(rt: HostRuntime) -> Result<(), Fail> {
 #[test]
 fn the_second_read_fails(rt: HostRuntime) -> Result<(), Fail> {
     let alloc = rt.alloc();
-    let mut desk = desk_with(alloc, ONE_SESSION, &[30], 60)?;
+    let mut desk = desk_with(alloc, ONE_SESSION, &[30], ROOM)?;
     desk.fail_reads(Vec::from_slice(alloc, &[1])?);
     assert_eq!(rt; run(alloc, &mut desk)?, 6);
     assert_eq!(rt; desk.noted(), b"ipl: script failed\n".as_slice());
@@ -182,7 +182,7 @@ fn the_second_read_fails(rt: HostRuntime) -> Result<(), Fail> {
 #[test]
 fn a_saying_fails_after_one_byte(rt: HostRuntime) -> Result<(), Fail> {
     let alloc = rt.alloc();
-    let mut desk = desk_with(alloc, ONE_SESSION, &[], 60)?;
+    let mut desk = desk_with(alloc, ONE_SESSION, &[], ROOM)?;
     let mut says = Vec::new(alloc);
     says.push(FailingSay { number: 2, kept: 1 })?;
     desk.fail_says(says);
@@ -192,11 +192,28 @@ fn a_saying_fails_after_one_byte(rt: HostRuntime) -> Result<(), Fail> {
     Ok(())
 }
 
+/// How many events come before the saying of this number.
+fn events_before(desk: &MemDesk, number: usize) -> usize {
+    let mut more = number;
+    for (at, event) in desk.chip().events().iter().enumerate() {
+        if matches!(event, Event::Said(_)) {
+            if more == 0 {
+                return at;
+            }
+            more -= 1;
+        }
+    }
+    desk.chip().events().len()
+}
+
 #[test]
 fn the_room_is_spent(rt: HostRuntime) -> Result<(), Fail> {
     let alloc = rt.alloc();
-    // The format takes nine events, and the third saying has no room.
-    let mut desk = desk_with(alloc, ONE_SESSION, &[], 11)?;
+    let mut whole = desk_with(alloc, ONE_SESSION, &[], ROOM)?;
+    assert_eq!(rt; run(alloc, &mut whole)?, 0);
+    // The third saying has no room.
+    let room = events_before(&whole, 2) as u64;
+    let mut desk = desk_with(alloc, ONE_SESSION, &[], room)?;
     assert_eq!(rt; run(alloc, &mut desk)?, 7);
     assert_eq!(rt; said(alloc, &desk)?.as_slice(), b"ok\nok\n".as_slice());
     Ok(())
@@ -234,13 +251,14 @@ fn other_words_leave_the_script_and_the_chip(rt: HostRuntime) -> Result<(), Fail
         "run ram:05",
         "run ram:5 --format --format",
         "run ram:5 ram:6",
-        "run ram:5 --frames 4",
+        "run ram:5 --frames 1",
+        "run ram:5 --frames 65",
         "format ram:5 --format",
         "run file:5:",
         "--help",
     ];
     for line in lines {
-        let mut desk = desk_with(alloc, b"begin 0\n", &[], 60)?;
+        let mut desk = desk_with(alloc, b"begin 0\n", &[], ROOM)?;
         assert_eq!(rt; ends(alloc, line, &mut desk)?, 2, "{line}");
         let noted = b"ipl: bad command line\n".as_slice();
         assert_eq!(rt; desk.noted(), noted, "{line}");
@@ -256,7 +274,7 @@ fn other_words_leave_the_script_and_the_chip(rt: HostRuntime) -> Result<(), Fail
 #[test]
 fn a_format_and_two_runs_after_it(rt: HostRuntime) -> Result<(), Fail> {
     let alloc = rt.alloc();
-    let mut desk = desk_with(alloc, b"begin 0\n", &[], 300)?;
+    let mut desk = desk_with(alloc, b"begin 0\n", &[], ROOM)?;
     assert_eq!(rt; ends(alloc, "format ram:5", &mut desk)?, 0);
     assert_eq!(rt; desk.noted().len(), 0);
     // Five erases, a barrier, two headers and a barrier, and then the line.
@@ -274,15 +292,43 @@ fn a_format_and_two_runs_after_it(rt: HostRuntime) -> Result<(), Fail> {
 }
 
 #[test]
-fn names_end_at_960_on_six_places_too(rt: HostRuntime) -> Result<(), Fail> {
+fn names_end_with_the_last_unit(rt: HostRuntime) -> Result<(), Fail> {
     let alloc = rt.alloc();
-    let script = b"begin 0\nput 0 959 aa\nput 0 960 bb\n";
-    let mut desk = MemDesk::new(alloc, MemChip::new(alloc, 6, 60)?, script, &[])?;
+    let script = b"begin 0\nput 0 1919 aa\nput 0 1920 bb\nmerge 1\nmerge 2\n";
+    let mut desk = MemDesk::new(alloc, MemChip::new(alloc, 6, ROOM)?, script, &[])?;
     assert_eq!(rt; ends(alloc, "run ram:6 --format", &mut desk)?, 0);
     assert_eq!(rt;
         said(alloc, &desk)?.as_slice(),
-        b"ok\nok\nerr 3 badname\n".as_slice()
+        b"ok\nok\nerr 3 badname\nok\nerr 11 badunit\n".as_slice()
     );
+    Ok(())
+}
+
+#[test]
+fn sessions_side_by_side(rt: HostRuntime) -> Result<(), Fail> {
+    let alloc = rt.alloc();
+    let cases: [(&[u8], &[u8]); 3] = [
+        (
+            b"begin 0\nput 0 5 6869\nrestart\ncommit 0\nlist 0 9\n",
+            b"ok\nok\nok\nerr 6 notopen\nend\n",
+        ),
+        (
+            b"begin 0\nput 0 5 61\ncommit 0\nbegin 0\nput 0 5 62\nbegin 1\nget 1 5\nshare 1 5\n",
+            b"ok\nok\nok\nok\nok\nok\nvalue 61\nerr 7 conflict 0\n",
+        ),
+        (
+            b"begin 0\nbegin 1\nshare 0 5\nshare 1 5\nput 0 5 aa\ncommit 1\nput 0 5 aa\n",
+            b"ok\nok\nnone\nnone\nerr 7 conflict 1\nok\nok\n",
+        ),
+    ];
+    for (script, replies) in cases {
+        for frames in ["2", "16", "64"] {
+            let mut desk = desk_with(alloc, script, &[], ROOM)?;
+            let line = format!(in alloc; "run ram:5 --format --frames {frames}")?;
+            assert_eq!(rt; ends(alloc, line.as_str(), &mut desk)?, 0);
+            assert_eq!(rt; said(alloc, &desk)?.as_slice(), replies);
+        }
+    }
     Ok(())
 }
 
@@ -293,7 +339,7 @@ fn a_list_and_a_delete(rt: HostRuntime) -> Result<(), Fail> {
         b"begin 0\nput 0 7 01\nput 0 2 -\nlist 0 9\ncommit 0\nlist 0 9\nlist 9 0\nbegin 0\ndel 0 7\ncommit 0\nlist 0 9\nlist 0 960\n";
     let replies =
         b"ok\nok\nok\nend\nok\n2 -\n7 01\nend\nend\nok\nok\nok\n2 -\nend\nerr 3 badname\n";
-    let mut desk = desk_with(alloc, script, &[], 60)?;
+    let mut desk = desk_with(alloc, script, &[], ROOM)?;
     assert_eq!(rt; run(alloc, &mut desk)?, 0);
     assert_eq!(rt; said(alloc, &desk)?.as_slice(), replies.as_slice());
     Ok(())

@@ -38,7 +38,7 @@ fn transactions_stand_in_the_order_of_their_commits(rt: HostRuntime) -> Result<(
 #[test]
 fn what_has_no_place_in_a_view(rt: HostRuntime) -> Result<(), Fail> {
     let alloc = rt.alloc();
-    let cases: [(&[u8], &[u8]); 6] = [
+    let cases: [(&[u8], &[u8]); 8] = [
         (b"", b""),
         (b"begin 0\nput 0 1 aa\nabort 0\nbegin 0\nput 0 1 aa", b""),
         // Empty lines and comments have no position, and a line that is no command has one.
@@ -59,6 +59,16 @@ fn what_has_no_place_in_a_view(rt: HostRuntime) -> Result<(), Fail> {
         (
             b"begin 0\nbegin 31\nput 0 1 aa\nput 31 1 bb\ncommit 0\nput 31 1 cc\ncommit 31\n",
             b"0\n2\n4\n1\n5\n6\n",
+        ),
+        // A restart drops the sessions that are open.
+        (
+            b"begin 0\nput 0 1 aa\nrestart\nbegin 0\ncommit 0",
+            b"3\n4\n",
+        ),
+        // Three transactions of one session.
+        (
+            b"begin 0\nput 0 1 aa\ncommit 0\nbegin 0\ncommit 0\nbegin 0\ndel 0 1\ncommit 0",
+            b"0\n1\n2\n3\n4\n5\n6\n7\n",
         ),
     ];
     for (script, lines) in cases {

@@ -1,7 +1,9 @@
 -- The first part of a list that is cut at elements that pass a test.
 use Rattle.std.proofs.Common.{◌≡◌, ℕ, ◌+◌, ◌-◌, ◌<◌, ◌≤◌, Bool, true, false, not, cond, ltb, List, [], ◌∷◌, length, take, drop, Option, Some, None, refl, sym, ◌∙◌, ap, arith}
 use Rattle.std.specs.List.{slice_split, position_or_len, onto_first}
-use Rattle.ipl_model.specs.Grammar.{is_space, one_number, two_numbers, numbers_and_value}
+use Rattle.ipl_model.specs.declared.command.Command.{Command}
+use Rattle.ipl_model.specs.declared.command.Command.TheVariants.{Syntax}
+use Rattle.ipl_model.specs.Grammar.{is_space, one_number, two_numbers, numbers_and_value, alone}
 use Rattle.std.proofs.lemmas.Bool.{ltb-true}
 use Rattle.std.proofs.lemmas.Bool.Decides.{nat_tests}
 use Rattle.std.proofs.lemmas.Option.{cond_some}
@@ -46,6 +48,9 @@ parts p (x ∷ xs) = at_head (p x) (parts p xs)
     at_head false rest = (x ∷ rest.0, rest.1, ap (onto_first x) rest.2)
 
 -- so a word more than are wanted is one too many
+pub one_word_too_many : (command : Command) (rest : List ℕ) → alone command (slice_split is_space rest) ≡ Syntax
+one_word_too_many command rest = ap (λ (ws : List (List ℕ)). alone command ws) (parts is_space rest).2
+
 pub one_too_many : (w rest : List ℕ) → one_number (w ∷ slice_split is_space rest) ≡ None
 one_too_many w rest = ap (λ (ws : List (List ℕ)). one_number (w ∷ ws)) (parts is_space rest).2
 

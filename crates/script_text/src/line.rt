@@ -2,7 +2,8 @@
 ghost use Rattle.std.specs.Prelude.{◌≡◌, ◌≤◌, length, IfSome};
 ghost use Rattle.std.specs.Option.{option_copied};
 ghost use Rattle.std.specs.List.{slice_split};
-ghost use Rattle.ipl_model.specs.Grammar.{is_space, words_behind, one_number, two_numbers, numbers_and_value, command_of, line_of};
+ghost use Rattle.ipl_model.specs.declared.command.Command.TheVariants.{Restart};
+ghost use Rattle.ipl_model.specs.Grammar.{is_space, words_behind, one_number, two_numbers, numbers_and_value, alone, command_of, line_of};
 
 use crate::word::{first_word, value};
 use ipl_model::{Command, Line, PutBytes};
@@ -45,6 +46,17 @@ fn numbers_and_value(words: Option<&[u8]>) -> Option<(u32, u32, PutBytes)>
     }
 }
 
+/// A restart, where no words stand behind the verb.
+#[tactic(auto, using(crate::proofs::Words::one_word_too_many))]
+fn restart(words: Option<&[u8]>) -> Command
+    ensures { result ≡ alone Restart (words_behind (option_copied words.entry)) }
+{
+    match words {
+        None => Command::Restart,
+        Some(_) => Command::Syntax,
+    }
+}
+
 /// The command that a line is.
 fn command(line: &[u8]) -> Command
     requires { length line.now ≤ 1024 }
@@ -55,6 +67,8 @@ fn command(line: &[u8]) -> Command
         one_number(words).map_or(Command::Syntax, |s| Command::Begin(s))
     } else if verb == b"get".as_slice() {
         two_numbers(words).map_or(Command::Syntax, |a| Command::Get(a.0, a.1))
+    } else if verb == b"share".as_slice() {
+        two_numbers(words).map_or(Command::Syntax, |a| Command::Share(a.0, a.1))
     } else if verb == b"put".as_slice() {
         match numbers_and_value(words) {
             Some((session, name, bytes)) => Command::Put(session, name, bytes),
@@ -68,6 +82,10 @@ fn command(line: &[u8]) -> Command
         one_number(words).map_or(Command::Syntax, |s| Command::Abort(s))
     } else if verb == b"list".as_slice() {
         two_numbers(words).map_or(Command::Syntax, |a| Command::List(a.0, a.1))
+    } else if verb == b"merge".as_slice() {
+        one_number(words).map_or(Command::Syntax, |unit| Command::Merge(unit))
+    } else if verb == b"restart".as_slice() {
+        restart(words)
     } else {
         Command::Syntax
     }

@@ -15,7 +15,7 @@ fn put(session: u32, name: u32, bytes: &[u8]) -> Line
 
 #[test]
 fn lines_say_commands(rt: HostRuntime) {
-    let table: [(&[u8], Line); 20] = [
+    let table: [(&[u8], Line); 24] = [
         (b"", Line::Skip),
         (b"#", Line::Skip),
         (b"# begin 0", Line::Skip),
@@ -36,6 +36,10 @@ fn lines_say_commands(rt: HostRuntime) {
         (b"abort 0", Line::Do(Command::Abort(0))),
         (b"abort 4294967295", Line::Do(Command::Abort(4_294_967_295))),
         (b"list 0 9", Line::Do(Command::List(0, 9))),
+        (b"share 31 5", Line::Do(Command::Share(31, 5))),
+        (b"merge 0", Line::Do(Command::Merge(0))),
+        (b"merge 1023", Line::Do(Command::Merge(1023))),
+        (b"restart", Line::Do(Command::Restart)),
     ];
     for (line, want) in &table {
         assert_eq!(rt; parse(line), *want, "at {line:?}");
@@ -44,7 +48,7 @@ fn lines_say_commands(rt: HostRuntime) {
 
 #[test]
 fn other_lines_are_no_commands(rt: HostRuntime) {
-    let table: [&[u8]; 38] = [
+    let table: [&[u8]; 44] = [
         b" ",
         b" # begin 0",
         b"begin",
@@ -82,6 +86,12 @@ fn other_lines_are_no_commands(rt: HostRuntime) {
         b"put 0 5 61 62",
         b"del 0",
         b"list 0",
+        b"share 0",
+        b"share 0 5 6",
+        b"merge",
+        b"merge 0 1",
+        b"restart ",
+        b"restart 0",
         b"walk",
     ];
     for line in &table {

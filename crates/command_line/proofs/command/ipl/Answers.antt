@@ -21,5 +21,7 @@ returns c =
     ∙ ap₂ with_subcommand base (ap top c.in_ok-format_part.ensures.app) in
     let second = c.in_ok-subcommand-2.ensures.shape c.in_ok-run_part.ensures.local
     ∙ ap₂ with_subcommand first (ap top c.in_ok-run_part.ensures.app) in
-    IfOk-weaker c.subcommand-3.result _ _ (λ r h. h.shape c.in_ok-serial_part.ensures.local
-    ∙ ap₂ with_subcommand second (ap top c.in_ok-serial_part.ensures.app)) c.subcommand-3.ensures
+    let third = c.in_ok-subcommand-3.ensures.shape c.in_ok-serial_part.ensures.local
+    ∙ ap₂ with_subcommand second (ap top c.in_ok-serial_part.ensures.app) in
+    IfOk-weaker c.subcommand-4.result _ _ (λ r h. h.shape c.in_ok-trial_part.ensures.local
+    ∙ ap₂ with_subcommand third (ap top c.in_ok-trial_part.ensures.app)) c.subcommand-4.ensures

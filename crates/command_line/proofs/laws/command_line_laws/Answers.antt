@@ -1,4 +1,4 @@
-use Rattle.command_line.proofs.ExampleLemmas.{words, no_words, together}
+use Rattle.command_line.proofs.ExampleLemmas.{words, frames, trials, no_words, no_frames, no_trials, together}
 use Rattle.command_line.proofs.laws.command_line_laws.Goals as goal
 
 pub returns-clause-together : goal.returns-clause-together
@@ -7,5 +7,17 @@ returns-clause-together c = together
 pub returns-clause-examples : goal.returns-clause-examples
 returns-clause-examples c = words
 
+pub returns-clause-frames : goal.returns-clause-frames
+returns-clause-frames c = frames
+
+pub returns-clause-trials : goal.returns-clause-trials
+returns-clause-trials c = trials
+
 pub returns-clause-others : goal.returns-clause-others
 returns-clause-others c = no_words
+
+pub returns-clause-other_frames : goal.returns-clause-other_frames
+returns-clause-other_frames c = no_frames
+
+pub returns-clause-other_trials : goal.returns-clause-other_trials
+returns-clause-other_trials c = no_trials

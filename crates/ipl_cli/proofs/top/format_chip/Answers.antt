@@ -1,13 +1,44 @@
+use Rattle.store_trait.proofs.OnwardLemmas.{onward_counts, onward_said, further_onward, further_then}
 use Rattle.ipl_cli.proofs.EndLemmas.{said_ok, said_part}
 use Rattle.ipl_cli.proofs.TopLemmas.{failed_format}
 use Rattle.ipl_cli.proofs.top.format_chip.Goals as goal
 
 pub returns-in-Err-clause-leaves : goal.returns-in-Err-clause-leaves
 returns-in-Err-clause-leaves g c =
-    rw c.format_end.ensures (failed_format (g.D.Chip.told c.args.desk.now) (g.D.Chip.told c.format.new.chip) c.format.ensures.counts c.in-Err.fault c.in-Err.ensures.unchanged (λ h told. c.in-Err.ensures.formats h told))
+    rw c.format_end.ensures (failed_format (g.D.Chip.told c.args.desk.now)
+    (g.D.Chip.told c.format.new.chip) c.format.ensures.counts c.in-Err.fault
+    c.in-Err.ensures.unchanged (λ h told. c.in-Err.ensures.formats h told))
 
 pub returns-in-Ok-say-clause-leaves : goal.returns-in-Ok-say-clause-leaves
-returns-in-Ok-say-clause-leaves g c = said_ok (g.D.Chip.told c.args.desk.now) (g.D.Chip.told c.format.new.chip) (g.D.Chip.told c.say.new.self) c.format.ensures.counts c.say.ensures.counts (λ h told. c.in-Ok.ensures.formats h told) c.in-Ok-say.ensures.ok
+returns-in-Ok-say-clause-leaves g c = said_ok (g.D.Chip.told c.args.desk.now)
+    (g.D.Chip.told c.format.new.chip) (g.D.Chip.told c.say.new.self) c.format.ensures.counts
+    c.in-Ok.ensures.settled c.say.ensures.counts (λ h told. c.in-Ok.ensures.formats h told)
+    c.in-Ok-say.ensures.ok
 
 pub returns-in-Err-say-clause-leaves : goal.returns-in-Err-say-clause-leaves
-returns-in-Err-say-clause-leaves g c = said_part (g.D.Chip.told c.args.desk.now) (g.D.Chip.told c.format.new.chip) (g.D.Chip.told c.say.new.self) c.format.ensures.counts c.say.ensures.counts (λ h told. c.in-Ok.ensures.formats h told) c.in-Err-say.ensures.err
+returns-in-Err-say-clause-leaves g c = said_part (g.D.Chip.told c.args.desk.now)
+    (g.D.Chip.told c.format.new.chip) (g.D.Chip.told c.say.new.self) c.format.ensures.counts
+    c.in-Ok.ensures.settled c.say.ensures.counts (λ h told. c.in-Ok.ensures.formats h told)
+    c.in-Err-say.ensures.err
+
+pub returns-in-Err-clause-further : goal.returns-in-Err-clause-further
+returns-in-Err-clause-further g c =
+    let old = g.D.Chip.told c.args.desk.now in
+    let new = g.D.Chip.told c.format.new.chip in
+    further_onward old new (onward_counts old new c.format.ensures.counts)
+
+pub returns-in-Ok-say-clause-further : goal.returns-in-Ok-say-clause-further
+returns-in-Ok-say-clause-further g c =
+    let old = g.D.Chip.told c.args.desk.now in
+    let mid = g.D.Chip.told c.format.new.chip in
+    let new = g.D.Chip.told c.say.new.self in
+    further_then old mid new (further_onward old mid (onward_counts old mid c.format.ensures.counts))
+    (further_onward mid new (onward_said mid new c.in-Ok-say.ensures.ok.places c.say.ensures.counts))
+
+pub returns-in-Err-say-clause-further : goal.returns-in-Err-say-clause-further
+returns-in-Err-say-clause-further g c =
+    let old = g.D.Chip.told c.args.desk.now in
+    let mid = g.D.Chip.told c.format.new.chip in
+    let new = g.D.Chip.told c.say.new.self in
+    further_then old mid new (further_onward old mid (onward_counts old mid c.format.ensures.counts))
+    (further_onward mid new (onward_said mid new c.in-Err-say.ensures.err.places c.say.ensures.counts))

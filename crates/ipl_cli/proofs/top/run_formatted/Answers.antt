@@ -1,14 +1,74 @@
+use Rattle.std.proofs.Common.{Err, Ok}
 use Rattle.std.proofs.lemmas.Result.{err_from_is_err_and}
-use Rattle.ipl_cli.proofs.EndLemmas.{formatted_ends}
-use Rattle.ipl_cli.proofs.TopLemmas.{formatted_left}
+use Rattle.store_trait.proofs.OnwardLemmas.{onward_counts, further_onward, further_then}
+use Rattle.ipl_cli.proofs.StartLemmas.{not_started_left, not_started_cause, formatted_left, formatted_cause, formatted_running, formatted_number}
 use Rattle.ipl_cli.proofs.top.run_formatted.Goals as goal
+
+pub run_over-requires-clause-running : goal.run_over-requires-clause-running
+run_over-requires-clause-running g c = formatted_running (g.D.Chip.told c.args.desk.now)
+    (g.D.Chip.told c.start_formatted.new.desk) c.in_ok-store.store c.in_ok-store.ensures.starts
+
+pub run_over-requires-clause-left : goal.run_over-requires-clause-left
+run_over-requires-clause-left g c = formatted_number (g.D.Chip.told c.args.desk.now)
+    (g.D.Chip.told c.start_formatted.new.desk) c.in_ok-store.store c.in_ok-store.ensures.starts
+
+pub returns-in_err-store-clause-leaves : goal.returns-in_err-store-clause-leaves
+returns-in_err-store-clause-leaves g c =
+    let e = err_from_is_err_and c.from_residual.result c.from_residual.ensures.1 in
+    rw (e.1, e.2) (not_started_left (g.D.Chip.told c.args.desk.now)
+    (g.D.Chip.told c.start_formatted.new.desk) c.in_err-store.field-0.0
+    c.in_err-store.ensures.stops)
+
+pub returns-in_err-store-clause-cause : goal.returns-in_err-store-clause-cause
+returns-in_err-store-clause-cause g c =
+    let e = err_from_is_err_and c.from_residual.result c.from_residual.ensures.1 in
+    rw (e.1, e.2) (not_started_cause (g.D.Chip.told c.args.desk.now)
+    (g.D.Chip.told c.start_formatted.new.desk) c.args.frames c.in_err-store.field-0.0
+    c.in_err-store.ensures.stops)
 
 pub returns-in_err-run_over-clause-leaves : goal.returns-in_err-run_over-clause-leaves
 returns-in_err-run_over-clause-leaves g c =
-    let e = err_from_is_err_and c.from_residual-in_err-run_over.result c.from_residual-in_err-run_over.ensures.1 in
-    rw (e.1, e.2) (formatted_left (g.D.Chip.told c.args.desk.now) (g.D.Chip.told c.start_formatted.new.desk) (g.D.Chip.told c.run_over.new.desk) c.in_ok-store.store c.run_over.new.store c.in_ok-store.ensures.starts c.start_formatted.ensures.counts
-    c.in_err-run_over.field-0.0 c.in_err-run_over.ensures.runs c.in_err-run_over.ensures.cause)
+    let e = err_from_is_err_and c.from_residual-in_err-run_over.result
+    c.from_residual-in_err-run_over.ensures.1 in
+    rw (e.1, e.2) (formatted_left (g.D.Chip.told c.args.desk.now)
+    (g.D.Chip.told c.start_formatted.new.desk) c.in_ok-store.store c.in_ok-store.ensures.starts
+    c.run_over.new.store (g.D.Chip.told c.run_over.new.desk)
+    (Err c.in_err-run_over.field-0.0) c.in_err-run_over.ensures.runs)
+
+pub returns-in_err-run_over-clause-cause : goal.returns-in_err-run_over-clause-cause
+returns-in_err-run_over-clause-cause g c =
+    let e = err_from_is_err_and c.from_residual-in_err-run_over.result
+    c.from_residual-in_err-run_over.ensures.1 in
+    rw (e.1, e.2) (formatted_cause (g.D.Chip.told c.args.desk.now)
+    (g.D.Chip.told c.start_formatted.new.desk) c.in_ok-store.store c.in_ok-store.ensures.starts
+    c.run_over.new.store (g.D.Chip.told c.run_over.new.desk)
+    c.args.frames (Err c.in_err-run_over.field-0.0) c.in_err-run_over.ensures.runs)
 
 pub returns-clause-leaves : goal.returns-clause-leaves
 returns-clause-leaves g c =
-    formatted_ends (g.D.Chip.told c.args.desk.now) (g.D.Chip.told c.start_formatted.new.desk) (g.D.Chip.told c.run_over.new.desk) c.in_ok-store.store c.run_over.new.store c.in_ok-store.ensures.starts c.start_formatted.ensures.counts c.in_ok-run_over.ensures.runs
+    formatted_left (g.D.Chip.told c.args.desk.now) (g.D.Chip.told c.start_formatted.new.desk)
+    c.in_ok-store.store c.in_ok-store.ensures.starts c.run_over.new.store
+    (g.D.Chip.told c.run_over.new.desk)
+    (Ok tt) c.in_ok-run_over.ensures.runs
+
+pub returns-in_err-store-clause-further : goal.returns-in_err-store-clause-further
+returns-in_err-store-clause-further g c =
+    let old = g.D.Chip.told c.args.desk.now in
+    let mid = g.D.Chip.told c.start_formatted.new.desk in
+    further_onward old mid (onward_counts old mid c.start_formatted.ensures.counts)
+
+pub returns-in_err-run_over-clause-further : goal.returns-in_err-run_over-clause-further
+returns-in_err-run_over-clause-further g c =
+    let old = g.D.Chip.told c.args.desk.now in
+    let mid = g.D.Chip.told c.start_formatted.new.desk in
+    further_then old mid (g.D.Chip.told c.run_over.new.desk)
+    (further_onward old mid (onward_counts old mid c.start_formatted.ensures.counts))
+    c.in_err-run_over.ensures.runs.further
+
+pub returns-clause-further : goal.returns-clause-further
+returns-clause-further g c =
+    let old = g.D.Chip.told c.args.desk.now in
+    let mid = g.D.Chip.told c.start_formatted.new.desk in
+    further_then old mid (g.D.Chip.told c.run_over.new.desk)
+    (further_onward old mid (onward_counts old mid c.start_formatted.ensures.counts))
+    c.in_ok-run_over.ensures.runs.further

@@ -1,14 +1,61 @@
+use Rattle.std.proofs.Common.{Err, Ok}
 use Rattle.std.proofs.lemmas.Result.{err_from_is_err_and}
-use Rattle.ipl_cli.proofs.EndLemmas.{opened_ends}
-use Rattle.ipl_cli.proofs.TopLemmas.{opened_left}
+use Rattle.store_trait.proofs.OnwardLemmas.{onward_counts, further_onward, further_then}
+use Rattle.ipl_cli.proofs.StartLemmas.{opened_left, opened_cause, opened_running, opened_number}
 use Rattle.ipl_cli.proofs.top.run_opened.Goals as goal
+
+pub run_over-requires-clause-running : goal.run_over-requires-clause-running
+run_over-requires-clause-running g c = opened_running (g.D.Chip.told c.args.desk.now)
+    (g.D.Chip.told c.start_opened.new.desk) c.in_ok-store.store c.in_ok-store.ensures.starts
+
+pub run_over-requires-clause-left : goal.run_over-requires-clause-left
+run_over-requires-clause-left g c = opened_number (g.D.Chip.told c.args.desk.now)
+    (g.D.Chip.told c.start_opened.new.desk) c.in_ok-store.store c.in_ok-store.ensures.starts
 
 pub returns-in_err-run_over-clause-leaves : goal.returns-in_err-run_over-clause-leaves
 returns-in_err-run_over-clause-leaves g c =
-    let e = err_from_is_err_and c.from_residual-in_err-run_over.result c.from_residual-in_err-run_over.ensures.1 in
-    rw (e.1, e.2) (opened_left (g.D.Chip.told c.args.desk.now) (g.D.Chip.told c.start_opened.new.desk) (g.D.Chip.told c.run_over.new.desk) c.in_ok-store.store c.run_over.new.store c.in_ok-store.ensures.starts c.start_opened.ensures.counts
-    c.in_err-run_over.field-0.0 c.in_err-run_over.ensures.runs c.in_err-run_over.ensures.cause)
+    let e = err_from_is_err_and c.from_residual-in_err-run_over.result
+    c.from_residual-in_err-run_over.ensures.1 in
+    rw (e.1, e.2) (opened_left (g.D.Chip.told c.args.desk.now)
+    (g.D.Chip.told c.start_opened.new.desk) c.in_ok-store.store c.in_ok-store.ensures.starts
+    c.run_over.new.store (g.D.Chip.told c.run_over.new.desk)
+    (Err c.in_err-run_over.field-0.0) c.in_err-run_over.ensures.runs)
+
+pub returns-in_err-run_over-clause-cause : goal.returns-in_err-run_over-clause-cause
+returns-in_err-run_over-clause-cause g c =
+    let e = err_from_is_err_and c.from_residual-in_err-run_over.result
+    c.from_residual-in_err-run_over.ensures.1 in
+    rw (e.1, e.2) (opened_cause (g.D.Chip.told c.args.desk.now)
+    (g.D.Chip.told c.start_opened.new.desk) c.in_ok-store.store c.in_ok-store.ensures.starts
+    c.run_over.new.store (g.D.Chip.told c.run_over.new.desk)
+    (g.met.D.Chip.consistent c.args.desk.now) c.args.frames (Err c.in_err-run_over.field-0.0)
+    c.in_err-run_over.ensures.runs)
 
 pub returns-clause-leaves : goal.returns-clause-leaves
 returns-clause-leaves g c =
-    opened_ends (g.D.Chip.told c.args.desk.now) (g.D.Chip.told c.start_opened.new.desk) (g.D.Chip.told c.run_over.new.desk) c.in_ok-store.store c.run_over.new.store c.in_ok-store.ensures.starts c.start_opened.ensures.counts c.in_ok-run_over.ensures.runs
+    opened_left (g.D.Chip.told c.args.desk.now) (g.D.Chip.told c.start_opened.new.desk)
+    c.in_ok-store.store c.in_ok-store.ensures.starts c.run_over.new.store
+    (g.D.Chip.told c.run_over.new.desk)
+    (Ok tt) c.in_ok-run_over.ensures.runs
+
+pub returns-in_err-store-clause-further : goal.returns-in_err-store-clause-further
+returns-in_err-store-clause-further g c =
+    let old = g.D.Chip.told c.args.desk.now in
+    let mid = g.D.Chip.told c.start_opened.new.desk in
+    further_onward old mid (onward_counts old mid c.start_opened.ensures.counts)
+
+pub returns-in_err-run_over-clause-further : goal.returns-in_err-run_over-clause-further
+returns-in_err-run_over-clause-further g c =
+    let old = g.D.Chip.told c.args.desk.now in
+    let mid = g.D.Chip.told c.start_opened.new.desk in
+    further_then old mid (g.D.Chip.told c.run_over.new.desk)
+    (further_onward old mid (onward_counts old mid c.start_opened.ensures.counts))
+    c.in_err-run_over.ensures.runs.further
+
+pub returns-clause-further : goal.returns-clause-further
+returns-clause-further g c =
+    let old = g.D.Chip.told c.args.desk.now in
+    let mid = g.D.Chip.told c.start_opened.new.desk in
+    further_then old mid (g.D.Chip.told c.run_over.new.desk)
+    (further_onward old mid (onward_counts old mid c.start_opened.ensures.counts))
+    c.in_ok-run_over.ensures.runs.further

@@ -1,6 +1,48 @@
-use Rattle.ipl_cli.proofs.EndLemmas.{runs_looked, only_looks}
+use Rattle.std.proofs.Common.{ℕ, Err, subst}
+use Rattle.std.proofs.lemmas.Result.{err_from_is_err_and}
+use Rattle.ipl_cli.specs.Runs.{ClosesFor}
+use Rattle.ipl_cli.proofs.StartLemmas.{closed_left, closed_cause, unopened_left, unopened_ends}
 use Rattle.ipl_cli.proofs.top.start_opened.Goals as goal
 
-pub returns-in-Err-Image-clause-leaves : goal.returns-in-Err-Image-clause-leaves
-returns-in-Err-Image-clause-leaves g c =
-    (runs_looked (g.D.Chip.told c.args.desk.now) (g.D.Chip.told c.open.new.chip) c.open.ensures.reads, λ apart. only_looks (g.D.Chip.told c.args.desk.now) (g.D.Chip.told c.open.new.chip) c.open.ensures.reads)
+pub open_over-requires : goal.open_over-requires
+open_over-requires g c =
+    let made = rw c.units.ensures at c.in_ok-store.ensures.closes in record { sound = made.1 }
+
+pub returns-in_err-store-clause-leaves : goal.returns-in_err-store-clause-leaves
+returns-in_err-store-clause-leaves g c =
+    let e = err_from_is_err_and c.from_residual.result c.from_residual.ensures.1 in
+    rw (e.1, e.2) (closed_left (g.D.Chip.told c.args.desk.now) c.in_err-store.field-0.0
+    (subst (λ (n : ℕ). ClosesFor n (Err c.in_err-store.field-0.0)) c.units.ensures
+    c.in_err-store.ensures.closes))
+
+pub returns-in_err-store-clause-cause : goal.returns-in_err-store-clause-cause
+returns-in_err-store-clause-cause g c =
+    let e = err_from_is_err_and c.from_residual.result c.from_residual.ensures.1 in
+    rw (e.1, e.2) (closed_cause (g.D.Chip.told c.args.desk.now) c.args.frames
+    c.in_err-store.field-0.0 (subst (λ (n : ℕ). ClosesFor n (Err c.in_err-store.field-0.0))
+    c.units.ensures c.in_err-store.ensures.closes))
+
+pub returns-in_err-started-clause-leaves : goal.returns-in_err-started-clause-leaves
+returns-in_err-started-clause-leaves g c =
+    let e = err_from_is_err_and c.from_residual-in_err-started.result
+    c.from_residual-in_err-started.ensures.1 in
+    rw (e.1, e.2) (unopened_left (g.D.Chip.told c.args.desk.now)
+    (g.D.Chip.told c.open_over.new.desk) c.in_err-started.field-0.0
+    c.in_err-started.ensures.opens)
+
+pub returns-in_err-started-clause-cause : goal.returns-in_err-started-clause-cause
+returns-in_err-started-clause-cause g c =
+    let e = err_from_is_err_and c.from_residual-in_err-started.result
+    c.from_residual-in_err-started.ensures.1 in
+    rw (e.1, e.2) (unopened_ends (g.D.Chip.told c.args.desk.now)
+    (g.D.Chip.told c.open_over.new.desk) c.in_err-started.field-0.0
+    c.in_err-started.ensures.opens c.args.frames)
+
+pub returns-in_err-started-clause-counts : goal.returns-in_err-started-clause-counts
+returns-in_err-started-clause-counts g c = c.in_err-started.ensures.opens.tries.accounts.counts
+
+pub returns-clause-starts : goal.returns-clause-starts
+returns-clause-starts g c = c.in_ok-started.ensures.opens
+
+pub returns-clause-counts : goal.returns-clause-counts
+returns-clause-counts g c = c.in_ok-started.ensures.opens.tries.accounts.counts

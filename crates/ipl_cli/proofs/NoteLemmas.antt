@@ -1,0 +1,297 @@
+-- A note says nothing, and leaves the chip: what held before it holds after it.
+use Rattle.std.proofs.Common.{◌≡◌, ℕ, Bool, true, false, List, ◌++◌, Option, Some, None, Ok, Err, inl, inr, sym, ◌∙◌, ap, subst}
+use Rattle.chip_trait.specs.Told.{History, Told}
+use Rattle.ipl_base.specs.declared.fault.ChipFault.TheVariants.{ReadFault, Stopped, Damaged, Malformed}
+use Rattle.ipl_base.specs.declared.fault.ImageFault.{ImageFault}
+use Rattle.ipl_base.specs.declared.fault.ImageFault.TheVariants as image
+use Rattle.ipl_rules.specs.State.{Map}
+use Rattle.ipl_model.specs.declared.command.Command.{Command}
+use Rattle.store_trait.specs.Onward.{Further}
+use Rattle.command_line.specs.declared.asked.Request.{Request}
+use Rattle.command_line.specs.declared.asked.Request.TheVariants.{Format, Run, Serial, Trial}
+use Rattle.program_end.specs.declared.end.End.{End}
+use Rattle.program_end.specs.declared.end.End.TheVariants.{Words, Chip, OutOfMemory, Script, Output, TooLong}
+use Rattle.ipl_cli.specs.Ending.{AskedFor, Ending, StopsEarly, IsStopped, IsUntouched, but_noted, note_at, status_at}
+use Rattle.ipl_cli.specs.Trials.{Trials, TrialsFormatted, TrialsOrStops, TrialLeaves}
+use Rattle.ipl_cli.specs.Top.{IsMetLater, LaidCause, StrayCause, OpenedCause, FormatCause, FormattedCause, RequestCause, EndCause, Runs, RunsOpened, RunsFormatted, RunsOrStops, IsLaidOut, LaysOut, OnlyLooks, IsRefused, OpenedRuns, FormatLeaves, FormattedLeaves, OpenedLeaves, EndLeaves, Ends, NoneFalls, StrayCause}
+use Rattle.ipl_cli.proofs.ViewLemmas.{serial_left}
+
+module _ (old mid : Told) (noted : Option (List ℕ)) where
+  abbrev then : Told
+  then = but_noted mid noted
+
+  met_noted : IsMetLater old mid → IsMetLater old then
+  met_noted met = record { laid = met.laid; excuse = met.excuse }
+
+  laid_noted : (e : ImageFault) → LaidCause e old mid → LaidCause e old then
+  laid_noted e (inl first) = inl first
+  laid_noted e (inr met) = inr (met_noted met)
+
+  sector_noted : StrayCause old mid → StrayCause old then
+  sector_noted (inl stray) = inl stray
+  sector_noted (inr met) = inr (met_noted met)
+
+  format_cause : (e : ImageFault) → FormatCause e old mid → FormatCause e old then
+  format_cause image.Geometry c = c
+  format_cause image.NotFormatted c = c
+  format_cause (image.Missing u) c = c
+  format_cause (image.Chip ReadFault) c = c
+  format_cause (image.Chip Stopped) c = c
+  format_cause (image.Chip (Damaged p s stored computed)) c = c
+  format_cause (image.Chip (Malformed p s)) c = c
+  format_cause image.Spent c = c
+  format_cause (image.NoSpare n) c = c
+
+  formatted_cause : (e : ImageFault) → FormattedCause e old mid → FormattedCause e old then
+  formatted_cause image.Geometry c = c
+  formatted_cause image.NotFormatted c = c
+  formatted_cause (image.Missing u) c = c
+  formatted_cause (image.Chip ReadFault) c = c
+  formatted_cause (image.Chip Stopped) c = c
+  formatted_cause (image.Chip (Damaged p s stored computed)) c = c
+  formatted_cause (image.Chip (Malformed p s)) c = c
+  formatted_cause image.Spent c = c
+  formatted_cause (image.NoSpare n) c = c
+
+  opened_cause : (e : ImageFault) → OpenedCause e old mid → OpenedCause e old then
+  opened_cause image.Geometry c = laid_noted image.Geometry c
+  opened_cause image.NotFormatted c = laid_noted image.NotFormatted c
+  opened_cause (image.Missing u) c = laid_noted (image.Missing u) c
+  opened_cause (image.Chip ReadFault) c = c
+  opened_cause (image.Chip Stopped) c = c
+  opened_cause (image.Chip (Damaged p s stored computed)) c = (c.0, sector_noted c.1)
+  opened_cause (image.Chip (Malformed p s)) c = sector_noted c
+  opened_cause image.Spent c = laid_noted image.Spent c
+  opened_cause (image.NoSpare n) c = laid_noted (image.NoSpare n) c
+
+  request_cause : (request : Request) (end : End) → RequestCause request end old mid
+      → RequestCause request end old then
+  request_cause request Words c = c
+  request_cause Format (Chip e) c = format_cause e c
+  request_cause (Run frames true) (Chip e) c = formatted_cause e c
+  request_cause (Run frames false) (Chip e) c = opened_cause e c
+  request_cause Serial (Chip e) c = c
+  request_cause (Trial seed count frames) (Chip e) c = formatted_cause e c
+  request_cause request OutOfMemory c = c
+  request_cause Format Script c = c
+  request_cause (Run frames formats) Script c = c
+  request_cause Serial Script c = c
+  request_cause (Trial seed count frames) Script c = c
+  request_cause request Output c = c
+  request_cause Format TooLong c = c
+  request_cause (Run frames formats) TooLong c = record { grew = c.grew; told = c.told }
+  request_cause Serial TooLong c = record { grew = c.grew; told = c.told }
+  request_cause (Trial seed count frames) TooLong c = c
+
+  end_cause : (asked : AskedFor) (ending : Ending) → EndCause asked ending old mid
+      → EndCause asked ending old then
+  end_cause None (Ok u) c = c
+  end_cause None (Err end) c = c
+  end_cause (Some request) (Ok u) c = c
+  end_cause (Some request) (Err end) c = request_cause request end c
+
+  runs_noted : {places : ℕ} {m : Map} {script : List ℕ} {h : History} {first : List _}
+      {ending : Ending} → Runs places m script h first old mid ending
+      → Runs places m script h first old then ending
+  runs_noted r = record {
+    added = r.added;
+    history = r.history;
+    each_moment = r.each_moment;
+    replies = r.replies;
+    is_prefix = r.is_prefix;
+    lawful = r.lawful;
+    settled = r.settled;
+    rests = r.rests;
+    ends = r.ends;
+    read = r.read;
+    unread = r.unread;
+    script_is = r.script_is;
+    left_is = r.left_is;
+    all = r.all;
+  }
+
+  stops_noted : {places : ℕ} {h : History} → StopsEarly places h old mid
+      → StopsEarly places h old then
+  stops_noted s = record {
+    stopped = s.stopped;
+    fault = s.fault;
+    formats = s.formats;
+    counts =
+        s.counts;
+    noted = ap (λ (t : Told). but_noted t noted) s.noted;
+  }
+
+  trials_noted : {places : ℕ} {commands : List Command} {h : History} {first : List _}
+      {ending : Ending} → Trials places commands h first old mid ending
+      → Trials places commands h first old then ending
+  trials_noted t = record {
+    added = t.added;
+    history = t.history;
+    each_moment = t.each_moment;
+    lines = t.lines;
+    is_prefix = t.is_prefix;
+    lawful = t.lawful;
+    settled = t.settled;
+    ends = t.ends;
+    left_is = t.left_is;
+    all = t.all;
+  }
+
+  laid_out_noted : {places : ℕ} {h : History} {done : Bool} → IsLaidOut places h old mid done
+      → IsLaidOut places h old then done
+  laid_out_noted l = record {
+    added = l.added;
+    says = l.says;
+    history = l.history;
+    settled =
+        l.settled;
+    rests = l.rests;
+    lawful = l.lawful;
+    left_is = l.left_is;
+    all = l.all;
+  }
+
+  looks_noted : OnlyLooks old mid → OnlyLooks old then
+  looks_noted l = record {
+    read = l.read;
+    reads = l.reads;
+    noted = ap (λ (t : Told). but_noted t
+        noted) l.noted;
+  }
+
+  untouched_noted : IsUntouched old mid → IsUntouched old then
+  untouched_noted is = ap (λ (t : Told). but_noted t noted) is
+
+  formatted_noted : {ending : Ending} → RunsFormatted old mid ending → RunsFormatted old then ending
+  formatted_noted runs = λ h script settled told left. runs_noted (runs h script settled told left)
+
+  opened_noted : {ending : Ending} → RunsOpened old mid ending → RunsOpened old then ending
+  opened_noted runs = λ h script settled told left m rests. runs_noted (runs h script settled told
+      left m rests)
+
+  stopped_noted : IsStopped old mid → IsStopped old then
+  stopped_noted stops = λ h told. stops_noted (stops h told)
+
+  either_noted : {ending : Ending} → RunsOrStops old mid ending → RunsOrStops old then ending
+  either_noted left = λ h script settled told left_is. elim (left h script settled told left_is) [
+    | inl runs ↦ inl (runs_noted runs)
+    | inr stops ↦ inr (stops_noted stops)
+  ]
+
+  lays_out_noted : {done : Bool} → LaysOut old mid done → LaysOut old then done
+  lays_out_noted lays = λ h told. laid_out_noted (lays h told)
+
+  refused_noted : {e : ImageFault} → IsRefused e old mid → IsRefused e old then
+  refused_noted refused = λ f has. let is = refused f has in (looks_noted is.0, is.1)
+
+  format_left : (ending : Ending) → FormatLeaves ending old mid → FormatLeaves ending old then
+  format_left (Ok u) l = lays_out_noted l
+  format_left (Err Words) l = l
+  format_left (Err (Chip image.Geometry)) l = untouched_noted l
+  format_left (Err (Chip image.NotFormatted)) l = stopped_noted l
+  format_left (Err (Chip (image.Missing u))) l = stopped_noted l
+  format_left (Err (Chip (image.Chip e))) l = stopped_noted l
+  format_left (Err (Chip image.Spent)) l = stopped_noted l
+  format_left (Err (Chip (image.NoSpare n))) l = stopped_noted l
+  format_left (Err OutOfMemory) l = untouched_noted l
+  format_left (Err Script) l = l
+  format_left (Err Output) l = lays_out_noted l
+  format_left (Err TooLong) l = l
+
+  formatted_left : (ending : Ending) → FormattedLeaves ending old mid
+      → FormattedLeaves ending old then
+  formatted_left (Ok u) l = (formatted_noted l.0, l.1)
+  formatted_left (Err Words) l = l
+  formatted_left (Err (Chip e)) (inl other) = inl (other.0, other.1, untouched_noted other.2)
+  formatted_left (Err (Chip e)) (inr ran) = inr (ran.0, either_noted ran.1)
+  formatted_left (Err OutOfMemory) l = untouched_noted l
+  formatted_left (Err Script) l = formatted_noted l
+  formatted_left (Err Output) l = formatted_noted l
+  formatted_left (Err TooLong) l = formatted_noted l
+
+  opened_runs_noted : {ending : Ending} → OpenedRuns old mid ending → OpenedRuns old then ending
+  opened_runs_noted l = record {
+    runs = opened_noted l.runs;
+    read = l.read;
+    laid = l.laid;
+    fits =
+        l.fits;
+  }
+
+  opened_left : (ending : Ending) → OpenedLeaves ending old mid → OpenedLeaves ending old then
+  opened_left (Ok u) l = opened_runs_noted l
+  opened_left (Err Words) l = l
+  opened_left (Err (Chip e)) l = record {
+    runs = opened_noted l.runs;
+    refused = refused_noted
+        l.refused;
+    other = λ misfit. untouched_noted (l.other misfit);
+  }
+  opened_left (Err OutOfMemory) l = untouched_noted l
+  opened_left (Err Script) l = opened_runs_noted l
+  opened_left (Err Output) l = opened_runs_noted l
+  opened_left (Err TooLong) l = opened_runs_noted l
+
+  anew_noted : (seed count : ℕ) {ending : Ending} → TrialsFormatted seed count old mid ending
+      → TrialsFormatted seed count old then ending
+  anew_noted seed count trials = λ h settled told. trials_noted (trials h settled told)
+
+  anew_or_stopped : (seed count : ℕ) {ending : Ending} → TrialsOrStops seed count old mid ending
+      → TrialsOrStops seed count old then ending
+  anew_or_stopped seed count left = λ h settled told. elim (left h settled told) [
+    | inl trials ↦ inl (trials_noted trials)
+    | inr stops ↦ inr (stops_noted stops)
+  ]
+
+  trial_left : (seed count : ℕ) (ending : Ending) → TrialLeaves seed count ending old mid
+      → TrialLeaves seed count ending old then
+  trial_left seed count (Ok u) l = anew_noted seed count l
+  trial_left seed count (Err Words) l = l
+  trial_left seed count (Err (Chip e)) (inl other) = inl (other.0, other.1, untouched_noted other.2)
+  trial_left seed count (Err (Chip e)) (inr tried) = inr (
+    tried.0,
+    anew_or_stopped seed count
+        tried.1,
+  )
+  trial_left seed count (Err OutOfMemory) l = untouched_noted l
+  trial_left seed count (Err Script) l = l
+  trial_left seed count (Err Output) l = anew_noted seed count l
+  trial_left seed count (Err TooLong) l = l
+
+  end_left : (asked : AskedFor) (ending : Ending) → EndLeaves asked ending old mid
+      → EndLeaves asked ending old then
+  end_left None ending l = untouched_noted l
+  end_left (Some Format) ending l = format_left ending l
+  end_left (Some (Run frames true)) ending l = formatted_left ending l
+  end_left (Some (Run frames false)) ending l = opened_left ending l
+  end_left (Some Serial) ending l = serial_left old mid noted ending l
+  end_left (Some (Trial seed count frames)) ending l = trial_left seed count ending l
+
+-- all that is to be known of the end
+pub ends : (asked : AskedFor) (ending : Ending) (old mid new : Told) (status : ℕ)
+    → EndCause asked ending old mid → EndLeaves asked ending old mid
+    → mid.beside.noted ≡ old.beside.noted → status ≡ status_at ending
+    → new ≡ but_noted mid new.beside.noted → ((bytes : List ℕ) → new.beside.noted ≡ Some bytes
+    → (before : List ℕ) × (mid.beside.noted ≡ Some before) × (bytes ≡ before ++ note_at ending))
+    → Ends asked old new status
+ends asked ending old mid new status cause leaves same status_is only noted = record {
+  ending = ending;
+  status_is = status_is;
+  noted = λ bytes told. let (before, was, is) = noted bytes told in (before, sym same ∙ was, is);
+  cause = subst (EndCause asked ending old) (sym only) (end_cause old mid new.beside.noted asked
+      ending cause);
+  leaves = subst (EndLeaves asked ending old) (sym only) (end_left old mid new.beside.noted asked
+      ending leaves);
+}
+
+-- a note is no call that counts
+pub none_falls : (old mid new : Told) → Further old mid → new ≡ but_noted mid new.beside.noted
+    → NoneFalls old new
+none_falls old mid new f only = subst (NoneFalls old) (sym only) (record {
+  places = f.places;
+  reads = f.reads;
+  writes = f.writes;
+  says = f.says;
+  script = f.script;
+  bytes = f.bytes;
+})

@@ -1,0 +1,685 @@
+-- How the program starts a run, and why it doesn't.
+use Rattle.std.proofs.Common.{◌≡◌, ◌≢◌, ◌⊎◌, ◌≤◌, ◌<◌, ◌-◌, ◌+◌, ◌^◌, ℕ, Bool, true, false, Option, Some, None, Result, Ok, Err, inl, inr, refl, sym, ◌∙◌, ap, subst, arith}
+use Rattle.std.specs.Prelude.{◌&&◌, nat_le, OnOk, IfErr, IsErrOf}
+use Rattle.std.proofs.lemmas.Bool.{cases_Bool, cases_eq, and_parts}
+use Rattle.std.proofs.lemmas.Bool.Decides.{nat_tests}
+use Rattle.std.specs.FinMap.{empty}
+use Rattle.chip_trait.specs.Story.{Story, Contents, held}
+use Rattle.chip_trait.specs.Told.{History, Told, Beside, Counts, Grew, Rose, IsConsistent, adds_all}
+use Rattle.ipl_base.specs.Places.{IsGeometry}
+use Rattle.ipl_base.specs.declared.fault.ChipFault.{ChipFault}
+use Rattle.ipl_base.specs.declared.fault.ChipFault.TheVariants.{ReadFault, Stopped, Damaged, Malformed}
+use Rattle.ipl_base.specs.declared.fault.FormatFault.{FormatFault}
+use Rattle.ipl_base.specs.declared.fault.FormatFault.TheVariants as format
+use Rattle.ipl_base.specs.declared.fault.ImageFault.{ImageFault}
+use Rattle.ipl_base.specs.declared.fault.ImageFault.TheVariants as image
+use Rattle.ipl_rules.specs.State.{Map, at_rest}
+use Rattle.ipl_format.specs.Sector.{Sector}
+use Rattle.ipl_meaning.specs.Chart.{Chart, chart_of}
+use Rattle.ipl_meaning.specs.Stands.{Says, Stands}
+use Rattle.ipl_meaning.specs.Rests.{now, StoryRests}
+use Rattle.ipl_meaning.specs.Formatted.{formatted}
+use Rattle.ipl_meaning.specs.FirstTables.{first_layout}
+use Rattle.ipl_meaning.proofs.FormattedLemmas.{no_sector}
+use Rattle.ipl_meaning.proofs.StoryLemmas.{held_stands}
+use Rattle.unit_io.specs.Leads.{IsSteady}
+use Rattle.opening_rules.specs.Faults.{first_fault, greatest_found}
+use Rattle.opening_rules.specs.LaidOut.{layout_in}
+use Rattle.opening_rules.specs.Laws.{IsByteChart}
+use Rattle.opening_rules.proofs.CauseLemmas.{faults_are_caused}
+use Rattle.opening_rules.proofs.FormattedLemmas.{formatted_bytes}
+use Rattle.opening_rules.proofs.LaidLemmas.{laid_is_fine_or_spent}
+use Rattle.opening_rules.proofs.NoFaultLemmas.{no_fault_is_laid}
+use Rattle.opening_rules.proofs.NumberLemmas.{greatest_is_found}
+use Rattle.restart.specs.Events.{format_events}
+use Rattle.restart.specs.Fresh.{IsFresh, Formats}
+use Rattle.restart.proofs.LookLemmas.{reads_none}
+use Rattle.store_trait.specs.Keeping.{ChipRose, Draws, SCRIPT_DRAWS, FOUND_NUMBER}
+use Rattle.store_trait.specs.Onward.{Further}
+use Rattle.store_trait.proofs.DrawLemmas.{numbers_last}
+use Rattle.store_trait.specs.declared.fault.Fault.{Fault}
+use Rattle.store_trait.specs.declared.fault.Fault.TheVariants as fault
+use Rattle.status_renewal.specs.Recovers.{IsOpeningFault, OpeningCause}
+use Rattle.status_renewal.proofs.ReadyLemmas.{layouts_say}
+use Rattle.store_steps.specs.Keeps.{limits_of}
+use Rattle.store_steps.proofs.AdvanceLemmas.{held_now}
+use Rattle.script_run.specs.declared.fault.Stop.{Stop}
+use Rattle.script_run.specs.declared.fault.Stop.TheVariants as stop
+use Rattle.script_run.specs.Goes.{StopCause, CompletesOver, HasRead, ReadsAll, RunsScript}
+use Rattle.page_frames.specs.Pages.{tables_in}
+use Rattle.ipl_store.specs.declared.store.Store.{Store}
+use Rattle.ipl_store.specs.Calls.{counter_of, IsSound}
+use Rattle.ipl_store.specs.Openings.{Opens, Tries}
+use Rattle.script_store.specs.declared.store.ScriptStore.{ScriptStore}
+use Rattle.script_store.specs.Keeps.{IsRunning, script_keeping, next_number}
+use Rattle.program_end.specs.declared.end.End.{End}
+use Rattle.program_end.specs.declared.end.End.TheVariants.{Words, Chip, OutOfMemory, Script, Output, TooLong}
+use Rattle.command_line.specs.declared.asked.Request.TheVariants.{Run}
+use Rattle.ipl_cli.specs.Ending.{Ending, IsUntouched, but_noted}
+use Rattle.ipl_cli.specs.Top.{HasFault, IsLaidWell, IsStray, RestsWithNumbersLeft, IsMetLater, LaidCause, StrayCause, OpenedCause, AnewCause, FormattedCause, IsTooLong, RequestCause, EndCause, RunsOpened, OnlyLooks, EndsAtFault, IsRefused, OpenedRuns, format_end, FormattedLeaves, OpenedLeaves}
+use Rattle.ipl_cli.specs.Runs.{ClosesFor, StartsOpened, IsNotOpened, WasFormatted, IsNotFormatted, StartsFormatted, IsNotStarted, RunsOver, end_of, ending_of}
+use Rattle.ipl_cli.proofs.EndLemmas.{left_counts, stopped_early, opened_keeps, opened_runs, unopened_runs, untouched_runs, untouched_stops, formatted_runs, fresh_story}
+
+-- ---- counts
+
+rose_earlier : (first old new : ℕ) → first ≤ old → Rose old new → Rose first new
+rose_earlier first old new before rose = omega (arith, before, rose)
+
+module _ (old mid new : Told) (counts : Counts old mid) where
+  reads_earlier : Rose mid.read_faults new.read_faults → Rose old.read_faults new.read_faults
+  reads_earlier rose = rose_earlier old.read_faults mid.read_faults new.read_faults counts.reads
+      rose
+
+  writes_earlier : Rose mid.write_faults new.write_faults → Rose old.write_faults new.write_faults
+  writes_earlier rose = rose_earlier old.write_faults mid.write_faults new.write_faults
+      counts.writes rose
+
+  chip_earlier : ChipRose mid new → ChipRose old new
+  chip_earlier (inl rose) = inl (reads_earlier rose)
+  chip_earlier (inr rose) = inr (writes_earlier rose)
+
+  script_earlier : Rose mid.beside.script_faults new.beside.script_faults
+      → Rose old.beside.script_faults new.beside.script_faults
+  script_earlier rose = subst (λ (b : Beside). Rose b.script_faults new.beside.script_faults)
+      counts.beside rose
+
+  says_earlier : Rose mid.beside.say_faults new.beside.say_faults
+      → Rose old.beside.say_faults new.beside.say_faults
+  says_earlier rose = subst (λ (b : Beside). Rose b.say_faults new.beside.say_faults) counts.beside
+      rose
+
+  long_earlier : IsTooLong mid new → IsTooLong old new
+  long_earlier long = record {
+    grew = subst (λ (b : Beside). Grew b.script_bytes 4294967295 new.beside.script_bytes)
+        counts.beside long.grew;
+    told = λ source left. long.told source (ap (λ (b : Beside). b.left) counts.beside ∙ left);
+  }
+
+-- ---- what a chip holds that is sound
+
+none_is_some : {X : Type 0} {x : X} → None ≡ Some x → ⊥
+none_is_some e = cc
+
+some_one : {X : Type 0} {a b : X} → Some a ≡ Some b → a ≡ b
+some_one e = cc
+
+err_of : {a b : Stop} → a ≡ b → IsErrOf {T = Unit {0}} (Err a) b
+err_of is = ap Err is
+
+-- another number of places is told first
+size_first : (c : Chart) (places : ℕ) → ¬ IsGeometry places
+    → first_fault c places ≡ Some image.Geometry
+size_first c places other = elim (cases_Bool (nat_le 5 places && nat_le places 1028)) [
+  | inl fits ↦ let both = and_parts (nat_le 5 places) (nat_le places 1028) fits in absurd
+      (other (grind (arith, nat_tests, both.0), grind (arith, nat_tests, both.1)))
+  | inr outside ↦ rw outside refl
+]
+
+-- contents that stand for a map have no fault, unless their numbers are used up
+module _ (places : ℕ) (c : Chart) (m : Map) (stands : Stands places c m) where
+  pub stands_well : (e : ImageFault) → first_fault c places ≡ Some e → e ≡ image.Spent
+  stands_well e fault = elim (laid_is_fine_or_spent c places stands.layout stands.laid) [
+    | inl none ↦ absurd (none_is_some (sym none ∙ fault))
+    | inr spent ↦ some_one (sym fault ∙ spent)
+  ]
+
+  pub stands_fine : greatest_found c places < 2 ^ 63 → first_fault c places ≡ None
+  stands_fine low = elim (laid_is_fine_or_spent c places stands.layout stands.laid) [
+    | inl none ↦ none
+    | inr spent ↦ let high : 2 ^ 63 ≤ greatest_found c places = faults_are_caused c places
+        image.Spent spent in absurd (omega (arith, high, low))
+  ]
+
+module _ (t : Told) (consistent : IsConsistent t) (sound : RestsWithNumbersLeft t) where
+  sound_told : t.contents ≡ Some (held sound.history.start sound.history.story)
+  sound_told = held_now sound.history t consistent sound.steady
+
+  sound_stands : Stands t.places (now sound.history) sound.map
+  sound_stands = held_stands t.places sound.map sound.history sound.rests.each
+
+  sound_fine : first_fault (now sound.history) t.places ≡ None
+  sound_fine = stands_fine t.places (now sound.history) sound.map sound_stands
+      (omega (arith, sound.left))
+
+  -- so a fault comes only where a call of the chip failed
+  pub laid_excused : (e : ImageFault) (new : Told) → LaidCause e t new → ChipRose t new
+  laid_excused e new (inl at_fault) = absurd (none_is_some (sym sound_fine ∙ at_fault _ sound_told))
+  laid_excused e new (inr later) = later.excuse sound
+
+  pub sector_excused : (new : Told) → StrayCause t new → ChipRose t new
+  sector_excused new (inl stray) = absurd (stray _ sound_told sound.map sound_stands)
+  sector_excused new (inr later) = later.excuse sound
+
+  pub opened_excused : (e : ImageFault) (new : Told) → OpenedCause e t new → ChipRose t new
+  opened_excused image.Geometry new c = laid_excused image.Geometry new c
+  opened_excused image.NotFormatted new c = laid_excused image.NotFormatted new c
+  opened_excused (image.Missing u) new c = laid_excused (image.Missing u) new c
+  opened_excused (image.Chip ReadFault) new c = inl c
+  opened_excused (image.Chip Stopped) new c = inr c
+  opened_excused (image.Chip (Damaged p s stored computed)) new c = sector_excused new c.1
+  opened_excused (image.Chip (Malformed p s)) new c = sector_excused new c
+  opened_excused image.Spent new c = laid_excused image.Spent new c
+  opened_excused (image.NoSpare n) new c = laid_excused (image.NoSpare n) new c
+
+-- ---- a chip that isn't opened
+
+module _ (old new : Told) (end : End) (n : IsNotOpened end old new) where
+  -- over contents that are told, the opening ends with their first fault, or a call failed
+  first_told : (x : Contents) → old.contents ≡ Some x → (e : ImageFault)
+      → first_fault (chart_of x) old.places ≡ Some e → EndsAtFault e n.fault
+  first_told x told e fault = by n.fault (n.tries.tells x told)
+    where
+      same : (f : ImageFault) → IsOpeningFault old.places x f → EndsAtFault e f
+      same f (inl is) = inl (some_one (sym is ∙ fault))
+      same f (inr none) = absurd (none_is_some (sym none.0 ∙ fault))
+
+      by : (f : ImageFault) → (f ≢ image.Chip ReadFault → f ≢ image.Chip Stopped → IsOpeningFault
+          old.places x f) → EndsAtFault e f
+      by image.Geometry tells = same image.Geometry (tells (λ is. cc) (λ is. cc))
+      by image.NotFormatted tells = same image.NotFormatted (tells (λ is. cc) (λ is. cc))
+      by (image.Missing u) tells = same (image.Missing u) (tells (λ is. cc) (λ is. cc))
+      by (image.Chip ReadFault) tells = inr (inl refl)
+      by (image.Chip Stopped) tells = inr (inr refl)
+      by (image.Chip (Damaged p s stored computed)) tells = same
+          (image.Chip (Damaged p s stored computed)) (tells (λ is. cc) (λ is. cc))
+      by (image.Chip (Malformed p s)) tells = same (image.Chip (Malformed p s)) (tells (λ is. cc)
+          (λ is. cc))
+      by image.Spent tells = same image.Spent (tells (λ is. cc) (λ is. cc))
+      by (image.NoSpare k) tells = same (image.NoSpare k) (tells (λ is. cc) (λ is. cc))
+
+  refused : IsRefused n.fault old new
+  refused e has = (
+    record { read = new; reads = n.tries.looks has.contents has.told e has.fault; noted = refl },
+    first_told has.contents has.told e has.fault,
+  )
+
+  pub unopened_left : OpenedLeaves (Err end) old new
+  unopened_left = subst (λ (e : End). OpenedLeaves (Err e) old new) (sym n.end_is)
+      (record {
+        runs = unopened_runs old new end n;
+        refused = refused;
+        other = λ misfit. absurd
+            (misfit n.fits);
+      })
+
+  -- a fault of how the chip is laid out is its first fault
+  laid_cause : (f : ImageFault) → ((c : ChipFault) → f ≡ image.Chip c → ⊥) → n.fault ≡ f
+      → LaidCause f old new
+  laid_cause f apart is = inl (λ x told. elim (n.tries.tells x told (λ failed. apart ReadFault
+      (sym is ∙ failed)) (λ failed. apart Stopped (sym is ∙ failed))) [
+        | inl first ↦ first ∙ ap Some is
+        | inr none ↦ absurd (apart none.1.fault (sym is ∙ none.1.is))
+      ])
+
+  -- contents with a fault of a sector stand for no map
+  sector_cause : (c : ChipFault) → c ≢ ReadFault → c ≢ Stopped → n.fault ≡ image.Chip c
+      → StrayCause old new
+  sector_cause c read stopped is = inl (λ x told m stands. elim (n.tries.tells x told
+      (λ failed. read (chip_one (sym is ∙ failed))) (λ failed. stopped
+      (chip_one (sym is ∙ failed)))) [
+        | inl first ↦ chip_unspent (sym is ∙ stands_well old.places (chart_of x) m stands n.fault first)
+        | inr none ↦ elim (n.tries.complete x told m none.0 (says x told m none.0 stands)) [
+          | inl failed ↦ read (chip_one (sym is ∙ failed))
+          | inr failed ↦ stopped (chip_one (sym is ∙ failed))
+        ]
+      ])
+    where
+      chip_one : {a b : ChipFault} → image.Chip a ≡ image.Chip b → a ≡ b
+      chip_one e = cc
+
+      chip_unspent : {a : ChipFault} → image.Chip a ≡ image.Spent → ⊥
+      chip_unspent e = cc
+
+      -- what stands for a map says it as the opening finds it laid out
+      says : (x : Contents) → old.contents ≡ Some x → (m : Map)
+          → first_fault (chart_of x) old.places ≡ None → Stands old.places (chart_of x) m
+          → Says old.places (chart_of x) (layout_in (chart_of x) old.places) m
+      says x told m none stands =
+          let bytes = n.tries.bytes x told (λ failed. read (chip_one (sym is ∙ failed)))
+          (λ failed. stopped (chip_one (sym is ∙ failed))) (inr none) in
+          layouts_say old.places (chart_of x) (layout_in (chart_of x) old.places) m
+          (no_fault_is_laid (chart_of x) old.places bytes none) stands
+
+  unopened_by : (f : ImageFault) → n.fault ≡ f → OpeningCause f old new → OpenedCause f old new
+  unopened_by image.Geometry is cause = laid_cause image.Geometry (λ c same. cc) is
+  unopened_by image.NotFormatted is cause = laid_cause image.NotFormatted (λ c same. cc) is
+  unopened_by (image.Missing u) is cause = laid_cause (image.Missing u) (λ c same. cc) is
+  unopened_by (image.Chip ReadFault) is cause = cause.read refl
+  unopened_by (image.Chip Stopped) is cause = cause.stopped refl
+  unopened_by (image.Chip (Damaged p s stored computed)) is cause = (
+    cause.damaged p s stored
+        computed refl,
+    sector_cause (Damaged p s stored computed) (λ same. cc) (λ same. cc) is,
+  )
+  unopened_by (image.Chip (Malformed p s)) is cause = sector_cause (Malformed p s) (λ same. cc)
+      (λ same. cc) is
+  unopened_by image.Spent is cause = laid_cause image.Spent (λ c same. cc) is
+  unopened_by (image.NoSpare k) is cause = laid_cause (image.NoSpare k) (λ c same. cc) is
+
+  pub unopened_cause : OpenedCause n.fault old new
+  unopened_cause = unopened_by n.fault refl n.tries.accounts.cause
+
+  pub unopened_ends : (frames : ℕ) → RequestCause (Run frames false) end old new
+  unopened_ends frames = subst (λ (e : End). RequestCause (Run frames false) e old new)
+      (sym n.end_is) unopened_cause
+
+-- ---- a chip that is opened
+
+module _ (old mid : Told) (store : ScriptStore) (s : StartsOpened old store mid) where
+  opened_laid : IsLaidWell old
+  opened_laid x told = let (y, there, is) = s.tries.tells x told in is.none
+
+  -- the store runs over the chip as it is then
+  pub opened_running : IsRunning mid.places store
+  opened_running = subst (λ (n : ℕ). IsRunning n store) (sym s.tries.accounts.counts.places)
+      s.running
+
+  -- numbers last for any script
+  pub opened_number : next_number store ≤ FOUND_NUMBER
+  opened_number = rw s.running.up s.opens.left
+
+  module _ (then : ScriptStore) (new : Told) (consistent : IsConsistent old) where
+    abbrev Completes : Stop → Type 0
+    Completes e = CompletesOver script_keeping {T = Unit {0}} SCRIPT_DRAWS store mid (Err e) then
+        new
+
+    -- the store of a sound chip fails only where a call of the chip failed
+    excused : (f : Fault) → Completes (stop.Store f) → RestsWithNumbersLeft old → ChipRose old new
+    excused f completes sound =
+        let did = s.tries.steps sound.map sound.history sound.steady sound.rests in
+        let held = opened_keeps old mid store s sound.map sound.history sound.steady sound.rests in
+        let done = completes (limits_of (old.places - 4)) (record {
+          state = at_rest sound.map;
+          history = adds_all did.added sound.history;
+          holds = held;
+          told = did.history;
+        }) in
+        let number : counter_of store.store ≤ greatest_found (now sound.history) old.places + 1 + 2 ^ 14 =
+        s.opens.number _ (held_now sound.history old consistent sound.steady) in
+        let next : next_number store ≡ counter_of store.store = rw s.running.up refl in
+        chip_earlier old mid new s.tries.accounts.counts (done.excuse f refl
+        (omega (arith, number, next, sound.left)))
+
+    later : (f : Fault) → Completes (stop.Store f) → IsMetLater old new
+    later f completes = record { laid = opened_laid; excuse = excused f completes }
+
+    chip_met : (c : ChipFault) → IsMetLater old new → script_keeping.cause (fault.Chip c) mid new
+        → OpenedCause (image.Chip c) old new
+    chip_met ReadFault met cause = reads_earlier old mid new s.tries.accounts.counts cause
+    chip_met Stopped met cause = writes_earlier old mid new s.tries.accounts.counts cause
+    chip_met (Damaged p q stored computed) met cause = (cause, inr met)
+    chip_met (Malformed p q) met cause = inr met
+
+    image_met : (e : ImageFault) → IsMetLater old new → script_keeping.cause (fault.Image e) mid new
+        → OpenedCause e old new
+    image_met image.Geometry met cause = inr met
+    image_met image.NotFormatted met cause = inr met
+    image_met (image.Missing u) met cause = inr met
+    image_met (image.Chip c) met cause = chip_met c met cause
+    image_met image.Spent met cause = inr met
+    image_met (image.NoSpare k) met cause = inr met
+
+    -- why the run stops
+    stop_cause : (frames : ℕ) (e : Stop) → Completes e → StopCause script_keeping mid new e
+        → (e ≡ stop.Store fault.Spent → ⊥) → (e ≡ stop.TooLong → IsTooLong mid new)
+        → RequestCause (Run frames false) (end_of e) old new
+    stop_cause frames (stop.Store (fault.Chip c)) completes cause unspent long = chip_met c
+        (later (fault.Chip c) completes) cause
+    stop_cause frames (stop.Store (fault.Image e)) completes cause unspent long = image_met e
+        (later (fault.Image e) completes) cause
+    stop_cause frames (stop.Store fault.Spent) completes cause unspent long = absurd (unspent refl)
+    stop_cause frames stop.Script completes cause unspent long = script_earlier old mid new
+        s.tries.accounts.counts cause
+    stop_cause frames stop.Output completes cause unspent long = says_earlier old mid new
+        s.tries.accounts.counts cause
+    stop_cause frames stop.TooLong completes cause unspent long = long_earlier old mid new
+        s.tries.accounts.counts (long refl)
+
+    pub over_cause : (frames : ℕ) (result : Result (Unit {0}) Stop)
+        → CompletesOver script_keeping SCRIPT_DRAWS store mid result then new
+        → IfErr result (λ e. StopCause script_keeping mid new e)
+        → (IsErrOf result (stop.Store fault.Spent) → ⊥)
+        → (IsErrOf result stop.TooLong → IsTooLong mid new)
+        → EndCause (Some (Run frames false)) (ending_of result) old new
+    over_cause frames (Ok u) completes cause unspent long = tt
+    over_cause frames (Err e) completes cause unspent long = stop_cause frames e completes cause
+        (λ is. unspent (err_of is)) (λ is. long (err_of is))
+
+    pub opened_cause : (frames : ℕ) (ending : Ending) → RunsOver ending store mid then new
+        → EndCause (Some (Run frames false)) ending old new
+    opened_cause frames ending r = subst (λ (e : Ending). EndCause (Some (Run frames false)) e old
+        new) (sym r.ending_is) (over_cause frames r.result r.completes r.cause r.unspent r.long)
+
+  -- what is left of it
+  module _ (then : ScriptStore) (new : Told) where
+    stops : (e : ImageFault) → RunsOpened old new (Err (Chip e))
+        → OpenedLeaves (Err (Chip e)) old new
+    stops e runs = record {
+      runs = runs;
+      refused = λ f has. absurd (none_is_some (sym (opened_laid has.contents has.told) ∙
+          has.fault));
+      other = λ misfit. absurd (misfit s.running.sound.made.geometry);
+    }
+
+    -- all that was left of the script before the opening was read
+    read_whole : ReadsAll mid new → ReadsAll old new
+    read_whole all = λ source told. all source (left_counts old mid s.tries.accounts.counts ∙ told)
+
+    ran : (ending : Ending) → RunsOpened old new ending → (ending ≡ Ok tt → ReadsAll old new)
+        → OpenedRuns old new ending
+    ran ending runs read = record {
+      runs = runs;
+      read = read;
+      laid = opened_laid;
+      fits =
+          s.running.sound.made.geometry;
+    }
+
+    leaves_by : (result : Result (Unit {0}) Stop) → RunsOpened old new (ending_of result)
+        → OnOk result (ReadsAll mid new) → OpenedLeaves (ending_of result) old new
+    leaves_by (Ok u) runs all = ran (Ok u) runs (λ is. read_whole all)
+    leaves_by (Err (stop.Store (fault.Chip c))) runs all = stops (image.Chip c) runs
+    leaves_by (Err (stop.Store (fault.Image e))) runs all = stops e runs
+    leaves_by (Err (stop.Store fault.Spent)) runs all = stops image.Spent runs
+    leaves_by (Err stop.Script) runs all = ran (Err Script) runs (λ is. absurd cc)
+    leaves_by (Err stop.Output) runs all = ran (Err Output) runs (λ is. absurd cc)
+    leaves_by (Err stop.TooLong) runs all = ran (Err TooLong) runs (λ is. absurd cc)
+
+    pub opened_left : (ending : Ending) → RunsOver ending store mid then new
+        → OpenedLeaves ending old new
+    opened_left ending r = subst (λ (e : Ending). OpenedLeaves e old new) (sym r.ending_is)
+        (leaves_by r.result (opened_runs old mid store s then new r.result r.runs) r.read)
+
+-- ---- memory that was wanting, and other numbers of places
+
+module _ (t : Told) where
+  pub closed_left : (end : End) → ClosesFor t.places (Err end) → OpenedLeaves (Err end) t t
+  closed_left Words c = absurd c
+  closed_left (Chip e) c = record {
+    runs = untouched_stops t t refl e;
+    refused = λ f has. (
+      record { read = t; reads = reads_none t; noted = refl },
+      inl (c.1 ∙ sym (some_one (sym has.fault ∙ size_first (chart_of has.contents) t.places c.0))),
+    );
+    other = λ misfit. refl;
+  }
+  closed_left OutOfMemory c = refl
+  closed_left Script c = absurd c
+  closed_left Output c = absurd c
+  closed_left TooLong c = absurd c
+
+  pub closed_cause : (frames : ℕ) (end : End) → ClosesFor t.places (Err end)
+      → RequestCause (Run frames false) end t t
+  closed_cause frames Words c = absurd c
+  closed_cause frames (Chip e) c = subst (λ (f : ImageFault). OpenedCause f t t) (sym c.1)
+      (inl (λ x told. size_first (chart_of x) t.places c.0))
+  closed_cause frames OutOfMemory c = tt
+  closed_cause frames Script c = absurd c
+  closed_cause frames Output c = absurd c
+  closed_cause frames TooLong c = absurd c
+
+  pub unmade_left : (end : End) → ClosesFor t.places (Err end) → FormattedLeaves (Err end) t t
+  unmade_left Words c = absurd c
+  unmade_left (Chip e) c = inl (c.0, c.1, refl)
+  unmade_left OutOfMemory c = refl
+  unmade_left Script c = absurd c
+  unmade_left Output c = absurd c
+  unmade_left TooLong c = absurd c
+
+  pub unmade_cause : (frames : ℕ) (end : End) → ClosesFor t.places (Err end)
+      → RequestCause (Run frames true) end t t
+  unmade_cause frames Words c = absurd c
+  unmade_cause frames (Chip e) c = subst (λ (f : ImageFault). FormattedCause f t t) (sym c.1)
+      (inl c.0)
+  unmade_cause frames OutOfMemory c = tt
+  unmade_cause frames Script c = absurd c
+  unmade_cause frames Output c = absurd c
+  unmade_cause frames TooLong c = absurd c
+
+-- ---- a chip that is formatted first
+
+-- the numbers of a chip that was just formatted are few
+fresh_bytes : (places : ℕ) (c : Chart) → IsGeometry places → IsFresh places c → IsByteChart places c
+fresh_bytes places c fits fresh p s sector low within read is =
+    let there : formatted places p s ≡ Some sector = sym (fresh.same p s low within) ∙ is in
+    elim (cases_eq s 0) [
+      | inl first ↦ formatted_bytes places fits.0 fits.1 p s sector low within (inl first) there
+      | inr other ↦ absurd (no_sector places fits.0 fits.1 p s sector other there)
+    ]
+
+fresh_number : (places : ℕ) (c : Chart) → IsGeometry places → IsFresh places c
+    → greatest_found c places < 2 ^ 62
+fresh_number places c fits fresh = elim (greatest_is_found c places (first_layout places)
+    (fresh_bytes places c fits fresh) fresh.mirrors.laid) [
+      | inl none ↦ omega (arith, none)
+      | inr found ↦ let low : greatest_found c places < places - 4 + 2 = fresh.mirrors.numbers.above
+          (greatest_found c places) found in omega (arith, low, fits.1)
+    ]
+
+module _ (old mid : Told) (f : WasFormatted old mid) where
+  -- it is sound
+  pub fresh_sound : (h : History) → IsSteady h old → RestsWithNumbersLeft mid
+  fresh_sound h steady =
+      let story = fresh_story old mid mid f h steady.told in
+      let did = f.formats h steady.told in record {
+        map = empty;
+        history = adds_all (format_events old.places) h;
+        steady = record { told = story.0; settled = f.settled ∙ steady.settled };
+        rests = subst (λ (q : ℕ). StoryRests q empty (adds_all (format_events old.places) h))
+            (sym f.counts.places) story.1;
+        left = subst (λ (q : ℕ). greatest_found (now (adds_all (format_events old.places) h)) q < 2
+            ^ 62) (sym f.counts.places)
+            (fresh_number old.places (now (adds_all (format_events old.places) h)) f.fits
+            (subst (λ (s : Story). IsFresh old.places (now (adds_all s h))) did.done.exact
+            did.done.fresh));
+      }
+
+  module _ (new : Told) where
+    anew : (e : ImageFault) → OpenedCause e mid new → AnewCause old new
+    anew e cause h steady = chip_earlier old mid new f.counts (opened_excused mid f.consistent
+        (fresh_sound h steady) e new cause)
+
+    anew_by : (e : ImageFault) → OpenedCause e mid new → FormattedCause e old new
+    anew_by image.Geometry c = inr (anew image.Geometry c)
+    anew_by image.NotFormatted c = anew image.NotFormatted c
+    anew_by (image.Missing u) c = anew (image.Missing u) c
+    anew_by (image.Chip ReadFault) c = reads_earlier old mid new f.counts c
+    anew_by (image.Chip Stopped) c = writes_earlier old mid new f.counts c
+    anew_by (image.Chip (Damaged p s stored computed)) c =
+        (c.0, anew (image.Chip (Damaged p s stored computed)) c)
+    anew_by (image.Chip (Malformed p s)) c = anew (image.Chip (Malformed p s)) c
+    anew_by image.Spent c = anew image.Spent c
+    anew_by (image.NoSpare k) c = anew (image.NoSpare k) c
+
+    -- why a run over it ends
+    ends_anew : (frames : ℕ) (end : End) → RequestCause (Run frames false) end mid new
+        → RequestCause (Run frames true) end old new
+    ends_anew frames Words c = absurd c
+    ends_anew frames (Chip e) c = anew_by e c
+    ends_anew frames OutOfMemory c = tt
+    ends_anew frames Script c = script_earlier old mid new f.counts c
+    ends_anew frames Output c = says_earlier old mid new f.counts c
+    ends_anew frames TooLong c = long_earlier old mid new f.counts c
+
+    pub unopened_anew : (frames : ℕ) (end : End) → IsNotOpened end mid new
+        → RequestCause (Run frames true) end old new
+    unopened_anew frames end n = ends_anew frames end (unopened_ends mid new end n frames)
+
+    pub unopened_stops : (end : End) → IsNotOpened end mid new → FormattedLeaves (Err end) old new
+    unopened_stops end n = subst (λ (e : End). FormattedLeaves (Err e) old new) (sym n.end_is)
+        (inr (
+          f.fits,
+          λ h script settled told left. inl (formatted_runs old mid new f
+              (unopened_runs mid new end n) h script settled told left),
+        ))
+
+    -- and what it leaves
+    leaves_anew : (ending : Ending) → (ending ≡ Err OutOfMemory → ⊥) → OpenedLeaves ending mid new
+        → FormattedLeaves ending old new
+    leaves_anew (Ok u) apart l = (
+      formatted_runs old mid new f l.runs,
+      λ source told. l.read refl
+          source (left_counts old mid f.counts ∙ told),
+    )
+    leaves_anew (Err Words) apart l = absurd l
+    leaves_anew (Err (Chip e)) apart l = inr (
+      f.fits,
+      λ h script settled told left. inl
+          (formatted_runs old mid new f l.runs h script settled told left),
+    )
+    leaves_anew (Err OutOfMemory) apart l = absurd (apart refl)
+    leaves_anew (Err Script) apart l = formatted_runs old mid new f l.runs
+    leaves_anew (Err Output) apart l = formatted_runs old mid new f l.runs
+    leaves_anew (Err TooLong) apart l = formatted_runs old mid new f l.runs
+
+-- memory is never wanting in a run
+runs_have_memory : (result : Result (Unit {0}) Stop) → ending_of result ≡ Err OutOfMemory → ⊥
+runs_have_memory (Ok u) is = cc
+runs_have_memory (Err (stop.Store (fault.Chip c))) is = cc
+runs_have_memory (Err (stop.Store (fault.Image e))) is = cc
+runs_have_memory (Err (stop.Store fault.Spent)) is = cc
+runs_have_memory (Err stop.Script) is = cc
+runs_have_memory (Err stop.Output) is = cc
+runs_have_memory (Err stop.TooLong) is = cc
+
+module _ (old mid : Told) (store : ScriptStore) (s : StartsFormatted old store mid)
+    (then : ScriptStore) (new : Told) where
+  pub formatted_left : (ending : Ending) → RunsOver ending store mid then new
+      → FormattedLeaves ending old new
+  formatted_left ending r = leaves_anew old s.formatted s.formats new ending (λ is. runs_have_memory
+      r.result (sym r.ending_is ∙ is))
+      (opened_left s.formatted mid store s.opened then new ending r)
+
+  pub cause_anew : (frames : ℕ) (ending : Ending)
+      → EndCause (Some (Run frames false)) ending s.formatted new
+      → EndCause (Some (Run frames true)) ending old new
+  cause_anew frames (Ok u) c = tt
+  cause_anew frames (Err end) c = ends_anew old s.formatted s.formats new frames end c
+
+  -- what is told before the format is consistent, and so is what is told after it
+  pub formatted_cause : (frames : ℕ) (ending : Ending) → RunsOver ending store mid then new
+      → EndCause (Some (Run frames true)) ending old new
+  formatted_cause frames ending r = cause_anew frames ending (opened_cause s.formatted mid store
+      s.opened then new s.formats.consistent frames ending r)
+
+module _ (old mid : Told) (store : ScriptStore) (s : StartsFormatted old store mid) where
+  pub formatted_running : IsRunning mid.places store
+  formatted_running = opened_running s.formatted mid store s.opened
+
+  pub formatted_number : next_number store ≤ FOUND_NUMBER
+  formatted_number = opened_number s.formatted mid store s.opened
+
+-- ---- a format that is stopped
+
+module _ (old new : Told) (end : End) (n : IsNotFormatted end old new) where
+  pub stopped_left : FormattedLeaves (Err end) old new
+  stopped_left = subst (λ (e : End). FormattedLeaves (Err e) old new) (sym n.end_is)
+      (inr (n.fits, λ h script settled told left. inr (n.stops h told)))
+
+  pub stopped_cause : (frames : ℕ) → RequestCause (Run frames true) end old new
+  stopped_cause frames = subst (λ (e : End). RequestCause (Run frames true) e old new)
+      (sym n.end_is) n.rose
+
+-- ---- a run that isn't started
+
+module _ (old new : Told) where
+  pub not_started_left : (end : End) → IsNotStarted end old new → FormattedLeaves (Err end) old new
+  not_started_left end (inl unmade) = subst (FormattedLeaves (Err end) old) (sym unmade.1)
+      (unmade_left old end unmade.0)
+  not_started_left end (inr (inl stopped)) = stopped_left old new end stopped
+  not_started_left end (inr (inr (formatted, f, n))) = unopened_stops old formatted f new end n
+
+  pub not_started_cause : (frames : ℕ) (end : End) → IsNotStarted end old new
+      → RequestCause (Run frames true) end old new
+  not_started_cause frames end (inl unmade) = subst (RequestCause (Run frames true) end old)
+      (sym unmade.1) (unmade_cause old frames end unmade.0)
+  not_started_cause frames end (inr (inl stopped)) = stopped_cause old new end stopped frames
+  not_started_cause frames end (inr (inr (formatted, f, n))) = unopened_anew old formatted f new
+      frames end n
+
+-- ---- as the calls have it
+
+abbrev failed : FormatFault → Result (Unit {0}) FormatFault
+failed fault = Err fault
+
+module _ (old new : Told) (fits : IsGeometry old.places) (counts : Counts old new) where
+  -- a format of a chip that fits is done
+  pub was_formatted : new.settled ≡ old.settled → IsConsistent new
+      → ((h : History) → old.history ≡ Some h → Formats {A = Unit {0}} {E = FormatFault} old.places
+      h (Ok tt) new) → WasFormatted old new
+  was_formatted settled consistent formats = record {
+    fits = fits;
+    counts = counts;
+    settled =
+        settled;
+    consistent = consistent;
+    formats = formats;
+  }
+
+  -- or a write failed
+  pub not_formatted : (f : FormatFault) → (failed f ≡ failed format.Geometry → ¬ IsGeometry
+      old.places) → (failed f ≡ failed format.Stopped → Rose old.write_faults new.write_faults)
+      → ((h : History) → old.history ≡ Some h → Formats {A = Unit {0}} old.places h (Err f) new)
+      → IsNotFormatted (format_end f) old new
+  not_formatted format.Geometry other rose formats = absurd (other refl fits)
+  not_formatted format.Stopped other rose formats = record {
+    end_is = refl;
+    fits = fits;
+    counts = counts;
+    rose = rose refl;
+    stops = stopped_early format.Stopped old new counts formats;
+  }
+
+-- a chip of which a store was opened
+pub starts_over : (old new : Told) (store : Store) (s : ScriptStore) → s.store ≡ store
+    → IsSound old.places store → Opens old.places old store new
+    → Tries old.places old (Ok tt) (tables_in store.transactions.pages) new → StartsOpened old s new
+starts_over old new store s same sound opens tries =
+    let there : store ≡ s.store = sym same in record {
+      running = record {
+        sound = subst (IsSound old.places) there sound;
+        up = ap
+            (λ (it : Store). it.down) same ∙ opens.fresh.up;
+      };
+      opens = subst (λ (it : Store). Opens old.places old it new) there opens;
+      tries = subst (λ (it : Store). Tries old.places old (Ok tt) (tables_in it.transactions.pages)
+          new) there tries;
+    }
+
+-- a run leaves what was noted, and its stops have their causes
+module _ (before then : ScriptStore) (old new : Told) where
+  -- a script that is told has as many bytes as were read of it
+  too_long : Grew old.beside.script_bytes 4294967295 new.beside.script_bytes
+      → HasRead 4294967295 old new → IsTooLong old new
+  too_long grew read = record { grew = grew; told = λ source left. (read source left).1 }
+
+  pub runs_over : (result : Result (Unit {0}) Stop) → next_number before ≤ FOUND_NUMBER
+      → RunsScript script_keeping before old result then new
+      → Draws script_keeping SCRIPT_DRAWS before (IsErrOf result (stop.Store fault.Spent)) then
+      → CompletesOver script_keeping SCRIPT_DRAWS before old result then new → Further old new
+      → IfErr result (λ e. StopCause script_keeping old new e)
+      → (IsErrOf result stop.TooLong → Grew old.beside.script_bytes 4294967295
+      new.beside.script_bytes) → (IsErrOf result stop.TooLong → HasRead 4294967295 old new)
+      → OnOk result (ReadsAll old new)
+      → RunsOver (ending_of result) before old then new
+  runs_over result low run draws completes further cause exact long read = record {
+    result = result;
+    ending_is = refl;
+    runs = run;
+    completes = completes;
+    cause = cause;
+    unspent = numbers_last draws low;
+    long = λ is. too_long (exact is) (long is);
+    further = further;
+    read = read;
+  }
+
+  -- one that is done read all of the script
+  pub ran_over : next_number before ≤ FOUND_NUMBER
+      → RunsScript script_keeping before old (Ok tt) then new
+      → Draws script_keeping SCRIPT_DRAWS before (IsErrOf {T = Unit {0}} (Ok tt)
+      (stop.Store fault.Spent)) then
+      → CompletesOver script_keeping {T = Unit {0}} SCRIPT_DRAWS before old (Ok tt) then new
+      → Further old new → ReadsAll old new → RunsOver (Ok tt) before old then new
+  ran_over low run draws completes further read =
+      runs_over (Ok tt) low run draws completes further tt (λ is. absurd cc) (λ is. absurd cc) read

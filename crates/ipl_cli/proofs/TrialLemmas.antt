@@ -1,0 +1,467 @@
+-- What a trial leaves, and why it ends.
+use Rattle.std.proofs.Common.{◌≡◌, ◌⊎◌, ◌≤◌, ◌-◌, ◌+◌, ℕ, true, [], ◌∷◌, List, ◌++◌, Some, Result, Ok, Err, inl, inr, refl, sym, ◌∙◌, ap, subst, arith, append_assoc}
+use Rattle.std.specs.Prelude.{IfErr, IsErrOf}
+use Rattle.std.specs.FinMap.{empty}
+use Rattle.chip_trait.specs.Chart.{says}
+use Rattle.chip_trait.specs.Image.{IsNoChanceImage}
+use Rattle.chip_trait.specs.Lawful.{IsLawful, AreClean}
+use Rattle.chip_trait.specs.Moment.{AtEachMoment, Leaves}
+use Rattle.chip_trait.specs.Story.{Story, Contents, pieces, said, joined}
+use Rattle.chip_trait.specs.Told.{History, Told, Beside, IsPrefix, adds_all, Unrisen}
+use Rattle.chip_trait.proofs.MomentLemmas.{at_both, at_weaker}
+use Rattle.chip_trait.proofs.SaidLemmas.{silent-part}
+use Rattle.ipl_base.specs.declared.fault.ImageFault.{ImageFault}
+use Rattle.ipl_rules.specs.State.{State, Limits, Map, at_rest}
+use Rattle.ipl_model.specs.declared.command.Command.{Command}
+use Rattle.ipl_model.specs.Run.{joined as joined_text}
+use Rattle.ipl_format.specs.Sector.{sector_in}
+use Rattle.ipl_meaning.specs.Chart.{chart_of}
+use Rattle.ipl_meaning.specs.Rests.{EachStands, StoryRests}
+use Rattle.ipl_meaning.specs.Stands.{Stands}
+use Rattle.restart.specs.Events.{format_events}
+use Rattle.store_trait.specs.Keeping.{Stays, SCRIPT_DRAWS}
+use Rattle.store_trait.specs.Onward.{Onward}
+use Rattle.store_trait.specs.declared.fault.Fault.TheVariants as fault
+use Rattle.store_trait.proofs.DrawLemmas.{numbers_last}
+use Rattle.store_trait.proofs.OnwardLemmas.{unrisen_later}
+use Rattle.store_steps.specs.Keeps.{limits_of}
+use Rattle.script_run.specs.declared.fault.Stop.{Stop}
+use Rattle.script_run.specs.declared.fault.Stop.TheVariants as stop
+use Rattle.script_run.specs.Goes.{Along, CompletesOver}
+use Rattle.script_run.specs.Run.{SaysLines, IsUnsaid}
+use Rattle.script_run.proofs.RunLemmas.{says_none, says_prefix}
+use Rattle.script_store.specs.declared.store.ScriptStore.{ScriptStore}
+use Rattle.script_store.specs.Keeps.{script_keeping, next_number}
+use Rattle.store_trait.specs.Keeping.{FOUND_NUMBER}
+use Rattle.trial_commands.specs.Words.{trial_commands}
+use Rattle.trial_run.specs.Trial.{StandsBehind as StandsBehindOf, TrialLeaves as LeavesOf, TrialEnds, EndsInWork, RunsTrial, IsTrialStop}
+use Rattle.command_line.specs.declared.asked.Request.TheVariants.{Run, Trial}
+use Rattle.program_end.specs.declared.end.End.{End}
+use Rattle.program_end.specs.declared.end.End.TheVariants.{Words, Chip, OutOfMemory, Script, Output, TooLong}
+use Rattle.ipl_cli.specs.Ending.{Ending}
+use Rattle.ipl_cli.specs.Top.{IsTooLong, RequestCause, EndCause}
+use Rattle.ipl_cli.specs.Trials.{commands_on, state_after, summary, StandsBehind, EndsAlong, EndsTrial, Trials, TrialsFormatted, TrialLeaves}
+use Rattle.ipl_cli.specs.Runs.{ClosesFor, StartsOpened, IsNotOpened, WasFormatted, StartsFormatted, IsNotStarted, TriesOver, end_of, ending_of}
+use Rattle.ipl_cli.proofs.EndLemmas.{Kept, kept, pieces_behind, history_behind, all_done, left_counts, steady_of, opened_keeps, fresh_story, lawful_format}
+use Rattle.ipl_cli.proofs.StartLemmas.{cause_anew, over_cause, not_started_cause}
+
+-- ---- what the chip stands for
+
+module _ (places : ℕ) (least : 5 ≤ places) (commands : List Command) where
+  -- a store's number of units is four less than the chip's of places
+  stands_on : (x : Contents) (m : Map) → Stands (places - 4 + 4) (chart_of x) m
+      → Stands places (chart_of x) m
+  stands_on x m stands = subst (λ (q : ℕ). Stands q (chart_of x) m) (omega (arith, least)) stands
+
+  behind : (lines : List (List ℕ)) (x : Contents)
+      → StandsBehindOf script_keeping (limits_of (places - 4)) (at_rest empty) commands lines x
+      → StandsBehind places commands lines x
+  behind [] x (done, later, are, stands) = (
+    done,
+    later,
+    are,
+    stands_on x (state_after places
+        done).map stands,
+  )
+  behind (line ∷ lines) x stands = stands_on x (state_after places commands).map stands
+
+-- ---- events that say nothing, before a trial
+
+module _ (places : ℕ) (commands : List Command) (h : History) (first : Story)
+    (silent : pieces first ≡ [])
+    (each : AtEachMoment (λ e. EachStands places empty (adds_all e h)) first)
+    (lawful : (base : Story) → IsLawful base → IsLawful (first ++ base)) where
+  abbrev limits : Limits
+  limits = limits_of (places - 4)
+
+  abbrev Found : Story → Type 0
+  Found e = Leaves (says sector_in) (StandsBehind places commands (pieces e)) h e
+
+  -- at each moment of them no command is done
+  near_first : AtEachMoment Found first
+  near_first = λ later e is x image.
+      let quiet : pieces e ≡ [] = silent-part later e (ap pieces is ∙ silent) in
+      subst (λ (lines : List (List ℕ)). StandsBehind places commands lines x) (sym quiet)
+      ([], commands, refl, each later e is x image)
+
+  -- they alone were done
+  pub none_tried : (old new : Told) (e : ImageFault) → new.history ≡ Some (adds_all first h)
+      → new.beside.left ≡ old.beside.left
+      → (Unrisen old new → new.settled ≡ true)
+      → (Unrisen old new → StoryRests places empty (adds_all first h))
+      → Trials places commands h [] old new (Err (Chip e))
+  none_tried old new e history left settled rests = record {
+    added = first;
+    history = history;
+    each_moment = near_first;
+    lines = subst (SaysLines (summary places commands)) (sym silent)
+        (says_none (summary places commands));
+    is_prefix = subst (λ (bytes : List ℕ). IsPrefix bytes (joined_text (summary places commands)))
+        (sym (ap joined silent)) (joined_text (summary places commands), refl);
+    lawful = lawful;
+    settled = settled;
+    ends = record {
+      done = [];
+      later = commands;
+      commands_are = refl;
+      silent = silent;
+      rests = rests;
+    };
+    left_is = left;
+    all = λ is. absurd cc;
+  }
+
+  -- then the commands were done
+
+  module _ (old mid new : Told) (before then : ScriptStore) (least : 5 ≤ places)
+      (later : old.write_faults ≤ mid.write_faults)
+      (clean : (base : Story) → AreClean (script_keeping.clean before) (first ++ base))
+      (left : new.beside.left ≡ old.beside.left) where
+    module _ (R : State → Type 0) (result : Result (Unit {0}) Stop) (stays : (s : State) → R s
+        → Stays script_keeping limits then mid new s)
+        (leaves : LeavesOf script_keeping limits (at_rest empty) commands before (adds_all first h)
+        R then new result) where
+      abbrev last : History
+      last = adds_all leaves.added (adds_all first h)
+
+      kept_last : (s : State) → R s → Unrisen old new → Kept places new last s
+      kept_last s so unrisen = kept places least then new s last
+          (stays s so (unrisen_later old mid new later unrisen)) leaves.history
+
+      all_pieces : pieces (leaves.added ++ first) ≡ pieces leaves.added
+      all_pieces = pieces_behind first leaves.added silent
+
+      all_said : said (leaves.added ++ first) ≡ said leaves.added
+      all_said = ap joined all_pieces
+
+      all_history : last ≡ adds_all (leaves.added ++ first) h
+      all_history = history_behind first leaves.added h
+
+      later_found : AtEachMoment (λ f. Found (f ++ first)) leaves.added
+      later_found = at_weaker (λ e. Leaves (says sector_in) (StandsBehindOf script_keeping limits
+          (at_rest empty) commands (pieces e)) (adds_all first h) e) (λ f. Found (f ++ first))
+          leaves.added (λ f found x image.
+          subst (λ (lines : List (List ℕ)). StandsBehind places commands lines x)
+          (sym (pieces_behind first f silent))
+          (behind places least commands (pieces f) x
+          (found x (subst (λ (s : Story). IsNoChanceImage (says sector_in) h.start s x)
+          (append_assoc f first h.story) image)))) leaves.each_moment
+
+      abbrev Resting : State → Type 0
+      Resting s = Unrisen old new → StoryRests places s.map (adds_all (leaves.added ++ first) h)
+
+      rested : (s : State) → R s → Resting s
+      rested s so = λ unrisen. subst (λ (k : History). StoryRests places s.map k) all_history
+          (kept_last s so unrisen).rests
+
+      along : EndsInWork script_keeping limits (at_rest empty) commands (adds_all first h)
+          leaves.added R → EndsAlong Resting places commands (pieces (leaves.added ++ first))
+      along e = record {
+        done = e.done;
+        later = e.later;
+        commands_are = e.commands_are;
+        silent =
+            all_pieces ∙ e.silent;
+        rests = rested (state_after places e.done) e.rests;
+      }
+
+      ends_by : (r : Result (Unit {0}) Stop) → TrialEnds script_keeping r limits (at_rest empty)
+          commands (adds_all first h) leaves.added R
+          → EndsTrial (ending_of r) Resting places commands (pieces (leaves.added ++ first))
+      ends_by (Ok u) e = rested (state_after places commands) e.rests
+      ends_by (Err (stop.Store (fault.Chip f))) e = along e
+      ends_by (Err (stop.Store (fault.Image f))) e = along e
+      ends_by (Err (stop.Store fault.Spent)) e = along e
+      ends_by (Err stop.Script) e = absurd e
+      ends_by (Err stop.Output) e = (
+        subst (IsUnsaid (summary places commands)) (sym all_pieces)
+            e.part,
+        rested (state_after places commands) e.whole.rests,
+      )
+      ends_by (Err stop.TooLong) e = absurd e
+
+      settled_by : (r : Result (Unit {0}) Stop)
+          → TrialEnds script_keeping r limits (at_rest empty) commands (adds_all first h)
+          leaves.added R → Unrisen old new → new.settled ≡ true
+      settled_by (Ok u) e unrisen = (kept_last (state_after places commands) e.rests
+          unrisen).settled
+      settled_by (Err (stop.Store f)) e unrisen = (kept_last (state_after places e.done) e.rests
+          unrisen).settled
+      settled_by (Err stop.Script) e unrisen = absurd e
+      settled_by (Err stop.Output) e unrisen = (kept_last (state_after places commands)
+          e.whole.rests unrisen).settled
+      settled_by (Err stop.TooLong) e unrisen = absurd e
+
+      pub tried_by : Trials places commands h [] old new (ending_of result)
+      tried_by = record {
+        added = leaves.added ++ first;
+        history = leaves.history ∙ ap Some all_history;
+        each_moment = at_both Found leaves.added first near_first later_found;
+        lines = subst (SaysLines (summary places commands)) (sym all_pieces) leaves.lines;
+        is_prefix = subst (λ (bytes : List ℕ). IsPrefix bytes
+            (joined_text (summary places commands))) (sym all_said)
+            (says_prefix (summary places commands) (pieces leaves.added) leaves.lines);
+        lawful = λ base good. subst IsLawful (sym (append_assoc leaves.added first base))
+            (leaves.lawful.lawful (first ++ base) (lawful base good) (clean base));
+        settled = settled_by result leaves.ends;
+        ends = ends_by result leaves.ends;
+        left_is = left;
+        all = λ is. let whole = leaves.all (all_done result is) in (
+          all_pieces ∙ whole,
+          all_said ∙
+              ap joined_text whole,
+        );
+      }
+
+-- ---- over a chip that was opened
+
+-- over a chip whose story rests on no records
+abbrev TrialsOpened : List Command → Told → Told → Ending → Type 0
+TrialsOpened commands old new ending = (h : History) → old.settled ≡ true → old.history ≡ Some h
+    → StoryRests old.places empty h
+    → Trials old.places commands h [] old new ending
+
+module _ (old mid : Told) (store : ScriptStore) (s : StartsOpened old store mid)
+    (then : ScriptStore) (new : Told) (commands : List Command) (onward : Onward mid new) where
+  left_alone : new.beside.left ≡ old.beside.left
+  left_alone = ap (λ (b : Beside). b.left) onward.keeps ∙ left_counts old mid
+      s.tries.accounts.counts
+
+  opened_trial : (result : Result (Unit {0}) Stop)
+      → RunsTrial script_keeping commands store mid result then new
+      → TrialsOpened commands old new (ending_of result)
+  opened_trial (Ok u) run = λ h settled told rests.
+      let steady = steady_of old h settled told in
+      let did = s.tries.steps empty h steady rests in
+      tried_by old.places commands h did.added did.does.silent did.each_moment
+      (λ base good. did.does.lawful.lawful base good (λ p q nowhere. absurd nowhere))
+      old mid new store then s.running.sound.made.geometry.0 s.tries.accounts.counts.writes
+      (λ base. did.does.clean refl base (λ p q nowhere. absurd nowhere)) left_alone
+      (script_keeping.holds (limits_of (old.places - 4)) then new) (Ok tt) (λ state held unrisen.
+      held)
+      (run (limits_of (old.places - 4)) (at_rest empty) (adds_all did.added h) (opened_keeps old mid
+      store s empty h steady rests) did.history)
+  opened_trial (Err e) run = λ h settled told rests.
+      let steady = steady_of old h settled told in
+      let did = s.tries.steps empty h steady rests in
+      tried_by old.places commands h did.added did.does.silent did.each_moment
+      (λ base good. did.does.lawful.lawful base good (λ p q nowhere. absurd nowhere))
+      old mid new store then s.running.sound.made.geometry.0 s.tries.accounts.counts.writes
+      (λ base. did.does.clean refl base (λ p q nowhere. absurd nowhere)) left_alone
+      (Stays script_keeping (limits_of (old.places - 4)) then mid new) (Err e)
+      (λ state stays. stays)
+      (run (limits_of (old.places - 4)) (at_rest empty) (adds_all did.added h) (opened_keeps old mid
+      store s empty h steady rests) did.history)
+
+-- an opening that fails leaves no records
+unopened_trial : (commands : List Command) (old new : Told) (end : End)
+    → (n : IsNotOpened end old new) → TrialsOpened commands old new (Err (Chip n.fault))
+unopened_trial commands old new end n = λ h settled told rests.
+    let did = n.tries.steps empty h (steady_of old h settled told) rests in
+    none_tried old.places commands h did.added did.does.silent did.each_moment
+    (λ base good. did.does.lawful.lawful base good (λ p q nowhere. absurd nowhere))
+    old new n.fault did.history (left_counts old new n.tries.accounts.counts) did.settled did.ends
+
+-- ---- after a format
+
+ends_so : (Q R : State → Type 0) (places : ℕ) (commands : List Command) (lines : List (List ℕ))
+    → ((s : State) → Q s → R s) → (e : Ending)
+    → EndsTrial e Q places commands lines → EndsTrial e R places commands lines
+ends_so Q R places commands lines f (Ok u) e = f _ e
+ends_so Q R places commands lines f (Err Words) e = e
+ends_so Q R places commands lines f (Err (Chip x)) e = record {
+  done = e.done;
+  later = e.later;
+  commands_are = e.commands_are;
+  silent = e.silent;
+  rests = f _ e.rests;
+}
+ends_so Q R places commands lines f (Err OutOfMemory) e = e
+ends_so Q R places commands lines f (Err Script) e = e
+ends_so Q R places commands lines f (Err Output) e = (e.0, f _ e.1)
+ends_so Q R places commands lines f (Err TooLong) e = e
+
+module _ (old mid new : Told) (f : WasFormatted old mid) (commands : List Command) where
+  after_format : {ending : Ending} (h : History) → old.history ≡ Some h
+      → Trials old.places commands (adds_all (format_events old.places) h) [] mid new ending
+      → Trials old.places commands h (format_events old.places) old new ending
+  after_format {ending} h told t = let last : History = adds_all t.added
+      (adds_all (format_events old.places) h) in record {
+        added = t.added;
+        history = t.history;
+        each_moment = t.each_moment;
+        lines = t.lines;
+        is_prefix = t.is_prefix;
+        lawful = λ base good. t.lawful (format_events old.places ++ base) (lawful_format old mid new f h
+            told base good);
+        settled = λ unrisen. t.settled (earlier unrisen);
+        ends = ends_so (λ s. Unrisen mid new → StoryRests old.places s.map last) (λ s. Unrisen old new
+            → StoryRests old.places s.map last) old.places commands (pieces t.added) (λ s so unrisen. so
+            (earlier unrisen)) ending t.ends;
+        left_is = t.left_is ∙ left_counts old mid f.counts;
+        all = t.all;
+      }
+    where
+      earlier : Unrisen old new → Unrisen mid new
+      earlier = unrisen_later old mid new f.counts.writes
+
+  formatted_trial : {ending : Ending} → TrialsOpened commands mid new ending → (h : History)
+      → old.settled ≡ true → old.history ≡ Some h
+      → Trials old.places commands h (format_events old.places) old new ending
+  formatted_trial {ending} trials h settled told =
+      let fresh = fresh_story old mid new f h told in
+      after_format h told (subst (λ (q : ℕ). Trials q commands (adds_all (format_events old.places)
+      h) [] mid new ending) f.counts.places
+      (trials (adds_all (format_events old.places) h) (f.settled ∙ settled) fresh.0
+      (subst (λ (q : ℕ). StoryRests q empty (adds_all (format_events old.places) h))
+      (sym f.counts.places) fresh.1)))
+
+-- ---- a trial that isn't started
+
+module _ (old new : Told) (seed count : ℕ) where
+  unmade_trial : (end : End) → ClosesFor old.places (Err end)
+      → TrialLeaves seed count (Err end) old old
+  unmade_trial Words c = absurd c
+  unmade_trial (Chip e) c = inl (c.0, c.1, refl)
+  unmade_trial OutOfMemory c = refl
+  unmade_trial Script c = absurd c
+  unmade_trial Output c = absurd c
+  unmade_trial TooLong c = absurd c
+
+  pub trial_not_started : (end : End) → IsNotStarted end old new
+      → TrialLeaves seed count (Err end) old new
+  trial_not_started end (inl unmade) = subst (TrialLeaves seed count (Err end) old) (sym unmade.1)
+      (unmade_trial end unmade.0)
+  trial_not_started end (inr (inl stopped)) = subst (λ (e : End). TrialLeaves seed count (Err e) old
+      new) (sym stopped.end_is) (inr (stopped.fits, λ h settled told. inr (stopped.stops h told)))
+  trial_not_started end (inr (inr (formatted, f, n))) = subst (λ (e : End). TrialLeaves seed count
+      (Err e) old new) (sym n.end_is)
+      (inr (
+        f.fits,
+        λ h settled told. inl (formatted_trial old formatted new f (commands_on old.places seed
+            count)
+            (unopened_trial (commands_on old.places seed count) formatted new end n) h settled
+            told),
+      ))
+
+  -- no script is read
+  not_script : (end : End) → IsNotStarted end old new → end ≡ Script → ⊥
+  not_script end (inl unmade) is = subst (λ (e : End). ClosesFor old.places (Err e)) is unmade.0
+  not_script end (inr (inl stopped)) is = absurd (let both : Chip _ ≡ Script = sym stopped.end_is ∙
+      is in cc)
+  not_script end (inr (inr (formatted, f, n))) is = absurd (let both : Chip _ ≡ Script = sym
+      n.end_is ∙ is in cc)
+
+  not_long : (end : End) → IsNotStarted end old new → end ≡ TooLong → ⊥
+  not_long end (inl unmade) is = subst (λ (e : End). ClosesFor old.places (Err e)) is unmade.0
+  not_long end (inr (inl stopped)) is = absurd (let both : Chip _ ≡ TooLong = sym stopped.end_is ∙
+      is in cc)
+  not_long end (inr (inr (formatted, f, n))) is = absurd (let both : Chip _ ≡ TooLong = sym n.end_is
+      ∙ is in cc)
+
+  as_trial : (frames : ℕ) (end : End) → (end ≡ Script → ⊥) → (end ≡ TooLong → ⊥)
+      → RequestCause (Run frames true) end old new
+      → RequestCause (Trial seed count frames) end old new
+  as_trial frames Words script long c = c
+  as_trial frames (Chip e) script long c = c
+  as_trial frames OutOfMemory script long c = c
+  as_trial frames Script script long c = absurd (script refl)
+  as_trial frames Output script long c = c
+  as_trial frames TooLong script long c = absurd (long refl)
+
+  pub trial_not_started_cause : (frames : ℕ) (end : End) → IsNotStarted end old new
+      → RequestCause (Trial seed count frames) end old new
+  trial_not_started_cause frames end n = as_trial frames end (not_script end n) (not_long end n)
+      (not_started_cause old new frames end n)
+
+-- ---- a trial that was started
+
+module _ (old mid : Told) (store : ScriptStore) (s : StartsFormatted old store mid)
+    (then : ScriptStore) (new : Told) (seed count : ℕ) where
+  -- the number of places stays, and so do the commands
+  same_places : mid.places ≡ old.places
+  same_places = s.opened.tries.accounts.counts.places ∙ s.formats.counts.places
+
+  leaves_by : (result : Result (Unit {0}) Stop) → IfErr result IsTrialStop
+      → TrialsFormatted seed count old new (ending_of result)
+      → TrialLeaves seed count (ending_of result) old new
+  leaves_by (Ok u) stops trials = trials
+  leaves_by (Err (stop.Store (fault.Chip c))) stops trials = inr (
+    s.formats.fits,
+    λ h settled told.
+        inl (trials h settled told),
+  )
+  leaves_by (Err (stop.Store (fault.Image e))) stops trials = inr (
+    s.formats.fits,
+    λ h settled told.
+        inl (trials h settled told),
+  )
+  leaves_by (Err (stop.Store fault.Spent)) stops trials = inr (
+    s.formats.fits,
+    λ h settled told. inl
+        (trials h settled told),
+  )
+  leaves_by (Err stop.Script) stops trials = absurd stops
+  leaves_by (Err stop.Output) stops trials = trials
+  leaves_by (Err stop.TooLong) stops trials = absurd stops
+
+  pub tried_left : (ending : Ending) → TriesOver seed count ending store mid then new
+      → TrialLeaves seed count ending old new
+  tried_left ending t =
+      let commands : List Command = commands_on old.places seed count in
+      let run = subst (λ (n : ℕ). RunsTrial script_keeping (commands_on n seed count) store mid
+      t.result then new) same_places t.trial in
+      subst (λ (e : Ending). TrialLeaves seed count e old new) (sym t.ending_is) (leaves_by t.result
+      t.stops
+      (formatted_trial old s.formatted new s.formats commands (opened_trial s.formatted mid store
+      s.opened then new commands t.onward t.result run)))
+
+  never_long : (result : Result (Unit {0}) Stop) → IfErr result IsTrialStop
+      → IsErrOf result stop.TooLong → IsTooLong mid new
+  never_long (Ok u) stops is = absurd cc
+  never_long (Err (stop.Store f)) stops is = absurd cc
+  never_long (Err stop.Script) stops is = absurd stops
+  never_long (Err stop.Output) stops is = absurd cc
+  never_long (Err stop.TooLong) stops is = absurd stops
+
+  cause_by : (frames : ℕ) (result : Result (Unit {0}) Stop) → IfErr result IsTrialStop
+      → EndCause (Some (Run frames true)) (ending_of result) old new
+      → EndCause (Some (Trial seed count frames)) (ending_of result) old new
+  cause_by frames (Ok u) stops c = tt
+  cause_by frames (Err (stop.Store (fault.Chip f))) stops c = c
+  cause_by frames (Err (stop.Store (fault.Image e))) stops c = c
+  cause_by frames (Err (stop.Store fault.Spent)) stops c = c
+  cause_by frames (Err stop.Script) stops c = absurd stops
+  cause_by frames (Err stop.Output) stops c = c
+  cause_by frames (Err stop.TooLong) stops c = absurd stops
+
+  pub tried_cause : (frames : ℕ) (ending : Ending) → TriesOver seed count ending store mid then new
+      → EndCause (Some (Trial seed count frames)) ending old new
+  tried_cause frames ending t = subst (λ (e : Ending). EndCause (Some (Trial seed count frames)) e
+      old new) (sym t.ending_is)
+      (cause_by frames t.result t.stops (cause_anew old mid store s then new frames
+      (ending_of t.result)
+      (over_cause s.formatted mid store s.opened then new s.formats.consistent frames t.result
+      t.completes t.cause t.unspent (never_long t.result t.stops))))
+
+-- ---- as the calls have it
+
+-- a trial over a store whose numbers last
+module _ (seed count units : ℕ) (before then : ScriptStore) (old new : Told) (units_are : units ≡
+    old.places - 4) (low : next_number before ≤ FOUND_NUMBER) where
+  pub tries_over : (result : Result (Unit {0}) Stop)
+      → RunsTrial script_keeping (trial_commands units seed count) before old result then new
+      → Along script_keeping Onward SCRIPT_DRAWS before old result then new
+      → CompletesOver script_keeping SCRIPT_DRAWS before old result then new
+      → IfErr result IsTrialStop → TriesOver seed count (ending_of result) before old then new
+  tries_over result run goes completes stops = record {
+    result = result;
+    ending_is = refl;
+    trial = subst (λ (n : ℕ). RunsTrial script_keeping (trial_commands n seed count) before old
+        result then new) units_are run;
+    completes = completes;
+    cause = goes.cause;
+    unspent = numbers_last goes.draws low;
+    stops = stops;
+    onward = goes.beside;
+  }

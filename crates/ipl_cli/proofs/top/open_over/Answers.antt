@@ -1,0 +1,22 @@
+use Rattle.std.proofs.Common.{refl}
+use Rattle.page_frames.specs.Pages.{tables_in}
+use Rattle.ipl_cli.proofs.StartLemmas.{starts_over}
+use Rattle.ipl_cli.proofs.top.open_over.Goals as goal
+
+pub returns-in-Ok : goal.returns-in-Ok
+returns-in-Ok g c = record {
+  opens = starts_over (g.D.Chip.told c.args.desk.now) (g.D.Chip.told c.open_chip.new.chip)
+      c.open_chip.new.self c.over.result c.over.ensures c.open_chip.ensures.sound
+      c.in-Ok.ensures.opens c.in-Ok.ensures.tries;
+}
+
+pub returns-in-Err : goal.returns-in-Err
+returns-in-Err g c = record {
+  opens = record {
+    fault = c.in-Err.fault;
+    end_is = refl;
+    fits = c.requires.sound.made.geometry;
+    tables = tables_in c.open_chip.new.self.transactions.pages;
+    tries = c.in-Err.ensures.tries;
+  };
+}

@@ -1,0 +1,126 @@
+-- What a trial leaves, wherever it ends.
+use Rattle.std.specs.Prelude.{◌≡◌, ◌⊎◌, ℕ, ◌-◌, true, List, [], ◌∷◌, ◌++◌, Some, Ok, Err}
+use Rattle.std.specs.FinMap.{empty}
+use Rattle.chip_trait.specs.Chart.{says}
+use Rattle.chip_trait.specs.Lawful.{IsLawful}
+use Rattle.chip_trait.specs.Moment.{AtEachMoment, Leaves}
+use Rattle.chip_trait.specs.Story.{Story, Contents, pieces, said}
+use Rattle.chip_trait.specs.Told.{History, Told, IsPrefix, adds_all, Unrisen}
+use Rattle.ipl_base.specs.Places.{IsGeometry}
+use Rattle.ipl_base.specs.declared.fault.ImageFault.{ImageFault}
+use Rattle.ipl_base.specs.declared.fault.ImageFault.TheVariants as image
+use Rattle.ipl_base.specs.declared.limits.TheConstants.{RESERVED_PLACES}
+use Rattle.ipl_rules.specs.State.{State, Map, at_rest}
+use Rattle.ipl_model.specs.declared.command.Command.{Command}
+use Rattle.ipl_model.specs.Run.{joined, after_all}
+use Rattle.ipl_format.specs.Sector.{sector_in}
+use Rattle.ipl_meaning.specs.Chart.{chart_of}
+use Rattle.ipl_meaning.specs.Rests.{StoryRests}
+use Rattle.ipl_meaning.specs.Stands.{Stands}
+use Rattle.restart.specs.Events.{format_events}
+use Rattle.store_steps.specs.Keeps.{limits_of}
+use Rattle.script_run.specs.Run.{SaysLines, IsUnsaid}
+use Rattle.trial_commands.specs.Words.{trial_commands}
+use Rattle.trial_commands.specs.Summary.{trial_lines}
+use Rattle.program_end.specs.declared.end.End.TheVariants.{Words, Chip, OutOfMemory, Script, Output, TooLong}
+use Rattle.ipl_cli.specs.Ending.{Ending, StopsEarly, IsUntouched}
+
+-- the commands of a seed, so many, on so many places
+abbrev pub commands_on : ℕ → ℕ → ℕ → List Command
+commands_on places seed count = trial_commands (places - RESERVED_PLACES) seed count
+
+-- the model's state after commands, from no record and no session on
+abbrev pub state_after : ℕ → List Command → State
+state_after places commands =
+    after_all (limits_of (places - RESERVED_PLACES)) (at_rest empty) commands
+
+-- the lines of the summary of these commands, from no record and no session on
+abbrev pub summary : ℕ → List Command → List (List ℕ)
+summary places commands =
+    trial_lines (limits_of (places - RESERVED_PLACES)) (at_rest empty) commands
+
+-- the contents stand for the records after the first of these commands
+abbrev pub StandsAlong : ℕ → List Command → Contents → Type 0
+StandsAlong places commands x = (done : List Command) × (later : List Command)
+    × (commands ≡ done ++ later) × Stands places (chart_of x) (state_after places done).map
+
+-- and where a line was said, after all of them
+abbrev pub StandsBehind : ℕ → List Command → List (List ℕ) → Contents → Type 0
+StandsBehind places commands [] x = StandsAlong places commands x
+StandsBehind places commands (piece ∷ said) x =
+    Stands places (chart_of x) (state_after places commands).map
+
+-- the first of the commands are done, and nothing was said; Q is so of the state after them
+pub record EndsAlong (Q : State → Type 0) (places : ℕ) (commands : List Command)
+    (said : List (List ℕ)) : Type 0 where
+  pub done : List Command
+  pub later : List Command
+  pub commands_are : commands ≡ done ++ later
+  pub silent : said ≡ []
+  pub rests : Q (state_after places done)
+
+-- How far a trial came, by the end: to its end; to a line of the summary that couldn't be said; or
+-- to
+-- a command that isn't done, or the look-ups after them. Q is so of the state then.
+abbrev pub EndsTrial : Ending → (State → Type 0) → ℕ → List Command → List (List ℕ) → Type 0
+EndsTrial (Ok u) Q places commands said = Q (state_after places commands)
+EndsTrial (Err Words) Q places commands said = ⊥
+EndsTrial (Err (Chip e)) Q places commands said = EndsAlong Q places commands said
+EndsTrial (Err OutOfMemory) Q places commands said = ⊥
+EndsTrial (Err Script) Q places commands said = ⊥
+EndsTrial (Err Output) Q places commands said =
+    IsUnsaid (summary places commands) said × Q (state_after places commands)
+EndsTrial (Err TooLong) Q places commands said = ⊥
+
+-- What a trial leaves, from no records on, after these first events on a chip with this history.
+-- Whatever moment the power is cut at, the chip stands for the records after the first of the
+-- commands, and after all of them from the first line on. What is said is a beginning of the
+-- summary,
+-- line by line. No sector is programmed twice between erases of its place. Where no write failed,
+-- none has, and by how the trial ended the story rests on the records of the commands that are
+-- done.
+-- Of the script nothing is read. Where all is done, the whole summary is said.
+pub record Trials (places : ℕ) (commands : List Command) (h : History) (first : Story)
+    (old new : Told) (ending : Ending) : Type 0 where
+  pub added : Story
+  pub history : new.history ≡ Some (adds_all added (adds_all first h))
+  pub each_moment : AtEachMoment
+      (λ e. Leaves (says sector_in) (StandsBehind places commands (pieces e)) (adds_all first h) e)
+      added
+  pub lines : SaysLines (summary places commands) (pieces added)
+  pub is_prefix : IsPrefix (said added) (joined (summary places commands))
+  pub lawful : (base : Story) → IsLawful base → IsLawful (added ++ (first ++ base))
+  pub settled : Unrisen old new → new.settled ≡ true
+  pub ends : EndsTrial ending
+      (λ s. Unrisen old new → StoryRests places s.map (adds_all added (adds_all first h)))
+      places commands (pieces added)
+  pub left_is : new.beside.left ≡ old.beside.left
+  pub all : ending ≡ Ok tt → (pieces added ≡ summary places commands)
+      × (said added ≡ joined (summary places commands))
+
+-- over a settled chip that tells its history, after a format
+abbrev pub TrialsFormatted : ℕ → ℕ → Told → Told → Ending → Type 0
+TrialsFormatted seed count old new ending = (h : History) → old.settled ≡ true
+    → old.history ≡ Some h
+    → Trials old.places (commands_on old.places seed count) h (format_events old.places) old new
+    ending
+
+-- a call of the chip failed in the trial, or before it in the format
+abbrev pub TrialsOrStops : ℕ → ℕ → Told → Told → Ending → Type 0
+TrialsOrStops seed count old new ending = (h : History) → old.settled ≡ true
+    → old.history ≡ Some h
+    → Trials old.places (commands_on old.places seed count) h (format_events old.places) old new
+    ending
+    ⊎ StopsEarly old.places h old new
+
+-- what a trial leaves; another number of places was left alone
+abbrev pub TrialLeaves : ℕ → ℕ → Ending → Told → Told → Type 0
+TrialLeaves seed count (Ok u) old new = TrialsFormatted seed count old new (Ok u)
+TrialLeaves seed count (Err Words) old new = ⊥
+TrialLeaves seed count (Err (Chip e)) old new =
+    ((¬ IsGeometry old.places) × (e ≡ image.Geometry) × IsUntouched old new)
+    ⊎ (IsGeometry old.places × TrialsOrStops seed count old new (Err (Chip e)))
+TrialLeaves seed count (Err OutOfMemory) old new = IsUntouched old new
+TrialLeaves seed count (Err Script) old new = ⊥
+TrialLeaves seed count (Err Output) old new = TrialsFormatted seed count old new (Err Output)
+TrialLeaves seed count (Err TooLong) old new = ⊥

@@ -1,0 +1,24 @@
+use Rattle.std.proofs.Common.{◌≡◌, ℕ, [], subst, arith}
+use Rattle.std.proofs.lemmas.Bool.Decides.{nat_tests}
+use Rattle.store_trait.proofs.OnwardLemmas.{unrisen_later}
+use Rattle.ipl_cli.specs.Ending.{AtStatus}
+use Rattle.ipl_cli.specs.Top.{RunsOpened}
+use Rattle.ipl_tests.specs.Chains.{RestsOn, records_after, no_records}
+use Rattle.ipl_tests.proofs.ChainLemmas.{run_rests, format_rests}
+use Rattle.ipl_tests.proofs.chains.format_and_run.Goals as goal
+
+pub returns : goal.returns
+returns g c = λ script on unrisen is.
+    let old = g.D.Chip.told c.args.desk.now in
+    let mid = g.D.Chip.told c.top.new.desk in
+    let new = g.D.Chip.told c.top-2.new.desk in
+    let first : c.top.result ≡ 0 = grind (arith, nat_tests, c.if-top-ne0.false) in
+    let second : c.top-2.result ≡ 0 = grind (arith, nat_tests, is) in
+    let begun = format_rests old mid script on
+    (c.top.ensures.formats c.requires.formats first) c.top.ensures.counts in
+    let done = run_rests mid new no_records script begun
+    (subst (λ (n : ℕ). AtStatus (RunsOpened mid new) n) second
+    (c.top-2.ensures.opened c.requires.opens))
+    c.top-2.ensures.counts (unrisen_later old mid new c.top.ensures.counts.writes unrisen) in
+    subst (λ (q : ℕ). RestsOn (records_after q no_records script) [] new)
+    c.top.ensures.counts.places done
