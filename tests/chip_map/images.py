@@ -127,30 +127,30 @@ def formatted(places=5):
 
 
 def first_record():
-    """Case "One record, byte for byte" of docs/CASES.md, after its first commit."""
+    """A chip whose unit stands at place 2 with the base sector of docs/FORMAT.md's examples."""
     image = formatted()
     image.put(2, 1, spelled(*BASE_SECTOR))
     return image.put(2, 0, data_header(4, counts={0: 1}))
 
 
-def meter():
-    """The chip after examples/meter.ipl, a unit written anew at places 2, 0 and 2 in turn.
-
-    The numbers: 3 begins and 4 is its place's generation, then 5 and 6, 7 and 8; 9 and 10 begin
-    transactions that write nothing that lasts."""
-    page_0 = text_of({0: b"M4711-03", 1: b"\x02"})
-    january = bytes.fromhex("20260131001398cc")
-    february = bytes.fromhex("2026022800173856")
-    image = Image().put(1, 0, status_header(2))
-    image.put(0, 0, data_header(6, counts={0: 1, 1: 1}))
-    image.put(0, 1, base(6, 0, page_0)).put(0, 17, base(6, 1, text_of({0: january})))
-    image.put(2, 0, data_header(8, counts={0: 1, 1: 1})).put(2, 1, base(8, 0, page_0))
-    return image.put(2, 17, base(8, 1, text_of({0: january, 1: february})))
-
-
 def opened():
     """A chip formatted and opened: status header 3 at place 2, before the first commit."""
     return formatted().put(2, 0, status_header(3))
+
+
+def meter():
+    """The chip after examples/meter.ipl.
+
+    The first commit, of number 4, merges the unit to place 1 with generation 5; each of the three
+    commits has a log sector and a commit sector, of serials 6 and 7, 9 and 10, 12 and 13. The numbers
+    14 and 15 begin transactions that write nothing that lasts."""
+    january = bytes.fromhex("20260131001398cc")
+    february = bytes.fromhex("2026022800173856")
+    image = opened().put(1, 0, data_header(5))
+    image.put(1, 241, log(5, 6, record(0, 0, 4, b"M4711-03"), record(0, 1, 4, b"\x02")))
+    image.put(1, 242, log(5, 9, record(1, 0, 8, january)))
+    image.put(1, 243, log(5, 12, record(1, 1, 11, february)))
+    return image.put(2, 1, commit(3, 7, 4)).put(2, 2, commit(3, 10, 8)).put(2, 3, commit(3, 13, 11))
 
 
 def sixteen_commits():
@@ -165,6 +165,14 @@ def sixteen_commits():
         image.put(1, 240 + turn, log(5, number + 1, record(0, 5, number, bytes([turn]))))
         image.put(2, turn, commit(3, number + 2, number))
     return image
+
+
+def sixteenth_commit():
+    """The second case of power cuts of docs/CASES.md at its end."""
+    image = sixteen_commits().erase(0).put(0, 1, base(51, 0, text_of({5: b"\x0f"})))
+    image.put(0, 0, data_header(51, counts={0: 1}))
+    image.put(0, 241, log(51, 52, record(0, 5, 50, b"\x10")))
+    return image.put(2, 16, commit(3, 53, 50))
 
 
 def full_log():
@@ -187,3 +195,72 @@ def merged_log():
     image.put(3, 17, base(38, 1, text_of({0: b"\x07"}))).put(3, 0, data_header(38, counts={1: 1}))
     image.put(3, 241, log(38, 39, record(1, 0, 37, b"\x08")))
     return image.put(2, 8, commit(3, 40, 37))
+
+
+def prices(first):
+    """The records of four prices of examples/long_session, which fill a log sector."""
+    return [record(0, price, 5, bytes([97 + price % 26]) * 108)
+            for price in range(first, first + 4)]
+
+
+def long_session():
+    """The chip after examples/long_session.
+
+    The opening puts status header 4 on place 3, and session 1 draws the number 5. Its fifth put merges
+    unit 1 to place 2 with generation 6, and its records have eight log sectors of serials 7 to 14. Four
+    records stay in memory until the list at the end needs their page's frame, and have serial 154."""
+    image = formatted(6).put(3, 0, status_header(4, 2)).erase(2)
+    image.put(2, 0, data_header(6, 2, unit=1))
+    for index in range(8):
+        image.put(2, 241 + index, log(6, 7 + index, *prices(4 * index), unit=1))
+    put_counts(image)
+    put_readings(image)
+    return image.put(1, 3, log(6, 154, *prices(32), unit=1))
+
+
+def put_counts(image):
+    """What session 0 counts in examples/long_session: the first seven fill the log of unit 1.
+
+    A merge would carry eight log sectors, so the eighth takes place 1 as an overflow place, with a
+    generation, 37, that is drawn between the number of the transaction and its serial."""
+    image.erase(1).put(1, 0, overflow_header(37, 2))
+    for count in range(1, 10):
+        number = 12 + 3 * count + (count > 8)
+        serial = number + 1 + (count == 8)
+        place, at = (2, 248 + count) if count < 8 else (1, count - 7)
+        image.put(place, at, log(6, serial, record(1, 0, number, bytes([count])), unit=1))
+        image.put(3, count, commit(4, serial + 1, number))
+
+
+def reading_of(number):
+    return number.to_bytes(2, "big") * 50
+
+
+def put_readings(image):
+    """The readings of examples/long_session: a fifteenth merges unit 0, to the places 4, 0 and 4.
+
+    These draw the generations 44, 90 and 136. Place 0 is left over with the pages of the first 15
+    readings and a log of 15 more; place 4 has the pages of 30, and a log of six."""
+    put_pages(image, 0, 90, 15)
+    put_pages(image, 4, 136, 30)
+    for reading in range(36):
+        # So many merges came before its begin, and each drew a number.
+        number = 43 + 3 * reading + -(-reading // 15)
+        serial = number + 1 + (reading % 15 == 0)
+        logged = record(reading % 6, reading, number, reading_of(reading))
+        image.put(3, 10 + reading, commit(4, serial + 1, number))
+        if reading >= 15:
+            place, generation = (0, 90) if reading < 30 else (4, 136)
+            image.put(place, 241 + reading % 15, log(generation, serial, logged))
+
+
+def put_pages(image, place, generation, readings):
+    """Puts unit 0 on a place, with the readings below a number on six pages."""
+    texts = [text_of({reading: reading_of(reading) for reading in range(page, readings, 6)})
+             for page in range(6)]
+    counts = {page: -(-len(text) // 480) for page, text in enumerate(texts)}
+    image.erase(place).put(place, 0, data_header(generation, 2, counts))
+    for page, text in enumerate(texts):
+        for piece in range(counts[page]):
+            part = text[480 * piece:480 * (piece + 1)]
+            image.put(place, 1 + 16 * page + piece, base(generation, page, part, piece))

@@ -5,7 +5,8 @@ import subprocess
 import xml.etree.ElementTree
 
 from asking import ROOT, TOOL, ask, ask_of, case, wants
-from images import Image, PLACE_BYTES, first_record, formatted, merged_log, meter
+from images import (Image, PLACE_BYTES, first_record, formatted, long_session, merged_log, meter,
+                    sixteenth_commit)
 
 PICTURE = os.path.join(ROOT, "docs", "chip_map.svg")
 USAGE = os.path.join(ROOT, "docs", "USAGE.md")
@@ -107,7 +108,7 @@ def a_picture_of_the_largest_chip_has_a_sensible_size():
 
 def drawn():
     """The picture that README.md shows."""
-    return ask_of(merged_log().bytes)[1].encode()
+    return ask_of(long_session().bytes)[1].encode()
 
 
 @case
@@ -120,13 +121,45 @@ def the_documents_have_these_pictures():
         wants(f"docs/USAGE.md has what {words} says:\n{said}", said in usage, True)
 
 
+def transaction(session, name, digits):
+    return f"begin {session}\nput {session} {name} {digits}\ncommit {session}\n"
+
+
+# The second and the third case of power cuts of docs/CASES.md, as scripts.
+SIXTEEN_COMMITS = "".join(transaction(0, 5, f"{value:02x}") for value in range(1, 17)).encode()
+FULL_LOG = "".join(
+    ["begin 0\n", *(f"put 0 {name} {'78' * 108}\n" for name in range(40)),
+     *(transaction(1, 64, f"{value:02x}") for value in range(1, 8)),
+     "abort 0\n", transaction(1, 64, "08")]).encode()
+
+
+def makes(program, places, script):
+    """The bytes of a chip that the program formats, and over which it runs a script."""
+    run([program, "format", f"file:{places}:made"])
+    wants("a formatted chip", contents_of("made") == formatted(places).bytes, True)
+    run([program, "run", f"file:{places}:made"], input=script)
+    return contents_of("made")
+
+
 def tries_program(program):
     """Wants that the program makes the chips worked out here, and lists what the tool does."""
-    run([program, "format", "file:5:made"])
-    wants("a formatted chip", contents_of("made") == formatted().bytes, True)
-    with open(os.path.join(ROOT, "examples", "meter.ipl")) as script:
-        run([program, "run", "file:5:made"], stdin=script)
-    wants("the chip after examples/meter.ipl", contents_of("made") == meter().bytes, True)
-    listed = run([program, "run", "file:5:made"], input=b"list 0 959\n")
+    script = contents_of(os.path.join(ROOT, "examples", "meter.ipl"))
+    wants("the chip after examples/meter.ipl", makes(program, 5, script) == meter().bytes, True)
+    wants_list(program, 5)
+    for name, script, image in [("sixteen commits", SIXTEEN_COMMITS, sixteenth_commit()),
+                                ("a full log", FULL_LOG, merged_log())]:
+        wants(f"the chip of {name}", makes(program, 5, script) == image.bytes, True)
+        wants_list(program, 5)
+    os.unlink("made")
+    script = run([os.path.join(ROOT, "examples", "long_session")])[1]
+    is_made = makes(program, 6, script) == long_session().bytes
+    wants("the chip after examples/long_session", is_made, True)
+    wants_list(program, 6)
+
+
+def wants_list(program, places):
+    """Wants that the tool says the records of the chip as the program lists them."""
     status, out, noted = ask("made", "--records")
+    listing = f"list 0 {960 * (places - 4) - 1}\n".encode()
+    listed = run([program, "run", f"file:{places}:made"], input=listing)
     wants("its records", (status, out.encode(), noted.encode()), listed)

@@ -48,8 +48,12 @@ tries() {
 
 commit_of 68 >script
 "$program" format file:5:formatted >/dev/null || fail "no format"
+# An opening writes a new status place, and a commit its record too.
+cp formatted opened
+"$program" run file:5:opened </dev/null >/dev/null || fail "no opening"
 cp formatted kept
 commit_of 68 | "$program" run file:5:kept >/dev/null || fail "no run"
+wants "a commit is seen in the chip's file" [ "$(cksum <opened)" != "$(cksum <kept)" ]
 for streams in - 0 1 2 01 02 12 012; do
     end_of_run $streams
     tries $streams run ram:5 --format
@@ -57,7 +61,7 @@ for streams in - 0 1 2 01 02 12 012; do
     cp formatted chip
     end_of_run $streams
     tries $streams run file:5:chip
-    after=formatted
+    after=opened
     [ $wanted -eq 0 ] && after=kept
     wants "closed $streams, a run leaves the chip as $after" cmp -s chip $after
 
