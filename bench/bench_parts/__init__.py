@@ -1,0 +1,1 @@
+"""What the benches share: the program, traces of its runs, and workloads."""

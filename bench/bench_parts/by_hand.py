@@ -1,0 +1,93 @@
+"""Longer scripts whose operations are worked out by hand, on a chip of five places.
+
+The format puts unit 0 at place 0 and the status at place 1, and the opening moves the status to
+place 2. A place is taken where it is the lowest free one."""
+from __future__ import annotations
+
+from typing import List, NamedTuple
+
+
+class Known(NamedTuple):
+    """A line of a script, and what it asks of the chip: reads, and the writes in their order."""
+    line: str
+    reads: int
+    writes: str
+
+
+FORMAT = Known("format", 0, "e0 e1 e2 e3 e4 b 0.0 1.0 b")
+# Five headers, 255 sectors of the status place, 15 log sectors; and unit 0 once more, 1 + 15.
+OPEN = Known("open", 5 + 255 + 15 + 16, "e2 b b 2.0 b")
+# The unit's header and its 15 log sectors, of which none is known clean.
+FIRST_PUT_READS = 1 + 15
+# The header; it and the log, to count what is carried; again for the merge; and the new header.
+FIRST_LOG_READS = 1 + 16 + 16 + 1
+
+
+def transaction(name: int, put_reads: int, commit_reads: int, writes: str) -> List[Known]:
+    """A transaction of session 0 that puts a byte at a name."""
+    return [Known("begin 0", 0, ""), Known(f"put 0 {name} 61", put_reads, ""),
+            Known("commit 0", commit_reads, writes)]
+
+
+def full_status_place() -> List[Known]:
+    """257 transactions of one put: the 256th finds the status place full.
+
+    Each takes a log sector of the unit, and 15 fill a place. So the first merges the unit, to place
+    1, and then each fifteenth: to places 0 and 1 in turn, with the one base sector from the second
+    merge on, which is read from the third on. The 256th is the first after 17 full logs, with the
+    unit at place 1. Before its log sector the status moves to place 0, with the 15 numbers that the
+    log has in one sector, for which the header and 15 log sectors are read; then place 2 is free,
+    and the unit is merged to it."""
+    known = [FORMAT, OPEN]
+    for turn in range(1, 256):
+        logs_before, used = divmod(turn - 1, 15)
+        place = (logs_before + 1) % 2
+        commit = f"b 2.{turn} b"
+        if turn == 1:
+            merge = "e1 b b 1.0 b 1.241"
+            known += transaction(5, FIRST_PUT_READS, FIRST_LOG_READS, f"{merge} {commit}")
+        elif used > 0:
+            known += transaction(5, 0, 1, f"{place}.{241 + used} {commit}")
+        else:
+            merge = f"e{place} b {place}.1 b {place}.0 b {place}.241"
+            base_reads = 0 if turn == 16 else 1
+            known += transaction(5, 0, FIRST_LOG_READS + base_reads, f"{merge} {commit}")
+    switch, merge = "e0 b 0.1 b 0.0 b", "e2 b 2.1 b 2.0 b 2.241"
+    known += transaction(5, 0, 16 + FIRST_LOG_READS + 1, f"{switch} {merge} b 0.2 b")
+    known += transaction(5, 0, 1, "2.242 b 0.3 b")
+    return known
+
+
+def full_overflow() -> List[Known]:
+    """A session that keeps eight log sectors of records open, until a unit has 16 elsewhere.
+
+    36 records of 120 bytes fill eight log sectors, with four records left in memory. The first of
+    these sectors, at the fifth put, merges the unit to place 1. Seven transactions of session 0
+    fill its log, and the next 16 the sectors 1 to 16 of an overflow place, place 0. Then the unit
+    has 16, and is merged all the same, to place 3: a base sector for name 64, which is on page 1,
+    and the eight sectors carried in 241 to 248. Once the session has aborted nothing is carried."""
+    known = [FORMAT, OPEN, Known("begin 1", 0, "")]
+    for name in range(36):
+        line = f"put 1 {name} " + "61" * 108
+        if name == 0:
+            known.append(Known(line, FIRST_PUT_READS, ""))
+        elif name == 4:
+            known.append(Known(line, FIRST_LOG_READS, "e1 b b 1.0 b 1.241"))
+        elif name % 4 == 0:
+            known.append(Known(line, 1, f"1.{240 + name // 4}"))
+        else:
+            known.append(Known(line, 0, ""))
+    # Page 1 comes into a frame: the header and the eight log sectors.
+    known += transaction(64, 9, 1, "1.249 b 2.1 b")
+    for turn in range(2, 8):
+        known += transaction(64, 0, 1, f"1.{248 + turn} b 2.{turn} b")
+    known += transaction(64, 0, 1 + 16, "e0 b b 0.0 b 0.1 b 2.8 b")
+    for turn in range(9, 24):
+        known += transaction(64, 0, 1 + 16 + turn - 8, f"0.{turn - 7} b 2.{turn} b")
+    carried = " ".join(f"3.{sector}" for sector in range(241, 249))
+    known += transaction(64, 0, 1 + 32 + 32 + 1, f"e3 b 3.17 {carried} b 3.0 b 3.249 b 2.24 b")
+    known.append(Known("abort 1", 0, ""))
+    for turn in range(25, 31):
+        known += transaction(64, 0, 1, f"3.{225 + turn} b 2.{turn} b")
+    known += transaction(64, 0, FIRST_LOG_READS + 1, "e0 b 0.17 b 0.0 b 0.241 b 2.31 b")
+    return known

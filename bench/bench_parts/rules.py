@@ -1,0 +1,300 @@
+"""What commands ask of a chip, by the rules of docs/DESIGN.md, docs/RECOVERY.md and docs/COSTS.md.
+
+A store with no bytes and no values but their lengths: which place, which sector, in which order. It
+shares no code with the program, and is written from the documents alone."""
+from __future__ import annotations
+
+from typing import Dict, List, NamedTuple, Optional, Set, Tuple
+
+from .trace import Asked
+
+SECTORS = 256
+LOG_SECTORS = 15
+FIRST_LOG_SECTOR = 241
+PAGES, SLOTS, UNIT_NAMES = 15, 64, 960
+SECTOR_PAYLOAD = 480
+MOST_CARRIED = 7
+MOST_SPOTS, MOST_OVERFLOW_PLACES = 16, 2
+NUMBERS_IN_SECTOR = 60
+
+Page = Tuple[int, int]
+Spot = Tuple[int, int]
+
+
+class Record(NamedTuple):
+    """A put of so many bytes, or a delete."""
+    page: int
+    slot: int
+    number: int
+    length: Optional[int]
+
+    @property
+    def size(self) -> int:
+        return 12 + (self.length or 0)
+
+
+class Session:
+    def __init__(self, number: int) -> None:
+        self.number = number
+        self.pages: Set[Page] = set()
+
+
+class Unit:
+    """A unit: its place, its pages with the lengths of their values, and its log."""
+
+    def __init__(self, place: int) -> None:
+        self.place = place
+        self.slots: List[Dict[int, int]] = [{} for _ in range(PAGES)]
+        self.pieces = [0] * PAGES
+        self.log: List[List[Record]] = []
+        # So many of the 15 aren't known to be clean.
+        self.used = LOG_SECTORS
+        self.spots: List[Spot] = []
+
+    @property
+    def records(self) -> List[Record]:
+        return [record for sector in self.log for record in sector]
+
+    @property
+    def log_reads(self) -> int:
+        """The header and the log."""
+        return 1 + self.used + len(self.spots)
+
+    def apply(self, committed: Set[int]) -> None:
+        """The records of committed numbers become values."""
+        for record in self.records:
+            if record.number in committed and record.length is None:
+                self.slots[record.page].pop(record.slot, None)
+            elif record.number in committed:
+                self.slots[record.page][record.slot] = record.length or 0
+        texts = [sum(2 + length for length in slots.values()) for slots in self.slots]
+        self.pieces = [-(-text // SECTOR_PAYLOAD) for text in texts]
+
+    def carried(self, active: Set[int]) -> List[List[Record]]:
+        """The last record of each name of an open session, packed in order."""
+        last = {(record.page, record.slot): record for record in self.records
+                if record.number in active}
+        packs: List[List[Record]] = []
+        for record in self.records:
+            if last.get((record.page, record.slot)) is not record:
+                continue
+            if not packs or size_of(packs[-1]) + record.size > SECTOR_PAYLOAD:
+                packs.append([])
+            packs[-1].append(record)
+        return packs
+
+
+def size_of(records: List[Record]) -> int:
+    return sum(record.size for record in records)
+
+
+def page_of(name: int) -> Page:
+    return name // UNIT_NAMES, name // SLOTS % PAGES
+
+
+class Rules:
+    """A store over a chip just formatted, not opened yet."""
+
+    def __init__(self, places: int, frames: int) -> None:
+        self.places, self.frames = places, frames
+        self.units = [Unit(place) for place in range(places - 4)]
+        self.status, self.next_commit = places - 4, SECTORS
+        self.free = set(range(places - 3, places))
+        # The next clean sector of each overflow place in use.
+        self.overflow: Dict[int, int] = {}
+        # The places with an overflow header, in use or left over.
+        self.overflow_headers: Set[int] = set()
+        self.committed: Set[int] = set()
+        self.sessions: Dict[int, Session] = {}
+        # The pages in frames in the order in which they came in, with their records in memory.
+        self.pages: Dict[Page, List[Record]] = {}
+        self.drawn = 0
+        # So many log sectors went to overflow places.
+        self.elsewhere = 0
+        self.asked = Asked()
+
+    @property
+    def active(self) -> Set[int]:
+        return {session.number for session in self.sessions.values()}
+
+    def write(self, place: int, *sectors: int) -> None:
+        self.asked.writes += [f"{place}.{sector}" for sector in sectors]
+
+    def barrier(self) -> None:
+        self.asked.writes.append("b")
+
+    def take_place(self) -> int:
+        """The lowest free place, erased."""
+        place = min(self.free)
+        self.free.remove(place)
+        self.overflow_headers.discard(place)
+        self.asked.writes.append(f"e{place}")
+        self.barrier()
+        return place
+
+    def seal(self, place: int) -> None:
+        self.barrier()
+        self.write(place, 0)
+        self.barrier()
+
+    def merge(self, unit: Unit) -> None:
+        self.asked.reads += unit.log_reads + sum(unit.pieces)
+        packs = unit.carried(self.active)
+        place = self.take_place()
+        unit.apply(self.committed)
+        for page, count in enumerate(unit.pieces):
+            self.write(place, *range(1 + 16 * page, 1 + 16 * page + count))
+        self.write(place, *range(FIRST_LOG_SECTOR, FIRST_LOG_SECTOR + len(packs)))
+        self.seal(place)
+        self.free.add(unit.place)
+        unit.place, unit.log, unit.used, unit.spots = place, packs, len(packs), []
+        self.give_overflow_back()
+
+    def give_overflow_back(self) -> None:
+        """The overflow places that no unit has a log sector in are free."""
+        held = {place for unit in self.units for place, _ in unit.spots}
+        for place in set(self.overflow) - held:
+            del self.overflow[place]
+            self.free.add(place)
+
+    def overflow_spot(self, unit: Unit) -> Optional[Spot]:
+        """A sector in an overflow place, where one is to be had."""
+        clean = [spot for spot in self.overflow.items() if spot[1] < SECTORS]
+        if len(unit.spots) == MOST_SPOTS:
+            return None
+        if not clean and len(self.overflow) < MOST_OVERFLOW_PLACES:
+            place = self.take_place()
+            self.seal(place)
+            self.overflow_headers.add(place)
+            clean = [(place, 1)]
+        return min(clean, default=None)
+
+    def merged_spot(self, unit: Unit) -> Spot:
+        self.merge(unit)
+        # The new header.
+        self.asked.reads += 1
+        return unit.place, FIRST_LOG_SECTOR + unit.used
+
+    def log_spot(self, unit: Unit) -> Spot:
+        """Where a log sector goes."""
+        self.asked.reads += 1
+        if unit.used < LOG_SECTORS:
+            return unit.place, FIRST_LOG_SECTOR + unit.used
+        self.asked.reads += unit.log_reads
+        if len(unit.carried(self.active)) <= MOST_CARRIED:
+            return self.merged_spot(unit)
+        return self.overflow_spot(unit) or self.merged_spot(unit)
+
+    def write_out(self, page: Page) -> None:
+        """The records that a page has in memory, in a log sector."""
+        records, unit = self.pages[page], self.units[page[0]]
+        if not records:
+            return
+        place, sector = self.log_spot(unit)
+        self.write(place, sector)
+        if place == unit.place:
+            unit.used += 1
+        else:
+            self.elsewhere += 1
+            unit.spots.append((place, sector))
+            self.overflow[place] = sector + 1
+        unit.log.append(records)
+        self.pages[page] = []
+
+    def bring(self, page: Page) -> None:
+        if page in self.pages:
+            return
+        if len(self.pages) == self.frames:
+            first = next(iter(self.pages))
+            self.write_out(first)
+            del self.pages[first]
+        unit = self.units[page[0]]
+        self.asked.reads += unit.log_reads + unit.pieces[page[1]]
+        self.pages[page] = []
+
+    def change(self, session: Session, name: int, length: Optional[int]) -> None:
+        page = page_of(name)
+        record = Record(page[1], name % SLOTS, session.number, length)
+        if page not in self.pages:
+            self.bring(page)
+        elif size_of(self.pages[page]) + record.size > SECTOR_PAYLOAD:
+            self.write_out(page)
+        self.pages[page].append(record)
+        session.pages.add(page)
+
+    def renew_status(self) -> None:
+        kept: Set[int] = set()
+        for unit in self.units:
+            self.asked.reads += unit.log_reads
+            kept |= {record.number for record in unit.records} & self.committed
+        parts = -(-len(kept) // NUMBERS_IN_SECTOR)
+        place = self.take_place()
+        self.write(place, *range(1, 1 + parts))
+        self.seal(place)
+        self.free.add(self.status)
+        self.status, self.next_commit, self.committed = place, 1 + parts, kept
+
+    def open(self) -> None:
+        """An opening, or a restart: nothing of before is known to be clean."""
+        self.sessions, self.pages = {}, {}
+        for unit in self.units:
+            unit.used = LOG_SECTORS
+        self.overflow = dict.fromkeys(self.overflow, SECTORS)
+        whole = 1 + len(self.overflow_headers)
+        self.asked.reads += self.places + 255 * whole + LOG_SECTORS * len(self.units)
+        self.renew_status()
+
+    def commit(self, number: int) -> None:
+        session = self.sessions[number]
+        if session.pages:
+            if self.next_commit == SECTORS:
+                self.renew_status()
+            for page in sorted(session.pages & set(self.pages)):
+                self.write_out(page)
+            self.barrier()
+            self.write(self.status, self.next_commit)
+            self.barrier()
+            self.next_commit += 1
+            self.committed.add(session.number)
+        del self.sessions[number]
+
+    def abort(self, number: int) -> None:
+        dropped = self.sessions.pop(number).number
+        for page, records in self.pages.items():
+            self.pages[page] = [record for record in records if record.number != dropped]
+
+    def begin(self, number: int) -> None:
+        self.drawn += 1
+        self.sessions[number] = Session(self.drawn)
+
+    def put(self, number: int, name: int, value: str) -> None:
+        self.change(self.sessions[number], name, 0 if value == "-" else len(value) // 2)
+
+    def work(self, line: str) -> None:
+        """Does what a line asks that isn't refused."""
+        word, *rest = line.split(" ")
+        if word == "put":
+            self.put(int(rest[0]), int(rest[1]), rest[2])
+            return
+        numbers = [int(number) for number in rest]
+        if word == "del":
+            self.change(self.sessions[numbers[0]], numbers[1], None)
+        elif word in ("get", "share"):
+            self.bring(page_of(numbers[1]))
+        elif word == "list":
+            for page in range(numbers[0] // SLOTS, numbers[1] // SLOTS + 1):
+                self.bring((page // PAGES, page % PAGES))
+        elif word == "merge":
+            self.merge(self.units[numbers[0]])
+        else:
+            {"begin": self.begin, "commit": self.commit, "abort": self.abort,
+             "restart": self.open}[word](*numbers)
+
+    def asked_by(self, line: str) -> Asked:
+        """What a line asks that isn't refused; `open` is the opening."""
+        self.asked = Asked()
+        if line == "open":
+            self.open()
+        else:
+            self.work(line)
+        return self.asked

@@ -1,0 +1,100 @@
+"""The workloads of the benches: transactions as lists of puts, and their scripts."""
+from __future__ import annotations
+
+from typing import Callable, Dict, Iterator, List, NamedTuple, TextIO
+
+UNIT_NAMES = 960
+SHORT_VALUE, LONG_VALUE = 40, 108
+# So many names of a unit may be pending.
+MOST_PENDING = 48
+
+
+class Put(NamedTuple):
+    name: int
+    value: str
+
+
+Transaction = List[Put]
+
+
+def names_of(places: int) -> int:
+    return UNIT_NAMES * (places - 4)
+
+
+def value_of(turn: int, length: int) -> str:
+    """The digits of a value that differs from turn to turn."""
+    return "".join("%02x" % ((turn * 7 + at) % 256) for at in range(length))
+
+
+def numbers(seed: int) -> Iterator[int]:
+    """Numbers below 2^31 in no order, the same for each seed: Knuth's 64-bit generator."""
+    state = seed
+    while True:
+        state = (state * 6364136223846793005 + 1442695040888963407) % 2 ** 64
+        yield state >> 33
+
+
+def one_put(places: int, count: int) -> Iterator[Transaction]:
+    """A put of 40 bytes, over the names in turn."""
+    for turn in range(count):
+        yield [Put(turn % names_of(places), value_of(turn, SHORT_VALUE))]
+
+
+def four_random_puts(places: int, count: int) -> Iterator[Transaction]:
+    """Four puts of 40 bytes, each at any name."""
+    drawn = numbers(1)
+    for turn in range(count):
+        names = [next(drawn) % names_of(places) for _ in range(4)]
+        yield [Put(name, value_of(4 * turn + i, SHORT_VALUE)) for i, name in enumerate(names)]
+
+
+def mostly_to_a_tenth(places: int, count: int) -> Iterator[Transaction]:
+    """A put of 40 bytes: nine times in ten in the first tenth of the names, else in the rest."""
+    drawn = numbers(2)
+    tenth = names_of(places) // 10
+    for turn in range(count):
+        if next(drawn) % 10 < 9:
+            name = next(drawn) % tenth
+        else:
+            name = tenth + next(drawn) % (names_of(places) - tenth)
+        yield [Put(name, value_of(turn, SHORT_VALUE))]
+
+
+def full_chip(places: int, count: int) -> Iterator[Transaction]:
+    """A put of 108 bytes, over the names in turn, where each name has a value of 108 bytes."""
+    for turn in range(count):
+        yield [Put(turn % names_of(places), value_of(turn, LONG_VALUE))]
+
+
+Workload = Callable[[int, int], Iterator[Transaction]]
+
+WORKLOADS: Dict[str, Workload] = {
+    "one put, over the names in turn": one_put,
+    "four puts at random": four_random_puts,
+    "one put, nine in ten to a tenth of the names": mostly_to_a_tenth,
+    "a full chip of 108 bytes a name, one put in turn": full_chip,
+}
+
+
+def filling(places: int) -> Iterator[Transaction]:
+    """Transactions that put a value of 108 bytes at each name."""
+    names = names_of(places)
+    for first in range(0, names, MOST_PENDING):
+        last = min(first + MOST_PENDING, names)
+        yield [Put(name, value_of(name + 1, LONG_VALUE)) for name in range(first, last)]
+
+
+def write_script(out: TextIO, transactions: Iterator[Transaction]) -> None:
+    for puts in transactions:
+        out.write("begin 0\n")
+        out.writelines(f"put 0 {put.name} {put.value}\n" for put in puts)
+        out.write("commit 0\n")
+
+
+def write_sql(out: TextIO, transactions: Iterator[Transaction]) -> None:
+    """The same records as SQL."""
+    for puts in transactions:
+        out.write("begin;\n")
+        out.writelines(f"insert or replace into record values ({put.name}, x'{put.value}');\n"
+                       for put in puts)
+        out.write("commit;\n")
