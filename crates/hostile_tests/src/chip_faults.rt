@@ -1,5 +1,8 @@
 //! Each call of the chip fails in turn while a script is run that takes an overflow place and empties
 //! it. A write that fails is done all the same or isn't.
+//!
+//! Of the clauses of `top` the rows show `ends` (the status and the line), `chip` (its cause), and of what
+//! `stops` leaves `is_prefix` (what was said) and `each_moment` (what the chip opens to).
 use crate::desks::{ROOM, all_said, ends, headers, left_by, line_count, opened, said};
 use crate::scripts::{Script, emptying, records, whole_run};
 use chip_mem::MemChip;
@@ -66,11 +69,14 @@ fn fail_event(
     let replies = said(alloc, whole.events(), number)?;
     let lines = line_count(&replies, usize::MAX);
     let call = number.saturating_sub(lines);
+    // `ends` and `chip`.
     let desk = failed_run(rt, alloc, script, call, note_of(event))?;
+    // `is_prefix` of `stops`.
     assert_eq!(rt; all_said(alloc, &desk)?, replies, "call {call}");
     if number >= FORMAT {
+        // `each_moment` of `stops`: where the event isn't done,
         check_left(rt, alloc, left_by(alloc, &desk)?, script, lines)?;
-        // What a failed write leaves where it is done all the same.
+        // and where a write that fails is done all the same.
         let kept = whole.image(alloc, (number as u64).saturating_add(1), &[])?;
         check_left(rt, alloc, kept, script, lines)?;
     }

@@ -1,5 +1,7 @@
 //! Each refused spelling of the formats in a sector of a chip, which the program opens and lists. A
 //! sector that is strange counts for none.
+//!
+//! The rows with a fault show the clauses `refuses` and `ends` of `top`, the others `opened` and `laid`.
 use crate::desks::{ROOM, all_said, ends, left_by};
 use chip_mem::MemChip;
 use chip_trait::Chip;

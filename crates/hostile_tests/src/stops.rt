@@ -1,6 +1,9 @@
 //! A long run is stopped at many of its events. What is left is opened, that opening is cut in its
 //! status place, and what is left then is opened again.
-use crate::desks::{all_said, line_count, opened, said};
+//!
+//! The images of the run show `each_moment` of what the clause `formatted` of `top` leaves, and those of
+//! the opening that of `opened`.
+use crate::desks::{all_said, headers, line_count, opened, said};
 use crate::scripts::{Script, records, switching, whole_run};
 use chip_mem::{Choice, MemChip, Pick};
 use chip_trait::Event;
@@ -122,6 +125,10 @@ fn stop_at(
 fn stop_share(rt: &impl Abort, alloc: Global, part: usize) -> Result<(), Fail> {
     let script = switching(alloc)?;
     let whole = whole_run(rt, alloc, &script)?;
+    // One overflow place is taken. A status place is taken by the format, by the opening, by the 256th
+    // commit and by the restart.
+    assert_eq!(rt; headers(alloc, &whole, Head::OVERFLOW_HEADER)?.len(), 1);
+    assert_eq!(rt; headers(alloc, &whole, Head::STATUS_HEADER)?.len(), 4);
     let count = whole.chip().events().len();
     for at in FORMAT..count.saturating_add(1) {
         if (at % 10 == 0 || count < at.saturating_add(60)) && at / 10 % PARTS == part {

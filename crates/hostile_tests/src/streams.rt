@@ -1,5 +1,8 @@
 //! Each read of a script fails in turn, and each saying, of which none, one or all but one of its bytes
 //! are said.
+//!
+//! Of the clauses of `top` the rows show `ends` (the status and the line), `script` and `output` (their
+//! causes), and of what `part` leaves `replies` (what was said) and `ends` (the records then).
 ghost use Rattle.std.specs.Prelude.{◌<◌};
 
 use crate::desks::{ROOM, all_said, ends, left_by, line_count, opened};

@@ -1,5 +1,6 @@
 //! Runs over a chip in memory, cut after each event and failing at each call of the chip. What is left is opened, and its
-//! records are listed.
+//! records are listed. The rows show `each_moment` and `is_prefix` of what the clauses `opened`, `formatted` and `stops` of `top`
+//! leave.
 use crate::runs::{ONE_SESSION, ROOM, desk_with, ends, formatted, left_by, lists, run, said};
 use chip_mem::{Choice, MemChip, Pick};
 use chip_trait::Event;

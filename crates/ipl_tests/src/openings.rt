@@ -1,4 +1,5 @@
-//! Chips that a format or a run left and that were changed after it, opened; and how much an opening reads.
+//! Chips that a format or a run left and that were changed after it, opened; and how much an opening reads. The rows show the
+//! clauses `refuses`, `image` and `opened` of `top`.
 use crate::runs::{ROOM, desk_with, ends, formatted, left_by, run, said};
 use chip_mem::MemChip;
 use chip_trait::{Chip, Event};

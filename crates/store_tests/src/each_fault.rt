@@ -2,6 +2,9 @@
 //! changes nothing, so that the script goes on with the same call. A failed write leaves the store
 //! down, and what is left of the chip has the records from before the call, or after it where only
 //! the last barrier of a commit failed.
+//!
+//! The rows show what the clause `calls` of the store's calls says of faults: its `leads` (what is left
+//! and what is kept) and its `ends` (the fault, and whether the store is down).
 ghost use Rattle.std.specs.Prelude.{◌≡◌, ◌<◌, length, IfOk};
 ghost use Rattle.chip_mem.specs.Views.{told_of};
 ghost use Rattle.ipl_store.specs.Calls.{IsSound};

@@ -1,5 +1,5 @@
 //! Each call of the chip fails in turn in a commit that needs a new place, since the log of its unit
-//! or the status place is full.
+//! or the status place is full. The rows show what those of `each_fault` do.
 use crate::calls::{Call, DONE, NONE, formatted, found};
 use crate::each_fault::{Case, Turn, fail_turn};
 use crate::scripts::{SIX, commits, long_puts, status_filled};

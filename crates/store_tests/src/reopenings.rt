@@ -1,5 +1,6 @@
 //! Each call of the chip fails in turn where a store opens it again. The store is down then, and opens
-//! it the next time: the same chip after a failed read, and what is left of it after a failed write.
+//! it the next time: the same chip after a failed read, and what is left of it after a failed write. The
+//! rows show the clauses `opens` and `tries` of `reopen`.
 ghost use Rattle.std.specs.Prelude.{◌≡◌, IfOk};
 ghost use Rattle.chip_mem.specs.Views.{told_of};
 ghost use Rattle.ipl_store.specs.Calls.{IsSound};
