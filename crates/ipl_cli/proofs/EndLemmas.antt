@@ -4,7 +4,7 @@ use Rattle.std.proofs.lemmas.List.{append-nil}
 use Rattle.std.specs.Option.{option_map}
 use Rattle.std.specs.FinMap.{empty}
 use Rattle.chip_trait.specs.declared.event.Event.TheVariants.{Said}
-use Rattle.chip_trait.specs.Story.{Story, pieces, said, joined}
+use Rattle.chip_trait.specs.Story.{Story, held, pieces, said, joined}
 use Rattle.chip_trait.specs.Chart.{says}
 use Rattle.chip_trait.specs.Image.{IsNoChanceImage}
 use Rattle.chip_trait.specs.Moment.{AtEachMoment, Leaves}
@@ -25,8 +25,10 @@ use Rattle.ipl_format.specs.Sector.{sector_in}
 use Rattle.ipl_meaning.specs.Chart.{chart_of}
 use Rattle.ipl_meaning.specs.Stands.{Stands}
 use Rattle.ipl_meaning.specs.Rests.{EachStands, StoryRests}
-use Rattle.ipl_meaning.proofs.StoryLemmas.{says_keep}
+use Rattle.ipl_meaning.proofs.StoryLemmas.{held_stands, says_keep}
 use Rattle.unit_io.specs.Leads.{IsSteady}
+use Rattle.unit_io.proofs.LeadsLemmas.{steady_then}
+use Rattle.unit_io.proofs.ReadsAtLemmas.{history_then}
 use Rattle.restart.specs.Events.{format_events}
 use Rattle.restart.specs.Fresh.{Formats}
 use Rattle.store_trait.specs.Keeping.{Stays}
@@ -55,29 +57,30 @@ left_counts old new counts = ap (λ (b : Beside). b.left) counts.beside
 -- ---- a format
 
 pub stopped_early : (fault : FormatFault) (old new : Told) → Counts old new
-    → ((h : History) → old.history ≡ Some h → Formats {A = Unit {0}} old.places h (Err fault) new)
+    → ((h : History) → Formats {A = Unit {0}} old.places h old (Err fault) new)
     → IsStopped old new
-stopped_early fault old new counts formats = λ h told. record {
+stopped_early fault old new counts formats = λ h. record {
   stopped = new;
   fault = fault;
-  formats = formats h told;
+  formats = formats h;
   counts = counts;
   noted = refl;
 }
 
 -- what was said of the line of a format is all of it or a part
 module _ (old mid new : Told) (counts : Counts old mid) (same : mid.settled ≡ old.settled)
-    (said_counts : SayCounts mid new) (formats : (h : History) → old.history ≡ Some h → Formats
-    {A = Unit {0}} {E = FormatFault} old.places h (Ok tt) mid) where
+    (said_counts : SayCounts mid new) (formats : (h : History)
+    → Formats {A = Unit {0}} {E = FormatFault} old.places h old (Ok tt) mid) where
   left_said : new.beside.left ≡ old.beside.left
   left_said = ap (λ (b : Beside). b.left) said_counts.beside ∙ left_counts old mid counts
 
-  laid_out : (h : History) → old.history ≡ Some h → (done : Bool) (added : Story)
+  laid_out : (h : History) (done : Bool) (added : Story)
       → new.history ≡ option_map (adds_all added) mid.history → new.settled ≡ mid.settled
+      → ((k : History) → IsSteady k mid → IsSteady (adds_all added k) new)
       → (added ≡ []) ⊎ ((part : List ℕ) × IsPrefix part ok_line × (added ≡ Said part ∷ []))
       → (done ≡ true → added ≡ Said ok_line ∷ []) → IsLaidOut old.places h old new done
-  laid_out h told done added history settled part all =
-      let did = formats h told in
+  laid_out h done added history settled steady part all =
+      let did = formats h in
       let events : did.added ≡ format_events old.places = did.done.exact in
       let rested : StoryRests old.places empty (adds_all (format_events old.places) h) = subst
       (λ (s : Story). StoryRests old.places empty (adds_all s h)) events did.done.rests in
@@ -87,9 +90,11 @@ module _ (old mid new : Told) (counts : Counts old mid) (same : mid.settled ≡ 
       record {
         added = added;
         says = part;
-        history = history ∙ (ap (λ (o : Option History). option_map (adds_all added) o) did.history
-            ∙ ap (λ (s : Story). Some (adds_all added (adds_all s h))) events);
+        history = history ∙ ap (option_map (adds_all added)) (did.history
+            ∙ ap (λ (s : Story). option_map (adds_all s) old.history) events);
         settled = settled ∙ same;
+        steady = λ held. steady (adds_all (format_events old.places) h)
+            (subst (λ (s : Story). IsSteady (adds_all s h) mid) events (did.steady held));
         rests = elim part [
           | inl none ↦ subst (λ (s : Story). StoryRests old.places empty
               (adds_all s (adds_all (format_events old.places) h))) (sym none) rested
@@ -108,29 +113,36 @@ module _ (old mid new : Told) (counts : Counts old mid) (same : mid.settled ≡ 
       }
 
   pub said_ok : Appends (Said ok_line) mid new → LaysOut old new true
-  said_ok appends h told = laid_out h told true (Said ok_line ∷ []) appends.history appends.settled
-      (inr (ok_line, ([], append-nil ok_line), refl)) (λ is. refl)
+  said_ok appends h = laid_out h true (Said ok_line ∷ []) appends.history appends.settled
+      (λ k steady. steady_then (Said ok_line) k mid new steady appends) (inr (ok_line, ([], append-nil ok_line), refl)) (λ is. refl)
 
   pub said_part : FailsToSay ok_line mid new → LaysOut old new false
-  said_part fails h told = elim fails.history [
-    | inl (part, prefix, history) ↦ laid_out h told false (Said part ∷ []) history fails.settled
-        (inr (part, prefix, refl)) (λ is. absurd cc)
-    | inr unsaid ↦ laid_out h told false [] (unsaid ∙ same_history mid.history) fails.settled
-        (inl refl) (λ is. absurd cc)
+  said_part fails h = elim fails.history [
+    | inl (part, prefix, history) ↦ laid_out h false (Said part ∷ []) history fails.settled
+        (λ k steady. record {
+          holds = fails.contents ∙ steady.holds;
+          settled = fails.settled ∙ steady.settled;
+        }) (inr (part, prefix, refl)) (λ is. absurd cc)
+    | inr unsaid ↦ laid_out h false [] (unsaid ∙ same_history mid.history) fails.settled
+        (λ k steady. record {
+          holds = fails.contents ∙ steady.holds;
+          settled = fails.settled ∙ steady.settled;
+        }) (inl refl) (λ is. absurd cc)
   ]
 
 -- what a store keeps at the end, the chip has
 pub record Kept (places : ℕ) (new : Told) (k : History) (s : State) : Type 0 where
-  pub settled : new.settled ≡ true
+  pub steady : IsSteady k new
   pub rests : StoryRests places s.map k
 
 pub kept : (places : ℕ) → 5 ≤ places → (then : ScriptStore) (new : Told) (s : State) (k : History)
-    → KeepsScript (limits_of (places - 4)) then new s → new.history ≡ Some k → Kept places new k s
-kept places least then new s k keeps told =
+    → KeepsScript (limits_of (places - 4)) then new k s → Kept places new k s
+kept places least then new s k keeps =
     let same : places - 4 ≡ then.store.units = ap (λ (l : Limits). l.units) keeps.kept.limits_are in
-    let on = keeps.kept.story k told in record {
-      settled = on.settled;
-      rests = subst (λ (q : ℕ). StoryRests q s.map k) (omega (arith, same, least)) on.rests;
+    record {
+      steady = keeps.kept.steady;
+      rests = subst (λ (q : ℕ). StoryRests q s.map k) (omega (arith, same, least))
+          keeps.kept.rests;
     }
 
 -- behind events that say nothing, what is said is that of the later ones
@@ -225,10 +237,10 @@ module _ (places : ℕ) (m : Map) (script : List ℕ) (h : History) (first : Sto
 
   -- ---- they alone were done
 
-  module _ (old new : Told) (history : new.history ≡ Some (adds_all first h))
+  module _ (old new : Told) (history : new.history ≡ option_map (adds_all first) old.history)
       (left : new.beside.left ≡ Some script)
-      (settled : Unrisen old new → new.settled ≡ true) (rests : Unrisen old new → StoryRests places
-      m (adds_all first h)) where
+      (steady : Unrisen old new → IsSteady (adds_all first h) new)
+      (rests : Unrisen old new → StoryRests places m (adds_all first h)) where
     abbrev Resting : State → Type 0
     Resting s = Unrisen old new → StoryRests places s.map (adds_all first h)
 
@@ -241,14 +253,14 @@ module _ (places : ℕ) (m : Map) (script : List ℕ) (h : History) (first : Sto
         → Runs places m script h [] old new ending
     runs_none ending unfinished ends = record {
       added = first;
-      history = history;
+      history = history ∙ ap (option_map (adds_all first)) (same_history old.history);
       each_moment = near_first;
       replies = subst (SaysLines (answers places m script)) (sym silent)
           (says_none (answers places m script));
       is_prefix = subst (λ (bytes : List ℕ). IsPrefix bytes (joined_text (answers places m script)))
           (sym (ap joined silent)) (joined_text (answers places m script), refl);
       lawful = lawful;
-      settled = settled;
+      steady = steady;
       rests = λ unrisen. subst (IsAbout (λ s. StoryRests places s.map (adds_all first h)) places m
           script) (sym (ap joined silent))
           (near_silent (λ s. StoryRests places s.map (adds_all first h)) limits (at_rest m)
@@ -271,17 +283,18 @@ module _ (places : ℕ) (m : Map) (script : List ℕ) (h : History) (first : Sto
 
   module _ (old mid new : Told) (before then : ScriptStore) (least : 5 ≤ places)
       (later : old.write_faults ≤ mid.write_faults)
+      (told : mid.history ≡ option_map (adds_all first) old.history)
       (clean : (base : Story) → AreClean (script_keeping.clean before) (first ++ base)) where
-    module _ (R : State → Type 0) (result : Result (Unit {0}) Stop) (stays : (s : State) → R s
-        → Stays script_keeping limits then mid new s)
+    module _ (R : History → State → Type 0) (result : Result (Unit {0}) Stop)
+        (stays : (k : History) (s : State) → R k s → Stays script_keeping limits then mid new k s)
         (leaves : RunLeaves script_keeping limits (at_rest m) (commands_of script) before
-        (adds_all first h) R then new result) where
+        (adds_all first h) R then mid new result) where
       abbrev last : History
       last = adds_all leaves.added (adds_all first h)
 
-      kept_last : (s : State) → R s → Unrisen old new → Kept places new last s
+      kept_last : (s : State) → R last s → Unrisen old new → Kept places new last s
       kept_last s so unrisen = kept places least then new s last
-          (stays s so (unrisen_later old mid new later unrisen)) leaves.history
+          (stays last s so (unrisen_later old mid new later unrisen))
 
       all_pieces : pieces (leaves.added ++ first) ≡ pieces leaves.added
       all_pieces = pieces_behind first leaves.added silent
@@ -306,14 +319,14 @@ module _ (places : ℕ) (m : Map) (script : List ℕ) (h : History) (first : Sto
           (found x (subst (λ (s : Story). IsNoChanceImage (says sector_in) h.start s x)
           (append_assoc f first h.story) image))) moments
 
-      settled_near : IsAbout R places m script (said leaves.added) → Unrisen old new
-          → new.settled ≡ true
-      settled_near near unrisen = elim near [
-        | inl so ↦ (kept_last _ so unrisen).settled
-        | inr so ↦ (kept_last _ so unrisen).settled
+      steady_near : IsAbout (R last) places m script (said leaves.added) → Unrisen old new
+          → IsSteady last new
+      steady_near near unrisen = elim near [
+        | inl so ↦ (kept_last _ so unrisen).steady
+        | inr so ↦ (kept_last _ so unrisen).steady
       ]
 
-      rests_near : IsAbout R places m script (said leaves.added) → Unrisen old new
+      rests_near : IsAbout (R last) places m script (said leaves.added) → Unrisen old new
           → IsAbout (λ s. StoryRests places s.map last) places m script (said leaves.added)
       rests_near near unrisen = elim near [
         | inl so ↦ inl (kept_last _ so unrisen).rests
@@ -324,7 +337,7 @@ module _ (places : ℕ) (m : Map) (script : List ℕ) (h : History) (first : Sto
           places m script (pieces leaves.added)
       ends_last = ends_by (λ s. Unrisen old new → StoryRests places s.map last) places m script
           (pieces leaves.added) result
-          (ends_weaker limits (at_rest m) result (commands_of script) (pieces leaves.added) R
+          (ends_weaker limits (at_rest m) result (commands_of script) (pieces leaves.added) (R last)
           (λ s. Unrisen old new → StoryRests places s.map last)
           (λ s so unrisen. (kept_last s so unrisen).rests) leaves.ends)
 
@@ -333,7 +346,9 @@ module _ (places : ℕ) (m : Map) (script : List ℕ) (h : History) (first : Sto
           → Runs places m script h [] old new (ending_of result)
       runs_by read unread script_is left_is ends = record {
         added = leaves.added ++ first;
-        history = leaves.history ∙ ap Some all_history;
+        history = leaves.history ∙ ap (option_map (adds_all leaves.added)) told
+            ∙ history_then leaves.added first old.history
+            ∙ ap (option_map (adds_all (leaves.added ++ first))) (same_history old.history);
         each_moment = at_both Found leaves.added first near_first later_found;
         replies = subst (SaysLines (answers places m script)) (sym all_pieces) leaves.replies;
         is_prefix = subst (λ (bytes : List ℕ). IsPrefix bytes
@@ -341,7 +356,8 @@ module _ (places : ℕ) (m : Map) (script : List ℕ) (h : History) (first : Sto
             (says_prefix (answers places m script) (pieces leaves.added) leaves.replies);
         lawful = λ base good. subst IsLawful (sym (append_assoc leaves.added first base))
             (leaves.lawful.lawful (first ++ base) (lawful base good) (clean base));
-        settled = settled_near leaves.rests;
+        steady = λ unrisen. subst (λ (k : History). IsSteady k new) all_history
+            (steady_near leaves.rests unrisen);
         rests = λ unrisen. subst (λ (k : History). IsAbout (λ s. StoryRests places s.map k) places m
             script (said (leaves.added ++ first))) all_history
             (subst (IsAbout (λ s. StoryRests places s.map last) places m script) (sym all_said)
@@ -363,30 +379,32 @@ module _ (places : ℕ) (m : Map) (script : List ℕ) (h : History) (first : Sto
       }
 
     pub runs_ended : Ended script_keeping limits (at_rest m) script before (adds_all first h) then
-        new → Runs places m script h [] old new (Ok tt)
-    runs_ended e = runs_by (script_keeping.holds limits then new) (Ok tt) (λ s held unrisen. held)
+        mid new → Runs places m script h [] old new (Ok tt)
+    runs_ended e = runs_by (script_keeping.holds limits then new) (Ok tt) (λ k s held unrisen. held)
         e.leaves script [] (sym (append-nil script)) e.left_is (λ is. refl)
 
     pub runs_stopped : (s : Stop) → Stopped script_keeping limits (at_rest m) (commands_of script)
-        script before (adds_all first h) (Stays script_keeping limits then mid new) then new s
+        script before (adds_all first h) (Stays script_keeping limits then mid new) then mid new s
         → Runs places m script h [] old new (ending_of (Err s))
     runs_stopped s e = runs_by (Stays script_keeping limits then mid new) (Err s)
-        (λ state stays. stays) e.leaves e.read e.rest e.source_is e.left_is (λ is. absurd cc)
+        (λ k state stays. stays) e.leaves e.read e.rest e.source_is e.left_is (λ is. absurd cc)
 
 -- ---- over a chip that was opened
 
-pub steady_of : (old : Told) (h : History) → old.settled ≡ true → old.history ≡ Some h
-    → IsSteady h old
-steady_of old h settled told = record { told = told; settled = settled }
-
 module _ (old mid : Told) (store : ScriptStore) (s : StartsOpened old store mid) where
-  -- the store keeps the records on which the story rested
-  pub opened_keeps : (m : Map) (h : History) → IsSteady h old → StoryRests old.places m h
-      → KeepsScript (limits_of (old.places - 4)) store mid (at_rest m)
+  -- the store keeps the records on which the history rested
+  pub opened_keeps : (m : Map) (h : History) (steady : IsSteady h old)
+      (rests : StoryRests old.places m h)
+      → KeepsScript (limits_of (old.places - 4)) store mid
+      (adds_all (s.tries.steps m h steady rests).added h) (at_rest m)
   opened_keeps m h steady rests =
-      let made = s.running.sound.made in record {
-        kept = subst (λ (u : ℕ). KeepsStore (limits_of u) (view_of store.store) mid (at_rest m))
-            (omega (arith, made.units)) (s.opens.keeps m h steady rests);
+      let made = s.running.sound.made in
+      let did = s.tries.steps m h steady rests in
+      let k = adds_all did.added h in record {
+        kept = subst (λ (u : ℕ). KeepsStore (limits_of u) (view_of store.store) mid k (at_rest m))
+            (omega (arith, made.units)) (s.opens.keeps m k (held h.start h.story) steady.holds
+            (held_stands old.places m h rests.each) (did.steady tt) (did.ends tt)
+            (did.does.clean refl h.story (λ p q nowhere. absurd nowhere)));
         few = omega (arith, made.units, made.geometry.1);
       }
 
@@ -394,39 +412,45 @@ module _ (old mid : Told) (store : ScriptStore) (s : StartsOpened old store mid)
     pub opened_runs : (result : Result (Unit {0}) Stop)
         → RunsScript script_keeping store mid result then new
         → RunsOpened old new (ending_of result)
-    opened_runs (Ok u) run = λ h script settled told left m rests.
-        let steady = steady_of old h settled told in
+    opened_runs (Ok u) run = λ h script steady left m rests.
         let did = s.tries.steps m h steady rests in
         runs_ended old.places m script h did.added did.does.silent did.each_moment
         (λ base good. did.does.lawful.lawful base good (λ p q nowhere. absurd nowhere))
         old mid new store then s.running.sound.made.geometry.0 s.tries.accounts.counts.writes
+        did.history
         (λ base. did.does.clean refl base (λ p q nowhere. absurd nowhere))
         (run (limits_of (old.places - 4)) (at_rest m) (adds_all did.added h) (opened_keeps m h
-        steady rests) did.history script (left_counts old mid s.tries.accounts.counts ∙ left))
-    opened_runs (Err e) run = λ h script settled told left m rests.
-        let steady = steady_of old h settled told in
+        steady rests) script (left_counts old mid s.tries.accounts.counts ∙ left))
+    opened_runs (Err e) run = λ h script steady left m rests.
         let did = s.tries.steps m h steady rests in
         runs_stopped old.places m script h did.added did.does.silent did.each_moment
         (λ base good. did.does.lawful.lawful base good (λ p q nowhere. absurd nowhere))
         old mid new store then s.running.sound.made.geometry.0 s.tries.accounts.counts.writes
+        did.history
         (λ base. did.does.clean refl base (λ p q nowhere. absurd nowhere)) e
         (run (limits_of (old.places - 4)) (at_rest m) (adds_all did.added h) (opened_keeps m h
-        steady rests) did.history script (left_counts old mid s.tries.accounts.counts ∙ left))
+        steady rests) script (left_counts old mid s.tries.accounts.counts ∙ left))
 
 -- an opening that fails leaves the records
 pub unopened_runs : (old new : Told) (end : End) → (n : IsNotOpened end old new)
     → RunsOpened old new (Err (Chip n.fault))
-unopened_runs old new end n = λ h script settled told left m rests.
-    let did = n.tries.steps m h (steady_of old h settled told) rests in
+unopened_runs old new end n = λ h script steady left m rests.
+    let did = n.tries.steps m h steady rests in
     none_failed old.places m script h did.added did.does.silent did.each_moment
     (λ base good. did.does.lawful.lawful base good (λ p q nowhere. absurd nowhere))
-    old new did.history (left_counts old new n.tries.accounts.counts ∙ left) did.settled did.ends
+    old new did.history (left_counts old new n.tries.accounts.counts ∙ left) did.steady did.ends
     n.fault
 
 -- and so does what does nothing
 module _ (old new : Told) (is : IsUntouched old new) where
-  told_still : (h : History) → old.history ≡ Some h → new.history ≡ Some (adds_all [] h)
-  told_still h told = ap (λ (t : Told). t.history) is ∙ told
+  told_still : new.history ≡ option_map (adds_all []) old.history
+  told_still = ap (λ (t : Told). t.history) is ∙ same_history old.history
+
+  steady_still : (h : History) → IsSteady h old → IsSteady h new
+  steady_still h steady = record {
+    holds = ap (λ (t : Told). t.contents) is ∙ steady.holds;
+    settled = ap (λ (t : Told). t.settled) is ∙ steady.settled;
+  }
 
   left_still : (script : List ℕ) → old.beside.left ≡ Some script → new.beside.left ≡ Some script
   left_still script left = ap (λ (t : Told). t.beside.left) is ∙ left
@@ -436,52 +460,59 @@ module _ (old new : Told) (is : IsUntouched old new) where
   still_each places m h rests = at_start (λ e. EachStands places m (adds_all e h)) rests.each
 
   pub untouched_runs : RunsOpened old new (Err OutOfMemory)
-  untouched_runs = λ h script settled told left m rests.
+  untouched_runs = λ h script steady left m rests.
       none_wanting old.places m script h [] refl (still_each old.places m h rests)
       (λ base good. good)
-      old new (told_still h told) (left_still script left) (λ unrisen. ap (λ (t : Told). t.settled)
-      is ∙ settled) (λ unrisen. rests)
+      old new told_still (left_still script left) (λ unrisen. steady_still h steady)
+      (λ unrisen. rests)
 
   pub untouched_stops : (e : ImageFault) → RunsOpened old new (Err (Chip e))
-  untouched_stops e = λ h script settled told left m rests.
+  untouched_stops e = λ h script steady left m rests.
       none_failed old.places m script h [] refl (still_each old.places m h rests)
       (λ base good. good)
-      old new (told_still h told) (left_still script left) (λ unrisen. ap (λ (t : Told). t.settled)
-      is ∙ settled) (λ unrisen. rests) e
+      old new told_still (left_still script left) (λ unrisen. steady_still h steady)
+      (λ unrisen. rests) e
 
 -- ---- over a chip that was formatted first
 
 module _ (old mid new : Told) (f : WasFormatted old mid) where
   -- the story of a chip that was formatted rests on no records
-  pub fresh_story : (h : History) → old.history ≡ Some h
-      → (mid.history ≡ Some (adds_all (format_events old.places) h)) × StoryRests old.places empty
-      (adds_all (format_events old.places) h)
-  fresh_story h told =
-      let did = f.formats h told in (
-        did.history ∙ ap (λ (s : Story). Some (adds_all s h)) did.done.exact,
+  pub fresh_story : (h : History) → IsSteady h old
+      → IsSteady (adds_all (format_events old.places) h) mid
+      × StoryRests old.places empty (adds_all (format_events old.places) h)
+  fresh_story h steady =
+      let did = f.formats h in (
+        subst (λ (s : Story). IsSteady (adds_all s h) mid) did.done.exact (did.steady steady),
         subst (λ (s : Story). StoryRests old.places empty (adds_all s h)) did.done.exact
             did.done.rests,
       )
 
-  pub lawful_format : (h : History) → old.history ≡ Some h → (base : Story) → IsLawful base
+  -- what the chip tells grew by its events
+  pub told_format : (h : History) → mid.history
+      ≡ option_map (adds_all (format_events old.places)) old.history
+  told_format h = let did = f.formats h in did.history
+      ∙ ap (λ (s : Story). option_map (adds_all s) old.history) did.done.exact
+
+  pub lawful_format : (h : History) (base : Story) → IsLawful base
       → IsLawful (format_events old.places ++ base)
-  lawful_format h told base good = let did = f.formats h told in subst (λ (s : Story). IsLawful
+  lawful_format h base good = let did = f.formats h in subst (λ (s : Story). IsLawful
       (s ++ base)) did.done.exact (did.lawful base good)
 
   -- a run from there on is one after the events of the format
-  after_format : {ending : Ending} (script : List ℕ) (h : History) → old.history ≡ Some h
+  after_format : {ending : Ending} (script : List ℕ) (h : History)
       → Runs old.places empty script (adds_all (format_events old.places) h) [] mid new ending
       → Runs old.places empty script h (format_events old.places) old new ending
-  after_format {ending} script h told r = let last : History = adds_all r.added
+  after_format {ending} script h r = let last : History = adds_all r.added
       (adds_all (format_events old.places) h) in record {
         added = r.added;
-        history = r.history;
+        history = r.history ∙ ap (option_map (adds_all r.added)) (sym (same_history mid.history)
+            ∙ told_format h);
         each_moment = r.each_moment;
         replies = r.replies;
         is_prefix = r.is_prefix;
-        lawful = λ base good. r.lawful (format_events old.places ++ base) (lawful_format h told base
+        lawful = λ base good. r.lawful (format_events old.places ++ base) (lawful_format h base
             good);
-        settled = λ unrisen. r.settled (earlier unrisen);
+        steady = λ unrisen. r.steady (earlier unrisen);
         rests = λ unrisen. r.rests (earlier unrisen);
         ends = ends_state (λ s. Unrisen mid new → StoryRests old.places s.map last) (λ s. Unrisen old
             new → StoryRests old.places s.map last) old.places empty script (pieces r.added)
@@ -497,11 +528,11 @@ module _ (old mid new : Told) (f : WasFormatted old mid) where
       earlier = unrisen_later old mid new f.counts.writes
 
   pub formatted_runs : {ending : Ending} → RunsOpened mid new ending → RunsFormatted old new ending
-  formatted_runs {ending} runs = λ h script settled told left.
-      let fresh = fresh_story h told in
-      after_format script h told (subst (λ (q : ℕ). Runs q empty script
+  formatted_runs {ending} runs = λ h script steady left.
+      let fresh = fresh_story h steady in
+      after_format script h (subst (λ (q : ℕ). Runs q empty script
       (adds_all (format_events old.places) h) [] mid new ending) f.counts.places
-      (runs (adds_all (format_events old.places) h) script (f.settled ∙ settled) fresh.0
+      (runs (adds_all (format_events old.places) h) script fresh.0
       (left_counts old mid f.counts ∙ left) empty
       (subst (λ (q : ℕ). StoryRests q empty (adds_all (format_events old.places) h))
       (sym f.counts.places) fresh.1)))

@@ -1,6 +1,7 @@
 mod EndLemmas
 mod StartLemmas
 mod TrialLemmas
+mod RecordLemmas
 pub mod StatusLemmas
 mod NoteLemmas
 mod TopLemmas

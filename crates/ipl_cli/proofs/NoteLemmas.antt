@@ -6,6 +6,7 @@ use Rattle.ipl_base.specs.declared.fault.ImageFault.{ImageFault}
 use Rattle.ipl_base.specs.declared.fault.ImageFault.TheVariants as image
 use Rattle.ipl_rules.specs.State.{Map}
 use Rattle.ipl_model.specs.declared.command.Command.{Command}
+use Rattle.unit_io.specs.Leads.{IsSteady}
 use Rattle.store_trait.specs.Onward.{Further}
 use Rattle.command_line.specs.declared.asked.Request.{Request}
 use Rattle.command_line.specs.declared.asked.Request.TheVariants.{Format, Run, Serial, Trial}
@@ -90,6 +91,9 @@ module _ (old mid : Told) (noted : Option (List ℕ)) where
   end_cause (Some request) (Ok u) c = c
   end_cause (Some request) (Err end) c = request_cause request end c
 
+  steady_noted : {h : History} → IsSteady h mid → IsSteady h then
+  steady_noted steady = record { holds = steady.holds; settled = steady.settled }
+
   runs_noted : {places : ℕ} {m : Map} {script : List ℕ} {h : History} {first : List _}
       {ending : Ending} → Runs places m script h first old mid ending
       → Runs places m script h first old then ending
@@ -100,7 +104,7 @@ module _ (old mid : Told) (noted : Option (List ℕ)) where
     replies = r.replies;
     is_prefix = r.is_prefix;
     lawful = r.lawful;
-    settled = r.settled;
+    steady = λ unrisen. steady_noted (r.steady unrisen);
     rests = r.rests;
     ends = r.ends;
     read = r.read;
@@ -131,7 +135,7 @@ module _ (old mid : Told) (noted : Option (List ℕ)) where
     lines = t.lines;
     is_prefix = t.is_prefix;
     lawful = t.lawful;
-    settled = t.settled;
+    steady = λ unrisen. steady_noted (t.steady unrisen);
     ends = t.ends;
     left_is = t.left_is;
     all = t.all;
@@ -143,8 +147,8 @@ module _ (old mid : Told) (noted : Option (List ℕ)) where
     added = l.added;
     says = l.says;
     history = l.history;
-    settled =
-        l.settled;
+    settled = l.settled;
+    steady = λ steady. steady_noted (l.steady steady);
     rests = l.rests;
     lawful = l.lawful;
     left_is = l.left_is;
@@ -163,23 +167,22 @@ module _ (old mid : Told) (noted : Option (List ℕ)) where
   untouched_noted is = ap (λ (t : Told). but_noted t noted) is
 
   formatted_noted : {ending : Ending} → RunsFormatted old mid ending → RunsFormatted old then ending
-  formatted_noted runs = λ h script settled told left. runs_noted (runs h script settled told left)
+  formatted_noted runs = λ h script steady left. runs_noted (runs h script steady left)
 
   opened_noted : {ending : Ending} → RunsOpened old mid ending → RunsOpened old then ending
-  opened_noted runs = λ h script settled told left m rests. runs_noted (runs h script settled told
-      left m rests)
+  opened_noted runs = λ h script steady left m rests. runs_noted (runs h script steady left m rests)
 
   stopped_noted : IsStopped old mid → IsStopped old then
-  stopped_noted stops = λ h told. stops_noted (stops h told)
+  stopped_noted stops = λ h. stops_noted (stops h)
 
   either_noted : {ending : Ending} → RunsOrStops old mid ending → RunsOrStops old then ending
-  either_noted left = λ h script settled told left_is. elim (left h script settled told left_is) [
+  either_noted left = λ h script steady left_is. elim (left h script steady left_is) [
     | inl runs ↦ inl (runs_noted runs)
     | inr stops ↦ inr (stops_noted stops)
   ]
 
   lays_out_noted : {done : Bool} → LaysOut old mid done → LaysOut old then done
-  lays_out_noted lays = λ h told. laid_out_noted (lays h told)
+  lays_out_noted lays = λ h. laid_out_noted (lays h)
 
   refused_noted : {e : ImageFault} → IsRefused e old mid → IsRefused e old then
   refused_noted refused = λ f has. let is = refused f has in (looks_noted is.0, is.1)
@@ -234,11 +237,11 @@ module _ (old mid : Told) (noted : Option (List ℕ)) where
 
   anew_noted : (seed count : ℕ) {ending : Ending} → TrialsFormatted seed count old mid ending
       → TrialsFormatted seed count old then ending
-  anew_noted seed count trials = λ h settled told. trials_noted (trials h settled told)
+  anew_noted seed count trials = λ h steady. trials_noted (trials h steady)
 
   anew_or_stopped : (seed count : ℕ) {ending : Ending} → TrialsOrStops seed count old mid ending
       → TrialsOrStops seed count old then ending
-  anew_or_stopped seed count left = λ h settled told. elim (left h settled told) [
+  anew_or_stopped seed count left = λ h steady. elim (left h steady) [
     | inl trials ↦ inl (trials_noted trials)
     | inr stops ↦ inr (stops_noted stops)
   ]

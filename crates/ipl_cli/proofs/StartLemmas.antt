@@ -5,7 +5,7 @@ use Rattle.std.proofs.lemmas.Bool.{cases_Bool, cases_eq, and_parts}
 use Rattle.std.proofs.lemmas.Bool.Decides.{nat_tests}
 use Rattle.std.specs.FinMap.{empty}
 use Rattle.chip_trait.specs.Story.{Story, Contents, held}
-use Rattle.chip_trait.specs.Told.{History, Told, Beside, Counts, Grew, Rose, IsConsistent, adds_all}
+use Rattle.chip_trait.specs.Told.{History, Told, Beside, Counts, Grew, Rose, adds_all}
 use Rattle.ipl_base.specs.Places.{IsGeometry}
 use Rattle.ipl_base.specs.declared.fault.ChipFault.{ChipFault}
 use Rattle.ipl_base.specs.declared.fault.ChipFault.TheVariants.{ReadFault, Stopped, Damaged, Malformed}
@@ -42,7 +42,6 @@ use Rattle.store_trait.specs.declared.fault.Fault.TheVariants as fault
 use Rattle.status_renewal.specs.Recovers.{IsOpeningFault, OpeningCause}
 use Rattle.status_renewal.proofs.ReadyLemmas.{layouts_say}
 use Rattle.store_steps.specs.Keeps.{limits_of}
-use Rattle.store_steps.proofs.AdvanceLemmas.{held_now}
 use Rattle.script_run.specs.declared.fault.Stop.{Stop}
 use Rattle.script_run.specs.declared.fault.Stop.TheVariants as stop
 use Rattle.script_run.specs.Goes.{StopCause, CompletesOver, HasRead, ReadsAll, RunsScript}
@@ -130,9 +129,9 @@ module _ (places : ℕ) (c : Chart) (m : Map) (stands : Stands places c m) where
         image.Spent spent in absurd (omega (arith, high, low))
   ]
 
-module _ (t : Told) (consistent : IsConsistent t) (sound : RestsWithNumbersLeft t) where
+module _ (t : Told) (sound : RestsWithNumbersLeft t) where
   sound_told : t.contents ≡ Some (held sound.history.start sound.history.story)
-  sound_told = held_now sound.history t consistent sound.steady
+  sound_told = sound.steady.holds
 
   sound_stands : Stands t.places (now sound.history) sound.map
   sound_stands = held_stands t.places sound.map sound.history sound.rests.each
@@ -278,7 +277,7 @@ module _ (old mid : Told) (store : ScriptStore) (s : StartsOpened old store mid)
   pub opened_number : next_number store ≤ FOUND_NUMBER
   opened_number = rw s.running.up s.opens.left
 
-  module _ (then : ScriptStore) (new : Told) (consistent : IsConsistent old) where
+  module _ (then : ScriptStore) (new : Told) where
     abbrev Completes : Stop → Type 0
     Completes e = CompletesOver script_keeping {T = Unit {0}} SCRIPT_DRAWS store mid (Err e) then
         new
@@ -292,10 +291,9 @@ module _ (old mid : Told) (store : ScriptStore) (s : StartsOpened old store mid)
           state = at_rest sound.map;
           history = adds_all did.added sound.history;
           holds = held;
-          told = did.history;
         }) in
         let number : counter_of store.store ≤ greatest_found (now sound.history) old.places + 1 + 2 ^ 14 =
-        s.opens.number _ (held_now sound.history old consistent sound.steady) in
+        s.opens.number _ sound.steady.holds in
         let next : next_number store ≡ counter_of store.store = rw s.running.up refl in
         chip_earlier old mid new s.tries.accounts.counts (done.excuse f refl
         (omega (arith, number, next, sound.left)))
@@ -460,11 +458,11 @@ module _ (old mid : Told) (f : WasFormatted old mid) where
   -- it is sound
   pub fresh_sound : (h : History) → IsSteady h old → RestsWithNumbersLeft mid
   fresh_sound h steady =
-      let story = fresh_story old mid mid f h steady.told in
-      let did = f.formats h steady.told in record {
+      let story = fresh_story old mid mid f h steady in
+      let did = f.formats h in record {
         map = empty;
         history = adds_all (format_events old.places) h;
-        steady = record { told = story.0; settled = f.settled ∙ steady.settled };
+        steady = story.0;
         rests = subst (λ (q : ℕ). StoryRests q empty (adds_all (format_events old.places) h))
             (sym f.counts.places) story.1;
         left = subst (λ (q : ℕ). greatest_found (now (adds_all (format_events old.places) h)) q < 2
@@ -476,7 +474,7 @@ module _ (old mid : Told) (f : WasFormatted old mid) where
 
   module _ (new : Told) where
     anew : (e : ImageFault) → OpenedCause e mid new → AnewCause old new
-    anew e cause h steady = chip_earlier old mid new f.counts (opened_excused mid f.consistent
+    anew e cause h steady = chip_earlier old mid new f.counts (opened_excused mid
         (fresh_sound h steady) e new cause)
 
     anew_by : (e : ImageFault) → OpenedCause e mid new → FormattedCause e old new
@@ -509,8 +507,8 @@ module _ (old mid : Told) (f : WasFormatted old mid) where
     unopened_stops end n = subst (λ (e : End). FormattedLeaves (Err e) old new) (sym n.end_is)
         (inr (
           f.fits,
-          λ h script settled told left. inl (formatted_runs old mid new f
-              (unopened_runs mid new end n) h script settled told left),
+          λ h script steady left. inl (formatted_runs old mid new f
+              (unopened_runs mid new end n) h script steady left),
         ))
 
     -- and what it leaves
@@ -524,8 +522,8 @@ module _ (old mid : Told) (f : WasFormatted old mid) where
     leaves_anew (Err Words) apart l = absurd l
     leaves_anew (Err (Chip e)) apart l = inr (
       f.fits,
-      λ h script settled told left. inl
-          (formatted_runs old mid new f l.runs h script settled told left),
+      λ h script steady left. inl
+          (formatted_runs old mid new f l.runs h script steady left),
     )
     leaves_anew (Err OutOfMemory) apart l = absurd (apart refl)
     leaves_anew (Err Script) apart l = formatted_runs old mid new f l.runs
@@ -556,11 +554,10 @@ module _ (old mid : Told) (store : ScriptStore) (s : StartsFormatted old store m
   cause_anew frames (Ok u) c = tt
   cause_anew frames (Err end) c = ends_anew old s.formatted s.formats new frames end c
 
-  -- what is told before the format is consistent, and so is what is told after it
   pub formatted_cause : (frames : ℕ) (ending : Ending) → RunsOver ending store mid then new
       → EndCause (Some (Run frames true)) ending old new
   formatted_cause frames ending r = cause_anew frames ending (opened_cause s.formatted mid store
-      s.opened then new s.formats.consistent frames ending r)
+      s.opened then new frames ending r)
 
 module _ (old mid : Told) (store : ScriptStore) (s : StartsFormatted old store mid) where
   pub formatted_running : IsRunning mid.places store
@@ -574,7 +571,7 @@ module _ (old mid : Told) (store : ScriptStore) (s : StartsFormatted old store m
 module _ (old new : Told) (end : End) (n : IsNotFormatted end old new) where
   pub stopped_left : FormattedLeaves (Err end) old new
   stopped_left = subst (λ (e : End). FormattedLeaves (Err e) old new) (sym n.end_is)
-      (inr (n.fits, λ h script settled told left. inr (n.stops h told)))
+      (inr (n.fits, λ h script steady left. inr (n.stops h)))
 
   pub stopped_cause : (frames : ℕ) → RequestCause (Run frames true) end old new
   stopped_cause frames = subst (λ (e : End). RequestCause (Run frames true) e old new)
@@ -604,22 +601,14 @@ failed fault = Err fault
 
 module _ (old new : Told) (fits : IsGeometry old.places) (counts : Counts old new) where
   -- a format of a chip that fits is done
-  pub was_formatted : new.settled ≡ old.settled → IsConsistent new
-      → ((h : History) → old.history ≡ Some h → Formats {A = Unit {0}} {E = FormatFault} old.places
-      h (Ok tt) new) → WasFormatted old new
-  was_formatted settled consistent formats = record {
-    fits = fits;
-    counts = counts;
-    settled =
-        settled;
-    consistent = consistent;
-    formats = formats;
-  }
+  pub was_formatted : ((h : History)
+      → Formats {A = Unit {0}} {E = FormatFault} old.places h old (Ok tt) new) → WasFormatted old new
+  was_formatted formats = record { fits = fits; counts = counts; formats = formats }
 
   -- or a write failed
   pub not_formatted : (f : FormatFault) → (failed f ≡ failed format.Geometry → ¬ IsGeometry
       old.places) → (failed f ≡ failed format.Stopped → Rose old.write_faults new.write_faults)
-      → ((h : History) → old.history ≡ Some h → Formats {A = Unit {0}} old.places h (Err f) new)
+      → ((h : History) → Formats {A = Unit {0}} old.places h old (Err f) new)
       → IsNotFormatted (format_end f) old new
   not_formatted format.Geometry other rose formats = absurd (other refl fits)
   not_formatted format.Stopped other rose formats = record {

@@ -1,5 +1,5 @@
 -- What the end of the program says.
-use Rattle.std.proofs.Common.{◌≡◌, ◌≢◌, ◌⊎◌, ◌==◌, ℕ, true, false, Some, None, Result, Ok, Err, inl, inr, refl, sym, ◌∙◌, ap, subst, arith}
+use Rattle.std.proofs.Common.{◌≡◌, ◌≢◌, ◌⊎◌, ◌==◌, ℕ, true, false, [], Some, None, Result, Ok, Err, inl, inr, refl, sym, ◌∙◌, ap, subst, arith}
 use Rattle.chip_trait.specs.Told.{History, Told, Counts, Rose, Grew, IsConsistent}
 use Rattle.ipl_base.specs.Places.{IsGeometry}
 use Rattle.ipl_base.specs.declared.fault.ChipFault.TheVariants.{ReadFault, Stopped, Damaged, Malformed}
@@ -45,7 +45,7 @@ failed fault = Err fault
 
 pub failed_format : (old new : Told) → Counts old new → (fault : FormatFault)
     → (failed fault ≡ failed format.Geometry → new ≡ old)
-    → ((h : History) → old.history ≡ Some h → Formats {A = Unit {0}} old.places h (Err fault) new)
+    → ((h : History) → Formats {A = Unit {0}} old.places h old (Err fault) new)
     → FormatLeaves (Err (format_end fault)) old new
 failed_format old new counts format.Geometry same formats = untouched old new (same refl)
 failed_format old new counts format.Stopped same formats = stopped_early format.Stopped old new
@@ -557,7 +557,8 @@ module _ (old new : Told) (consistent : IsConsistent old) (calm : IsCalm old new
   format_never fits (image.NoSpare n) c = c
 
   anew_never : IsTold old → ¬ AnewCause old new
-  anew_never told anew = never_rose (anew told.history told.steady)
+  anew_never told anew = never_rose (anew (record { start = told.contents; story = [] })
+      (record { holds = told.told; settled = consistent.settled told.contents told.told }))
 
   geometry_never : IsTold old → ¬ ((¬ IsGeometry old.places) ⊎ AnewCause old new)
   geometry_never told (inl other) = other told.fits
@@ -578,7 +579,7 @@ module _ (old new : Told) (consistent : IsConsistent old) (calm : IsCalm old new
       → ¬ ChipCause request e old new
   chip_never Format holds e c = format_never holds e c
   chip_never (Run frames true) holds e c = formatted_never holds e c
-  chip_never (Run frames false) holds e c = never_rose (opened_excused old consistent holds e new c)
+  chip_never (Run frames false) holds e c = never_rose (opened_excused old holds e new c)
   chip_never Serial holds e c = c.1 holds
   chip_never (Trial seed count frames) holds e c = formatted_never holds e c
 

@@ -2,12 +2,14 @@
 use Rattle.std.proofs.Common.{◌≡◌, ◌⊎◌, ◌≤◌, ◌-◌, ◌+◌, ℕ, true, [], ◌∷◌, List, ◌++◌, Some, Result, Ok, Err, inl, inr, refl, sym, ◌∙◌, ap, subst, arith, append_assoc}
 use Rattle.std.specs.Prelude.{IfErr, IsErrOf}
 use Rattle.std.specs.FinMap.{empty}
+use Rattle.std.specs.Option.{option_map}
 use Rattle.chip_trait.specs.Chart.{says}
 use Rattle.chip_trait.specs.Image.{IsNoChanceImage}
 use Rattle.chip_trait.specs.Lawful.{IsLawful, AreClean}
 use Rattle.chip_trait.specs.Moment.{AtEachMoment, Leaves}
 use Rattle.chip_trait.specs.Story.{Story, Contents, pieces, said, joined}
 use Rattle.chip_trait.specs.Told.{History, Told, Beside, IsPrefix, adds_all, Unrisen}
+use Rattle.chip_trait.proofs.HistoryLemmas.{same_history}
 use Rattle.chip_trait.proofs.MomentLemmas.{at_both, at_weaker}
 use Rattle.chip_trait.proofs.SaidLemmas.{silent-part}
 use Rattle.ipl_base.specs.declared.fault.ImageFault.{ImageFault}
@@ -18,6 +20,8 @@ use Rattle.ipl_format.specs.Sector.{sector_in}
 use Rattle.ipl_meaning.specs.Chart.{chart_of}
 use Rattle.ipl_meaning.specs.Rests.{EachStands, StoryRests}
 use Rattle.ipl_meaning.specs.Stands.{Stands}
+use Rattle.unit_io.specs.Leads.{IsSteady}
+use Rattle.unit_io.proofs.ReadsAtLemmas.{history_then}
 use Rattle.restart.specs.Events.{format_events}
 use Rattle.store_trait.specs.Keeping.{Stays, SCRIPT_DRAWS}
 use Rattle.store_trait.specs.Onward.{Onward}
@@ -42,7 +46,7 @@ use Rattle.ipl_cli.specs.Ending.{Ending}
 use Rattle.ipl_cli.specs.Top.{IsTooLong, RequestCause, EndCause}
 use Rattle.ipl_cli.specs.Trials.{commands_on, state_after, summary, StandsBehind, EndsAlong, EndsTrial, Trials, TrialsFormatted, TrialLeaves}
 use Rattle.ipl_cli.specs.Runs.{ClosesFor, StartsOpened, IsNotOpened, WasFormatted, StartsFormatted, IsNotStarted, TriesOver, end_of, ending_of}
-use Rattle.ipl_cli.proofs.EndLemmas.{Kept, kept, pieces_behind, history_behind, all_done, left_counts, steady_of, opened_keeps, fresh_story, lawful_format}
+use Rattle.ipl_cli.proofs.EndLemmas.{Kept, kept, pieces_behind, history_behind, all_done, left_counts, opened_keeps, fresh_story, told_format, lawful_format}
 use Rattle.ipl_cli.proofs.StartLemmas.{cause_anew, over_cause, not_started_cause}
 
 -- ---- what the chip stands for
@@ -85,21 +89,22 @@ module _ (places : ℕ) (commands : List Command) (h : History) (first : Story)
       ([], commands, refl, each later e is x image)
 
   -- they alone were done
-  pub none_tried : (old new : Told) (e : ImageFault) → new.history ≡ Some (adds_all first h)
+  pub none_tried : (old new : Told) (e : ImageFault)
+      → new.history ≡ option_map (adds_all first) old.history
       → new.beside.left ≡ old.beside.left
-      → (Unrisen old new → new.settled ≡ true)
+      → (Unrisen old new → IsSteady (adds_all first h) new)
       → (Unrisen old new → StoryRests places empty (adds_all first h))
       → Trials places commands h [] old new (Err (Chip e))
-  none_tried old new e history left settled rests = record {
+  none_tried old new e history left steady rests = record {
     added = first;
-    history = history;
+    history = history ∙ ap (option_map (adds_all first)) (same_history old.history);
     each_moment = near_first;
     lines = subst (SaysLines (summary places commands)) (sym silent)
         (says_none (summary places commands));
     is_prefix = subst (λ (bytes : List ℕ). IsPrefix bytes (joined_text (summary places commands)))
         (sym (ap joined silent)) (joined_text (summary places commands), refl);
     lawful = lawful;
-    settled = settled;
+    steady = steady;
     ends = record {
       done = [];
       later = commands;
@@ -115,18 +120,19 @@ module _ (places : ℕ) (commands : List Command) (h : History) (first : Story)
 
   module _ (old mid new : Told) (before then : ScriptStore) (least : 5 ≤ places)
       (later : old.write_faults ≤ mid.write_faults)
+      (told : mid.history ≡ option_map (adds_all first) old.history)
       (clean : (base : Story) → AreClean (script_keeping.clean before) (first ++ base))
       (left : new.beside.left ≡ old.beside.left) where
-    module _ (R : State → Type 0) (result : Result (Unit {0}) Stop) (stays : (s : State) → R s
-        → Stays script_keeping limits then mid new s)
+    module _ (R : History → State → Type 0) (result : Result (Unit {0}) Stop)
+        (stays : (k : History) (s : State) → R k s → Stays script_keeping limits then mid new k s)
         (leaves : LeavesOf script_keeping limits (at_rest empty) commands before (adds_all first h)
-        R then new result) where
+        R then mid new result) where
       abbrev last : History
       last = adds_all leaves.added (adds_all first h)
 
-      kept_last : (s : State) → R s → Unrisen old new → Kept places new last s
+      kept_last : (s : State) → R last s → Unrisen old new → Kept places new last s
       kept_last s so unrisen = kept places least then new s last
-          (stays s so (unrisen_later old mid new later unrisen)) leaves.history
+          (stays last s so (unrisen_later old mid new later unrisen))
 
       all_pieces : pieces (leaves.added ++ first) ≡ pieces leaves.added
       all_pieces = pieces_behind first leaves.added silent
@@ -150,12 +156,12 @@ module _ (places : ℕ) (commands : List Command) (h : History) (first : Story)
       abbrev Resting : State → Type 0
       Resting s = Unrisen old new → StoryRests places s.map (adds_all (leaves.added ++ first) h)
 
-      rested : (s : State) → R s → Resting s
+      rested : (s : State) → R last s → Resting s
       rested s so = λ unrisen. subst (λ (k : History). StoryRests places s.map k) all_history
           (kept_last s so unrisen).rests
 
       along : EndsInWork script_keeping limits (at_rest empty) commands (adds_all first h)
-          leaves.added R → EndsAlong Resting places commands (pieces (leaves.added ++ first))
+          leaves.added (R last) → EndsAlong Resting places commands (pieces (leaves.added ++ first))
       along e = record {
         done = e.done;
         later = e.later;
@@ -166,7 +172,7 @@ module _ (places : ℕ) (commands : List Command) (h : History) (first : Story)
       }
 
       ends_by : (r : Result (Unit {0}) Stop) → TrialEnds script_keeping r limits (at_rest empty)
-          commands (adds_all first h) leaves.added R
+          commands (adds_all first h) leaves.added (R last)
           → EndsTrial (ending_of r) Resting places commands (pieces (leaves.added ++ first))
       ends_by (Ok u) e = rested (state_after places commands) e.rests
       ends_by (Err (stop.Store (fault.Chip f))) e = along e
@@ -180,22 +186,24 @@ module _ (places : ℕ) (commands : List Command) (h : History) (first : Story)
       )
       ends_by (Err stop.TooLong) e = absurd e
 
-      settled_by : (r : Result (Unit {0}) Stop)
+      steady_by : (r : Result (Unit {0}) Stop)
           → TrialEnds script_keeping r limits (at_rest empty) commands (adds_all first h)
-          leaves.added R → Unrisen old new → new.settled ≡ true
-      settled_by (Ok u) e unrisen = (kept_last (state_after places commands) e.rests
-          unrisen).settled
-      settled_by (Err (stop.Store f)) e unrisen = (kept_last (state_after places e.done) e.rests
-          unrisen).settled
-      settled_by (Err stop.Script) e unrisen = absurd e
-      settled_by (Err stop.Output) e unrisen = (kept_last (state_after places commands)
-          e.whole.rests unrisen).settled
-      settled_by (Err stop.TooLong) e unrisen = absurd e
+          leaves.added (R last) → Unrisen old new → IsSteady last new
+      steady_by (Ok u) e unrisen = (kept_last (state_after places commands) e.rests
+          unrisen).steady
+      steady_by (Err (stop.Store f)) e unrisen = (kept_last (state_after places e.done) e.rests
+          unrisen).steady
+      steady_by (Err stop.Script) e unrisen = absurd e
+      steady_by (Err stop.Output) e unrisen = (kept_last (state_after places commands)
+          e.whole.rests unrisen).steady
+      steady_by (Err stop.TooLong) e unrisen = absurd e
 
       pub tried_by : Trials places commands h [] old new (ending_of result)
       tried_by = record {
         added = leaves.added ++ first;
-        history = leaves.history ∙ ap Some all_history;
+        history = leaves.history ∙ ap (option_map (adds_all leaves.added)) told
+            ∙ history_then leaves.added first old.history
+            ∙ ap (option_map (adds_all (leaves.added ++ first))) (same_history old.history);
         each_moment = at_both Found leaves.added first near_first later_found;
         lines = subst (SaysLines (summary places commands)) (sym all_pieces) leaves.lines;
         is_prefix = subst (λ (bytes : List ℕ). IsPrefix bytes
@@ -203,7 +211,8 @@ module _ (places : ℕ) (commands : List Command) (h : History) (first : Story)
             (says_prefix (summary places commands) (pieces leaves.added) leaves.lines);
         lawful = λ base good. subst IsLawful (sym (append_assoc leaves.added first base))
             (leaves.lawful.lawful (first ++ base) (lawful base good) (clean base));
-        settled = settled_by result leaves.ends;
+        steady = λ unrisen. subst (λ (k : History). IsSteady k new) all_history
+            (steady_by result leaves.ends unrisen);
         ends = ends_by result leaves.ends;
         left_is = left;
         all = λ is. let whole = leaves.all (all_done result is) in (
@@ -215,9 +224,9 @@ module _ (places : ℕ) (commands : List Command) (h : History) (first : Story)
 
 -- ---- over a chip that was opened
 
--- over a chip whose story rests on no records
+-- over a history that leaves what the chip holds and rests on no records
 abbrev TrialsOpened : List Command → Told → Told → Ending → Type 0
-TrialsOpened commands old new ending = (h : History) → old.settled ≡ true → old.history ≡ Some h
+TrialsOpened commands old new ending = (h : History) → IsSteady h old
     → StoryRests old.places empty h
     → Trials old.places commands h [] old new ending
 
@@ -230,37 +239,35 @@ module _ (old mid : Told) (store : ScriptStore) (s : StartsOpened old store mid)
   opened_trial : (result : Result (Unit {0}) Stop)
       → RunsTrial script_keeping commands store mid result then new
       → TrialsOpened commands old new (ending_of result)
-  opened_trial (Ok u) run = λ h settled told rests.
-      let steady = steady_of old h settled told in
+  opened_trial (Ok u) run = λ h steady rests.
       let did = s.tries.steps empty h steady rests in
       tried_by old.places commands h did.added did.does.silent did.each_moment
       (λ base good. did.does.lawful.lawful base good (λ p q nowhere. absurd nowhere))
       old mid new store then s.running.sound.made.geometry.0 s.tries.accounts.counts.writes
-      (λ base. did.does.clean refl base (λ p q nowhere. absurd nowhere)) left_alone
-      (script_keeping.holds (limits_of (old.places - 4)) then new) (Ok tt) (λ state held unrisen.
+      did.history (λ base. did.does.clean refl base (λ p q nowhere. absurd nowhere)) left_alone
+      (script_keeping.holds (limits_of (old.places - 4)) then new) (Ok tt) (λ k state held unrisen.
       held)
       (run (limits_of (old.places - 4)) (at_rest empty) (adds_all did.added h) (opened_keeps old mid
-      store s empty h steady rests) did.history)
-  opened_trial (Err e) run = λ h settled told rests.
-      let steady = steady_of old h settled told in
+      store s empty h steady rests))
+  opened_trial (Err e) run = λ h steady rests.
       let did = s.tries.steps empty h steady rests in
       tried_by old.places commands h did.added did.does.silent did.each_moment
       (λ base good. did.does.lawful.lawful base good (λ p q nowhere. absurd nowhere))
       old mid new store then s.running.sound.made.geometry.0 s.tries.accounts.counts.writes
-      (λ base. did.does.clean refl base (λ p q nowhere. absurd nowhere)) left_alone
+      did.history (λ base. did.does.clean refl base (λ p q nowhere. absurd nowhere)) left_alone
       (Stays script_keeping (limits_of (old.places - 4)) then mid new) (Err e)
-      (λ state stays. stays)
+      (λ k state stays. stays)
       (run (limits_of (old.places - 4)) (at_rest empty) (adds_all did.added h) (opened_keeps old mid
-      store s empty h steady rests) did.history)
+      store s empty h steady rests))
 
 -- an opening that fails leaves no records
 unopened_trial : (commands : List Command) (old new : Told) (end : End)
     → (n : IsNotOpened end old new) → TrialsOpened commands old new (Err (Chip n.fault))
-unopened_trial commands old new end n = λ h settled told rests.
-    let did = n.tries.steps empty h (steady_of old h settled told) rests in
+unopened_trial commands old new end n = λ h steady rests.
+    let did = n.tries.steps empty h steady rests in
     none_tried old.places commands h did.added did.does.silent did.each_moment
     (λ base good. did.does.lawful.lawful base good (λ p q nowhere. absurd nowhere))
-    old new n.fault did.history (left_counts old new n.tries.accounts.counts) did.settled did.ends
+    old new n.fault did.history (left_counts old new n.tries.accounts.counts) did.steady did.ends
 
 -- ---- after a format
 
@@ -282,19 +289,20 @@ ends_so Q R places commands lines f (Err Output) e = (e.0, f _ e.1)
 ends_so Q R places commands lines f (Err TooLong) e = e
 
 module _ (old mid new : Told) (f : WasFormatted old mid) (commands : List Command) where
-  after_format : {ending : Ending} (h : History) → old.history ≡ Some h
+  after_format : {ending : Ending} (h : History)
       → Trials old.places commands (adds_all (format_events old.places) h) [] mid new ending
       → Trials old.places commands h (format_events old.places) old new ending
-  after_format {ending} h told t = let last : History = adds_all t.added
+  after_format {ending} h t = let last : History = adds_all t.added
       (adds_all (format_events old.places) h) in record {
         added = t.added;
-        history = t.history;
+        history = t.history ∙ ap (option_map (adds_all t.added)) (sym (same_history mid.history)
+            ∙ told_format old mid new f h);
         each_moment = t.each_moment;
         lines = t.lines;
         is_prefix = t.is_prefix;
         lawful = λ base good. t.lawful (format_events old.places ++ base) (lawful_format old mid new f h
-            told base good);
-        settled = λ unrisen. t.settled (earlier unrisen);
+            base good);
+        steady = λ unrisen. t.steady (earlier unrisen);
         ends = ends_so (λ s. Unrisen mid new → StoryRests old.places s.map last) (λ s. Unrisen old new
             → StoryRests old.places s.map last) old.places commands (pieces t.added) (λ s so unrisen. so
             (earlier unrisen)) ending t.ends;
@@ -306,13 +314,13 @@ module _ (old mid new : Told) (f : WasFormatted old mid) (commands : List Comman
       earlier = unrisen_later old mid new f.counts.writes
 
   formatted_trial : {ending : Ending} → TrialsOpened commands mid new ending → (h : History)
-      → old.settled ≡ true → old.history ≡ Some h
+      → IsSteady h old
       → Trials old.places commands h (format_events old.places) old new ending
-  formatted_trial {ending} trials h settled told =
-      let fresh = fresh_story old mid new f h told in
-      after_format h told (subst (λ (q : ℕ). Trials q commands (adds_all (format_events old.places)
+  formatted_trial {ending} trials h steady =
+      let fresh = fresh_story old mid new f h steady in
+      after_format h (subst (λ (q : ℕ). Trials q commands (adds_all (format_events old.places)
       h) [] mid new ending) f.counts.places
-      (trials (adds_all (format_events old.places) h) (f.settled ∙ settled) fresh.0
+      (trials (adds_all (format_events old.places) h) fresh.0
       (subst (λ (q : ℕ). StoryRests q empty (adds_all (format_events old.places) h))
       (sym f.counts.places) fresh.1)))
 
@@ -333,15 +341,13 @@ module _ (old new : Told) (seed count : ℕ) where
   trial_not_started end (inl unmade) = subst (TrialLeaves seed count (Err end) old) (sym unmade.1)
       (unmade_trial end unmade.0)
   trial_not_started end (inr (inl stopped)) = subst (λ (e : End). TrialLeaves seed count (Err e) old
-      new) (sym stopped.end_is) (inr (stopped.fits, λ h settled told. inr (stopped.stops h told)))
+      new) (sym stopped.end_is) (inr (stopped.fits, λ h steady. inr (stopped.stops h)))
   trial_not_started end (inr (inr (formatted, f, n))) = subst (λ (e : End). TrialLeaves seed count
       (Err e) old new) (sym n.end_is)
       (inr (
         f.fits,
-        λ h settled told. inl (formatted_trial old formatted new f (commands_on old.places seed
-            count)
-            (unopened_trial (commands_on old.places seed count) formatted new end n) h settled
-            told),
+        λ h steady. inl (formatted_trial old formatted new f (commands_on old.places seed count)
+            (unopened_trial (commands_on old.places seed count) formatted new end n) h steady),
       ))
 
   -- no script is read
@@ -388,18 +394,15 @@ module _ (old mid : Told) (store : ScriptStore) (s : StartsFormatted old store m
   leaves_by (Ok u) stops trials = trials
   leaves_by (Err (stop.Store (fault.Chip c))) stops trials = inr (
     s.formats.fits,
-    λ h settled told.
-        inl (trials h settled told),
+    λ h steady. inl (trials h steady),
   )
   leaves_by (Err (stop.Store (fault.Image e))) stops trials = inr (
     s.formats.fits,
-    λ h settled told.
-        inl (trials h settled told),
+    λ h steady. inl (trials h steady),
   )
   leaves_by (Err (stop.Store fault.Spent)) stops trials = inr (
     s.formats.fits,
-    λ h settled told. inl
-        (trials h settled told),
+    λ h steady. inl (trials h steady),
   )
   leaves_by (Err stop.Script) stops trials = absurd stops
   leaves_by (Err stop.Output) stops trials = trials
@@ -441,7 +444,7 @@ module _ (old mid : Told) (store : ScriptStore) (s : StartsFormatted old store m
       old new) (sym t.ending_is)
       (cause_by frames t.result t.stops (cause_anew old mid store s then new frames
       (ending_of t.result)
-      (over_cause s.formatted mid store s.opened then new s.formats.consistent frames t.result
+      (over_cause s.formatted mid store s.opened then new frames t.result
       t.completes t.cause t.unspent (never_long t.result t.stops))))
 
 -- ---- as the calls have it

@@ -59,10 +59,10 @@ AtStatus P status = (ending : Ending) × (status ≡ status_at ending) × P endi
 pub record StopsEarly (places : ℕ) (h : History) (old new : Told) : Type 0 where
   pub stopped : Told
   pub fault : FormatFault
-  pub formats : Formats {A = Unit {0}} places h (Err fault) stopped
+  pub formats : Formats {A = Unit {0}} places h old (Err fault) stopped
   pub counts : Counts old stopped
   pub noted : new ≡ but_noted stopped new.beside.noted
 
--- a format was stopped, over a chip that tells its history
+-- a format was stopped, whatever history is looked at
 abbrev pub IsStopped : Told → Told → Type 0
-IsStopped old new = (h : History) → old.history ≡ Some h → StopsEarly old.places h old new
+IsStopped old new = (h : History) → StopsEarly old.places h old new

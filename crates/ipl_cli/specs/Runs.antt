@@ -1,6 +1,6 @@
 -- How the program starts and runs.
 use Rattle.std.specs.Prelude.{ℕ, ◌≡◌, ◌⊎◌, Result, Ok, Err, Some, OnOk, IfErr, IsErrOf}
-use Rattle.chip_trait.specs.Told.{History, Told, Counts, Rose, IsConsistent}
+use Rattle.chip_trait.specs.Told.{History, Told, Counts, Rose}
 use Rattle.ipl_base.specs.Places.{IsGeometry}
 use Rattle.ipl_base.specs.declared.fault.ChipFault.TheVariants.{Stopped}
 use Rattle.ipl_base.specs.declared.fault.FormatFault.{FormatFault}
@@ -63,10 +63,7 @@ OpensOver (Err end) old new = IsNotOpened end old new
 pub record WasFormatted (old new : Told) : Type 0 where
   pub fits : IsGeometry old.places
   pub counts : Counts old new
-  pub settled : new.settled ≡ old.settled
-  pub consistent : IsConsistent new
-  pub formats : (h : History) → old.history ≡ Some h
-      → Formats {A = Unit {0}} {E = FormatFault} old.places h (Ok tt) new
+  pub formats : (h : History) → Formats {A = Unit {0}} {E = FormatFault} old.places h old (Ok tt) new
 
 -- a format was stopped, since a write failed, and it ends so
 pub record IsNotFormatted (end : End) (old new : Told) : Type 0 where

@@ -1,5 +1,6 @@
 -- The program as a whole: how it ends, what it says, and what it leaves on the chip.
 use Rattle.std.specs.Prelude.{◌≡◌, ◌≢◌, ◌⊎◌, ◌<◌, ◌≤◌, ℕ, ◌+◌, ◌-◌, ◌^◌, min, Bool, true, false, List, [], ◌∷◌, ◌++◌, codes, length, Some, None, Ok, Err}
+use Rattle.std.specs.Option.{option_map}
 use Rattle.std.specs.FinMap.{empty}
 use Rattle.ipl_base.specs.declared.limits.TheConstants.{RESERVED_PLACES}
 use Rattle.chip_trait.specs.declared.event.Event.TheVariants.{Said}
@@ -64,9 +65,8 @@ pub record HasFault (old : Told) (e : ImageFault) : Type 0 where
   pub told : old.contents ≡ Some contents
   pub fault : first_fault (chart_of contents) old.places ≡ Some e
 
--- The chip tells its history, no write has failed, its story rests on records, and no number that
--- is
--- found is 2^62 or more.
+-- No write has failed; a history that leaves what the chip holds rests on records; and no number
+-- that is found is 2^62 or more.
 pub record RestsWithNumbersLeft (t : Told) : Type 0 where
   pub map : Map
   pub history : History
@@ -77,7 +77,7 @@ pub record RestsWithNumbersLeft (t : Told) : Type 0 where
 -- ---- causes
 
 -- The run met the fault once the chip was open: what the chip held had no fault as it was laid out,
--- and where its story rested on records, a call of the chip failed.
+-- and where a history of it rested on records, a call of the chip failed.
 pub record IsMetLater (old new : Told) : Type 0 where
   pub laid : IsLaidWell old
   pub excuse : RestsWithNumbersLeft old → ChipRose old new
@@ -115,7 +115,7 @@ FormatCause (image.Chip (Malformed p s)) old new = ⊥
 FormatCause image.Spent old new = ⊥
 FormatCause (image.NoSpare n) old new = ⊥
 
--- What was just formatted is at fault: where the chip tells its history and no write had failed, a
+-- What was just formatted is at fault: where the chip tells what it holds and no write had failed, a
 -- call of it failed.
 abbrev pub AnewCause : Told → Told → Type 0
 AnewCause old new = (h : History) → IsSteady h old → ChipRose old new
@@ -206,29 +206,26 @@ EndsBy (Err Output) Q places m script said =
     EndsUnsaid (limits_of (places - RESERVED_PLACES)) (at_rest m) (commands_of script) said Q
 EndsBy (Err TooLong) Q places m script said = IsBetween Q places m script said
 
--- What a run of a script leaves, from these records on, after these first events on a chip with
--- this
--- history. Whatever moment the power is cut at, within a chip operation too, the chip stands for
--- the
--- records after the commands whose replies were said, or after one more. What is said is a
--- beginning
--- of the model's text, line by line. No sector is programmed twice between erases of its place.
--- Where
--- no write failed, none has, and the story rests on such records at the end, and by how the run
--- ended
+-- What a run of a script leaves, from these records on, after these first events on a chip that
+-- holds what this history leaves. What the chip tells grew by these events. Whatever moment the
+-- power is cut at, within a chip operation too, the chip stands for the records after the commands
+-- whose replies were said, or after one more. What is said is a beginning of the model's text, line
+-- by line. No sector is programmed twice between erases of its place. Where no write failed, the chip
+-- holds at the end what the history then leaves; that rests on such records, and by how the run ended
 -- exactly on those of the commands that are done: the next run may begin there. Where all is done,
 -- the whole text is said, and the script was read to its end.
 pub record Runs (places : ℕ) (m : Map) (script : List ℕ) (h : History) (first : Story)
     (old new : Told) (ending : Ending) : Type 0 where
   pub added : Story
-  pub history : new.history ≡ Some (adds_all added (adds_all first h))
+  pub history : new.history
+      ≡ option_map (adds_all added) (option_map (adds_all first) old.history)
   pub each_moment : AtEachMoment
       (λ e. Leaves (says sector_in) (StandsAbout places m script (said e)) (adds_all first h) e)
       added
   pub replies : SaysLines (answers places m script) (pieces added)
   pub is_prefix : IsPrefix (said added) (joined (answers places m script))
   pub lawful : (base : Story) → IsLawful base → IsLawful (added ++ (first ++ base))
-  pub settled : Unrisen old new → new.settled ≡ true
+  pub steady : Unrisen old new → IsSteady (adds_all added (adds_all first h)) new
   pub rests : Unrisen old new
       → IsAbout (λ s. StoryRests places s.map (adds_all added (adds_all first h))) places m script
       (said added)
@@ -243,14 +240,14 @@ pub record Runs (places : ℕ) (m : Map) (script : List ℕ) (h : History) (firs
       → (pieces added ≡ answers places m script) × (said added ≡ joined (answers places m script))
       × (unread ≡ [])
 
--- over a settled chip that tells its history, and a script that is told
+-- over each history that leaves what the chip holds, where no write has failed, and a script that is
+-- told: the chip may tell that history, another one or none
 abbrev pub OverTold : (ℕ → List ℕ → History → Type 0) → Told → Type 0
-OverTold P old = (h : History) (script : List ℕ) → old.settled ≡ true → old.history ≡ Some h
+OverTold P old = (h : History) (script : List ℕ) → IsSteady h old
     → old.beside.left ≡ Some script → P old.places script h
 
--- The chip was opened, and the script was run: from the records on which its story rests. All
--- events
--- are in this, those of the opening too.
+-- The chip was opened, and the script was run: from the records on which such a history rests. All
+-- events are in this, those of the opening too.
 abbrev pub RunsOpened : Told → Told → Ending → Type 0
 RunsOpened old new ending = OverTold
     (λ places script h. (m : Map) → StoryRests places m h
@@ -260,6 +257,32 @@ RunsOpened old new ending = OverTold
 abbrev pub RunsFormatted : Told → Told → Ending → Type 0
 RunsFormatted old new ending = OverTold
     (λ places script h. Runs places empty script h (format_events places) old new ending) old
+
+-- the records after all commands of a script, on so many places, from these records on
+abbrev pub records_after : ℕ → Map → List ℕ → Map
+records_after places m script =
+    (after_all (limits_of (places - RESERVED_PLACES)) (at_rest m) (commands_of script)).map
+
+-- the chip tells what it holds, and that stands for these records
+pub record HoldsRecords (places : ℕ) (m : Map) (t : Told) : Type 0 where
+  pub contents : Contents
+  pub told : t.contents ≡ Some contents
+  pub stands : Stands places (chart_of contents) m
+
+-- Over a chip that tells what it holds, and a script that is told: where no write failed, the chip
+-- holds the records after all commands at the end.
+abbrev pub EndsWithRecords : (Told → Map → Type 0) → Told → Told → Type 0
+EndsWithRecords From old new = (m : Map) (script : List ℕ) → From old m
+    → old.beside.left ≡ Some script → Unrisen old new
+    → HoldsRecords old.places (records_after old.places m script) new
+
+-- it begins with the records that the chip holds
+abbrev pub FromItsRecords : Told → Map → Type 0
+FromItsRecords old m = HoldsRecords old.places m old
+
+-- it begins with none, whatever the chip holds
+abbrev pub FromNoRecords : Told → Map → Type 0
+FromNoRecords old m = (m ≡ empty) × ((x : Contents) × (old.contents ≡ Some x))
 
 -- a call of the chip failed in the run, or before it in the format
 abbrev pub RunsOrStops : Told → Told → Ending → Type 0
@@ -273,23 +296,25 @@ RunsOrStops old new ending = OverTold
 abbrev pub ok_line : List ℕ
 ok_line = codes "ok\n"
 
--- What a format leaves of a chip with this history: no record, whatever the power is cut at from
--- then
--- on. It said its line, or a beginning of it, or nothing, and read nothing of the script.
+-- What a format leaves of a chip, after this history: no record, whatever the power is cut at from
+-- then on. It said its line, or a beginning of it, or nothing, and read nothing of the script. Where
+-- the chip held what the history left, it holds what it leaves then.
 pub record IsLaidOut (places : ℕ) (h : History) (old new : Told) (done : Bool) : Type 0 where
   pub added : Story
   pub says : (added ≡ []) ⊎ ((part : List ℕ) × IsPrefix part ok_line × (added ≡ Said part ∷ []))
-  pub history : new.history ≡ Some (adds_all added (adds_all (format_events places) h))
+  pub history : new.history
+      ≡ option_map (adds_all added) (option_map (adds_all (format_events places)) old.history)
   pub settled : new.settled ≡ old.settled
+  pub steady : IsSteady h old → IsSteady (adds_all added (adds_all (format_events places) h)) new
   pub rests : StoryRests places empty (adds_all added (adds_all (format_events places) h))
   pub lawful : (base : Story) → IsLawful base
       → IsLawful (added ++ (format_events places ++ base))
   pub left_is : new.beside.left ≡ old.beside.left
   pub all : done ≡ true → added ≡ Said ok_line ∷ []
 
--- over a chip that tells its history
+-- whatever history is looked at
 abbrev pub LaysOut : Told → Told → Bool → Type 0
-LaysOut old new done = (h : History) → old.history ≡ Some h → IsLaidOut old.places h old new done
+LaysOut old new done = (h : History) → IsLaidOut old.places h old new done
 
 -- the end that a failed format is
 abbrev pub format_end : FormatFault → End
@@ -416,14 +441,14 @@ pub record IsCalm (old new : Told) : Type 0 where
   pub script : ¬ Rose old.beside.script_faults new.beside.script_faults
   pub says : ¬ Rose old.beside.say_faults new.beside.say_faults
 
--- the chip has 5 to 1,028 places, tells its history, and no write has failed
+-- the chip has 5 to 1,028 places, and tells what it holds
 pub record IsTold (t : Told) : Type 0 where
   pub fits : IsGeometry t.places
-  pub history : History
-  pub steady : IsSteady history t
+  pub contents : Contents
+  pub told : t.contents ≡ Some contents
 
--- what a request asks of the chip: 5 to 1,028 places; where commands are done, that it tells its
--- history; and where it is opened, that its story rests on records, with numbers left
+-- what a request asks of the chip: 5 to 1,028 places; where commands are done, that it tells what it
+-- holds; and where it is opened, that a history of that rests on records, with numbers left
 abbrev pub Suffices : Request → Told → Type 0
 Suffices Format old = IsGeometry old.places
 Suffices (Run frames true) old = IsTold old

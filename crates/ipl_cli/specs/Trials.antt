@@ -1,5 +1,6 @@
 -- What a trial leaves, wherever it ends.
-use Rattle.std.specs.Prelude.{◌≡◌, ◌⊎◌, ℕ, ◌-◌, true, List, [], ◌∷◌, ◌++◌, Some, Ok, Err}
+use Rattle.std.specs.Option.{option_map}
+use Rattle.std.specs.Prelude.{◌≡◌, ◌⊎◌, ℕ, ◌-◌, List, [], ◌∷◌, ◌++◌, Some, Ok, Err}
 use Rattle.std.specs.FinMap.{empty}
 use Rattle.chip_trait.specs.Chart.{says}
 use Rattle.chip_trait.specs.Lawful.{IsLawful}
@@ -17,6 +18,7 @@ use Rattle.ipl_format.specs.Sector.{sector_in}
 use Rattle.ipl_meaning.specs.Chart.{chart_of}
 use Rattle.ipl_meaning.specs.Rests.{StoryRests}
 use Rattle.ipl_meaning.specs.Stands.{Stands}
+use Rattle.unit_io.specs.Leads.{IsSteady}
 use Rattle.restart.specs.Events.{format_events}
 use Rattle.store_steps.specs.Keeps.{limits_of}
 use Rattle.script_run.specs.Run.{SaysLines, IsUnsaid}
@@ -72,25 +74,25 @@ EndsTrial (Err Output) Q places commands said =
     IsUnsaid (summary places commands) said × Q (state_after places commands)
 EndsTrial (Err TooLong) Q places commands said = ⊥
 
--- What a trial leaves, from no records on, after these first events on a chip with this history.
--- Whatever moment the power is cut at, the chip stands for the records after the first of the
--- commands, and after all of them from the first line on. What is said is a beginning of the
--- summary,
--- line by line. No sector is programmed twice between erases of its place. Where no write failed,
--- none has, and by how the trial ended the story rests on the records of the commands that are
--- done.
--- Of the script nothing is read. Where all is done, the whole summary is said.
+-- What a trial leaves, from no records on, after these first events on a chip that holds what this
+-- history leaves. What the chip tells grew by these events. Whatever moment the power is cut at, the
+-- chip stands for the records after the first of the commands, and after all of them from the first
+-- line on. What is said is a beginning of the summary, line by line. No sector is programmed twice
+-- between erases of its place. Where no write failed, the chip holds at the end what the history then
+-- leaves, and by how the trial ended that rests on the records of the commands that are done. Of the
+-- script nothing is read. Where all is done, the whole summary is said.
 pub record Trials (places : ℕ) (commands : List Command) (h : History) (first : Story)
     (old new : Told) (ending : Ending) : Type 0 where
   pub added : Story
-  pub history : new.history ≡ Some (adds_all added (adds_all first h))
+  pub history : new.history
+      ≡ option_map (adds_all added) (option_map (adds_all first) old.history)
   pub each_moment : AtEachMoment
       (λ e. Leaves (says sector_in) (StandsBehind places commands (pieces e)) (adds_all first h) e)
       added
   pub lines : SaysLines (summary places commands) (pieces added)
   pub is_prefix : IsPrefix (said added) (joined (summary places commands))
   pub lawful : (base : Story) → IsLawful base → IsLawful (added ++ (first ++ base))
-  pub settled : Unrisen old new → new.settled ≡ true
+  pub steady : Unrisen old new → IsSteady (adds_all added (adds_all first h)) new
   pub ends : EndsTrial ending
       (λ s. Unrisen old new → StoryRests places s.map (adds_all added (adds_all first h)))
       places commands (pieces added)
@@ -98,17 +100,15 @@ pub record Trials (places : ℕ) (commands : List Command) (h : History) (first 
   pub all : ending ≡ Ok tt → (pieces added ≡ summary places commands)
       × (said added ≡ joined (summary places commands))
 
--- over a settled chip that tells its history, after a format
+-- over each history that leaves what the chip holds, where no write has failed, after a format
 abbrev pub TrialsFormatted : ℕ → ℕ → Told → Told → Ending → Type 0
-TrialsFormatted seed count old new ending = (h : History) → old.settled ≡ true
-    → old.history ≡ Some h
+TrialsFormatted seed count old new ending = (h : History) → IsSteady h old
     → Trials old.places (commands_on old.places seed count) h (format_events old.places) old new
     ending
 
 -- a call of the chip failed in the trial, or before it in the format
 abbrev pub TrialsOrStops : ℕ → ℕ → Told → Told → Ending → Type 0
-TrialsOrStops seed count old new ending = (h : History) → old.settled ≡ true
-    → old.history ≡ Some h
+TrialsOrStops seed count old new ending = (h : History) → IsSteady h old
     → Trials old.places (commands_on old.places seed count) h (format_events old.places) old new
     ending
     ⊎ StopsEarly old.places h old new

@@ -16,6 +16,7 @@ ghost use Rattle.ipl_cli.specs.Ending.{AsksOpened, AsksFormatted, AsksAnew, AtSt
 ghost use Rattle.ipl_cli.specs.Views.{ViewsTold, OnlyViews, OnlyHears, SerialLeaves, view_end};
 ghost use Rattle.ipl_cli.specs.Top.{NoneFalls, format_end, EndCause, RequestCause, FormatLeaves, FormattedLeaves, OpenedLeaves, EndLeaves};
 ghost use Rattle.ipl_cli.specs.Top.{RunsOpened, RunsFormatted, UntouchedOrRuns, RefusesFaults, IsLaidWell, LaysOut};
+ghost use Rattle.ipl_cli.specs.Top.{EndsWithRecords, FromItsRecords, FromNoRecords};
 ghost use Rattle.ipl_cli.specs.Top.{StrayCause, SpentCause, AnewCause, IsCalm, Suffices, EndsInTime, Ends};
 ghost use Rattle.ipl_cli.specs.Runs.{StartsFormatted, StartsOpened, ClosesFor, FormatsFirst, OpensOver, IsNotStarted, RunsOver, TriesOver, end_of};
 
@@ -320,6 +321,13 @@ pub fn top<D: Desk>(alloc: Global, words: &[String], desk: &mut D) -> u8
     // At 0 the script was read to its end, whatever the chip tells.
     ensures read { AsksOpened (requested (map string_bytes words.now)) ⊎ AsksFormatted (requested (map string_bytes words.now))
         → result ≡ 0 → ReadsAll (D.told desk.old) (D.told desk.new) }
+
+    // So at 0 a chip that tells what it holds, and maybe no story, holds the records after all
+    // commands: from its own records on, or from none where it was formatted first.
+    ensures records { AsksOpened (requested (map string_bytes words.now)) → result ≡ 0
+        → EndsWithRecords FromItsRecords (D.told desk.old) (D.told desk.new) }
+    ensures anew { AsksFormatted (requested (map string_bytes words.now)) → result ≡ 0
+        → EndsWithRecords FromNoRecords (D.told desk.old) (D.told desk.new) }
 
     // The same over a chip that is formatted first. At 6, 7 and 8 a part of the script was run; at 3,
     // 4 and 9 too, or the format was stopped, or another number of places was left alone.

@@ -1,7 +1,7 @@
 -- What calls of a store leave.
 use Rattle.std.proofs.Common.{◌≡◌, inl, inr, ℕ, ◌+◌, ◌≤◌, ◌||◌, nat_lt, Bool, true, false, List, length, Option, Some, None, Result, Ok, Err, IfErr, OnOk, is_ok, if◌then◌else◌, refl, sym, ◌∙◌, ap, subst, arith}
 use Rattle.std.proofs.lemmas.Bool.Decides.{nat_tests}
-use Rattle.chip_trait.specs.Told.{History, Told, IsConsistent}
+use Rattle.chip_trait.specs.Told.{History, Told}
 use Rattle.chip_trait.proofs.CountsLemmas.{counts_none}
 use Rattle.ipl_base.specs.declared.fault.ChipFault.{ChipFault}
 use Rattle.ipl_base.specs.declared.fault.Refusal.{Refusal}
@@ -324,19 +324,19 @@ kept_either next places state k each x image = elim (each x image) [
 
 pub calls_joined : (early : Option StoreFault) (next : State → State) (most : ℕ)
     (old mid : Store) (t : Transactions) (before after : Told) → early ≡ None
-    → IsConsistent before → IsConsistent after → mid.down ≡ false
+    → mid.down ≡ false
     → Calls {T = Unit {0}} None (λ state. state) most old before (Ok tt) mid after
     → TurnsInMemory next mid.transactions t → t.pages.parts.counter ≡ counter_of mid
     → Calls {T = Unit {0}} early next most old before (Ok tt) (record mid { transactions = t })
     after
-calls_joined early next most old mid t before after none law then_law up first did drawn = record {
+calls_joined early next most old mid t before after none up first did drawn = record {
   refuses = λ fault is. let no : None ≡ Some fault = sym none ∙ is in absurd (cc no);
   serves = λ let_in. record {
     leads = calls_advance {T = Unit {0}} {U = Unit {0}} {E = StoreFault} {F = StoreFault}
         (TurnsMapOf (λ state. state)) (TurnsMapOf next) (TurnsMapOf next) next
         (memory_of_store old) (memory_of_store mid)
         (memory_of_store (record mid { transactions = t })) tt (Ok tt) before after after
-        (kept_either next) (λ places state k is. is) law then_law first.counts
+        (kept_either next) (λ places state k is. is) first.counts
         (first.serves refl).leads (second.serves refl).leads;
     ends = up;
     least = omega (arith, (first.serves refl).least, drawn);

@@ -4,7 +4,7 @@ use Rattle.std.specs.Option.{option_map}
 use Rattle.std.proofs.lemmas.Bool.{cases_lt}
 use Rattle.std.proofs.lemmas.List.{get_or-replicate, get_or_past, length-replicate}
 use Rattle.chip_trait.specs.Story.{Contents, held}
-use Rattle.chip_trait.specs.Told.{History, Told, IsConsistent, adds_all}
+use Rattle.chip_trait.specs.Told.{History, Told}
 use Rattle.ipl_base.specs.declared.fault.ChipFault.{ChipFault}
 use Rattle.ipl_rules.specs.Operations.{after_restart}
 use Rattle.ipl_rules.specs.State.{Map, at_rest}
@@ -19,7 +19,6 @@ use Rattle.ipl_meaning.specs.Steps.{KeepsPages}
 use Rattle.ipl_meaning.specs.Tables.{Tables}
 use Rattle.ipl_meaning.specs.Values.{Values}
 use Rattle.ipl_meaning.proofs.OnceLemmas.{laid_once}
-use Rattle.ipl_meaning.proofs.StoryLemmas.{held_stands}
 use Rattle.opening_rules.specs.Faults.{greatest_found}
 use Rattle.opening_rules.specs.LaidOut.{layout_in}
 use Rattle.record_locks.specs.Held.{Held, number_of, numbers_in}
@@ -38,10 +37,9 @@ use Rattle.pending_writes.proofs.FirstLemmas.{empty_slots_are_at_rest}
 use Rattle.pending_writes.proofs.MemoryFitLemmas.{openings_fit}
 use Rattle.store_steps.specs.Advances.{Memory, memory_of, LeadsTo}
 use Rattle.store_steps.specs.Laws.{IsReopened}
-use Rattle.store_steps.specs.Keeps.{View, limits_of, RestsOnMap, ShowsState, KeepsStore, opened_with}
-use Rattle.store_steps.proofs.AdvanceLemmas.{held_now, same_held}
+use Rattle.store_steps.specs.Keeps.{View, limits_of, ShowsState, KeepsStore, opened_with}
+use Rattle.store_steps.proofs.AdvanceLemmas.{same_held}
 use Rattle.store_steps.proofs.FaultLemmas.{opened_stores_keep}
-use Rattle.store_steps.proofs.KeepLemmas.{same_history}
 use Rattle.store_steps.proofs.LeadLemmas.{restarts_lead}
 use Rattle.frame_changes.specs.Views.{frame_in}
 use Rattle.page_frames.specs.Pages.{tables_in, frames_in}
@@ -149,7 +147,7 @@ module _ (places : ℕ) (t : Tables) (old new : Told)
               };
               clean = λ done base clean. did.does.clean refl base (λ p s nowhere. absurd nowhere);
             };
-            settled = λ done. did.settled tt;
+            steady = λ done. did.steady tt;
             ends = λ done. did.ends tt;
           }
 
@@ -177,23 +175,15 @@ module _ (units : ℕ) (t : Tables) (old new : Told)
         says = says;
       }
 
-  -- over a story that rested on it
-  pub opened_keeps : (m : Map) (h : History) → IsConsistent old → IsSteady h old
-      → StoryRests (units + 4) m h
-      → KeepsStore (limits_of units) (opened_with units t (replicate 32 None)) new (at_rest m)
-  opened_keeps m h consistent steady rests =
-      opened_stores_keep units t (replicate 32 None) new m holds.known.none_lost holds.active
+  -- and over a history then that rests on it
+  pub opened_keeps : (m : Map) (k : History) (x : Contents) → old.contents ≡ Some x
+      → Stands (units + 4) (chart_of x) m → IsSteady k new → StoryRests (units + 4) m k
+      → IsTidy k.story t
+      → KeepsStore (limits_of units) (opened_with units t (replicate 32 None)) new k (at_rest m)
+  opened_keeps m k x told stands =
+      opened_stores_keep units t (replicate 32 None) new k m holds.known.none_lost holds.active
       none_open (empty_slots_are_at_rest m)
-      (λ y then. opened_says (units + 4) t old new tells steps holds m (held h.start h.story) y
-      (held_now h old consistent steady) (held_stands (units + 4) m h rests.each) then)
-      (λ k then.
-      let did = steps m h steady rests in
-      let same = same_history (adds_all did.added h) k new did.history then in
-      subst (λ (j : History). RestsOnMap (opened_with units t (replicate 32 None)) new m j
-      × IsTidy j.story t) same (
-        record { settled = did.settled tt; rests = did.ends tt },
-        did.does.clean refl h.story (λ p s nowhere. absurd nowhere),
-      ))
+      (λ y then. opened_says (units + 4) t old new tells steps holds m x y told stands then)
 
 -- ---- as its fields have it
 
@@ -241,22 +231,23 @@ module _ (places : ℕ) (store : Store) (made : IsMade places store) (fresh : Is
   }
 
   -- and it has the records for which the chip stood
-  pub fresh_opens : (old new : Told) → IsConsistent old
+  pub fresh_opens : (old new : Told)
       → RecoversTold places old (Ok tt) (tables_in store.transactions.pages) new
       → RecoversInSteps places old (Ok tt) (tables_in store.transactions.pages) new
       → OfContents old (λ x. counter_of store ≤ greatest_found (chart_of x) places + 1 + 2 ^ 14)
       → counter_of store ≤ 2 ^ 63 + 2 ^ 14 → Opens places old store new
-  fresh_opens old new consistent tells steps number left = record {
+  fresh_opens old new tells steps number left = record {
     fresh = fresh;
     shows = λ m x told stands y then.
         subst (λ (v : View). ShowsState v (at_rest m) y) (fresh_view store fresh)
         (opened_shows store.units t old new tells_here steps_here holds_here m x y told
         (subst (λ (n : ℕ). Stands n (chart_of x) m) (sym made.units) stands) then);
-    keeps = λ m h steady rests.
-        subst (λ (v : View). KeepsStore (limits_of store.units) v new (at_rest m))
+    keeps = λ m k x told stands steady rests tidy.
+        subst (λ (v : View). KeepsStore (limits_of store.units) v new k (at_rest m))
         (fresh_view store fresh)
-        (opened_keeps store.units t old new tells_here steps_here holds_here m h consistent steady
-        (subst (λ (n : ℕ). StoryRests n m h) (sym made.units) rests));
+        (opened_keeps store.units t old new tells_here steps_here holds_here m k x told
+        (subst (λ (n : ℕ). Stands n (chart_of x) m) (sym made.units) stands) steady
+        (subst (λ (n : ℕ). StoryRests n m k) (sym made.units) rests) tidy);
     number = number;
     left = left;
   }

@@ -1,7 +1,7 @@
 -- What a store's frames tell of a name, after a call that kept each state.
 use Rattle.std.proofs.Common.{◌≡◌, ◌+◌, ℕ, List, Option, Some, None, Result, Ok, Err, IsSome, OnOk, refl, sym, ◌∙◌, ap, subst, arith}
 use Rattle.std.specs.FinMap.{get}
-use Rattle.chip_trait.specs.Told.{Told, IsConsistent}
+use Rattle.chip_trait.specs.Told.{Told}
 use Rattle.ipl_base.specs.declared.fault.ChipFault.{ChipFault}
 use Rattle.ipl_base.specs.declared.fault.StoreFault.{StoreFault}
 use Rattle.ipl_base.specs.Places.{home_of}
@@ -192,12 +192,11 @@ failed_fetches early next n old before fault new after none did = record {
 
 -- the page was brought, and then something was done in memory that leaves all pages
 pub shared_fetches : (early : Option StoreFault) (next : State → State) (n : ℕ) (old mid : Store)
-    (t : Transactions) (before after : Told) → early ≡ None → IsConsistent before
-    → IsConsistent after → Fetches None (λ state. state) n old before (Ok tt) mid after
+    (t : Transactions) (before after : Told) → early ≡ None → Fetches None (λ state. state) n old before (Ok tt) mid after
     → TurnsInMemory next mid.transactions t → t.pages ≡ mid.transactions.pages
     → Fetches early next n old before (Ok tt) (record mid { transactions = t }) after
-shared_fetches early next n old mid t before after none law then_law did turns same = record {
-  calls = calls_joined early next 14 old mid t before after none law then_law
+shared_fetches early next n old mid t before after none did turns same = record {
+  calls = calls_joined early next 14 old mid t before after none
       (did.calls.serves refl).ends did.calls turns
       (ap (λ (p : Pages). p.parts.counter) same);
   holds = both_keep old.transactions.pages.pool mid.transactions.pages.pool t.pages.pool did.holds

@@ -10,6 +10,7 @@ use Rattle.ipl_base.specs.declared.limits.TheConstants.{SESSIONS}
 use Rattle.ipl_base.specs.Places.{IsGeometry}
 use Rattle.ipl_rules.specs.Operations.{after_restart}
 use Rattle.ipl_rules.specs.State.{Map, at_rest}
+use Rattle.ipl_meaning.specs.Agrees.{IsTidy}
 use Rattle.ipl_meaning.specs.Chart.{chart_of}
 use Rattle.ipl_meaning.specs.Rests.{StoryRests}
 use Rattle.ipl_meaning.specs.Stands.{Stands}
@@ -35,13 +36,16 @@ pub record IsFresh (store : Store) : Type 0 where
   pub empty : store.transactions.pages.pool.buffers.slots ≡ []
 
 -- A store of which a chip was opened. Where the contents before stood for a map, its memory and the
--- contents then show that map; and where the story rested on it, the store keeps it.
+-- contents then show that map; and it keeps it over each history then that rests on it, and leaves
+-- clean what the tables count as clean.
 pub record Opens (places : ℕ) (old : Told) (store : Store) (new : Told) : Type 0 where
   pub fresh : IsFresh store
   pub shows : (m : Map) → OfContents old (λ x. Stands places (chart_of x) m
       → OfContents new (ShowsState (view_of store) (at_rest m)))
-  pub keeps : (m : Map) (h : History) → IsSteady h old → StoryRests places m h
-      → KeepsStore (limits_of store.units) (view_of store) new (at_rest m)
+  pub keeps : (m : Map) (k : History) → OfContents old (λ x. Stands places (chart_of x) m
+      → IsSteady k new → StoryRests places m k
+      → IsTidy k.story (tables_in store.transactions.pages)
+      → KeepsStore (limits_of store.units) (view_of store) new k (at_rest m))
   pub number : OfContents old (λ x. counter_of store
       ≤ greatest_found (chart_of x) places + 1 + 2 ^ 14)
   pub left : counter_of store ≤ 2 ^ 63 + 2 ^ 14

@@ -1,5 +1,5 @@
 //! Sessions begin, and are aborted: in memory alone.
-ghost use Rattle.std.specs.Prelude.{◌≡◌};
+ghost use Rattle.std.specs.Prelude.{◌≡◌, ◌+◌, OnOk};
 ghost use Rattle.ipl_rules.specs.Operations.{after_begin, after_abort};
 ghost use Rattle.ipl_rules.specs.Refusals.{refuses_begin, refuses_end};
 ghost use Rattle.record_locks.specs.Standing.{state_of};
@@ -12,6 +12,7 @@ ghost use Rattle.ipl_store.specs.Calls.{
   early_fault,
   entry_fault,
   down_fault,
+  counter_of,
 };
 
 use crate::Store;
@@ -30,6 +31,8 @@ impl Store {
         ensures holds { KeepsHolds self.old self.new }
         ensures framed { KeepsFramed self.old.transactions.pages self.new.transactions.pages }
         ensures idle { C.told _chip.new ≡ C.told _chip.old }
+        // Done, one number is drawn.
+        ensures drawn { OnOk result (counter_of self.new ≡ counter_of self.old + 1) }
     {
         self.admit(self.refuses_begin(s))?;
         passing_laws();

@@ -6,21 +6,20 @@ use Rattle.ipl_meaning.specs.Rests.{StoryRests}
 use Rattle.restart.specs.Events.{format_events}
 use Rattle.ipl_cli.specs.Ending.{Ending, AtStatus}
 use Rattle.ipl_cli.proofs.StatusLemmas.{done_at_zero}
-use Rattle.ipl_cli.specs.Top.{NoneFalls, LaysOut, Runs, RunsOpened}
-use Rattle.ipl_tests.specs.Chains.{RestsOn, IsFormattable, records_after, no_records}
+use Rattle.ipl_cli.specs.Top.{NoneFalls, LaysOut, Runs, RunsOpened, records_after}
+use Rattle.ipl_tests.specs.Chains.{RestsOn, IsFormattable, no_records}
 
 module _ (old new : Told) (m : Map) (script : List ℕ) (on : RestsOn m script old)
     (at : AtStatus (RunsOpened old new) 0) (falls : NoneFalls old new)
     (unrisen : Unrisen old new) where
   ran : Runs old.places m script on.history [] old new (Ok tt)
   ran = subst (λ (e : Ending). Runs old.places m script on.history [] old new e)
-      (done_at_zero at.0 (sym at.1)) (at.2 on.history script on.settled on.told on.left m on.rests)
+      (done_at_zero at.0 (sym at.1)) (at.2 on.history script on.steady on.left m on.rests)
 
   pub run_rests : RestsOn (records_after old.places m script) [] new
   run_rests = record {
     history = adds_all ran.added on.history;
-    settled = ran.settled unrisen;
-    told = ran.history;
+    steady = ran.steady unrisen;
     rests = subst (λ (q : ℕ). StoryRests q (records_after old.places m script)
         (adds_all ran.added on.history)) (sym falls.places) (ran.ends unrisen);
     left = ran.left_is ∙ ap Some (ran.all refl).2;
@@ -29,10 +28,9 @@ module _ (old new : Told) (m : Map) (script : List ℕ) (on : RestsOn m script o
 -- a format leaves no records, and the script as it was
 pub format_rests : (old new : Told) (script : List ℕ) → IsFormattable script old
     → LaysOut old new true → NoneFalls old new → RestsOn no_records script new
-format_rests old new script on lays falls = let laid = lays on.history on.told in record {
+format_rests old new script on lays falls = let laid = lays on.history in record {
   history = adds_all laid.added (adds_all (format_events old.places) on.history);
-  settled = laid.settled ∙ on.settled;
-  told = laid.history;
+  steady = laid.steady on.steady;
   rests = subst (λ (q : ℕ). StoryRests q no_records
       (adds_all laid.added (adds_all (format_events old.places) on.history)))
       (sym falls.places) laid.rests;

@@ -7,7 +7,8 @@ ghost use Rattle.command_line.specs.Choice.{requested};
 ghost use Rattle.command_line.specs.declared.asked.Request.TheVariants.{Format};
 ghost use Rattle.ipl_rules.specs.State.{Map};
 ghost use Rattle.ipl_cli.specs.Ending.{AsksOpened};
-ghost use Rattle.ipl_tests.specs.Chains.{RestsOn, IsFormattable, records_after, no_records};
+ghost use Rattle.ipl_cli.specs.Top.{records_after};
+ghost use Rattle.ipl_tests.specs.Chains.{RestsOn, IsFormattable, no_records};
 
 use chip_trait::Desk;
 use ipl_cli::top::top;

@@ -1,7 +1,7 @@
 -- A page that leaves its frame once its records are written out.
 use Rattle.std.proofs.Common.{◌≡◌, ◌≤◌, ◌+◌, ℕ, [], Some, None, Ok, refl, sym, ◌∙◌, ap, subst, inl, inr, arith}
 use Rattle.std.specs.Option.{option_map}
-use Rattle.chip_trait.specs.Told.{Told, IsConsistent}
+use Rattle.chip_trait.specs.Told.{Told}
 use Rattle.chip_trait.proofs.CountsLemmas.{counts_none}
 use Rattle.ipl_base.specs.declared.fault.ChipFault.{ChipFault}
 use Rattle.buffer_pool.specs.Pools.{PoolView, AreOnce}
@@ -73,16 +73,15 @@ gone_upholds u page f old new t ready same there empty is pins = record {
 
 -- both
 pub leaves_upholds : (u page : ℕ) (first between last : Pages) (old mid : Told)
-    → IsConsistent old → IsConsistent mid → AreOnce first.pool.buffers
+    → AreOnce first.pool.buffers
     → IsUnheld first.pool u page → Upholds {T = Unit {0}} 14 first old (Ok tt) between mid
     → frames_in between ≡ emptied (frames_in first) u page
     → frames_in last ≡ with_frame_at (frames_in between) u page None
     → KeepsPins between.pool last.pool → last.parts ≡ between.parts
     → Upholds {T = Unit {0}} 14 first old (Ok tt) last mid
-leaves_upholds u page first between last old mid consistent then_consistent once unheld did is gone
-    pins same =
+leaves_upholds u page first between last old mid once unheld did is gone pins same =
     let f = frame_in unheld.buffer in
-    upholds_then 14 0 first between last (Ok tt) old mid mid consistent then_consistent did
+    upholds_then 14 0 first between last (Ok tt) old mid mid did
     (gone_upholds u page (with_frame_log f []) between last mid
     (subst (λ (n : ℕ). IsReady n between) (sym did.accounts.counts.places) did.ready) same
     (ap (λ (F : Frames). F u page) is ∙ emptied_frame (frames_in first) u page f

@@ -3,7 +3,7 @@ use Rattle.std.proofs.Common.{◌≡◌, ◌<◌, ◌≤◌, ◌+◌, ◌*◌, �
 use Rattle.std.specs.Prelude.{slice_index_or}
 use Rattle.std.specs.Option.{option_map, option_map_or}
 use Rattle.std.proofs.lemmas.Bool.{cases_eq, eq-eqb, false≢true}
-use Rattle.chip_trait.specs.Told.{Told, IsConsistent}
+use Rattle.chip_trait.specs.Told.{Told}
 use Rattle.ipl_base.specs.Places.{home_of}
 use Rattle.ipl_base.specs.declared.fault.ChipFault.{ChipFault}
 use Rattle.unit_io.specs.Costs.{Spends}
@@ -123,7 +123,7 @@ passed_out n u page names first before now after less few at off so_far = record
 
 -- or it is written out
 pub written_out : (n u page : ℕ) (names : List ℕ) (first : Pages) (before : Told) (mid : Pages)
-    (between : Told) (now : Pages) (after : Told) → IsConsistent before → IsConsistent between
+    (between : Told) (now : Pages) (after : Told)
     → n < length first.pool.order → is_on_page names u page ≡ true
     → (logs_of (frames_in mid) u page ≡ [] → after ≡ between) → page < 15
     → page_number u page ≡ slice_index_or mid.pool.order n 0
@@ -133,12 +133,11 @@ pub written_out : (n u page : ℕ) (names : List ℕ) (first : Pages) (before : 
     → now.parts.status ≡ mid.parts.status
     → Spends (ErasesAndLogs mid.parts.directory) between after
     → IsOutBelow (n + 1) names first before now after
-written_out n u page names first before mid between now after consistent then_consistent less on idle
-    few at so_far did is order status costs = record {
+written_out n u page names first before mid between now after less on idle few at so_far did is order
+    status costs = record {
       upholds = upholds_weaker (14 * n + 14) (14 * (n + 1)) first now (Ok tt) before after
           (omega arith)
-          (upholds_then (14 * n) 14 first mid now (Ok tt) before between after consistent
-          then_consistent so_far.upholds did);
+          (upholds_then (14 * n) 14 first mid now (Ok tt) before between after so_far.upholds did);
       order = order ∙ so_far.order;
       status = status ∙ so_far.status;
       out = one_more n u page names first.pool.order (frames_in mid) (frames_in now) few
@@ -158,15 +157,12 @@ written_out n u page names first before mid between now after consistent then_co
 
 -- not done
 pub unwritten_upholds : (n count : ℕ) (names : List ℕ) (first : Pages) (before : Told) (mid : Pages)
-    (between : Told) (now : Pages) (after : Told) (e : ChipFault) → IsConsistent before
-    → IsConsistent between → n < count → count ≤ 64 → IsOutBelow n names first before mid between
+    (between : Told) (now : Pages) (after : Told) (e : ChipFault) → n < count → count ≤ 64 → IsOutBelow n names first before mid between
     → Upholds {T = Unit {0}} 14 mid between (Err e) now after
     → Upholds {T = Unit {0}} (14 * 64) first before (Err e) now after
-unwritten_upholds n count names first before mid between now after e consistent then_consistent less
-    few so_far did =
+unwritten_upholds n count names first before mid between now after e less few so_far did =
     upholds_weaker (14 * n + 14) (14 * 64) first now (Err e) before after (omega (arith, less, few))
-    (upholds_then (14 * n) 14 first mid now (Err e) before between after consistent then_consistent
-    so_far.upholds did)
+    (upholds_then (14 * n) 14 first mid now (Err e) before between after so_far.upholds did)
 
 pub unwritten_costs : (n u page : ℕ) (names : List ℕ) (first : Pages) (before : Told)
     (mid : Pages) (between after : Told) → n < length first.pool.order

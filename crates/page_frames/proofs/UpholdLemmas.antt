@@ -1,6 +1,6 @@
 -- Calls that keep each state: nothing done, one after another, and causes.
 use Rattle.std.proofs.Common.{◌≤◌, ◌+◌, ℕ, Result, Ok, refl, ◌∙◌, subst, arith}
-use Rattle.chip_trait.specs.Told.{Told, IsConsistent}
+use Rattle.chip_trait.specs.Told.{Told}
 use Rattle.chip_trait.proofs.CountsLemmas.{counts_none}
 use Rattle.ipl_base.specs.declared.fault.ChipFault.{ChipFault}
 use Rattle.buffer_pool.proofs.HoldingLemmas.{nothing_keeps, both_keep}
@@ -23,13 +23,13 @@ upholds_none most pages t ready = record {
 
 -- one call that was done, and then another
 pub upholds_then : (n m : ℕ) (first between last : Pages) (result : Result (Unit {0}) ChipFault)
-    (old mid new : Told) → IsConsistent old → IsConsistent mid
+    (old mid new : Told)
     → Upholds n first old (Ok (tt {0})) between mid → Upholds m between mid result last new
     → Upholds (n + m) first old result last new
-upholds_then n m first between last result old mid new consistent then_consistent one two = record {
+upholds_then n m first between last result old mid new one two = record {
   keeps = keepers_are_joined (tables_in first) (tables_in between) (tables_in last)
-      (frames_in first) (frames_in between) (frames_in last) result old mid new consistent
-      then_consistent one.accounts.counts one.keeps two.keeps;
+      (frames_in first) (frames_in between) (frames_in last) result old mid new
+      one.accounts.counts one.keeps two.keeps;
   ready = subst (λ (k : ℕ). IsReady k last) one.accounts.counts.places two.ready;
   active = two.active ∙ one.active;
   pins = both_keep first.pool between.pool last.pool one.pins two.pins;

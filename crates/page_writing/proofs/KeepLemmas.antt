@@ -1,5 +1,5 @@
 -- What a store with frames keeps whose records are written out.
-use Rattle.std.proofs.Common.{◌≡◌, ◌≢◌, ℕ, List, [], Some, None, Ok, Err, inl, inr, refl, sym, ◌∙◌, ap, subst, arith}
+use Rattle.std.proofs.Common.{◌≡◌, ◌≢◌, ℕ, List, false, [], Some, Ok, Err, inl, inr, refl, sym, ◌∙◌, ap, subst, arith}
 use Rattle.std.specs.List.{All}
 use Rattle.chip_trait.specs.Told.{Told}
 use Rattle.ipl_base.specs.declared.fault.ChipFault.{ChipFault}
@@ -92,9 +92,9 @@ out_fits places c y it t after frames slots state u page f payload fits there ou
 
 -- ---- not done
 
--- a chip that tells what it holds, and no story
-abbrev storyless : Told → Told
-storyless t = record t { history = None }
+-- a chip that tells what it holds, and of which a write has failed
+abbrev unsettled : Told → Told
+unsettled t = record t { settled = false }
 
 unwritten_fits : (t after : Tables) (frames : Frames) (e : ChipFault) (old new : Told)
     (slots : Slots) (places : ℕ) → Settled {T = Unit {0}} (Err e) old new → old.places ≡ places
@@ -103,9 +103,9 @@ unwritten_fits : (t after : Tables) (frames : Frames) (e : ChipFault) (old new :
     → MemoryFits places c it (memory_of t frames slots) state
     → FitsOn places c it state.map y (memory_of after frames slots) state) old new
 unwritten_fits t after frames e old new slots places settled same turns =
-    (table_calls_keep_states t after frames (Err e) (storyless old) (storyless new)
+    (table_calls_keep_states t after frames (Err e) (unsettled old) (unsettled new)
     (λ other is _. subst (λ (n : ℕ). Charts (TurnsTables n t after) old new) (sym same ∙ is) turns)
-    (λ other m it h is steady. absurd (let none = steady.told in cc none)) slots).fits places same
+    (λ other m it h is steady. absurd (let none = steady.settled in cc none)) slots).fits places same
     settled
 
 -- ---- the law

@@ -153,7 +153,7 @@ JoinsLog places p s sector old result new =
     (m : Map) (it : Layout) (h : History) (u : ℕ) (records : List Record)
     → IsSteady h old → StoryRests places m h → Laid places (now h) it
     → MayLog places (now h) it u p s sector records → age h.story p s ≡ Clean
-    → KeepsMap places m (Programs p (IsSpot s)) (λ done. Gains p s sector) h result new
+    → KeepsMap places m (Programs p (IsSpot s)) (λ done. Gains p s sector) h old result new
 
 module _ (places u : ℕ) (at : LogSpot) (payload : List ℕ) (t after : Tables) (sector : Sector)
     (old new : Told) (low : u < places - 4) (is : IsLogOf u at.generation t.next payload sector)

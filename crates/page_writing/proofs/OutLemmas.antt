@@ -63,7 +63,7 @@ module _ (places u : ℕ) (at : LogSpot) (payload : List ℕ) (t between after :
       let there = first.ends tt in
       let turned = there.room.turned in
       let second = written m turned.layout records k
-      (record { told = first.history; settled = first.settled tt }) there.rests
+      (first.steady tt) there.rests
       (record { mirrors = turned.mirrors; tidy = there.tidy }) (record {
         mirrors = turned.mirrors;
         generation_is = there.room.generation;

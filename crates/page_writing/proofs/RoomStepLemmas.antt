@@ -1,7 +1,7 @@
 -- Room that was found: what a power cut leaves.
 use Rattle.std.proofs.Common.{◌≡◌, ℕ, Some, Result, Ok, Err, sym, subst}
 use Rattle.chip_trait.specs.Story.{Contents, held}
-use Rattle.chip_trait.specs.Told.{History, Told, Counts, IsConsistent, adds_all}
+use Rattle.chip_trait.specs.Told.{History, Told, Counts, adds_all}
 use Rattle.ipl_base.specs.declared.fault.ChipFault.{ChipFault}
 use Rattle.ipl_base.specs.declared.spot.Spot.{Spot}
 use Rattle.ipl_rules.specs.State.{Map}
@@ -59,7 +59,7 @@ steps_behind {T} At places m it t after Then Else h old mid new result steady re
     let k = adds_all first.added h in
     let there = first.ends tt in
     let second = subst (λ (c : Chart). Steps Each t after (Then c) Else k result mid new) there.1
-    (later k (record { told = first.history; settled = first.settled tt }) there.0.rests
+    (later k (first.steady tt) there.0.rests
     there.0.agrees) in
     steps_then ℕ T ChipFault ChipFault Each Each Each t t after Same (StoryRests places m)
     (Then (now h)) Else h 0 result old mid new (λ k is. is) (λ k is. is) did.counts first second
@@ -83,14 +83,13 @@ steps_read {T} {U} At places m t after One Then h v result old new last counts r
     let second : Steps Each after after Then (StoryRests places m) k result new last =
     outcome_reads At places m (TidyWork (IsCountedClean after) (IsCountedClean after) Settles)
     Settles (EndsWith result Then (StoryRests places m)) k new last
-    (record { told = first.history; settled = first.settled tt }) (rests k there) did
+    (first.steady tt) (rests k there) did
     (tidy_reads At (IsCountedClean after) Settles new last did) (ends k there) in
     steps_then T U ChipFault ChipFault Each Each Each t after after One (StoryRests places m) Then
     (StoryRests places m) h v result old new last (λ k is. is) (λ k is. is) counts first second
 
 module _ (At : ℕ → ℕ → Type 0) (places u : ℕ) (t after : Tables) (old mid new : Told)
-    (none : NoneIsLost places after) (active : after.active ≡ t.active) (first : ReadsAt At old mid)
-    (consistent : IsConsistent old) (then_consistent : IsConsistent new) where
+    (none : NoneIsLost places after) (active : after.active ≡ t.active) (first : ReadsAt At old mid) where
   -- room was made behind the first read
   pub placed_steps : (result : Result Spot ChipFault)
       → MakesRoomInSteps IsPlaced places u t after mid result new
@@ -112,7 +111,7 @@ module _ (At : ℕ → ℕ → Type 0) (places u : ℕ) (t after : Tables) (old 
       (λ k. StoryRests places m k) h (Err e) old new (λ k is. is) (λ spot k is. is.rests)
       (λ k is. is.rests) (placed_steps (Err e) made m it h steady rests agrees)
 
-  -- what a chip that tells its story holds
+  -- what the chip holds
   pub says_now : (spot : Spot) (generation : ℕ) → (m : Map) (it : Layout) (h k : History)
       → IsSteady h old → IsSteady k new
       → ((y : Contents) → new.contents ≡ Some y
@@ -121,8 +120,7 @@ module _ (At : ℕ → ℕ → Type 0) (places u : ℕ) (t after : Tables) (old 
       → IsMergedOrSame places (now h) (now k) it t u after l → Mirrors places (now k) l after
       → generation ≡ (l.units u).head.generation
   says_now spot generation m it h k steady steady_k says agrees l has mirrors =
-      says (held k.start k.story) (then_consistent.replayed k steady_k.told steady_k.settled)
-      (held h.start h.story) it (consistent.replayed h steady.told steady.settled) agrees.mirrors l
+      says (held k.start k.story) steady_k.holds (held h.start h.story) it steady.holds agrees.mirrors l
       has mirrors
 
   -- room, where the generation is known
@@ -138,15 +136,14 @@ module _ (At : ℕ → ℕ → Type 0) (places u : ℕ) (t after : Tables) (old 
         history = did.history;
         each_moment = did.each_moment;
         does = did.does;
-        settled = did.settled;
+        steady = did.steady;
         ends = λ done.
             let k = adds_all did.added h in
             let there = did.ends done in record {
               rests = there.rests;
               room = log_room places (now h) (now k) it t u after spot generation there.room none
                   active (λ l has mirrors. says_now spot generation m it h k steady
-                  (record { told = did.history; settled = did.settled done }) says agrees l has
-                  mirrors);
+                  (did.steady done) says agrees l has mirrors);
               tidy = there.tidy;
             };
       }

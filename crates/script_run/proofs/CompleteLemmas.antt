@@ -1,15 +1,14 @@
 -- What a run does with a store that keeps a state, in one part after another.
-use Rattle.std.proofs.Common.{◌≡◌, inl, inr, ◌≤◌, ◌+◌, ℕ, List, Option, Result, Ok, Err, arith, ◌∙◌, ap}
-use Rattle.std.specs.Option.{option_map}
+use Rattle.std.proofs.Common.{◌≡◌, inl, inr, ◌≤◌, ◌+◌, ℕ, List, Option, Result, Ok, Err, arith}
 use Rattle.std.specs.Prelude.{IsErrAnd}
 use Rattle.ipl_rules.specs.State.{State, Limits}
 use Rattle.ipl_model.specs.declared.command.Command.{Command}
 use Rattle.ipl_model.specs.declared.reply.Reply.{Reply}
 use Rattle.ipl_model.specs.Step.{step}
 use Rattle.chip_trait.specs.declared.event.Event.TheVariants.{Said}
-use Rattle.chip_trait.specs.Told.{History, Told, IsBeside, Appends, adds, adds_all}
+use Rattle.chip_trait.specs.Told.{History, Told, IsBeside, Appends, adds_all}
 use Rattle.store_trait.specs.declared.fault.Fault.{Fault}
-use Rattle.store_trait.specs.Onward.{Further}
+use Rattle.store_trait.specs.Onward.{Further, sayings}
 use Rattle.store_trait.specs.Keeping.{Keeping, WORK_DRAWS, LOOK_UP_DRAWS, ChipRose, WorksFor, LooksUpFor}
 use Rattle.store_trait.proofs.OnwardLemmas.{still_said, still_beside}
 use Rattle.script_run.specs.declared.fault.Stop.{Stop}
@@ -35,7 +34,7 @@ module _ {S : Type 0} {k : Keeping S} {limits : Limits} where
   completes_work {state} {c} {before} {then} {h} w = record {
     drawn = w.drawn;
     excuse = λ fault is. cc;
-    again = record { state = (step limits state c).0; history = adds_all w.leaves.added h; holds = w.ends.0; told = w.leaves.history };
+    again = record { state = (step limits state c).0; history = adds_all w.leaves.added h; holds = w.ends.0 };
   }
 
   pub completes_fault : {state : State} {c : Command} {before then : S} {h : History} {old new : Told} {fault : Fault} (result : Result (Unit {0}) Stop) → IsErrAnd result (λ s. s ≡ stop.Store fault)
@@ -48,7 +47,7 @@ module _ {S : Type 0} {k : Keeping S} {limits : Limits} where
   completes_look {state} {n} {before} {then} {h} w = record {
     drawn = w.drawn;
     excuse = λ fault is. cc;
-    again = record { state = state; history = adds_all w.leaves.added h; holds = w.ends.0; told = w.leaves.history };
+    again = record { state = state; history = adds_all w.leaves.added h; holds = w.ends.0 };
   }
 
   pub completes_lost : {state : State} {n : ℕ} {before then : S} {h : History} {old new : Told} {fault : Fault} (result : Result (Unit {0}) Stop) → IsErrAnd result (λ s. s ≡ stop.Store fault)
@@ -63,9 +62,8 @@ module _ {S : Type 0} {k : Keeping S} {limits : Limits} where
     excuse = λ fault is. cc;
     again = record {
       state = first.again.state;
-      history = adds (Said piece) first.again.history;
-      holds = k.still limits then mid new first.again.state (still_said mid new piece did) first.again.holds;
-      told = did.history ∙ ap (option_map (adds (Said piece))) first.again.told;
+      history = adds_all (sayings (still_said mid new piece did).pieces) first.again.history;
+      holds = k.still limits then mid new first.again.history first.again.state (still_said mid new piece did) first.again.holds;
     };
   }
 
@@ -100,7 +98,8 @@ module _ {S : Type 0} {k : Keeping S} {limits : Limits} where
   pub completes_later : {T : Type 0} {n : ℕ} {before then : S} {old mid new : Told} {result : Result T Stop} → IsBeside old mid → KeepsSome k limits before old
       → (KeepsSome k limits before mid → Completes k limits n before mid result then new) → Completes k limits n before old result then new
   completes_later {T} {n} {before} {then} {old} {mid} {new} read keeps next =
-      let more = next (record { state = keeps.state; history = keeps.history; holds = k.still limits before old mid keeps.state (still_beside old mid read) keeps.holds; told = read.history ∙ keeps.told }) in record {
+      let still = still_beside old mid read in
+      let more = next (record { state = keeps.state; history = adds_all (sayings still.pieces) keeps.history; holds = k.still limits before old mid keeps.history keeps.state still keeps.holds }) in record {
         drawn = more.drawn;
         excuse = λ fault is few. chip_earlier old mid new read.reads read.writes (more.excuse fault is few);
         again = more.again;

@@ -1,5 +1,5 @@
 -- What a run leaves, in one part after another.
-use Rattle.std.proofs.Common.{◌≡◌, ◌⊎◌, inl, inr, ⊎_elim, ℕ, Bool, true, false, List, [], ◌∷◌, ◌++◌, Some, Result, Ok, Err, is_ok, refl, sym, ◌∙◌, ap, subst, append_assoc}
+use Rattle.std.proofs.Common.{◌≡◌, ◌⊎◌, inl, inr, ⊎_elim, ℕ, Bool, true, false, List, [], ◌∷◌, ◌++◌, Result, Ok, Err, is_ok, refl, sym, ◌∙◌, ap, subst, append_assoc}
 use Rattle.std.specs.Option.{option_map}
 use Rattle.std.proofs.lemmas.List.{append-nil}
 use Rattle.ipl_rules.specs.State.{Map, State, Limits}
@@ -12,11 +12,13 @@ use Rattle.chip_trait.specs.declared.event.Event.TheVariants.{Read, Program, Era
 use Rattle.chip_trait.specs.Story.{Story, Contents, pieces, joined, said}
 use Rattle.chip_trait.specs.Image.{IsNoChanceImage}
 use Rattle.chip_trait.specs.Moment.{Leaves}
-use Rattle.chip_trait.specs.Told.{History, Told, IsPrefix, Appends, FailsToSay, adds, adds_all}
+use Rattle.chip_trait.specs.Told.{History, Told, IsPrefix, IsBeside, Appends, FailsToSay, adds, adds_all}
+use Rattle.chip_trait.proofs.HistoryLemmas.{same_history, same_contents, history_then}
 use Rattle.chip_trait.proofs.LawfulLemmas.{lawful_none, clean_none, lawful_then, clean_then}
 use Rattle.chip_trait.proofs.MomentLemmas.{at_start, at_next, at_both}
 use Rattle.chip_trait.proofs.SaidLemmas.{joined-append, pieces-append, said-append, silent-part}
 use Rattle.store_trait.specs.Keeping.{Keeping, AllOf, WorkLeaves}
+use Rattle.store_trait.specs.Onward.{Still}
 use Rattle.script_run.specs.declared.fault.Stop.{Stop}
 use Rattle.script_run.specs.declared.fault.Stop.TheVariants.{Store}
 use Rattle.store_trait.specs.declared.fault.Fault.{Fault}
@@ -116,11 +118,11 @@ regrouped checks h later earlier x is = subst (λ (story : Story). IsNoChanceIma
 module _ {S : Type 0} (k : Keeping S) where
   -- ---- what is said while the store keeps its state
 
-  pub saying_none : (limits : Limits) (state : State) (store : S) (h : History) (t : Told) (done : Bool) → k.holds limits store t state → t.history ≡ Some h → SayingLeaves k limits state.map [] store h store t done
-  saying_none limits state store h t done holds told = record {
+  abbrev pub saying_none : (limits : Limits) (state : State) (store : S) (h : History) (t : Told) (done : Bool) → k.holds limits store t h state → SayingLeaves k limits state.map [] store h store t t done
+  saying_none limits state store h t done holds = record {
     added = [];
-    history = told;
-    each_moment = at_start (Leaves k.checks (λ x. k.stands limits x state.map) h) (k.each limits store t state h holds told);
+    history = same_history t.history;
+    each_moment = at_start (Leaves k.checks (λ x. k.stands limits x state.map) h) (k.each limits store t h state holds);
     says = refl;
     only = tt;
     lawful = lawful_none (k.clean store);
@@ -128,8 +130,8 @@ module _ {S : Type 0} (k : Keeping S) where
   }
 
   -- work that says nothing
-  abbrev pub saying_work : (limits : Limits) (m : Map) (before then : S) (h : History) (new : Told) (done : Bool) → WorkLeaves k (λ x. k.stands limits x m) before h then new done → SayingLeaves k limits m [] before h then new done
-  saying_work limits m before then h new done did = record {
+  abbrev pub saying_work : (limits : Limits) (m : Map) (before then : S) (h : History) (old new : Told) (done : Bool) → WorkLeaves k (λ x. k.stands limits x m) before h then old new done → SayingLeaves k limits m [] before h then old new done
+  saying_work limits m before then h old new done did = record {
     added = did.added;
     history = did.history;
     each_moment = did.each_moment;
@@ -139,49 +141,64 @@ module _ {S : Type 0} (k : Keeping S) where
     clean = did.clean;
   }
 
-  -- one piece
-  one_piece : (limits : Limits) (state : State) (store : S) (h : History) (mid new : Told) (piece : List ℕ) (done : Bool) → k.holds limits store mid state → mid.history ≡ Some h → new.history ≡ option_map (adds (Said piece)) mid.history
-      → SayingLeaves k limits state.map (piece ∷ []) store h store new done
-  one_piece limits state store h mid new piece done holds told grown =
+  -- one piece, and the store keeps its state
+  one_piece : (limits : Limits) (state : State) (store : S) (h : History) (mid new : Told) (piece : List ℕ) (done : Bool) → k.holds limits store mid h state → new.history ≡ option_map (adds (Said piece)) mid.history
+      → k.holds limits store new (adds (Said piece) h) state → (leaves : SayingLeaves k limits state.map (piece ∷ []) store h store mid new done) × k.holds limits store new (adds_all leaves.added h) state
+  one_piece limits state store h mid new piece done holds grown after =
       let P = λ (x : Contents). k.stands limits x state.map in
-      let here = k.each limits store mid state h holds told in record {
-        added = Said piece ∷ [];
-        history = grown ∙ ap (option_map (adds (Said piece))) told;
-        each_moment = at_next (Leaves k.checks P h) (Said piece) [] (at_start (Leaves k.checks P h) here) (λ x is. here x (said_image k.checks h.start piece h.story x is));
-        says = refl;
-        only = (tt, tt);
-        lawful = record { lawful = λ base lawful clean. lawful };
-        clean = λ e. record { clean = λ base lawful clean. clean };
-      }
+      let here = k.each limits store mid h state holds in (
+        record {
+          added = Said piece ∷ [];
+          history = grown;
+          each_moment = at_next (Leaves k.checks P h) (Said piece) [] (at_start (Leaves k.checks P h) here) (λ x is. here x (said_image k.checks h.start piece h.story x is));
+          says = refl;
+          only = (tt, tt);
+          lawful = record { lawful = λ base lawful clean. lawful };
+          clean = λ e. record { clean = λ base lawful clean. clean };
+        },
+        after,
+      )
 
-  pub saying_said : (limits : Limits) (state : State) (store : S) (h : History) (mid new : Told) (piece : List ℕ) → k.holds limits store mid state → mid.history ≡ Some h → Appends (Said piece) mid new
-      → SayingLeaves k limits state.map (piece ∷ []) store h store new true
-  saying_said limits state store h mid new piece holds told did = one_piece limits state store h mid new piece true holds told did.history
+  pub saying_said : (limits : Limits) (state : State) (store : S) (h : History) (mid new : Told) (piece : List ℕ) → k.holds limits store mid h state → Appends (Said piece) mid new
+      → (leaves : SayingLeaves k limits state.map (piece ∷ []) store h store mid new true) × k.holds limits store new (adds_all leaves.added h) state
+  saying_said limits state store h mid new piece holds did =
+      let still : Still mid new = record { places = did.places; settled = did.settled; contents = did.contents ∙ sym (same_contents mid.contents); pieces = piece ∷ []; history = did.history } in
+      one_piece limits state store h mid new piece true holds did.history (k.still limits store mid new h state still holds)
 
   -- a piece cut short
-  pub saying_cut : (limits : Limits) (state : State) (store : S) (h : History) (mid new : Told) (piece : List ℕ) (more : List (List ℕ)) → k.holds limits store mid state → mid.history ≡ Some h → FailsToSay piece mid new
-      → (cut : List (List ℕ)) × IsCut cut (piece ∷ more) × SayingLeaves k limits state.map cut store h store new false
-  unfolding saying_none
-  saying_cut limits state store h mid new piece more holds told did = elim did.history [
-    | inl some ↦ (some.0 ∷ [], some.1, one_piece limits state store h mid new some.0 false holds told some.2)
+  pub saying_cut : (limits : Limits) (state : State) (store : S) (h : History) (mid new : Told) (piece : List ℕ) (more : List (List ℕ)) → k.holds limits store mid h state → FailsToSay piece mid new
+      → (cut : List (List ℕ)) × IsCut cut (piece ∷ more) × (leaves : SayingLeaves k limits state.map cut store h store mid new false) × k.holds limits store new (adds_all leaves.added h) state
+  saying_cut limits state store h mid new piece more holds did = elim did.history [
+    | inl some ↦
+        let still : Still mid new = record { places = did.places; settled = did.settled; contents = did.contents; pieces = some.0 ∷ []; history = some.2 } in
+        let one = one_piece limits state store h mid new some.0 false holds some.2 (k.still limits store mid new h state still holds) in
+        (some.0 ∷ [], some.1, one.0, one.1)
     | inr none ↦
-        let here = saying_none limits state store h mid false holds told in
-        ([], tt, record { added = []; history = none ∙ told; each_moment = here.each_moment; says = refl; only = tt; lawful = here.lawful; clean = here.clean })
+        let here = saying_none limits state store h mid false holds in
+        let still : Still mid new = record { places = did.places; settled = did.settled; contents = did.contents; pieces = []; history = none ∙ same_history mid.history } in (
+          [],
+          tt,
+          record { added = []; history = none ∙ same_history mid.history; each_moment = here.each_moment; says = refl; only = tt; lawful = here.lawful; clean = here.clean },
+          k.still limits store mid new h state still holds,
+        )
   ]
 
-  -- one after another
-  pub saying_then : (limits : Limits) (m : Map) (a b : List (List ℕ)) (before mid then : S) (h : History) (between new : Told) (done : Bool) → (first : SayingLeaves k limits m a before h mid between true)
-      → SayingLeaves k limits m b mid (adds_all first.added h) then new done → SayingLeaves k limits m (a ++ b) before h then new done
-  saying_then limits m a b before mid then h between new done first two = record {
-    added = two.added ++ first.added;
-    history = two.history ∙ ap Some (twice_added two.added first.added h);
-    each_moment = at_both (Leaves k.checks (λ x. k.stands limits x m) h) two.added first.added first.each_moment
-        (λ later f split x is. two.each_moment later f split x (regrouped k.checks h f first.added x is));
-    says = pieces-append two.added first.added ∙ ap (λ (l : List (List ℕ)). l ++ pieces two.added) first.says ∙ ap (λ (l : List (List ℕ)). a ++ l) two.says;
-    only = all_both (IsSaidOr k.does) two.added first.added two.only first.only;
-    lawful = lawful_then (k.clean before) (k.clean mid) two.added first.added first.lawful (first.clean refl) two.lawful;
-    clean = λ e. clean_then (k.clean before) (k.clean mid) (k.clean then) two.added first.added first.lawful (first.clean refl) (two.clean e);
-  }
+  -- one after another, and R is so of the history then
+  pub saying_then : (limits : Limits) (m : Map) (a b : List (List ℕ)) (before mid then : S) (h : History) (R : History → Type 0) (old between new : Told) (done : Bool) → (first : SayingLeaves k limits m a before h mid old between true)
+      → (two : SayingLeaves k limits m b mid (adds_all first.added h) then between new done) → R (adds_all two.added (adds_all first.added h)) → (leaves : SayingLeaves k limits m (a ++ b) before h then old new done) × R (adds_all leaves.added h)
+  saying_then limits m a b before mid then h R old between new done first two r = (
+    record {
+      added = two.added ++ first.added;
+      history = two.history ∙ ap (option_map (adds_all two.added)) first.history ∙ history_then two.added first.added old.history;
+      each_moment = at_both (Leaves k.checks (λ x. k.stands limits x m) h) two.added first.added first.each_moment
+          (λ later f split x is. two.each_moment later f split x (regrouped k.checks h f first.added x is));
+      says = pieces-append two.added first.added ∙ ap (λ (l : List (List ℕ)). l ++ pieces two.added) first.says ∙ ap (λ (l : List (List ℕ)). a ++ l) two.says;
+      only = all_both (IsSaidOr k.does) two.added first.added two.only first.only;
+      lawful = lawful_then (k.clean before) (k.clean mid) two.added first.added first.lawful (first.clean refl) two.lawful;
+      clean = λ e. clean_then (k.clean before) (k.clean mid) (k.clean then) two.added first.added first.lawful (first.clean refl) (two.clean e);
+    },
+    subst R (twice_added two.added first.added h) r,
+  )
 
   -- ---- commands
 
@@ -189,11 +206,11 @@ module _ {S : Type 0} (k : Keeping S) where
   Moment limits state cs h e = Leaves k.checks (StandsNear k limits state cs (said e)) h e
 
   -- before any command
-  pub run_none : (limits : Limits) (state : State) (store : S) (h : History) (R : State → Type 0) (t : Told) (result : Result (Unit {0}) Stop) → k.holds limits store t state → t.history ≡ Some h → R state → EndsAt result limits state [] [] R → RunLeaves k limits state [] store h R store t result
-  run_none limits state store h R t result holds told r ends = record {
+  pub run_none : (limits : Limits) (state : State) (store : S) (h : History) (R : History → State → Type 0) (t : Told) (result : Result (Unit {0}) Stop) → k.holds limits store t h state → R h state → EndsAt result limits state [] [] (R h) → RunLeaves k limits state [] store h R store t t result
+  run_none limits state store h R t result holds r ends = record {
     added = [];
-    history = told;
-    each_moment = at_start (Moment limits state [] h) (λ x is. inl (k.each limits store t state h holds told x is));
+    history = same_history t.history;
+    each_moment = at_start (Moment limits state [] h) (λ x is. inl (k.each limits store t h state holds x is));
     replies = says_none [];
     all = λ e. refl;
     only = tt;
@@ -204,13 +221,14 @@ module _ {S : Type 0} (k : Keeping S) where
   }
 
   -- the work of one command, and what is said after it
-  pub run_command : (limits : Limits) (state : State) (c : Command) (before mid then : S) (h : History) (R : State → Type 0) (between new : Told) (part : List (List ℕ)) (result : Result (Unit {0}) Stop)
-      → (did : WorkLeaves k (λ x. k.stands limits x state.map ⊎ k.stands limits x (step limits state c).0.map) before h mid between true)
-      → SayingLeaves k limits (step limits state c).0.map part mid (adds_all did.added h) then new (is_ok result)
-      → SaysLines (reply_lines limits state c) part → (is_ok result ≡ true → part ≡ reply_lines limits state c) → R (step limits state c).0 → EndsAt result limits state (c ∷ []) part R → RunLeaves k limits state (c ∷ []) before h R then new result
-  run_command limits state c before mid then h R between new part result did more front all r ends = record {
+  pub run_command : (limits : Limits) (state : State) (c : Command) (before mid then : S) (h : History) (R : History → State → Type 0) (old between new : Told) (part : List (List ℕ)) (result : Result (Unit {0}) Stop)
+      → (did : WorkLeaves k (λ x. k.stands limits x state.map ⊎ k.stands limits x (step limits state c).0.map) before h mid old between true)
+      → (more : SayingLeaves k limits (step limits state c).0.map part mid (adds_all did.added h) then between new (is_ok result))
+      → SaysLines (reply_lines limits state c) part → (is_ok result ≡ true → part ≡ reply_lines limits state c) → R (adds_all more.added (adds_all did.added h)) (step limits state c).0
+      → EndsAt result limits state (c ∷ []) part (R (adds_all more.added (adds_all did.added h))) → RunLeaves k limits state (c ∷ []) before h R then old new result
+  run_command limits state c before mid then h R old between new part result did more front all r ends = record {
     added = more.added ++ did.added;
-    history = more.history ∙ ap Some (twice_added more.added did.added h);
+    history = more.history ∙ ap (option_map (adds_all more.added)) did.history ∙ history_then more.added did.added old.history;
     each_moment = at_both (Moment limits state (c ∷ []) h) more.added did.added
         (λ later e split x is. found_silent limits state c (said e) (λ s. k.stands limits x s.map) (ap joined (silent-part later e (ap pieces split ∙ did.silent))) (did.each_moment later e split x is))
         (λ later f split x is. found_said limits state c (said (f ++ did.added)) (λ s. k.stands limits x s.map) (more.each_moment later f split x (regrouped k.checks h f did.added x is)));
@@ -219,17 +237,18 @@ module _ {S : Type 0} (k : Keeping S) where
     only = all_both (IsSaidOr k.does) more.added did.added more.only (all_or_said k.does did.added did.only);
     lawful = lawful_then (k.clean before) (k.clean mid) more.added did.added did.lawful (did.clean refl) more.lawful;
     clean = λ e. clean_then (k.clean before) (k.clean mid) (k.clean then) more.added did.added did.lawful (did.clean refl) (more.clean e);
-    rests = found_said limits state c (said (more.added ++ did.added)) R r;
-    ends = subst (λ (l : List (List ℕ)). EndsAt result limits state (c ∷ []) l R) (sym all_said) ends;
+    rests = found_said limits state c (said (more.added ++ did.added)) (R (adds_all (more.added ++ did.added) h)) (subst (λ (g : History). R g (step limits state c).0) (twice_added more.added did.added h) r);
+    ends = subst (λ (l : List (List ℕ)). EndsAt result limits state (c ∷ []) l (R (adds_all (more.added ++ did.added) h))) (sym all_said)
+        (subst (λ (g : History). EndsAt result limits state (c ∷ []) part (R g)) (twice_added more.added did.added h) ends);
   }
     where
       all_said : pieces (more.added ++ did.added) ≡ part
       all_said = pieces-append more.added did.added ∙ ap (λ (l : List (List ℕ)). l ++ pieces more.added) did.silent ∙ more.says
 
   -- the work failed, and nothing was said
-  pub run_failed : (limits : Limits) (state : State) (c : Command) (before then : S) (h : History) (R : State → Type 0) (new : Told) (fault : Fault)
-      → WorkLeaves k (λ x. k.stands limits x state.map ⊎ k.stands limits x (step limits state c).0.map) before h then new false → R state → RunLeaves k limits state (c ∷ []) before h R then new (Err (Store fault))
-  run_failed limits state c before then h R new fault did r = record {
+  pub run_failed : (limits : Limits) (state : State) (c : Command) (before then : S) (h : History) (R : History → State → Type 0) (old new : Told) (fault : Fault)
+      → (did : WorkLeaves k (λ x. k.stands limits x state.map ⊎ k.stands limits x (step limits state c).0.map) before h then old new false) → R (adds_all did.added h) state → RunLeaves k limits state (c ∷ []) before h R then old new (Err (Store fault))
+  run_failed limits state c before then h R old new fault did r = record {
     added = did.added;
     history = did.history;
     each_moment = λ later e split x is. found_silent limits state c (said e) (λ s. k.stands limits x s.map) (ap joined (silent-part later e (ap pieces split ∙ did.silent))) (did.each_moment later e split x is);
@@ -238,25 +257,25 @@ module _ {S : Type 0} (k : Keeping S) where
     only = all_or_said k.does did.added did.only;
     lawful = did.lawful;
     clean = λ e. cc;
-    rests = found_silent limits state c (said did.added) R (ap joined did.silent) (inl r);
-    ends = subst (λ (l : List (List ℕ)). EndsAt (Err (Store fault)) limits state (c ∷ []) l R) (sym did.silent) (between_none limits state (c ∷ []) R r);
+    rests = found_silent limits state c (said did.added) (R (adds_all did.added h)) (ap joined did.silent) (inl r);
+    ends = subst (λ (l : List (List ℕ)). EndsAt (Err (Store fault)) limits state (c ∷ []) l (R (adds_all did.added h))) (sym did.silent) (between_none limits state (c ∷ []) (R (adds_all did.added h)) r);
   }
 
   -- what was said of the commands by an earlier moment
-  said_so_far : (limits : Limits) (state : State) (cs : List Command) (before then : S) (h : History) (R : State → Type 0) (new : Told) (result : Result (Unit {0}) Stop) (r : RunLeaves k limits state cs before h R then new result)
+  said_so_far : (limits : Limits) (state : State) (cs : List Command) (before then : S) (h : History) (R : History → State → Type 0) (old new : Told) (result : Result (Unit {0}) Stop) (r : RunLeaves k limits state cs before h R then old new result)
       (later e : Story) → later ++ e ≡ r.added → IsPrefix (said e) (text limits state cs)
-  said_so_far limits state cs before then h R new result r later e split =
+  said_so_far limits state cs before then h R old new result r later e split =
       prefix_of_said later e (text limits state cs) (subst (λ (l : Story). IsPrefix (said l) (text limits state cs)) (sym split) (says_prefix (lines limits state cs) (pieces r.added) r.replies))
 
   -- then more commands
-  pub run_more : (limits : Limits) (state : State) (cs ds : List Command) (before mid then : S) (h : History) (Q R : State → Type 0) (between new : Told) (result : Result (Unit {0}) Stop)
-      → (first : RunLeaves k limits state cs before h Q mid between (Ok tt)) → RunLeaves k limits (after_all limits state cs) ds mid (adds_all first.added h) R then new result
-      → RunLeaves k limits state (cs ++ ds) before h R then new result
-  run_more limits state cs ds before mid then h Q R between new result first two = record {
+  pub run_more : (limits : Limits) (state : State) (cs ds : List Command) (before mid then : S) (h : History) (Q R : History → State → Type 0) (old between new : Told) (result : Result (Unit {0}) Stop)
+      → (first : RunLeaves k limits state cs before h Q mid old between (Ok tt)) → RunLeaves k limits (after_all limits state cs) ds mid (adds_all first.added h) R then between new result
+      → RunLeaves k limits state (cs ++ ds) before h R then old new result
+  run_more limits state cs ds before mid then h Q R old between new result first two = record {
     added = two.added ++ first.added;
-    history = two.history ∙ ap Some (twice_added two.added first.added h);
+    history = two.history ∙ ap (option_map (adds_all two.added)) first.history ∙ history_then two.added first.added old.history;
     each_moment = at_both (Moment limits state (cs ++ ds) h) two.added first.added
-        (λ later e split x is. found_longer limits state cs ds (said e) (λ s. k.stands limits x s.map) (said_so_far limits state cs before mid h Q between (Ok tt) first later e split) (first.each_moment later e split x is))
+        (λ later e split x is. found_longer limits state cs ds (said e) (λ s. k.stands limits x s.map) (said_so_far limits state cs before mid h Q old between (Ok tt) first later e split) (first.each_moment later e split x is))
         (λ later f split x is. subst (λ (bytes : List ℕ). StandsNear k limits state (cs ++ ds) bytes x) (sym (both_said f))
         (found_after limits state cs ds (said f) (λ s. k.stands limits x s.map) (two.each_moment later f split x (regrouped k.checks h f first.added x is))));
     replies = subst (λ (l : List (List ℕ)). SaysLines l (pieces (two.added ++ first.added))) (sym (lines-append limits state cs ds))
@@ -265,8 +284,12 @@ module _ {S : Type 0} (k : Keeping S) where
     only = all_both (IsSaidOr k.does) two.added first.added two.only first.only;
     lawful = lawful_then (k.clean before) (k.clean mid) two.added first.added first.lawful (first.clean refl) two.lawful;
     clean = λ e. clean_then (k.clean before) (k.clean mid) (k.clean then) two.added first.added first.lawful (first.clean refl) (two.clean e);
-    rests = subst (λ (bytes : List ℕ). IsNear R limits state (cs ++ ds) bytes) (sym (both_said two.added)) (found_after limits state cs ds (said two.added) R two.rests);
-    ends = subst (λ (l : List (List ℕ)). EndsAt result limits state (cs ++ ds) l R) (sym both_pieces) (ends_behind limits state result cs ds (pieces two.added) R two.ends);
+    rests = subst (λ (bytes : List ℕ). IsNear (R (adds_all (two.added ++ first.added) h)) limits state (cs ++ ds) bytes) (sym (both_said two.added))
+        (found_after limits state cs ds (said two.added) (R (adds_all (two.added ++ first.added) h))
+        (subst (λ (g : History). IsNear (R g) limits (after_all limits state cs) ds (said two.added)) (twice_added two.added first.added h) two.rests));
+    ends = subst (λ (l : List (List ℕ)). EndsAt result limits state (cs ++ ds) l (R (adds_all (two.added ++ first.added) h))) (sym both_pieces)
+        (ends_behind limits state result cs ds (pieces two.added) (R (adds_all (two.added ++ first.added) h))
+        (subst (λ (g : History). EndsAt result limits (after_all limits state cs) ds (pieces two.added) (R g)) (twice_added two.added first.added h) two.ends));
   }
     where
       both_pieces : pieces (two.added ++ first.added) ≡ lines limits state cs ++ pieces two.added
@@ -276,25 +299,25 @@ module _ {S : Type 0} (k : Keeping S) where
       both_said f = said-append f first.added ∙ ap (λ (l : List (List ℕ)). joined l ++ said f) (first.all refl)
 
   -- and where the run ends, the commands that were not begun
-  pub run_longer : (limits : Limits) (state : State) (cs ds : List Command) (before then : S) (h : History) (R : State → Type 0) (new : Told) (s : Stop)
-      → RunLeaves k limits state cs before h R then new (Err s) → RunLeaves k limits state (cs ++ ds) before h R then new (Err s)
-  run_longer limits state cs ds before then h R new s first = record {
+  pub run_longer : (limits : Limits) (state : State) (cs ds : List Command) (before then : S) (h : History) (R : History → State → Type 0) (old new : Told) (s : Stop)
+      → RunLeaves k limits state cs before h R then old new (Err s) → RunLeaves k limits state (cs ++ ds) before h R then old new (Err s)
+  run_longer limits state cs ds before then h R old new s first = record {
     added = first.added;
     history = first.history;
-    each_moment = λ later e split x is. found_longer limits state cs ds (said e) (λ s. k.stands limits x s.map) (said_so_far limits state cs before then h R new (Err s) first later e split) (first.each_moment later e split x is);
+    each_moment = λ later e split x is. found_longer limits state cs ds (said e) (λ s. k.stands limits x s.map) (said_so_far limits state cs before then h R old new (Err s) first later e split) (first.each_moment later e split x is);
     replies = subst (λ (l : List (List ℕ)). SaysLines l (pieces first.added)) (sym (lines-append limits state cs ds)) (says_longer (lines limits state cs) (lines limits (after_all limits state cs) ds) (pieces first.added) first.replies);
     all = λ e. cc;
     only = first.only;
     lawful = first.lawful;
     clean = λ e. cc;
-    rests = found_longer limits state cs ds (said first.added) R (says_prefix (lines limits state cs) (pieces first.added) first.replies) first.rests;
-    ends = ends_longer limits state s cs ds (pieces first.added) R first.ends;
+    rests = found_longer limits state cs ds (said first.added) (R (adds_all first.added h)) (says_prefix (lines limits state cs) (pieces first.added) first.replies) first.rests;
+    ends = ends_longer limits state s cs ds (pieces first.added) (R (adds_all first.added h)) first.ends;
   }
 
   -- less said of how the state is kept at the end
-  pub run_weaker : (limits : Limits) (state : State) (cs : List Command) (before then : S) (h : History) (Q R : State → Type 0) (new : Told) (result : Result (Unit {0}) Stop) → ((s : State) → Q s → R s)
-      → RunLeaves k limits state cs before h Q then new result → RunLeaves k limits state cs before h R then new result
-  run_weaker limits state cs before then h Q R new result f r = record {
+  pub run_weaker : (limits : Limits) (state : State) (cs : List Command) (before then : S) (h : History) (Q R : History → State → Type 0) (old new : Told) (result : Result (Unit {0}) Stop) → ((g : History) (s : State) → Q g s → R g s)
+      → RunLeaves k limits state cs before h Q then old new result → RunLeaves k limits state cs before h R then old new result
+  run_weaker limits state cs before then h Q R old new result f r = record {
     added = r.added;
     history = r.history;
     each_moment = r.each_moment;
@@ -303,6 +326,22 @@ module _ {S : Type 0} (k : Keeping S) where
     only = r.only;
     lawful = r.lawful;
     clean = r.clean;
-    rests = ⊎_elim (λ q. inl (f _ q)) (λ q. inr (f _ q)) r.rests;
-    ends = ends_weaker limits state result cs (pieces r.added) Q R f r.ends;
+    rests = ⊎_elim (λ q. inl (f _ _ q)) (λ q. inr (f _ _ q)) r.rests;
+    ends = ends_weaker limits state result cs (pieces r.added) (Q (adds_all r.added h)) (R (adds_all r.added h)) (f (adds_all r.added h)) r.ends;
+  }
+
+  -- behind a read of the script
+  pub run_later : (limits : Limits) (state : State) (cs : List Command) (before then : S) (h : History) (R : History → State → Type 0) (old mid new : Told) (result : Result (Unit {0}) Stop) → IsBeside old mid
+      → RunLeaves k limits state cs before h R then mid new result → RunLeaves k limits state cs before h R then old new result
+  run_later limits state cs before then h R old mid new result chip r = record {
+    added = r.added;
+    history = r.history ∙ ap (option_map (adds_all r.added)) chip.history;
+    each_moment = r.each_moment;
+    replies = r.replies;
+    all = r.all;
+    only = r.only;
+    lawful = r.lawful;
+    clean = r.clean;
+    rests = r.rests;
+    ends = r.ends;
   }

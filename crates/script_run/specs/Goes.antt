@@ -7,7 +7,7 @@ use Rattle.ipl_model.specs.Step.{row_reply}
 use Rattle.ipl_model.specs.Text.{reply_text}
 use Rattle.ipl_model.specs.Run.{after_all}
 use Rattle.ipl_model.specs.Grammar.{commands_of}
-use Rattle.chip_trait.specs.Told.{History, Told, Rose, IsPrefix}
+use Rattle.chip_trait.specs.Told.{History, Told, adds_all, Rose, IsPrefix}
 use Rattle.script_run.specs.declared.fault.Stop.{Stop}
 use Rattle.script_run.specs.declared.fault.Stop.TheVariants as stop
 use Rattle.script_run.specs.Lines.{commands_from}
@@ -61,12 +61,11 @@ module _ {S : Type 0} (k : Keeping S) where
     pub cause : IfErr result (λ s. StopCause old new s)
     pub never : IsErrOf result stop.TooLong → ⊥
 
-  -- the store keeps a state under these limits, over a history that is told
+  -- the store keeps a state under these limits, over some history that leaves what the chip holds
   pub record KeepsSome (limits : Limits) (store : S) (t : Told) : Type 0 where
     pub state : State
     pub history : History
-    pub holds : k.holds limits store t state
-    pub told : t.history ≡ Some history
+    pub holds : k.holds limits store t history state
 
   -- What a part of a run does with a store that keeps a state: it draws at most n numbers; it stops
   -- with a fault of the store only where the chip failed, as long as numbers are left; and where it
@@ -88,81 +87,80 @@ module _ {S : Type 0} (k : Keeping S) where
     pub said : List (List ℕ)
     pub part : SaysLines lines said
     pub ends : SaysPart s lines said
-    pub leaves : SayingLeaves k limits state.map said before h then new false
-    pub stays : Stays k limits then old new state
+    pub leaves : SayingLeaves k limits state.map said before h then old new false
+    pub stays : Stays k limits then old new (adds_all leaves.added h) state
 
   abbrev pub SaysUnder : Limits → (State → List (List ℕ)) → S → Told → Result (Unit {0}) Stop → S → Told → Type 0
   SaysUnder limits lines before old result then new = (state : State) (h : History)
-      → k.holds limits before old state → old.history ≡ Some h →
+      → k.holds limits before old h state →
       MatchResult result
-      (λ _. SayingLeaves k limits state.map (lines state) before h then new true × k.holds limits then new state)
+      (λ _. (leaves : SayingLeaves k limits state.map (lines state) before h then old new true)
+      × k.holds limits then new (adds_all leaves.added h) state)
       (λ s. SaysSome limits state (lines state) before h then old new s)
 
   -- commands were answered, or it stopped in them
   abbrev pub Answers : List Command → S → Told → Result (Unit {0}) Stop → S → Told → Type 0
   Answers commands before old result then new = (limits : Limits) (state : State) (h : History)
-      → k.holds limits before old state → old.history ≡ Some h →
+      → k.holds limits before old h state →
       MatchResult result
-      (λ _. RunLeaves k limits state commands before h (k.holds limits then new) then new (Ok tt)
-      × k.holds limits then new (after_all limits state commands))
-      (λ s. RunLeaves k limits state commands before h (Stays k limits then old new) then new (Err s))
+      (λ _. (leaves : RunLeaves k limits state commands before h (k.holds limits then new) then old new (Ok tt))
+      × k.holds limits then new (adds_all leaves.added h) (after_all limits state commands))
+      (λ s. RunLeaves k limits state commands before h (Stays k limits then old new) then old new (Err s))
 
   -- From one moment of a run to a later one, while some bytes were taken: commands were answered, and with those still to come
   -- they are those that were to come before.
   pub record Goes (limits : Limits) (state : State) (line bytes : List ℕ) (before : S) (h : History) (then : S)
-      (later : List ℕ) (new : Told) : Type 0 where
+      (later : List ℕ) (old new : Told) : Type 0 where
     pub done : List Command
     pub goes_on : (tail : List ℕ) → commands_from line (bytes ++ tail) ≡ done ++ commands_from later tail
-    pub leaves : RunLeaves k limits state done before h (k.holds limits then new) then new (Ok tt)
-    pub holds : k.holds limits then new (after_all limits state done)
+    pub leaves : RunLeaves k limits state done before h (k.holds limits then new) then old new (Ok tt)
+    pub holds : k.holds limits then new (adds_all leaves.added h) (after_all limits state done)
 
   -- bytes of the script were taken, or it stopped in them, whatever bytes would have come
   abbrev pub TakesBytes : List ℕ → S → List ℕ → Told → Result (Unit {0}) Stop → S → List ℕ → Told → Type 0
   TakesBytes bytes before line old result then later new = (limits : Limits) (state : State) (h : History)
-      → k.holds limits before old state → old.history ≡ Some h →
+      → k.holds limits before old h state →
       MatchResult result
-      (λ _. Goes limits state line bytes before h then later new)
+      (λ _. Goes limits state line bytes before h then later old new)
       (λ s. (tail : List ℕ) → RunLeaves k limits state (commands_from line (bytes ++ tail)) before h
-      (Stays k limits then old new) then new (Err s))
+      (Stays k limits then old new) then old new (Err s))
 
   -- the next n bytes of the source
   pub record Took (limits : Limits) (state : State) (line source : List ℕ) (before : S) (h : History) (n : ℕ)
-      (then : S) (later : List ℕ) (new : Told) : Type 0 where
+      (then : S) (later : List ℕ) (old new : Told) : Type 0 where
     pub left_is : new.beside.left ≡ Some (drop n source)
     pub within : n ≤ length source
     pub ends : n ≡ 0 → source ≡ []
-    pub goes : Goes limits state line (take n source) before h then later new
+    pub goes : Goes limits state line (take n source) before h then later old new
 
   -- The run stopped so: a rest of the script is left, and the commands leave what they leave where they stop anywhere.
   pub record Stopped (limits : Limits) (state : State) (commands : List Command) (source : List ℕ) (before : S)
-      (h : History) (R : State → Type 0) (then : S) (new : Told) (s : Stop) : Type 0 where
+      (h : History) (R : History → State → Type 0) (then : S) (old new : Told) (s : Stop) : Type 0 where
     pub read : List ℕ
     pub rest : List ℕ
     pub left_is : new.beside.left ≡ Some rest
     pub source_is : source ≡ read ++ rest
-    pub leaves : RunLeaves k limits state commands before h R then new (Err s)
+    pub leaves : RunLeaves k limits state commands before h R then old new (Err s)
 
   -- the next bytes of the source were taken, or it stopped in them
   abbrev pub TakesNext : S → List ℕ → Told → Result ℕ Stop → S → List ℕ → Told → Type 0
   TakesNext before line old result then later new = (limits : Limits) (state : State) (h : History)
-      → k.holds limits before old state → old.history ≡ Some h →
-      (source : List ℕ) → old.beside.left ≡ Some source →
+      → k.holds limits before old h state → (source : List ℕ) → old.beside.left ≡ Some source →
       MatchResult result
-      (λ n. Took limits state line source before h n then later new)
-      (λ s. Stopped limits state (commands_from line source) source before h (Stays k limits then old new) then new s)
+      (λ n. Took limits state line source before h n then later old new)
+      (λ s. Stopped limits state (commands_from line source) source before h (Stays k limits then old new) then old new s)
 
   -- At the end of the script all of it was read, and all its commands are answered.
   pub record Ended (limits : Limits) (state : State) (source : List ℕ) (before : S) (h : History) (then : S)
-      (new : Told) : Type 0 where
+      (old new : Told) : Type 0 where
     pub left_is : new.beside.left ≡ Some []
-    pub leaves : RunLeaves k limits state (commands_of source) before h (k.holds limits then new) then new (Ok tt)
-    pub holds : k.holds limits then new (after_all limits state (commands_of source))
+    pub leaves : RunLeaves k limits state (commands_of source) before h (k.holds limits then new) then old new (Ok tt)
+    pub holds : k.holds limits then new (adds_all leaves.added h) (after_all limits state (commands_of source))
 
   -- a run of the rest of the script, to its end or to where it stopped
   abbrev pub RunsScript : S → Told → Result (Unit {0}) Stop → S → Told → Type 0
   RunsScript before old result then new = (limits : Limits) (state : State) (h : History)
-      → k.holds limits before old state → old.history ≡ Some h →
-      (source : List ℕ) → old.beside.left ≡ Some source →
+      → k.holds limits before old h state → (source : List ℕ) → old.beside.left ≡ Some source →
       MatchResult result
-      (λ _. Ended limits state source before h then new)
-      (λ s. Stopped limits state (commands_of source) source before h (Stays k limits then old new) then new s)
+      (λ _. Ended limits state source before h then old new)
+      (λ s. Stopped limits state (commands_of source) source before h (Stays k limits then old new) then old new s)

@@ -1,5 +1,6 @@
 -- What a run of commands leaves, wherever it stops.
-use Rattle.std.specs.Prelude.{◌≡◌, ℕ, Bool, true, List, [], ◌∷◌, ◌++◌, Some, Result, Ok, Err, is_ok}
+use Rattle.std.specs.Prelude.{◌≡◌, ℕ, Bool, true, List, [], ◌∷◌, ◌++◌, Result, Ok, Err, is_ok}
+use Rattle.std.specs.Option.{option_map}
 use Rattle.ipl_rules.specs.State.{Map, State, Limits}
 use Rattle.ipl_model.specs.declared.command.Command.{Command}
 use Rattle.ipl_model.specs.Step.{step}
@@ -99,28 +100,28 @@ module _ {S : Type 0} (k : Keeping S) where
   abbrev pub StandsNear : Limits → State → List Command → List ℕ → Contents → Type 0
   StandsNear limits state commands bytes x = IsNear (λ s. k.stands limits x s.map) limits state commands bytes
 
-  -- Whatever moment the power is cut at, the chip stands for the records after the commands that were answered, or after one
-  -- more. What was said is a beginning of the replies, line by line, and all of them where the commands are done. No sector
-  -- is programmed twice. R says of a state how the store keeps it at the end: by what was said, for the commands that were
-  -- answered or one more; and by the stop, exactly.
+  -- What the chip tells grew by the added events. Whatever moment of them the power is cut at, the chip stands for the records
+  -- after the commands that were answered, or after one more. What was said is a beginning of the replies, line by line, and
+  -- all of them where the commands are done. No sector is programmed twice. R says of the history at the end, and of a state,
+  -- how the store keeps it then: by what was said, for the commands that were answered or one more; and by the stop, exactly.
   pub record RunLeaves (limits : Limits) (state : State) (commands : List Command) (before : S) (h : History)
-      (R : State → Type 0) (then : S) (new : Told) (result : Result (Unit {0}) Stop) : Type 0 where
+      (R : History → State → Type 0) (then : S) (old new : Told) (result : Result (Unit {0}) Stop) : Type 0 where
     pub added : Story
-    pub history : new.history ≡ Some (adds_all added h)
+    pub history : new.history ≡ option_map (adds_all added) old.history
     pub each_moment : AtEachMoment (λ e. Leaves k.checks (StandsNear limits state commands (said e)) h e) added
     pub replies : SaysLines (lines limits state commands) (pieces added)
     pub all : is_ok result ≡ true → pieces added ≡ lines limits state commands
     pub only : AllOf (IsSaidOr k.does) added
     pub lawful : IsLawfulAfter (k.clean before) added
     pub clean : is_ok result ≡ true → LeavesClean (k.clean before) (k.clean then) added
-    pub rests : IsNear R limits state commands (said added)
-    pub ends : EndsAt result limits state commands (pieces added) R
+    pub rests : IsNear (R (adds_all added h)) limits state commands (said added)
+    pub ends : EndsAt result limits state commands (pieces added) (R (adds_all added h))
 
   -- what is left while these pieces are said, chip calls between them, of a chip that stands for the same records throughout
   pub record SayingLeaves (limits : Limits) (m : Map) (said : List (List ℕ)) (before : S) (h : History) (then : S)
-      (new : Told) (done : Bool) : Type 0 where
+      (old new : Told) (done : Bool) : Type 0 where
     pub added : Story
-    pub history : new.history ≡ Some (adds_all added h)
+    pub history : new.history ≡ option_map (adds_all added) old.history
     pub each_moment : AtEachMoment (Leaves k.checks (λ x. k.stands limits x m) h) added
     pub says : pieces added ≡ said
     pub only : AllOf (IsSaidOr k.does) added

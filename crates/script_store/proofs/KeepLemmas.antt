@@ -3,7 +3,7 @@ use Rattle.std.proofs.Common.{ℕ, ◌≡◌, ◌≤◌, ◌<◌, ◌+◌, ◌^�
 use Rattle.std.specs.FinMap.{get}
 use Rattle.std.proofs.lemmas.Result.{on_err_weaker}
 use Rattle.chip_trait.specs.Story.{Contents}
-use Rattle.chip_trait.specs.Told.{History, Told}
+use Rattle.chip_trait.specs.Told.{History, Told, adds_all}
 use Rattle.ipl_model.specs.declared.command.Command.{Command}
 use Rattle.ipl_model.specs.declared.reply.Reply.{Reply}
 use Rattle.ipl_model.specs.Step.{step}
@@ -72,9 +72,9 @@ suits_still a b places runs (Ok v) running = λ others also.
 
 module _ (a b : ScriptStore) (old new : Told) (up : a.store.down ≡ false)
     (units : b.store.units ≡ a.store.units) where
-  leaves_so : (P : Contents → Type 0) (h : History) (done : Bool)
-      → WorkLeaves store_keeping P (view_of a.store) h (view_of b.store) new done
-      → WorkLeaves script_keeping P a h b new done
+  abbrev leaves_so : (P : Contents → Type 0) (h : History) (done : Bool)
+      → WorkLeaves store_keeping P (view_of a.store) h (view_of b.store) old new done
+      → WorkLeaves script_keeping P a h b old new done
   leaves_so P h done leaves = record {
     added = leaves.added;
     history = leaves.history;
@@ -98,44 +98,44 @@ module _ (a b : ScriptStore) (old new : Told) (up : a.store.down ≡ false)
   pub works_so : (c : Command) (result : Result Reply Fault)
       → Works store_keeping c (view_of a.store) old result (view_of b.store) new
       → Works script_keeping c a old result b new
-  works_so c result works limits state h keeps told =
-      let did = works limits state h keeps.kept told in record {
+  works_so c result works limits state h keeps =
+      let did = works limits state h keeps.kept in record {
         leaves = leaves_so _ h (is_ok result) did.leaves;
-        ends = by_end result did.ends;
+        ends = by_end result (adds_all did.leaves.added h) did.ends;
         drawn = drawn_so WORK_DRAWS did.drawn;
         excuse = on_err_weaker result (λ excuse few. excuse (few_so WORK_DRAWS few)) did.excuse;
       }
     where
-      by_end : (r : Result Reply Fault) → MatchResult r
-          (λ reply. store_keeping.holds limits (view_of b.store) new (step limits state c).0
+      by_end : (r : Result Reply Fault) (k : History) → MatchResult r
+          (λ reply. store_keeping.holds limits (view_of b.store) new k (step limits state c).0
           × ((step limits state c).1 ≡ reply ∷ []))
-          (λ fault. Stays store_keeping limits (view_of b.store) old new state)
+          (λ fault. Stays store_keeping limits (view_of b.store) old new k state)
           → MatchResult r
-          (λ reply. script_keeping.holds limits b new (step limits state c).0
+          (λ reply. script_keeping.holds limits b new k (step limits state c).0
           × ((step limits state c).1 ≡ reply ∷ []))
-          (λ fault. Stays script_keeping limits b old new state)
-      by_end (Ok reply) ends = (record { kept = ends.0; few = few_still keeps.few }, ends.1)
-      by_end (Err fault) stays =
+          (λ fault. Stays script_keeping limits b old new k state)
+      by_end (Ok reply) k ends = (record { kept = ends.0; few = few_still keeps.few }, ends.1)
+      by_end (Err fault) k stays =
           λ unrisen. record { kept = stays unrisen; few = few_still keeps.few }
 
   pub looks_up_so : (n : ℕ) (result : Result (Option (List ℕ)) Fault)
       → LooksUp store_keeping n (view_of a.store) old result (view_of b.store) new
       → LooksUp script_keeping n a old result b new
-  looks_up_so n result looks limits state h keeps told low =
-      let did = looks limits state h keeps.kept told low in record {
+  looks_up_so n result looks limits state h keeps low =
+      let did = looks limits state h keeps.kept low in record {
         leaves = leaves_so _ h (is_ok result) did.leaves;
-        ends = by_end result did.ends;
+        ends = by_end result (adds_all did.leaves.added h) did.ends;
         drawn = drawn_so LOOK_UP_DRAWS did.drawn;
         excuse = on_err_weaker result (λ excuse few. excuse (few_so LOOK_UP_DRAWS few)) did.excuse;
       }
     where
-      by_end : (r : Result (Option (List ℕ)) Fault) → MatchResult r
-          (λ found. store_keeping.holds limits (view_of b.store) new state
+      by_end : (r : Result (Option (List ℕ)) Fault) (k : History) → MatchResult r
+          (λ found. store_keeping.holds limits (view_of b.store) new k state
           × (found ≡ get state.map n))
-          (λ fault. Stays store_keeping limits (view_of b.store) old new state)
+          (λ fault. Stays store_keeping limits (view_of b.store) old new k state)
           → MatchResult r
-          (λ found. script_keeping.holds limits b new state × (found ≡ get state.map n))
-          (λ fault. Stays script_keeping limits b old new state)
-      by_end (Ok found) ends = (record { kept = ends.0; few = few_still keeps.few }, ends.1)
-      by_end (Err fault) stays =
+          (λ found. script_keeping.holds limits b new k state × (found ≡ get state.map n))
+          (λ fault. Stays script_keeping limits b old new k state)
+      by_end (Ok found) k ends = (record { kept = ends.0; few = few_still keeps.few }, ends.1)
+      by_end (Err fault) k stays =
           λ unrisen. record { kept = stays unrisen; few = few_still keeps.few }

@@ -1,7 +1,7 @@
 -- A chip that is opened again is the work of a restart.
 use Rattle.std.proofs.Common.{ℕ, ◌≡◌, ◌≢◌, ◌⊎◌, inl, inr, ◌≤◌, ◌<◌, ◌+◌, ◌^◌, arith, Bool, true, false, [], None, Some, Result, Ok, Err, OnOk, if◌then◌else◌, refl, sym, ◌∙◌, ap, subst}
-use Rattle.chip_trait.specs.Story.{Contents}
-use Rattle.chip_trait.specs.Told.{History, Told, IsConsistent}
+use Rattle.chip_trait.specs.Story.{Contents, held}
+use Rattle.chip_trait.specs.Told.{History, Told}
 use Rattle.ipl_base.specs.declared.fault.ChipFault.TheVariants.{ReadFault, Stopped, Damaged, Malformed}
 use Rattle.ipl_base.specs.declared.fault.ImageFault.{ImageFault}
 use Rattle.ipl_base.specs.declared.fault.ImageFault.TheVariants as image
@@ -78,8 +78,8 @@ module _ (a b : ScriptStore) (old new : Told) (up : a.store.down ≡ false)
   pub works_down : (fault : Fault)
       → Works store_keeping command.Restart (view_of a.store) old (Err fault) left new
       → Works script_keeping command.Restart a old (Err fault) b new
-  works_down fault works limits state h keeps told =
-      let did = works limits state h keeps.kept told in record {
+  works_down fault works limits state h keeps =
+      let did = works limits state h keeps.kept in record {
         leaves = record {
           added = did.leaves.added;
           history = did.leaves.history;
@@ -94,10 +94,8 @@ module _ (a b : ScriptStore) (old new : Told) (up : a.store.down ≡ false)
             let few = keeps.few in record {
               kept = record {
                 limits_are = stays.limits_are;
-                story = λ k is. let on = stays.story k is in record {
-                  settled = on.settled;
-                  rests = on.rests;
-                };
+                steady = stays.steady;
+                rests = stays.rests;
                 up = λ runs. absurd (let clash : true ≡ false = sym down ∙ runs in cc clash);
               };
               few = omega (arith, few, units);
@@ -190,7 +188,7 @@ few_found places c it next bytes laid above = elim (greatest_is_found c places i
 -- ---- an opening
 
 module _ (a b : ScriptStore) (before after : Told) (t : Tables)
-    (runs : IsRunning before.places a) (consistent : IsConsistent before)
+    (runs : IsRunning before.places a)
     (sound : IsSound before.places b.store) where
   abbrev first : View
   first = view_of a.store
@@ -210,10 +208,10 @@ module _ (a b : ScriptStore) (before after : Told) (t : Tables)
       → Does command.Restart a before (Ok reply.Ok) b after
   opened_does opens tries leads = record {
     works = works_so a b before after runs.up units command.Restart (Ok reply.Ok)
-        (leads_are_work command.Restart first last (Ok reply.Ok) before after consistent suits units
+        (leads_are_work command.Restart first last (Ok reply.Ok) before after suits units
         runs.up (answers_advance (TurnsMapOf (λ state. after_restart state))
         (λ state. after_restart state) first.memory last.memory (Ok tt) (Ok reply.Ok) before after
-        refl leads) (λ state keeps x told. refl) few tt);
+        refl leads) (λ h state keeps. refl) few tt);
     draws = draws_found WORK_DRAWS _ a b found (λ spent. absurd (cc spent));
     running = record { sound = sound; up = opens.fresh.up };
     counts = tries.accounts.counts;
@@ -224,8 +222,10 @@ module _ (a b : ScriptStore) (before after : Told) (t : Tables)
       found = let left = opens.left in let most = counted_few b in omega (arith, left, most)
 
       few : DrawsFew WORK_DRAWS first before last
-      few state keeps x told =
-          let shown = (keeps.up runs.up).contents x told in
+      few h state keeps =
+          let x = held h.start h.story in
+          let told = keeps.steady.holds in
+          let shown = (keeps.up runs.up).shows in
           let bytes = subst (λ (n : ℕ). IsByteChart n (chart_of x)) (sym suits) (tries.bytes x told) in
           let below = few_found (a.store.units + 4) (chart_of x) shown.layout
           (counter_of a.store) bytes shown.fits.mirrors.laid shown.fits.mirrors.numbers.above in
@@ -239,7 +239,7 @@ module _ (a b : ScriptStore) (before after : Told) (t : Tables)
   failed_does e down tries = record {
     works = works_down a b before after runs.up units down (Image e)
         (faults_that_leave_down command.Restart first
-        (left a b before after runs.up units down) (Image e) before after consistent suits units
+        (left a b before after runs.up units down) (Image e) before after suits units
         runs.up refl
         (λ h it state steady story. subst (λ (n : ℕ). StoryRests n state.map h
         → Preserves {T = Reply} n state.map first.memory.tables (none_clean (counter_of a.store)) h
@@ -272,15 +272,21 @@ module _ (a b : ScriptStore) (before after : Told) (t : Tables)
               clean = λ done base clean p s counted.
                   absurd (none_counted (counter_of a.store) p s counted);
             };
-            settled = did.settled;
+            steady = did.steady;
             ends = did.ends;
           }
 
       excused : IsExcused WORK_DRAWS first before after
-      excused state keeps x told low = rose_for e before after tries.accounts.cause fails
+      excused h state keeps low = rose_for e before after tries.accounts.cause fails
         where
+          x : Contents
+          x = held h.start h.story
+
+          told : before.contents ≡ Some x
+          told = keeps.steady.holds
+
           shown : ShowsState first state x
-          shown = (keeps.up runs.up).contents x told
+          shown = (keeps.up runs.up).shows
 
           laid : Laid before.places (chart_of x) shown.layout
           laid = subst (λ (n : ℕ). Laid n (chart_of x) shown.layout) suits

@@ -2,7 +2,7 @@
 use Rattle.std.proofs.Common.{ℕ, ◌≡◌, ◌⊎◌, inl, inr, ◌≤◌, ◌<◌, ◌*◌, ◌+◌, arith, Bool, true, false, nat_le, Option, None, Some, List, ◌∷◌, [], Result, Ok, Err, IfOk, if◌then◌else◌, refl, sym, ap, subst}
 use Rattle.std.proofs.lemmas.Bool.Decides.{nat_tests}
 use Rattle.chip_trait.specs.Story.{Contents}
-use Rattle.chip_trait.specs.Told.{History, Told, Counts, IsConsistent}
+use Rattle.chip_trait.specs.Told.{History, Told, Counts}
 use Rattle.chip_trait.proofs.CountsLemmas.{counts_none}
 use Rattle.ipl_base.specs.declared.fault.ChipFault.{ChipFault}
 use Rattle.ipl_base.specs.declared.fault.Refusal.{Refusal}
@@ -113,10 +113,10 @@ either_way (inl a) = a
 either_way (inr a) = a
 
 -- a power cut leaves the records, of which the next ones are the same
-leaves_same : (P : Contents → Type 0) (first last : View) (h : History) (new : Told) (done : Bool)
-    → WorkLeaves store_keeping (λ x. P x ⊎ P x) first h last new done
-    → WorkLeaves store_keeping P first h last new done
-leaves_same P first last h new done leaves = record {
+abbrev leaves_same : (P : Contents → Type 0) (first last : View) (h : History) (old new : Told)
+    (done : Bool) → WorkLeaves store_keeping (λ x. P x ⊎ P x) first h last old new done
+    → WorkLeaves store_keeping P first h last old new done
+leaves_same P first last h old new done leaves = record {
   added = leaves.added;
   history = leaves.history;
   each_moment = λ later e split x image. either_way (leaves.each_moment later e split x image);
@@ -136,8 +136,7 @@ low_is_free units n r is low = by_test (nat_le (960 * units) n) refl is
     by_test true past found = grind (arith, nat_tests, past, low)
     by_test false past found = absurd (cc found)
 
-module _ (n : ℕ) (a b : ScriptStore) (before after : Told) (runs : IsRunning before.places a)
-    (consistent : IsConsistent before) where
+module _ (n : ℕ) (a b : ScriptStore) (before after : Told) (runs : IsRunning before.places a) where
   abbrev first : View
   first = view_of a.store
 
@@ -158,7 +157,7 @@ module _ (n : ℕ) (a b : ScriptStore) (before after : Told) (runs : IsRunning b
       → Finds n a before (Ok None) a before
   refused_finds r is = record {
     looks_up = looks_up_so a a before before runs.up refl n (Ok None)
-        (λ limits state h keeps told low. absurd (low_is_free a.store.units n r is
+        (λ limits state h keeps low. absurd (low_is_free a.store.units n r is
         (subst (λ (l : Limits). n < l.names) keeps.limits_are low)));
     draws = draws_few LOOK_UP_DRAWS _ a a runs.up (omega arith) (λ spent. absurd (cc spent));
     running = runs;
@@ -183,20 +182,20 @@ module _ (n : ℕ) (a b : ScriptStore) (before after : Told) (runs : IsRunning b
         few = let drawn = did.drawn in omega (arith, drawn)
 
         works : Works store_keeping command.Syntax first before (Ok reply.Syntax) last after
-        works = leads_are_work command.Syntax first last (Ok reply.Syntax) before after consistent
+        works = leads_are_work command.Syntax first last (Ok reply.Syntax) before after
             runs.sound.made.units units runs.up
             (answers_advance (TurnsMapOf (λ state. state)) (λ state. state) first.memory
             last.memory (Ok found) (Ok reply.Syntax) before after refl did.leads)
-            (λ state keeps x told. refl)
-            (λ state keeps x told. let drawn = did.drawn in omega (arith, drawn)) tt
+            (λ h state keeps. refl)
+            (λ h state keeps. let drawn = did.drawn in omega (arith, drawn)) tt
 
         looks : LooksUp store_keeping n first before (Ok found) last after
-        looks limits state h keeps told low =
-            let did_work = works limits state h keeps told in
-            let here = is_at first before state h consistent runs.up
-            (at_limits limits first before state keeps) told in record {
-              leaves = leaves_same _ first last h after true did_work.leaves;
-              ends = (did_work.ends.0, committed state _ here.there here.shown);
+        looks limits state h keeps low =
+            let did_work = works limits state h keeps in
+            let here = is_at first before h state runs.up
+            (at_limits limits first before h state keeps) in record {
+              leaves = leaves_same _ first last h before after true did_work.leaves;
+              ends = (did_work.ends.0, committed state _ here.steady.holds here.shown);
               drawn = few;
               excuse = tt;
             }
@@ -218,24 +217,24 @@ module _ (n : ℕ) (a b : ScriptStore) (before after : Told) (runs : IsRunning b
         few = let drawn = did.drawn in omega (arith, drawn)
 
         works : Works store_keeping command.Syntax first before (Err (Chip e)) last after
-        works = leads_are_work command.Syntax first last (Err (Chip e)) before after consistent
+        works = leads_are_work command.Syntax first last (Err (Chip e)) before after
             runs.sound.made.units units runs.up
             (answers_advance (TurnsMapOf (λ state. state)) (λ state. state) first.memory
             last.memory (Err (store.Chip e)) (Err (Chip e)) before after refl did.leads) tt
-            (λ state keeps x told. let drawn = did.drawn in omega (arith, drawn))
-            (λ state keeps x told low. chip_rose e before after
-            (did.complete x told state ((keeps.up runs.up).contents x told)) cause)
+            (λ h state keeps. let drawn = did.drawn in omega (arith, drawn))
+            (λ h state keeps low. chip_rose e before after
+            (did.complete _ keeps.steady.holds state (keeps.up runs.up).shows) cause)
 
         looks : LooksUp store_keeping n first before (Err (Chip e)) last after
-        looks limits state h keeps told low =
-            let did_work = works limits state h keeps told in
-            let here = is_at first before state h consistent runs.up
-            (at_limits limits first before state keeps) told in record {
-              leaves = leaves_same _ first last h after false did_work.leaves;
+        looks limits state h keeps low =
+            let did_work = works limits state h keeps in
+            let here = is_at first before h state runs.up
+            (at_limits limits first before h state keeps) in record {
+              leaves = leaves_same _ first last h before after false did_work.leaves;
               ends = did_work.ends;
               drawn = few;
               excuse = λ low. chip_rose e before after
-                  (did.complete _ here.there state here.shown) cause;
+                  (did.complete _ here.steady.holds state here.shown) cause;
             }
 
     served_finds : (result : Result (Option (List ℕ)) StoreFault)

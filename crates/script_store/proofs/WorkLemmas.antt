@@ -1,7 +1,7 @@
 -- Calls of the store are the work of their commands.
 use Rattle.std.proofs.Common.{ℕ, ◌≡◌, ◌⊎◌, inl, inr, ◌≤◌, ◌<◌, ◌+◌, arith, Bool, true, false, nat_lt, ◌∷◌, [], Option, None, Some, Result, Ok, Err, IfOk, if◌then◌else◌, refl, sym, ◌∙◌, ap, subst}
 use Rattle.std.proofs.lemmas.Bool.Decides.{nat_tests}
-use Rattle.chip_trait.specs.Told.{Told, Counts, IsConsistent}
+use Rattle.chip_trait.specs.Told.{Told, Counts}
 use Rattle.chip_trait.proofs.CountsLemmas.{counts_none}
 use Rattle.ipl_base.specs.declared.fault.ChipFault.{ChipFault}
 use Rattle.ipl_base.specs.declared.fault.ChipFault.TheVariants.{ReadFault, Stopped, Damaged, Malformed}
@@ -74,8 +74,7 @@ up_entry a up = subst (IsEntry a)
 
 -- ---- the store as it was
 
-module _ (c : Command) (a : ScriptStore) (told : Told) (runs : IsRunning told.places a)
-    (consistent : IsConsistent told) where
+module _ (c : Command) (a : ScriptStore) (told : Told) (runs : IsRunning told.places a) where
   spent_does : LAST_NUMBER < counter_of a.store → Does c a told (Err Spent) a told
   spent_does late = record {
     works = works_so a a told told runs.up refl c (Err Spent)
@@ -92,12 +91,12 @@ module _ (c : Command) (a : ScriptStore) (told : Told) (runs : IsRunning told.pl
   refused_does r is = record {
     works = works_so a a told told runs.up refl c (Ok (reply.Refused r))
         (leads_are_work c (view_of a.store) (view_of a.store) (Ok (reply.Refused r)) told told
-        consistent runs.sound.made.units refl runs.up
+        runs.sound.made.units refl runs.up
         (refusals_lead a.store.units c r (view_of a.store).memory told is)
-        (λ state keeps x there. ap (λ (y : Stepped). y.1) (refusals_answer
+        (λ h state keeps. ap (λ (y : Stepped). y.1) (refusals_answer
         (limits_of a.store.units) a.store.transactions.sessions state c r
         (keeps.up runs.up).sessions is))
-        (λ state keeps x there. omega arith) tt);
+        (λ h state keeps. omega arith) tt);
     draws = draws_few WORK_DRAWS _ a a runs.up (omega arith) (λ spent. absurd (cc spent));
     running = runs;
     counts = counts_none told;
@@ -105,22 +104,21 @@ module _ (c : Command) (a : ScriptStore) (told : Told) (runs : IsRunning told.pl
   }
 
 -- a line that is no command
-module _ (a : ScriptStore) (told : Told) (runs : IsRunning told.places a)
-    (consistent : IsConsistent told) where
+module _ (a : ScriptStore) (told : Told) (runs : IsRunning told.places a) where
   abbrev same : View
   same = view_of a.store
 
   pub syntax_does : Does command.Syntax a told (Ok reply.Syntax) a told
   syntax_does = record {
     works = works_so a a told told runs.up refl command.Syntax (Ok reply.Syntax)
-        (leads_are_work command.Syntax same same (Ok reply.Syntax) told told consistent
+        (leads_are_work command.Syntax same same (Ok reply.Syntax) told told
         runs.sound.made.units refl runs.up
         (answers_advance (TurnsMapOf (λ state. state)) (λ state. state) same.memory same.memory
         (Ok tt) (Ok reply.Syntax) told told refl
         (memory_leads (λ state. state) same.memory same.memory told
         (λ places c it state settled fits. fits) (λ places c it state fits. refl)
         (λ p s counted. counted)))
-        (λ state keeps x there. refl) (λ state keeps x there. omega arith) tt);
+        (λ h state keeps. refl) (λ h state keeps. omega arith) tt);
     draws = draws_few WORK_DRAWS _ a a runs.up (omega arith) (λ spent. absurd (cc spent));
     running = runs;
     counts = counts_none told;
@@ -131,7 +129,7 @@ module _ (a : ScriptStore) (told : Told) (runs : IsRunning told.places a)
 
 module _ {T : Type 0} (say : T → Reply) (c : Command) (next : State → State) (most : ℕ)
     (a b : ScriptStore) (before after : Told) (runs : IsRunning before.places a)
-    (consistent : IsConsistent before) (few : most ≤ WORK_DRAWS)
+    (few : most ≤ WORK_DRAWS)
     (free : refusal_of (limits_of a.store.units) (state_of a.store.transactions.sessions) c ≡ None)
     (nexts : (state : State) → (accepted state c).0 ≡ next state)
     (units : b.store.units ≡ a.store.units) where
@@ -163,14 +161,14 @@ module _ {T : Type 0} (say : T → Reply) (c : Command) (next : State → State)
       → (counts : Counts before after) → Does c a before (Ok (say found)) b after
   done_does found did replies running counts = record {
     works = works_so a b before after runs.up units c (Ok (say found))
-        (leads_are_work c first last (Ok (say found)) before after consistent runs.sound.made.units
+        (leads_are_work c first last (Ok (say found)) before after runs.sound.made.units
         units runs.up (leads_on (Ok (say found)) (answers_advance (TurnsMapOf next) next
         first.memory last.memory (Ok found) (Ok (say found)) before after refl did.leads))
-        (λ state keeps x told. ap (λ (y : Stepped). y.1) (accepted_are_done
+        (λ h state keeps. ap (λ (y : Stepped). y.1) (accepted_are_done
         (limits_of first.units) a.store.transactions.sessions state c
         (keeps.up runs.up).sessions free)
-        ∙ replies state x told ((keeps.up runs.up).contents x told))
-        (λ state keeps x told. few_drawn did.drawn) tt);
+        ∙ replies state _ keeps.steady.holds (keeps.up runs.up).shows)
+        (λ h state keeps. few_drawn did.drawn) tt);
     draws = draws_few WORK_DRAWS _ a b runs.up (few_drawn did.drawn) (λ spent. absurd (cc spent));
     running = running;
     counts = counts;
@@ -183,12 +181,12 @@ module _ {T : Type 0} (say : T → Reply) (c : Command) (next : State → State)
       → Does c a before (Err (Chip e)) b after
   failed_does e did cause counts = record {
     works = works_so a b before after runs.up units c (Err (Chip e))
-        (leads_are_work c first last (Err (Chip e)) before after consistent runs.sound.made.units
+        (leads_are_work c first last (Err (Chip e)) before after runs.sound.made.units
         units runs.up (leads_on (Err (Chip e)) (answers_advance (TurnsMapOf next) next first.memory
         last.memory (Err (store.Chip e)) (Err (Chip e)) before after refl did.leads)) tt
-        (λ state keeps x told. few_drawn did.drawn)
-        (λ state keeps x told low. chip_rose e before after
-        (did.complete x told state ((keeps.up runs.up).contents x told)) cause));
+        (λ h state keeps. few_drawn did.drawn)
+        (λ h state keeps low. chip_rose e before after
+        (did.complete _ keeps.steady.holds state (keeps.up runs.up).shows) cause));
     draws = draws_few WORK_DRAWS _ a b runs.up (few_drawn did.drawn) (λ spent. absurd (cc spent));
     running = tt;
     counts = counts;
@@ -212,7 +210,7 @@ module _ {T : Type 0} (say : T → Reply) (c : Command) (next : State → State)
 module _ {T : Type 0} (say : T → Reply) (c : Command) (refusal : Option Refusal)
     (next : State → State) (most : ℕ) (a b : ScriptStore) (before after : Told)
     (result : Result T StoreFault) (runs : IsRunning before.places a)
-    (consistent : IsConsistent before) (few : most ≤ WORK_DRAWS)
+    (few : most ≤ WORK_DRAWS)
     (refuses : refusal ≡ refusal_of (limits_of a.store.units)
     (state_of a.store.transactions.sessions) c)
     (nexts : (state : State) → (accepted state c).0 ≡ next state)
@@ -234,10 +232,10 @@ module _ {T : Type 0} (say : T → Reply) (c : Command) (refusal : Option Refusa
       → Does c a before (answer_of say result) b after
   by_refusal (Some r) is calls =
       let (answer, same, still) = calls.refuses (store.Refused r) refl in
-      idle_does (store.Refused r) (refused_does c a before runs consistent r (sym refuses ∙ is))
+      idle_does (store.Refused r) (refused_does c a before runs r (sym refuses ∙ is))
       answer same still
   by_refusal None is calls =
-      served_does say c next most a b before after runs consistent few (sym refuses ∙ is) nexts
+      served_does say c next most a b before after runs few (sym refuses ∙ is) nexts
       (omega (arith, calls.sound.made.units, runs.sound.made.units)) result (calls.serves refl)
       replies calls.sound calls.counts
 
@@ -250,7 +248,7 @@ module _ {T : Type 0} (say : T → Reply) (c : Command) (refusal : Option Refusa
   by_entry entry (inr (is, late)) calls =
       let (answer, same, still) = calls.refuses store.Spent
       (ap (λ (o : Option StoreFault). early_fault o refusal) is) in
-      idle_does store.Spent (spent_does c a before runs consistent late) answer same still
+      idle_does store.Spent (spent_does c a before runs late) answer same still
 
   -- that the store refuses once its numbers are used up
   pub calls_do : Calls (early_fault (entry_fault a.store) refusal) next most a.store before result

@@ -2,7 +2,7 @@
 -- leaves of it.
 use Rattle.std.specs.Prelude.{ℕ, ◌≡◌, ◌≤◌, ◌+◌, false, List, Option, None, Result, Ok, Err, IfErr, OnOk, IsErrOf, if◌then◌else◌}
 use Rattle.chip_trait.specs.Chart.{says}
-use Rattle.chip_trait.specs.Told.{Told, Counts}
+use Rattle.chip_trait.specs.Told.{History, Told, Counts, adds_all}
 use Rattle.ipl_base.specs.declared.fault.StoreFault.{StoreFault}
 use Rattle.ipl_base.specs.declared.fault.StoreFault.TheVariants as store
 use Rattle.ipl_base.specs.declared.limits.TheConstants.{RESERVED_PLACES}
@@ -16,7 +16,7 @@ use Rattle.ipl_meaning.specs.Stands.{Stands}
 use Rattle.ipl_meaning.specs.Tables.{IsCountedClean}
 use Rattle.store_trait.specs.declared.fault.Fault.{Fault}
 use Rattle.store_trait.specs.declared.fault.Fault.TheVariants.{Chip, Spent}
-use Rattle.store_trait.specs.Onward.{Still}
+use Rattle.store_trait.specs.Onward.{Still, sayings}
 use Rattle.store_trait.specs.Keeping.{Keeping, WORK_DRAWS, LOOK_UP_DRAWS, Draws, Works, LooksUp}
 use Rattle.store_steps.specs.Keeps.{KeepsStore, StoreCause, keeps_each, keeps_still, cause_longer}
 use Rattle.ipl_store.specs.Calls.{view_of, counter_of, IsSound}
@@ -30,9 +30,9 @@ pub record IsRunning (places : ℕ) (s : ScriptStore) : Type 0 where
   pub up : s.store.down ≡ false
 
 -- it keeps the state, with at most 1,024 units
-pub record KeepsScript (limits : Limits) (s : ScriptStore) (t : Told) (state : State)
+pub record KeepsScript (limits : Limits) (s : ScriptStore) (t : Told) (h : History) (state : State)
     : Type 0 where
-  pub kept : KeepsStore limits (view_of s.store) t state
+  pub kept : KeepsStore limits (view_of s.store) t h state
   pub few : s.store.units ≤ 1024
 
 -- the next number that it draws; a store that is down draws none
@@ -40,10 +40,11 @@ abbrev pub next_number : ScriptStore → ℕ
 next_number s = if s.store.down then 0 else counter_of s.store
 
 -- what is said and what is read of a script changes nothing
-pub script_still : (limits : Limits) (s : ScriptStore) (old new : Told) (state : State)
-    → Still old new → KeepsScript limits s old state → KeepsScript limits s new state
-script_still limits s old new state still keeps = record {
-  kept = keeps_still limits (view_of s.store) old new state still keeps.kept;
+pub script_still : (limits : Limits) (s : ScriptStore) (old new : Told) (h : History) (state : State)
+    → (still : Still old new) → KeepsScript limits s old h state
+    → KeepsScript limits s new (adds_all (sayings still.pieces) h) state
+script_still limits s old new h state still keeps = record {
+  kept = keeps_still limits (view_of s.store) old new h state still keeps.kept;
   few = keeps.few;
 }
 
@@ -58,8 +59,7 @@ script_keeping = record {
   counter = next_number;
   does = λ e. Unit {0};
   cause = StoreCause;
-  each = λ limits s t state h keeps told.
-      keeps_each limits (view_of s.store) t state h keeps.kept told;
+  each = λ limits s t h state keeps. keeps_each limits (view_of s.store) t h state keeps.kept;
   still = script_still;
   caused = cause_longer;
 }

@@ -1,6 +1,6 @@
 //! The store that a run of a script works with.
 ghost use Rattle.std.specs.Prelude.{◌≡◌, ◌≤◌};
-ghost use Rattle.chip_trait.specs.Told.{Told};
+ghost use Rattle.chip_trait.specs.Told.{History, Told};
 ghost use Rattle.ipl_rules.specs.State.{State, Limits};
 ghost use Rattle.store_trait.specs.Keeping.{IsSingle};
 ghost use Rattle.script_store.specs.Keeps.{IsRunning, KeepsScript, Does, script_keeping};
@@ -31,8 +31,8 @@ impl ScriptStore {
     /// Names are numbers below this: those of all units of its chip.
     pub(crate) fn limit(&self) -> u32
         ensures most { result ≤ 983040 }
-        ensures limit { (limits : Limits) (t : Told) (state : State)
-            → KeepsScript limits self.now t state → result ≡ limits.names }
+        ensures limit { (limits : Limits) (t : Told) (h : History) (state : State)
+            → KeepsScript limits self.now t h state → result ≡ limits.names }
     {
         if self.store.units() > MOST_UNITS {
             return 0;

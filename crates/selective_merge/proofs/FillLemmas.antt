@@ -150,7 +150,7 @@ module _ (places : ℕ) (from : Source) (p g serial u : ℕ) (payloads : List (L
     (unit_is : u ≡ from.unit) (m : Map) (h : History) (old : Told) where
   -- the erase failed
   pub erase_failed : (e f : ChipFault) (new : Told)
-      → KeepsMap {T = Unit {0}} places m (Clears p) (λ done. IsCleared p) h (Err e) new
+      → KeepsMap {T = Unit {0}} places m (Clears p) (λ done. IsCleared p) h old (Err e) new
       → IsStopped e old new
       → KeepsThroughout {T = List ℕ} places m (Fills p (length payloads))
       (λ pieces. IsFilled from p g serial pieces payloads) (IsUnsealed p) h (Err f) old new
@@ -162,8 +162,8 @@ module _ (places : ℕ) (from : Source) (p g serial u : ℕ) (payloads : List (L
 
   module _ (mid : Told) (counts : Counts old mid)
       (begun : KeepsMap {T = Unit {0}} {E = ChipFault} places m (Clears p) (λ done. IsCleared p)
-      h (Ok tt) mid) where
-    cleared : SoFar places m (Clears p true) (IsCleared p) h mid
+      h old (Ok tt) mid) where
+    cleared : SoFar places m (Clears p true) (IsCleared p) h old mid
     cleared =
         keeps_written places m h (Clears p) (λ (done : Unit {0}). IsCleared p) (IsUnsealed p)
         old mid (Ok tt) begun tt
@@ -177,7 +177,7 @@ module _ (places : ℕ) (from : Source) (p g serial u : ℕ) (payloads : List (L
         keeps_then places m h (Clears p true) (Programs p (IsBaseSpotBelow 15)) (Fills p 0)
         (IsCleared p) (λ pieces. HasMoved from p g pieces 15) (IsPaged from p g)
         (IsAside p) (IsUnsealed p) old mid late result first counts
-        (says m k (record { told = first.history; settled = first.settled tt }) (first.ends tt).0
+        (says m k (first.steady tt) (first.ends tt).0
         ((first.ends tt).1.bare 0) (λ s spot. first.does.fresh refl h.story s))
         (λ a b one two. fills_pages p (is_ok result) b a one two) (each result)
         (unsealed p)
@@ -213,7 +213,7 @@ module _ (places : ℕ) (from : Source) (p g serial u : ℕ) (payloads : List (L
           old late new result first counts_too
           (keeps_written places m k (Programs p (IsLogSpotBelow (length payloads)))
           (λ done. HasLogs p u g serial payloads (length payloads)) (IsAside p) late new result
-          (writes m k (record { told = first.history; settled = first.settled tt })
+          (writes m k (first.steady tt)
           (first.ends tt).0
           (paged_unsealed from p g pieces (now h) (now k) (now k) there
           (record { header = refl; others = λ q s apart. refl })).bare

@@ -172,7 +172,7 @@ module _ (places : ℕ) (m : Map) (it : Layout) (t : Tables) (u p g serial n : �
       lawful = record { lawful = λ base is clean. did.does.lawful base is };
       clean = λ done. clean;
     };
-    settled = did.settled;
+    steady = did.steady;
     ends = λ done. record {
       rests = (did.ends tt).0;
       unit = merged_there places it t u p g serial n after (now h) (now (adds_all did.added h))
@@ -205,7 +205,7 @@ module _ (places : ℕ) (m : Map) (it : Layout) (t : Tables) (u p g serial n : �
       lawful = record { lawful = λ base is clean. did.does.lawful base is };
       clean = λ unrisen. clean;
     };
-    settled = did.settled;
+    steady = did.steady;
     ends = λ unrisen.
         let ends = did.ends unrisen in record {
           rests = ends.0;

@@ -100,26 +100,26 @@ abbrev pub HeaderSays : ℕ → ℕ → Sector → Told → Result (Unit {0}) Ch
 HeaderSays places p head old result new = (m n : Map) (h : History) → IsSteady h old
     → StoryRests places m h → age h.story p 0 ≡ Clean
     → Stands places (with_sector (now h) p 0 head) n
-    → SwitchesMap places m n (Programs p (IsSpot 0)) (λ done. Gains p 0 head) h result new
+    → SwitchesMap places m n (Programs p (IsSpot 0)) (λ done. Gains p 0 head) h old result new
 
 module _ (places p units g : ℕ) (m : Map) (it : Layout) (t : Tables) (h : History)
     (mirrors : Mirrors places (now h) it t) (free : IsFree t.places p) where
-  pub open_unerased : (e f : ChipFault) (new : Told)
-      → KeepsMap {T = Unit {0}} places m (Clears p) (λ done. IsCleared p) h (Err e) new
-      → KeepsMap {T = Unit {0}} places m (Rewrites p 1) (λ done. IsOpened p units g) h (Err f) new
-  open_unerased e f new did =
+  pub open_unerased : (e f : ChipFault) (old new : Told)
+      → KeepsMap {T = Unit {0}} places m (Clears p) (λ done. IsCleared p) h old (Err e) new
+      → KeepsMap {T = Unit {0}} places m (Rewrites p 1) (λ done. IsOpened p units g) h old (Err f) new
+  open_unerased e f old new did =
       leads_failed (EachStands places m) (Clears p) (Rewrites p 1)
       (λ (done : Unit {0}) k. StoryRests places m k × IsCleared p (now h) (now k))
-      (λ (done : Unit {0}) k. StoryRests places m k × IsOpened p units g (now h) (now k)) h e f new
+      (λ (done : Unit {0}) k. StoryRests places m k × IsOpened p units g (now h) (now k)) h e f old new
       did (rewrites_cleared p 1)
 
-  pub place_opened : (head : Sector) (mid new : Told) (result : Result (Unit {0}) ChipFault)
+  pub place_opened : (head : Sector) (old mid new : Told) (result : Result (Unit {0}) ChipFault)
       → IsOverflowHead units g head
       → KeepsMap {T = Unit {0}} {E = ChipFault} places m (Clears p) (λ done. IsCleared p) h
-      (Ok tt) mid
+      old (Ok tt) mid
       → HeaderSays places p head mid result new
-      → KeepsMap places m (Rewrites p 1) (λ done. IsOpened p units g) h result new
-  place_opened head mid new result is did seal =
+      → KeepsMap places m (Rewrites p 1) (λ done. IsOpened p units g) h old result new
+  place_opened head old mid new result is did seal =
       let j = adds_all did.added h in
       let cleared = did.ends.1.1 in
       let laid = (cleared_kept places p (now h) (now j) it t mirrors free cleared).0 in
@@ -129,14 +129,14 @@ module _ (places p units g : ℕ) (m : Map) (it : Layout) (t : Tables) (h : Hist
       let sealed = leads_weaker (EachStandsEither places m m) (EachStands places m)
       (Programs p (IsSpot 0)) (Programs p (IsSpot 0))
       (λ done k. StoryRests places m k × Gains p 0 head (now j) (now k))
-      (λ done k. StoryRests places m k × Gains p 0 head (now j) (now k)) j result new
+      (λ done k. StoryRests places m k × Gains p 0 head (now j) (now k)) j mid result new
       (λ k either. either_is_kept places m k either) (λ done a does. does) (λ v k is. is)
-      (seal m m j (record { told = did.history; settled = did.ends.0 }) did.ends.1.0
+      (seal m m j did.ends.0 did.ends.1.0
       (did.does.fresh refl h.story 0) stands) in
       leads_then (EachStands places m) (Clears p) (Programs p (IsSpot 0)) (Rewrites p 1)
       (λ done k. StoryRests places m k × IsCleared p (now h) (now k))
       (λ done k. StoryRests places m k × Gains p 0 head (now j) (now k))
-      (λ done k. StoryRests places m k × IsOpened p units g (now h) (now k)) h tt mid new result did
+      (λ done k. StoryRests places m k × IsOpened p units g (now h) (now k)) h tt old mid new result did
       sealed (λ a b one two. rewrites_one p (is_ok result) b a one two)
       (λ w k both. (both.0, opened_by p units g (now h) (now j) (now k) head is cleared both.1))
 
@@ -198,7 +198,7 @@ module _ (places p units g : ℕ) (m : Map) (it : Layout) (t after : Tables) (h 
   pub opened_steps : (T : Type 0) (v : T) → p < places → t.next ≤ g
       → length t.overflow.in_use < 2 → after ≡ with_overflow (taken t p) p (g + 1)
       → KeepsMap {T = Unit {0}} {E = ChipFault} places m (Rewrites p 1)
-      (λ done. IsOpened p units g) h (Ok tt) new
+      (λ done. IsOpened p units g) h old (Ok tt) new
       → Steps {T = T} {E = ChipFault} (EachStands places m) t after
       (λ v k. RestsOpened places m (now h) it after k)
       (λ k. RestsAgreeing places m it after k) h (Ok v) old new
@@ -213,7 +213,7 @@ module _ (places p units g : ℕ) (m : Map) (it : Layout) (t after : Tables) (h 
           lawful = record { lawful = λ base lawful clean. did.does.lawful base lawful };
           clean = λ done. clean;
         };
-        settled = λ done. did.ends.0;
+        steady = λ done. did.ends.0;
         ends = λ done. record {
           rests = did.ends.1.0;
           agrees = record { mirrors = rw is there.0; tidy = clean h.story agrees.tidy };
@@ -230,7 +230,7 @@ module _ (places p units g : ℕ) (m : Map) (it : Layout) (t after : Tables) (h 
 
   -- it wasn't: a write failed
   pub open_failed : (T : Type 0) (e f : ChipFault) → IsStopped e old new
-      → KeepsMap {T = Unit {0}} places m (Rewrites p 1) (λ done. IsOpened p units g) h (Err e) new
+      → KeepsMap {T = Unit {0}} places m (Rewrites p 1) (λ done. IsOpened p units g) h old (Err e) new
       → Steps {T = T} {E = ChipFault} (EachStands places m) t after
       (λ v k. RestsOpened places m (now h) it after k)
       (λ k. RestsAgreeing places m it after k) h (Err f) old new
@@ -245,7 +245,7 @@ module _ (places p units g : ℕ) (m : Map) (it : Layout) (t after : Tables) (h 
         history = less.history;
         each_moment = less.each_moment;
         does = less.does;
-        settled = less.settled;
+        steady = less.steady;
         ends = λ unrisen. absurd (less.ends unrisen);
       }
 

@@ -1,7 +1,7 @@
 -- What the calls for pages leave.
 use Rattle.std.proofs.Common.{◌≡◌, ◌≢◌, ◌<◌, ◌≤◌, ◌+◌, ℕ, List, length, true, false, None, Result, Ok, Err, IfErr, IfOk, is_ok, refl, ◌∙◌, ap, subst, arith, slice_index, slice_set}
 use Rattle.chip_trait.specs.Lawful.{Clean, age}
-use Rattle.chip_trait.specs.Told.{History, Told, Counts, IsConsistent, adds_all}
+use Rattle.chip_trait.specs.Told.{History, Told, Counts, adds_all}
 use Rattle.ipl_base.specs.declared.fault.ChipFault.{ChipFault}
 use Rattle.ipl_rules.specs.State.{Map}
 use Rattle.ipl_format.specs.Page.{Slots, IsPage}
@@ -30,7 +30,7 @@ ProgramsPage places p u g page slots old result new = (m : Map) (h : History)
     → IsSteady h old → StoryRests places m h → now h p 0 ≡ None
     → ((s : ℕ) → IsPieceSpot page 16 s → age h.story p s ≡ Clean)
     → KeepsMap places m (Programs p (IsPieceSpot page 16)) (λ n. HasPage p u g page slots n)
-    h result new
+    h old result new
 
 module _ (places : ℕ) (from : Source) (p g page : ℕ) where
   -- the read failed
@@ -67,20 +67,20 @@ module _ (places : ℕ) (from : Source) (p g page : ℕ) where
           (subst (λ (z : Chart). HasPage p unit g page slots n z y) is.0 has);
     }
 
-    pub page_moves : (result : Result ℕ ChipFault) → IsConsistent old
+    pub page_moves : (result : Result ℕ ChipFault)
         → ProgramsPage mid.places p unit g page slots mid result late
         → mid.places ≡ places → IfErr result (λ fault. IsStopped fault mid late)
         → MovesOnePage places from p g page old result late
-    page_moves result consistent says sized stopped m h steady rests bare clean =
+    page_moves result says sized stopped m h steady rests bare clean =
         let At : ℕ → ℕ → Type 0 = λ q s. q ≡ from.place in
         let first = so_far_read At places m h old mid steady rests did p Held
-        (of_now (λ x. Held (chart_of x)) h old consistent steady held_there) in
+        (of_now (λ x. Held (chart_of x)) h old steady held_there) in
         let k = adds_all first.added h in
         let here : ProgramsPage places p unit g page slots mid result late =
         subst (λ (q : ℕ). ProgramsPage q p unit g page slots mid result late) sized says in
         let second = keeps_written places m k (Programs p (IsPieceSpot page 16))
         (λ n. HasPage p unit g page slots n) (IsAside p) mid late result
-        (here m k (record { told = first.history; settled = first.settled tt }) (first.ends tt).0
+        (here m k (first.steady tt) (first.ends tt).0
         (ap (λ (c : Chart). c p 0) (first.ends tt).1.0 ∙ bare)
         (λ s spot. first.does.others h.story p s (λ same none. none) (clean s spot))) stopped in
         keeps_then places m h (Programs p (λ s. ⊥) true) (Programs p (IsPieceSpot page 16))
@@ -116,12 +116,12 @@ module _ (places : ℕ) (from : Source) (p g page : ℕ) where
 
 module _ (places : ℕ) (from : Source) (p g : ℕ) (m : Map) (h : History) where
   -- after k pages
-  abbrev pub MovedSoFar : ℕ → List ℕ → Told → Type 0
-  MovedSoFar k pieces t =
-      SoFar places m (Programs p (IsBaseSpotBelow k) true) (HasMoved from p g pieces k) h t
+  abbrev pub MovedSoFar : ℕ → List ℕ → Told → Told → Type 0
+  MovedSoFar k pieces old t =
+      SoFar places m (Programs p (IsBaseSpotBelow k) true) (HasMoved from p g pieces k) h old t
 
   pub moved_so_far_none : (pieces : List ℕ) (t : Told) → IsSteady h t → StoryRests places m h
-      → MovedSoFar 0 pieces t
+      → MovedSoFar 0 pieces t t
   moved_so_far_none pieces t steady rests =
       so_far_none places m h (Programs p (IsBaseSpotBelow 0) true) (HasMoved from p g pieces 0) t
       steady rests (programs_none p (IsBaseSpotBelow 0) true)
@@ -130,7 +130,7 @@ module _ (places : ℕ) (from : Source) (p g : ℕ) (m : Map) (h : History) wher
   module _ (old : Told) (apart : from.place ≢ p) (bare : now h p 0 ≡ None)
       (clean : (s : ℕ) → IsBaseSpotBelow 15 s → age h.story p s ≡ Clean) (k : ℕ) (low : k < 15)
       (pieces : List ℕ) (mid : Told) (counts : Counts old mid)
-      (first : MovedSoFar k pieces mid) where
+      (first : MovedSoFar k pieces old mid) where
     -- one page more
     pub next_page : (F : ℕ → Chart → Chart → Type 0) (new : Told) (result : Result ℕ ChipFault)
         → MovesOnePage places from p g k mid result new
@@ -144,7 +144,7 @@ module _ (places : ℕ) (from : Source) (p g : ℕ) (m : Map) (h : History) wher
         (Programs p (IsPieceSpot k 16)) (Programs p (IsBaseSpotBelow (k + 1)))
         (HasMoved from p g pieces k) (MovesPage from p g k) F (IsAside p) (IsAside p)
         old mid new result first counts
-        (says m j (record { told = first.history; settled = first.settled tt }) (first.ends tt).0
+        (says m j (first.steady tt) (first.ends tt).0
         ((moved_aside from p g pieces k (now h) (now j) (first.ends tt).1).header ∙ bare)
         (λ s spot. first.does.others h.story p s (λ same is. omega (arith, is.1, spot.0))
         (clean s (omega (arith, spot.0), omega (arith, spot.1, low)))))
@@ -157,7 +157,7 @@ module _ (places : ℕ) (from : Source) (p g : ℕ) (m : Map) (h : History) wher
 
     pub moved_so_far_more : (n : ℕ) (new : Told) → k < length pieces → IsFew pieces → n ≤ 16
         → MovesOnePage places from p g k mid (Ok n) new
-        → MovedSoFar (k + 1) (slice_set pieces k n) new
+        → MovedSoFar (k + 1) (slice_set pieces k n) old new
     moved_so_far_more n new room few small says =
         next_page (λ n. HasMoved from p g (slice_set pieces k n) (k + 1)) new (Ok n) says
         (λ c d e moved page. moved_more from p g pieces k n c d e apart room few small moved page)

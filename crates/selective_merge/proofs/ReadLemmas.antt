@@ -2,7 +2,7 @@
 use Rattle.std.proofs.Common.{◌≡◌, ℕ, Bool, true, false, ◌++◌, Err, refl, sym, subst}
 use Rattle.chip_trait.specs.Story.{Story, Contents, held}
 use Rattle.chip_trait.specs.Lawful.{Clean, age}
-use Rattle.chip_trait.specs.Told.{History, Told, IsConsistent}
+use Rattle.chip_trait.specs.Told.{History, Told}
 use Rattle.ipl_base.specs.declared.fault.ChipFault.{ChipFault}
 use Rattle.ipl_rules.specs.State.{Map}
 use Rattle.ipl_meaning.specs.Chart.{Chart}
@@ -42,16 +42,15 @@ programs_behind p Spot done later earlier first second =
     (λ s none. absurd none) (λ s is. is) first second
 
 -- what a steady chip holds
-pub of_now : (P : Contents → Type 0) (h : History) (t : Told) → IsConsistent t → IsSteady h t
+pub of_now : (P : Contents → Type 0) (h : History) (t : Told) → IsSteady h t
     → OfContents t P → P (held h.start h.story)
-of_now P h t consistent steady of =
-    of (held h.start h.story) (consistent.replayed h steady.told steady.settled)
+of_now P h t steady of = of (held h.start h.story) steady.holds
 
 module _ (At : ℕ → ℕ → Type 0) (places : ℕ) (m : Map) (h : History) (old new : Told)
     (steady : IsSteady h old) (rests : StoryRests places m h) (did : ReadsAt At old new) where
   -- reads that were done: the chart is the same, and this is so of it
   pub so_far_read : (p : ℕ) (P : Chart → Type 0) → P (now h)
-      → SoFar places m (Programs p (λ s. ⊥) true) (λ c y. (y ≡ c) × P c) h new
+      → SoFar places m (Programs p (λ s. ⊥) true) (λ c y. (y ≡ c) × P c) h old new
   so_far_read p P is =
       outcome_reads At places m (Programs p (λ s. ⊥) true) (Unit {0})
       (λ k. StoryRests places m k × ((now k ≡ now h) × P (now h))) h old new steady rests did

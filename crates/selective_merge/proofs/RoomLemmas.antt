@@ -1,7 +1,7 @@
 -- What the calls leave that make room.
 use Rattle.std.proofs.Common.{◌≡◌, ℕ, Some, Result, Ok, Err, IfOk, IfErr, OnOk, ◌∙◌}
 use Rattle.chip_trait.specs.Story.{Contents, held}
-use Rattle.chip_trait.specs.Told.{History, Told, IsConsistent}
+use Rattle.chip_trait.specs.Told.{History, Told}
 use Rattle.ipl_base.specs.declared.fault.ChipFault.{ChipFault}
 use Rattle.ipl_base.specs.declared.spot.Spot.{Spot}
 use Rattle.ipl_meaning.specs.Chart.{Chart, chart_of}
@@ -41,7 +41,7 @@ steps_done : {T U : Type 0} (Each : History → Type 0) (t after : Tables)
 steps_done Each t after Then1 Then2 Else h v w old new more did =
     outcome_weaker Each Each (TidyWork (IsCountedClean t) (IsCountedClean after) (Unit {0}))
     (TidyWork (IsCountedClean t) (IsCountedClean after) (Unit {0})) (Unit {0}) (Unit {0})
-    (Then1 v) (Then2 w) h new (λ k is. is) (λ a is. is) (λ is. is) (λ done k is. more k is) did
+    (Then1 v) (Then2 w) h old new (λ k is. is) (λ a is. is) (λ is. is) (λ done k is. more k is) did
 
 pub if_ok : {T E : Type 0} (P Q : T → Type 0) (result : Result T E) → ((v : T) → P v → Q v)
     → IfOk result P → IfOk result Q
@@ -157,10 +157,10 @@ module _ (One : RoomOf) (At : ℕ → ℕ → Type 0) (u : ℕ) (t after : Table
       → One old.places (chart_of x) y it t u after spot.place spot.sector
       → IsPlaced old.places (chart_of x) y it t u after spot.place spot.sector
 
-  pub placed_behind : (result : Result Spot ChipFault) → IsConsistent old → IfOk result Gives
+  pub placed_behind : (result : Result Spot ChipFault) → IfOk result Gives
       → MakesRoomInSteps One old.places u t after mid result new
       → MakesRoomInSteps IsPlaced old.places u t after old result new
-  placed_behind (Ok spot) consistent gives says m it h steady rests agrees =
+  placed_behind (Ok spot) gives says m it h steady rests agrees =
       steps_done (EachStands old.places m) t after
       (λ v k. RestsWithRoom One old.places m (now h) it t u after v k)
       (λ v k. RestsWithRoom IsPlaced old.places m (now h) it t u after v k)
@@ -168,14 +168,14 @@ module _ (One : RoomOf) (At : ℕ → ℕ → Type 0) (u : ℕ) (t after : Table
       (λ k done. record {
         rests = done.rests;
         room = gives (held h.start h.story) (now k) it
-            (consistent.replayed h steady.told steady.settled) agrees.mirrors done.room;
+            steady.holds agrees.mirrors done.room;
         tidy = done.tidy;
       })
       (steps_behind At old.places m it t after
       (λ c spot k. RestsWithRoom One old.places m c it t u after spot k)
       (λ k. RestsAgreeing old.places m it after k) h old mid new (Ok spot) steady rests agrees did
       (λ k steady_k rests_k agrees_k. says m it k steady_k rests_k agrees_k))
-  placed_behind (Err e) consistent gives says m it h steady rests agrees =
+  placed_behind (Err e) gives says m it h steady rests agrees =
       steps_behind At old.places m it t after
       (λ c spot k. RestsWithRoom One old.places m c it t u after spot k)
       (λ k. RestsAgreeing old.places m it after k) h old mid new (Err e) steady rests agrees did

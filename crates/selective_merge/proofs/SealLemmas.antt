@@ -38,7 +38,7 @@ pub sealed_keeps : (places p units u g : ℕ) (pieces : List ℕ) (carried : ℕ
     → IsUnitHead units u g pieces carried head
     → ((m n : Map) (h : History) → IsSteady h old → StoryRests places m h
     → age h.story p 0 ≡ Clean → Stands places (with_sector (now h) p 0 head) n
-    → SwitchesMap places m n (Programs p (IsSpot 0)) (λ done. Gains p 0 head) h result new)
+    → SwitchesMap places m n (Programs p (IsSpot 0)) (λ done. Gains p 0 head) h old result new)
     → SealsUnit places p units u g pieces carried old result new
 sealed_keeps places p units u g pieces carried head old result new is says m h steady rests clean
     stands =
@@ -46,7 +46,7 @@ sealed_keeps places p units u g pieces carried head old result new is says m h s
     (Programs p (IsSpot 0)) (Programs p (IsSpot 0))
     (λ done k. StoryRests places m k × Gains p 0 head (now h) (now k))
     (λ done k. StoryRests places m k × IsSealed p units u g pieces carried (now h) (now k))
-    h result new (λ k each. either_is_kept places m k each) (λ done a same. same)
+    h old result new (λ k each. either_is_kept places m k each) (λ done a same. same)
     (λ done k held. (held.0, (head, is, held.1)))
     (says m m h steady rests clean (stands head is))
 
@@ -151,7 +151,7 @@ module _ (places units p g serial carried : ℕ) (from : Source) (payloads : Lis
   unit_written m it t u h old mid new result what rests counts filled seals stopped =
       let first = so_far_and places m h (Fills p (length payloads) true)
       (IsFilled from p g serial pieces payloads)
-      (λ c. IsToMerge places c it t u p g serial from payloads) mid what filled in
+      (λ c. IsToMerge places c it t u p g serial from payloads) old mid what filled in
       let k = adds_all first.added h in
       let there = (first.ends tt).1 in
       let says = says_of places (now h) it m what.mirrors.laid (held_stands places m h rests.each) in
@@ -164,7 +164,7 @@ module _ (places units p g serial carried : ℕ) (from : Source) (payloads : Lis
       old mid new result first counts
       (keeps_written places m k (Programs p (IsSpot 0))
       (λ done. IsSealed p units from.unit g pieces carried) (λ c y. ⊥) mid new result
-      (seals m k (record { told = first.history; settled = first.settled tt }) (first.ends tt).0
+      (seals m k (first.steady tt) (first.ends tt).0
       (first.does.fresh refl h.story 0 (inl refl))
       (λ head is. stands_after_filling places (now h) (now k) it t u p head pieces serial m
       (may_merge (now h) (now k) it t u head what is there.0) says)) stopped)

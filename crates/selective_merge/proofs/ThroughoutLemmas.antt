@@ -33,32 +33,32 @@ settled_later (Err e) old mid new counts unrisen = omega (arith, counts.writes, 
 
 -- ---- what is so after some calls that were done
 
-abbrev pub SoFar : ℕ → Map → (Story → Type 0) → (Chart → Chart → Type 0) → History → Told → Type 0
-SoFar places m Does F h t =
-    Outcome (EachStands places m) Does (Unit {0}) (λ k. StoryRests places m k × F (now h) (now k)) h t
+abbrev pub SoFar : ℕ → Map → (Story → Type 0) → (Chart → Chart → Type 0) → History → Told → Told → Type 0
+SoFar places m Does F h old t =
+    Outcome (EachStands places m) Does (Unit {0}) (λ k. StoryRests places m k × F (now h) (now k)) h old t
 
 module _ (places : ℕ) (m : Map) (h : History) where
   pub so_far_none : (Does : Story → Type 0) (F : Chart → Chart → Type 0) (t : Told)
       → IsSteady h t → StoryRests places m h → Does [] → F (now h) (now h)
-      → SoFar places m Does F h t
+      → SoFar places m Does F h t t
   so_far_none Does F t steady rests does there =
       outcome_none (EachStands places m) Does (Unit {0})
       (λ k. StoryRests places m k × F (now h) (now k)) h t steady rests.each does (rests, there)
 
   -- what is so of the chart at first goes along
   pub so_far_and : (Does : Story → Type 0) (F : Chart → Chart → Type 0) (P : Chart → Type 0)
-      (t : Told) → P (now h) → SoFar places m Does F h t
-      → SoFar places m Does (λ c y. F c y × P c) h t
-  so_far_and Does F P t there did =
+      (old t : Told) → P (now h) → SoFar places m Does F h old t
+      → SoFar places m Does (λ c y. F c y × P c) h old t
+  so_far_and Does F P old t there did =
       outcome_weaker (EachStands places m) (EachStands places m) Does Does (Unit {0}) (Unit {0})
       (λ k. StoryRests places m k × F (now h) (now k))
-      (λ k. StoryRests places m k × (F (now h) (now k) × P (now h))) h t
+      (λ k. StoryRests places m k × (F (now h) (now k) × P (now h))) h old t
       (λ k is. is) (λ a is. is) (λ is. is) (λ done k is. (is.0, (is.1, there))) did
 
   -- a call that only writes
   pub keeps_written : {T : Type 0} (Does : Bool → Story → Type 0) (F : T → Chart → Chart → Type 0)
       (G : Chart → Chart → Type 0) (old new : Told) (result : Result T ChipFault)
-      → KeepsMap places m Does F h result new → IfErr result (λ fault. IsStopped fault old new)
+      → KeepsMap places m Does F h old result new → IfErr result (λ fault. IsStopped fault old new)
       → KeepsThroughout places m Does F G h result old new
   keeps_written {T} Does F G old new result did stopped =
       outcome_written T (EachStands places m) Does (RestsWith places m F h) (RestsBy places m G h)
@@ -68,7 +68,7 @@ module _ (places : ℕ) (m : Map) (h : History) where
   pub keeps_then : {T : Type 0} (DoesFirst : Story → Type 0) (DoesNext DoesAll : Bool → Story → Type 0)
       (ChartsFirst : Chart → Chart → Type 0) (ChartsNext ChartsAll : T → Chart → Chart → Type 0)
       (LeavesNext LeavesAll : Chart → Chart → Type 0) (old mid new : Told) (result : Result T ChipFault)
-      → (first : SoFar places m DoesFirst ChartsFirst h mid) → Counts old mid
+      → (first : SoFar places m DoesFirst ChartsFirst h old mid) → Counts old mid
       → KeepsThroughout places m DoesNext ChartsNext LeavesNext (adds_all first.added h) result mid new
       → ((a b : Story) → DoesFirst a → DoesNext (is_ok result) b → DoesAll (is_ok result) (b ++ a))
       → IfOk result (λ v. (c d e : Chart) → ChartsFirst c d → ChartsNext v d e → ChartsAll v c e)
@@ -79,12 +79,12 @@ module _ (places : ℕ) (m : Map) (h : History) where
       let k = adds_all first.added h in
       let ended = outcome_then (EachStands places m) DoesFirst (DoesNext (is_ok result)) (DoesAll (is_ok result))
       (Unit {0}) (Settled result mid new) (λ k. StoryRests places m k × ChartsFirst (now h) (now k))
-      (EndsWith result (RestsWith places m ChartsNext k) (RestsBy places m LeavesNext k)) h mid new first tt second
+      (EndsWith result (RestsWith places m ChartsNext k) (RestsBy places m LeavesNext k)) h old mid new first tt second
       both in
       outcome_weaker (EachStands places m) (EachStands places m) (DoesAll (is_ok result))
       (DoesAll (is_ok result)) (Settled result mid new) (Settled result old new)
       (EndsWith result (RestsWith places m ChartsNext k) (RestsBy places m LeavesNext k))
-      (EndsWith result (RestsWith places m ChartsAll h) (RestsBy places m LeavesAll h)) h new
+      (EndsWith result (RestsWith places m ChartsAll h) (RestsBy places m LeavesAll h)) h old new
       (λ j is. is) (λ a is. is) (settled_later result old mid new counts)
       (λ settled j. at_end (λ v. RestsWith places m ChartsNext k v j) (λ v. RestsWith places m ChartsAll h v j)
       (RestsBy places m LeavesNext k j) (RestsBy places m LeavesAll h j) result (each_done result done k j (first.ends tt).1)
@@ -107,7 +107,7 @@ module _ (places : ℕ) (m : Map) (h : History) where
   keeps_failed DoesFirst DoesNext ChartsFirst ChartsNext LeavesFirst LeavesNext old new e f did less left =
       outcome_weaker (EachStands places m) (EachStands places m) (DoesFirst false) (DoesNext false)
       (Settled {T = Unit {0}} (Err e) old new) (Settled {T = Unit {0}} (Err f) old new)
-      (RestsBy places m LeavesFirst h) (RestsBy places m LeavesNext h) h new (λ k is. is) less (λ is. is)
+      (RestsBy places m LeavesFirst h) (RestsBy places m LeavesNext h) h old new (λ k is. is) less (λ is. is)
       (λ settled k is. (is.0, left (now h) (now k) is.1)) did
 
 -- ---- charts, one after another

@@ -1,7 +1,7 @@
 -- A merge behind what was read of the unit.
 use Rattle.std.proofs.Common.{◌≡◌, ℕ, List, Some, Result, Ok, Err, refl, ◌∙◌, subst}
 use Rattle.chip_trait.specs.Story.{Contents, held}
-use Rattle.chip_trait.specs.Told.{History, Told, IsConsistent, adds_all}
+use Rattle.chip_trait.specs.Told.{History, Told, adds_all}
 use Rattle.ipl_base.specs.declared.fault.ChipFault.{ChipFault}
 use Rattle.ipl_format.specs.Record.{Record}
 use Rattle.ipl_rules.specs.State.{Map}
@@ -63,19 +63,19 @@ steps_behind At places m it t after Then Else h old mid new result steady rests 
     let k = adds_all first.added h in
     let there = first.ends tt in
     let second = subst (λ (c : Chart). Steps Each t after (Then c) Else k result mid new) there.1.1
-    (later k (record { told = first.history; settled = first.settled tt }) there.0 there.1.0) in
+    (later k (first.steady tt) there.0 there.1.0) in
     let both = outcome_then Each (TidyWork Clean Clean (Unit {0}))
     (TidyWork Clean (IsCountedClean after) (Settled result mid new))
     (TidyWork Clean (IsCountedClean after) (Settled result mid new)) (Unit {0})
     (Settled result mid new) (λ k. StoryRests places m k × (Agrees places k it t × (now k ≡ now h)))
-    (EndsWith result (Then (now h)) Else) h mid new first tt second
+    (EndsWith result (Then (now h)) Else) h old mid new first tt second
     (λ a b one two. tidy_then Clean Clean (IsCountedClean after) (Unit {0})
     (Settled result mid new) a b one tt two) in
     let less = settled_later result old mid new did.counts in
     outcome_weaker Each Each (TidyWork Clean (IsCountedClean after) (Settled result mid new))
     (TidyWork Clean (IsCountedClean after) (Settled result old new)) (Settled result mid new)
     (Settled result old new) (EndsWith result (Then (now h)) Else)
-    (EndsWith result (Then (now h)) Else) h new (λ k is. is)
+    (EndsWith result (Then (now h)) Else) h old new (λ k is. is)
     (λ a. tidy_weaker Clean (IsCountedClean after) (Settled result mid new)
     (Settled result old new) a less) less (λ settled k is. is) both
 
@@ -106,16 +106,14 @@ module _ (At : ℕ → ℕ → Type 0) (u : ℕ) (home : Home) (log : List Recor
       source_is home t (it.units u) u log
       (learns x told it t (record { mirrors = mirrors; directory_is = refl; overflow_is = refl }))
 
-  pub merge_behind : IsConsistent old
-      → MergesFromInSteps old.places u from t after mid result new
+  pub merge_behind : MergesFromInSteps old.places u from t after mid result new
       → MergesInSteps old.places u t after old result new
-  merge_behind consistent says m it h steady rests agrees =
+  merge_behind says m it h steady rests agrees =
       steps_behind At old.places m it t after
       (λ c done k. RestsMerged old.places m c it t u after k)
       (λ k. RestsAgreeing old.places m it after k) h old mid new result steady rests agrees did
       (λ k steady_k rests_k agrees_k. says m it k steady_k rests_k agrees_k
-      (source_at (held h.start h.story) it
-      (consistent.replayed h steady.told steady.settled) agrees.mirrors))
+      (source_at (held h.start h.story) it steady.holds agrees.mirrors))
 
   pub merged_told : ChartsThroughout (λ done. MergesFrom old.places u from t after)
       (StaysMirrored old.places t after) result mid new

@@ -62,7 +62,7 @@ logs_aside p u g serial payloads k c y logs = record {
 
 module _ (places p u g serial : ℕ) (payloads : List (List ℕ)) (m : Map) (h : History) where
   pub keeps_none : (t : Told) → IsSteady h t → StoryRests places m h
-      → KeepsLogs places p u g serial payloads 0 m h (Ok tt) t
+      → KeepsLogs places p u g serial payloads 0 m h t (Ok tt) t
   keeps_none t steady rests =
       leads_none (EachStands places m) (Programs p (IsLogSpotBelow 0))
       (λ done k. StoryRests places m k × HasLogs p u g serial payloads 0 (now h) (now k))
@@ -71,13 +71,13 @@ module _ (places p u g serial : ℕ) (payloads : List (List ℕ)) (m : Map) (h :
 
   -- one log sector more
   pub keeps_more : (total i : ℕ) → i < total → now h p 0 ≡ None
-      → ((s : ℕ) → IsLogSpotBelow total s → age h.story p s ≡ Clean) → (mid new : Told)
+      → ((s : ℕ) → IsLogSpotBelow total s → age h.story p s ≡ Clean) → (old mid new : Told)
       → (result : Result (Unit {0}) ChipFault)
-      → KeepsLogs places p u g serial payloads i m h (Ok tt) mid
+      → KeepsLogs places p u g serial payloads i m h old (Ok tt) mid
       → WritesLog places p (241 + i)
       (log_sector u g (serial + i) (slice_index_or payloads i [])) mid result new
-      → KeepsLogs places p u g serial payloads (i + 1) m h result new
-  keeps_more total i few bare clean mid new result so one =
+      → KeepsLogs places p u g serial payloads (i + 1) m h old result new
+  keeps_more total i few bare clean old mid new result so one =
       let sector = log_sector u g (serial + i) (slice_index_or payloads i []) in
       let k = adds_all so.added h in
       leads_then (EachStands places m) (Programs p (IsLogSpotBelow i))
@@ -85,8 +85,8 @@ module _ (places p u g serial : ℕ) (payloads : List (List ℕ)) (m : Map) (h :
       (λ done j. StoryRests places m j × HasLogs p u g serial payloads i (now h) (now j))
       (λ done j. StoryRests places m j × Gains p (241 + i) sector (now k) (now j))
       (λ done j. StoryRests places m j × HasLogs p u g serial payloads (i + 1) (now h) (now j))
-      h tt mid new result so
-      (one m k (record { told = so.history; settled = so.ends.0 }) so.ends.1.0
+      h tt old mid new result so
+      (one m k so.ends.0 so.ends.1.0
       ((logs_aside p u g serial payloads i (now h) (now k) so.ends.1.1).header ∙ bare)
       (λ zero. omega (arith, zero))
       (so.does.others h.story p (241 + i) (λ same spot. omega (arith, spot.1))
@@ -101,15 +101,15 @@ module _ (places p u g serial : ℕ) (payloads : List (List ℕ)) (m : Map) (h :
       ))
 
   -- one failed
-  pub keeps_failed : (i total : ℕ) (e f : ChipFault) (new : Told) → i ≤ total
-      → KeepsLogs places p u g serial payloads i m h (Err e) new
-      → KeepsLogs places p u g serial payloads total m h (Err f) new
-  keeps_failed i total e f new few did =
+  pub keeps_failed : (i total : ℕ) (e f : ChipFault) (old new : Told) → i ≤ total
+      → KeepsLogs places p u g serial payloads i m h old (Err e) new
+      → KeepsLogs places p u g serial payloads total m h old (Err f) new
+  keeps_failed i total e f old new few did =
       leads_failed (EachStands places m) (Programs p (IsLogSpotBelow i))
       (Programs p (IsLogSpotBelow total))
       (λ done k. StoryRests places m k × HasLogs p u g serial payloads i (now h) (now k))
       (λ done k. StoryRests places m k × HasLogs p u g serial payloads total (now h) (now k))
-      h e f new did
+      h e f old new did
       (λ a did. programs_wider p (IsLogSpotBelow i) (IsLogSpotBelow total) false false a
       (λ s is. (is.0, omega (arith, is.1, few))) did)
 

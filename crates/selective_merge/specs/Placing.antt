@@ -40,7 +40,7 @@ abbrev pub OpensPlace : ℕ → ℕ → ℕ → ℕ → Told → Result (Unit {0
 OpensPlace places p units generation old result new =
     (m : Map) (it : Layout) (t : Tables) (h : History)
     → IsSteady h old → StoryRests places m h → Mirrors places (now h) it t → IsFree t.places p
-    → KeepsMap places m (Rewrites p 1) (λ done. IsOpened p units generation) h result new
+    → KeepsMap places m (Rewrites p 1) (λ done. IsOpened p units generation) h old result new
 
 -- whatever layout the tables mirrored, they mirror it still, and each page is shown still
 abbrev pub Opens : ℕ → Tables → Tables → Chart → Chart → Type 0

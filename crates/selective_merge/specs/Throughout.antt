@@ -23,7 +23,7 @@ abbrev pub KeepsThroughout : {T E : Type 0} → ℕ → Map → (Bool → Story 
     → History → Result T E → Told → Told → Type 0
 KeepsThroughout places m Does F G h result old new =
     Outcome (EachStands places m) (Does (is_ok result)) (Settled result old new)
-    (EndsWith result (RestsWith places m F h) (RestsBy places m G h)) h new
+    (EndsWith result (RestsWith places m F h) (RestsBy places m G h)) h old new
 
 -- A chip that tells its contents goes on telling them, unless a write failed: done, their chart is
 -- by F related to the one before; and not done, by G.

@@ -61,14 +61,14 @@ abbrev pub WritesLog : ℕ → ℕ → ℕ → Sector → Told → Result (Unit 
 WritesLog places p s sector old result new = (m : Map) (h : History)
     → IsSteady h old → StoryRests places m h → now h p 0 ≡ None → s ≢ 0
     → age h.story p s ≡ Clean
-    → KeepsMap places m (Programs p (IsSpot s)) (λ done. Gains p s sector) h result new
+    → KeepsMap places m (Programs p (IsSpot s)) (λ done. Gains p s sector) h old result new
 
 -- the first n log sectors with these payloads
 abbrev pub KeepsLogs : ℕ → ℕ → ℕ → ℕ → ℕ → List (List ℕ) → ℕ → Map
-    → History → Result (Unit {0}) ChipFault → Told → Type 0
-KeepsLogs places p u generation serial payloads n m h result new =
+    → History → Told → Result (Unit {0}) ChipFault → Told → Type 0
+KeepsLogs places p u generation serial payloads n m h old result new =
     KeepsMap places m (Programs p (IsLogSpotBelow n))
-    (λ done. HasLogs p u generation serial payloads n) h result new
+    (λ done. HasLogs p u generation serial payloads n) h old result new
 
 -- all of them
 abbrev pub WritesLogs : ℕ → ℕ → ℕ → ℕ → ℕ → List (List ℕ)
@@ -76,7 +76,7 @@ abbrev pub WritesLogs : ℕ → ℕ → ℕ → ℕ → ℕ → List (List ℕ)
 WritesLogs places p u generation serial payloads old result new = (m : Map) (h : History)
     → IsSteady h old → StoryRests places m h → now h p 0 ≡ None
     → ((s : ℕ) → IsLogSpotBelow (length payloads) s → age h.story p s ≡ Clean)
-    → KeepsLogs places p u generation serial payloads (length payloads) m h result new
+    → KeepsLogs places p u generation serial payloads (length payloads) m h old result new
 
 -- ---- the whole place
 
@@ -103,7 +103,7 @@ SealsUnit places p units u generation pieces carried old result new = (m : Map) 
     → ((head : Sector) → IsUnitHead units u generation pieces carried head
     → Stands places (with_sector (now h) p 0 head) m)
     → KeepsMap places m (Programs p (IsSpot 0))
-    (λ done. IsSealed p units u generation pieces carried) h result new
+    (λ done. IsSealed p units u generation pieces carried) h old result new
 
 -- a unit, written to a place that is free
 abbrev pub WritesUnit : ℕ → Source → ℕ → ℕ → ℕ → List (List ℕ)

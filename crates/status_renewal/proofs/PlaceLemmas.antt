@@ -226,6 +226,6 @@ module _ (takes : UsesTake) (gives_back : DisusesGiveBack) (places p : ℕ) (d :
           lawful = did.does.lawful;
           clean = λ unrisen. absurd (did.ends unrisen);
         };
-        settled = did.settled;
+        steady = did.steady;
         ends = λ unrisen. absurd (did.ends unrisen);
       }

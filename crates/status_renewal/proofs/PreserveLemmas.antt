@@ -1,7 +1,7 @@
 -- Calls that keep a map, one after another, where tables agree with the chip between them.
 use Rattle.std.proofs.Common.{◌≡◌, ℕ, List, Some, Result, Ok, Err, sym, ◌∙◌, subst}
 use Rattle.chip_trait.specs.Story.{Contents, held}
-use Rattle.chip_trait.specs.Told.{History, Told, Counts, IsConsistent, adds_all}
+use Rattle.chip_trait.specs.Told.{History, Told, Counts, adds_all}
 use Rattle.ipl_base.specs.declared.fault.ChipFault.{ChipFault}
 use Rattle.ipl_rules.specs.State.{Map}
 use Rattle.ipl_meaning.specs.Agrees.{IsTidy, Agrees}
@@ -22,20 +22,16 @@ use Rattle.status_renewal.specs.Passes.{HasPassed}
 
 -- ---- what is held is told
 
-pub held_told : (h : History) (told : Told) → IsConsistent told → IsSteady h told
-    → told.contents ≡ Some (held h.start h.story)
-held_told h told law steady = law.replayed h steady.told steady.settled
-
 pub same_told : (x y : Contents) → Some x ≡ Some y → x ≡ y
 same_told x y e = cc
 
 -- tables that mirror what is told agree with the story
 pub agrees_of : (places : ℕ) (h : History) (told : Told) (x : Contents) (it : Layout) (t : Tables)
-    → IsConsistent told → IsSteady h told → told.contents ≡ Some x
+    → IsSteady h told → told.contents ≡ Some x
     → Mirrors places (chart_of x) it t → IsTidy h.story t → Agrees places h it t
-agrees_of places h told x it t law steady is mirrors tidy =
+agrees_of places h told x it t steady is mirrors tidy =
     let same : x ≡ held h.start h.story =
-    same_told x (held h.start h.story) (sym is ∙ held_told h told law steady) in
+    same_told x (held h.start h.story) (sym is ∙ steady.holds) in
     record {
       mirrors = subst (λ (y : Contents). Mirrors places (chart_of y) it t) same mirrors;
       tidy = tidy;
@@ -84,7 +80,7 @@ steps_preserve places m h t after Then Else result old new done other did =
     (TidyWork (IsCountedClean t) (IsCountedClean after) (Settled result old new))
     (TidyWork (IsCountedClean t) (IsCountedClean after) (Settled result old new))
     (Settled result old new) (Settled result old new) (EndsWith result Then Else)
-    (EndsWith result (λ v k. StoryRests places m k) (λ k. StoryRests places m k)) h new
+    (EndsWith result (λ v k. StoryRests places m k) (λ k. StoryRests places m k)) h old new
     (λ k is. is) (λ a is. is) (λ b. b)
     (λ _ k is. ends_less places m result Then Else done other k is) did
 
@@ -102,30 +98,28 @@ preserves_then places m h t between after old mid new result counts tidy first n
     (next (adds_all first.added h)
     (outcome_steady (EachStands places m)
     (TidyWork (IsCountedClean t) (IsCountedClean between) (Unit {0})) (Unit {0})
-    (StoryRests places m) h mid first tt)
+    (StoryRests places m) h old mid first tt)
     (first.ends tt) (first.does.clean tt h.story tidy))
 
 -- reads, and then another call
 pub read_then : (At : ℕ → ℕ → Type 0) (places : ℕ) (m : Map) (h : History) (it : Layout)
     (t after : Tables) (old mid new : Told) (result : Result (Unit {0}) ChipFault)
-    → IsConsistent old → IsConsistent mid → IsSteady h old → StoryRests places m h
+    → IsSteady h old → StoryRests places m h
     → Agrees places h it t → ReadsAt At old mid
     → ((k : History) → IsSteady k mid → StoryRests places m k → Agrees places k it t
     → Preserves places m t after k result mid new)
     → Preserves places m t after h result old new
-read_then At places m h it t after old mid new result law_old law_mid steady rests agrees reads
-    next =
+read_then At places m h it t after old mid new result steady rests agrees reads next =
     preserves_then places m h t t after old mid new result reads.counts agrees.tidy
     (reads_preserve At places m h t (Ok tt) old mid steady rests reads)
     (λ k there resting tidy. next k there resting
-    (agrees_of places k mid (held h.start h.story) it t law_mid there
-    (reads.contents ∙ held_told h old law_old steady) agrees.mirrors tidy))
+    (agrees_of places k mid (held h.start h.story) it t there
+    (reads.contents ∙ steady.holds) agrees.mirrors tidy))
 
 -- a part of a pass, and then another call
 pub passed_then : (places : ℕ) (m : Map) (h : History) (it : Layout) (t between after : Tables)
     (old mid new : Told) (result : Result (Unit {0}) ChipFault) (n : ℕ) (kept : List ℕ)
-    → Counts old mid → IsConsistent old → IsConsistent mid → IsSteady h old
-    → Agrees places h it t
+    → Counts old mid → IsSteady h old → Agrees places h it t
     → ((x : Contents) → old.contents ≡ Some x → Mirrors places (chart_of x) it t
     → HasPassed places n (chart_of x) it t kept mid between)
     → Preserves {T = Unit {0}} {E = ChipFault} places m t between h (Ok tt) old mid
@@ -133,9 +127,9 @@ pub passed_then : (places : ℕ) (m : Map) (h : History) (it : Layout) (t betwee
     → StoryRests places m k → Agrees places k was.now between
     → Preserves places m between after k result mid new)
     → Preserves places m t after h result old new
-passed_then places m h it t between after old mid new result n kept counts law_old law_mid steady
-    agrees passes first next =
-    let was = passes (held h.start h.story) (held_told h old law_old steady) agrees.mirrors in
+passed_then places m h it t between after old mid new result n kept counts steady agrees passes
+    first next =
+    let was = passes (held h.start h.story) steady.holds agrees.mirrors in
     preserves_then places m h t between after old mid new result counts agrees.tidy first
     (λ k there resting tidy. next k was there resting
-    (agrees_of places k mid was.contents was.now between law_mid there was.told was.mirrors tidy))
+    (agrees_of places k mid was.contents was.now between there was.told was.mirrors tidy))

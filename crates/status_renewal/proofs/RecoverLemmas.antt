@@ -2,7 +2,7 @@
 use Rattle.std.proofs.Common.{◌≡◌, ◌≢◌, inl, inr, ℕ, ◌*◌, true, false, List, [], Some, None, Result, Ok, Err, sym, ◌∙◌, ap, subst, arith}
 use Rattle.std.proofs.lemmas.Bool.{cases_Bool, false≢true}
 use Rattle.chip_trait.specs.Story.{Contents, held}
-use Rattle.chip_trait.specs.Told.{History, Told, Counts, IsConsistent}
+use Rattle.chip_trait.specs.Told.{History, Told, Counts}
 use Rattle.ipl_base.specs.declared.fault.ChipFault.{ChipFault}
 use Rattle.ipl_base.specs.declared.fault.ChipFault.TheVariants.{ReadFault, Stopped, Damaged}
 use Rattle.ipl_base.specs.declared.fault.ImageFault.{ImageFault}
@@ -29,7 +29,7 @@ use Rattle.unit_io.specs.ReadsAt.{Anywhere}
 use Rattle.unit_io.proofs.ReadsAtLemmas.{at_rests}
 use Rattle.status_renewal.specs.Passes.{HasRenewed, TellsChart, KeepsInSteps, RenewCause}
 use Rattle.status_renewal.specs.Recovers.{HasOpened, IsOpeningFault, LooksAtFaults, IsNowhere, RecoversInSteps, OpeningCause}
-use Rattle.status_renewal.proofs.PreserveLemmas.{held_told, agrees_of, reads_preserve, preserves_then}
+use Rattle.status_renewal.proofs.PreserveLemmas.{agrees_of, reads_preserve, preserves_then}
 
 -- ---- the tables
 
@@ -161,12 +161,12 @@ reads_recover places old new after e did m h steady rests =
     (at_rests Anywhere places m h did.added did.each rests)
 
 module _ (places : ℕ) (t after : Tables) (old mid new : Told)
-    (law_old : IsConsistent old) (law_mid : IsConsistent mid) (reads : OnlyReads old mid)
+    (reads : OnlyReads old mid)
     (opens : (x : Contents) → old.contents ≡ Some x → AreOpened places (chart_of x) t
     × Mirrors places (chart_of x) (layout_in (chart_of x) places) t) where
   module _ (m : Map) (h : History) (steady : IsSteady h old) (rests : StoryRests places m h) where
     both : AreOpened places (now h) t × Mirrors places (now h) (layout_in (now h) places) t
-    both = opens (held h.start h.story) (held_told h old law_old steady)
+    both = opens (held h.start h.story) steady.holds
 
     nowhere : (p s : ℕ) → ¬ IsCountedClean t p s
     nowhere = none_counted places (now h) t both.0
@@ -179,8 +179,8 @@ module _ (places : ℕ) (t after : Tables) (old mid new : Told)
         (λ p s counted. absurd (nowhere p s counted))
         (reads_preserve Anywhere places m h t (Ok tt) old mid steady rests reads)
         (λ k there resting tidy. keeps m (layout_in (now h) places) k there resting
-        (agrees_of places k mid (held h.start h.story) (layout_in (now h) places) t law_mid there
-        (reads.contents ∙ held_told h old law_old steady) both.1 tidy))
+        (agrees_of places k mid (held h.start h.story) (layout_in (now h) places) t there
+        (reads.contents ∙ steady.holds) both.1 tidy))
 
   pub recovers_done : KeepsInSteps places t after mid (Ok tt) new
       → RecoversInSteps places old (Ok tt) after new
@@ -198,7 +198,7 @@ module _ (places : ℕ) (t after : Tables) (old mid new : Told)
           };
           clean = λ _ base clean. did.does.clean tt base (λ p s counted. absurd (none p s counted));
         };
-        settled = did.settled;
+        steady = did.steady;
         ends = did.ends;
       }
 
@@ -218,6 +218,6 @@ module _ (places : ℕ) (t after : Tables) (old mid new : Told)
           };
           clean = λ no. absurd (false≢true no);
         };
-        settled = did.settled;
+        steady = did.steady;
         ends = did.ends;
       }

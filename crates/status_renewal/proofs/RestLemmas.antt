@@ -4,7 +4,7 @@ use Rattle.std.specs.List.{Contains}
 use Rattle.std.proofs.lemmas.Bool.{cases_Bool, cases_lt}
 use Rattle.std.proofs.lemmas.List.Elements.{Contains-get_or}
 use Rattle.chip_trait.specs.Story.{Contents, held}
-use Rattle.chip_trait.specs.Told.{History, Told, IsConsistent, Unrisen, adds_all}
+use Rattle.chip_trait.specs.Told.{History, Told, Unrisen, adds_all}
 use Rattle.ipl_base.specs.declared.fault.ChipFault.{ChipFault}
 use Rattle.ipl_base.specs.declared.fault.ChipFault.TheVariants.{Stopped}
 use Rattle.ipl_format.specs.Record.{Record}
@@ -15,7 +15,7 @@ use Rattle.unit_io.specs.Leads.{IsSteady}
 use Rattle.status_renewal.specs.Passes.{has_room, HasStopped, HasRenewed, TellsChart, RenewCause}
 use Rattle.status_renewal.specs.Renewals.{PassedLogsAreSameOrCarried, ExactNumbersKeep, RenewalsRest}
 use Rattle.status_renewal.proofs.UnitLemmas.{repacked_is_carried}
-use Rattle.status_renewal.proofs.PreserveLemmas.{held_told, same_told}
+use Rattle.status_renewal.proofs.PreserveLemmas.{same_told}
 
 pub passed_logs_are_same_or_carried : PassedLogsAreSameOrCarried
 passed_logs_are_same_or_carried places n active numbers it now passed u low =
@@ -48,11 +48,11 @@ exact_numbers_keep places it new exact u low k none within =
 -- ---- the story
 
 -- what is told of a steady chip is held
-of_held : (F : Chart → Type 0) (k : History) (told : Told) → IsConsistent told → IsSteady k told
-    → TellsChart F told → F (now k)
-of_held F k told law steady (y, is, has) =
+of_held : (F : Chart → Type 0) (k : History) (told : Told) → IsSteady k told → TellsChart F told
+    → F (now k)
+of_held F k told steady (y, is, has) =
     subst (λ (x : Contents). F (chart_of x))
-    (same_told y (held k.start k.story) (sym is ∙ held_told k told law steady)) has
+    (same_told y (held k.start k.story) (sym is ∙ steady.holds)) has
 
 -- where no write failed, the fault is another one
 pub soft_end : (fault : ChipFault) (old new : Told) → RenewCause fault old new → Unrisen old new
@@ -62,27 +62,24 @@ soft_end fault old new cause unrisen is =
     subst (λ (f : ChipFault). RenewCause f old new) is cause in omega (arith, rose, unrisen)
 
 pub renewals_rest : RenewalsRest
-renewals_rest places m it h t after old new (Ok v) law_old law_new steady rests agrees tells keeps
-    accounts =
+renewals_rest places m it h t after old new (Ok v) steady rests agrees tells keeps accounts =
     let did = keeps m it h steady rests agrees in
     let k = adds_all did.added h in
-    let there : IsSteady k new = record { told = did.history; settled = did.settled tt } in
-    let (y, told, renews) = tells (held h.start h.story) (held_told h old law_old steady) in
+    let (y, told, renews) = tells (held h.start h.story) steady.holds in
     record {
       added = did.added;
       history = did.history;
       each_moment = did.each_moment;
       does = did.does;
-      settled = did.settled;
+      steady = did.steady;
       ends = λ _. record {
         rests = did.ends tt;
-        renewed = of_held (HasRenewed places (now h) it t after) k new law_new there
+        renewed = of_held (HasRenewed places (now h) it t after) k new (did.steady tt)
             (y, told, renews it agrees.mirrors);
         tidy = did.does.clean tt h.story agrees.tidy;
       };
     }
-renewals_rest places m it h t after old new (Err e) law_old law_new steady rests agrees tells keeps
-    accounts =
+renewals_rest places m it h t after old new (Err e) steady rests agrees tells keeps accounts =
     let did = keeps m it h steady rests agrees in
     let k = adds_all did.added h in
     record {
@@ -90,13 +87,12 @@ renewals_rest places m it h t after old new (Err e) law_old law_new steady rests
       history = did.history;
       each_moment = did.each_moment;
       does = did.does;
-      settled = did.settled;
+      steady = did.steady;
       ends = λ unrisen.
           let (y, told, stops) = tells (soft_end e old new accounts.cause unrisen)
-          (held h.start h.story) (held_told h old law_old steady) in record {
+          (held h.start h.story) steady.holds in record {
             rests = did.ends unrisen;
-            stopped = of_held (HasStopped places (now h) it t after) k new law_new
-                (record { told = did.history; settled = did.settled unrisen })
+            stopped = of_held (HasStopped places (now h) it t after) k new (did.steady unrisen)
                 (y, told, stops it agrees.mirrors);
             tidy = did.does.clean unrisen h.story agrees.tidy;
           };

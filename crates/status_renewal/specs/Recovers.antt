@@ -91,7 +91,7 @@ RecoversInSteps places old result after new = (m : Map) (h : History)
     → IsSteady h old → StoryRests places m h
     → Outcome (EachStands places m)
     (TidyWork IsNowhere (IsCountedClean after) (is_ok result ≡ true)) (Settled result old new)
-    (EndsWith result (λ v k. StoryRests places m k) (λ k. StoryRests places m k)) h new
+    (EndsWith result (λ v k. StoryRests places m k) (λ k. StoryRests places m k)) h old new
 
 -- ---- whatever the chip tells
 

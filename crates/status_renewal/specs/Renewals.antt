@@ -1,7 +1,7 @@
 -- Laws of passes and renewals, and what they leave of a story that rests on a map.
 use Rattle.std.specs.Prelude.{ℕ, ◌≡◌, ◌⊎◌, ◌↔◌, ◌<◌, ◌-◌, IsTrue, List, All, Result}
 use Rattle.ipl_base.specs.declared.limits.TheConstants.{RESERVED_PLACES}
-use Rattle.chip_trait.specs.Told.{History, Told, IsConsistent}
+use Rattle.chip_trait.specs.Told.{History, Told}
 use Rattle.ipl_base.specs.declared.fault.ChipFault.{ChipFault}
 use Rattle.ipl_rules.specs.State.{Map}
 use Rattle.ipl_meaning.specs.Agrees.{IsTidy, Agrees}
@@ -56,8 +56,7 @@ abbrev pub RenewalsRest : Type 0
 RenewalsRest =
     (places : ℕ) (m : Map) (it : Layout) (h : History) (t after : Tables) (old new : Told)
     (result : Result (Unit {0}) ChipFault)
-    → IsConsistent old → IsConsistent new → IsSteady h old
-    → StoryRests places m h → Agrees places h it t
+    → IsSteady h old → StoryRests places m h → Agrees places h it t
     → RenewsTold places t after old result new → KeepsInSteps places t after old result new
     → Accounts RenewCause result old new
     → Steps (EachStands places m) t after

@@ -66,8 +66,8 @@ calls_keep places m t between after h result old mid new counts first second =
     let E = λ (k : History). EndsWith result (λ v k. StoryRests places m k) (λ k. StoryRests places m k) k in
     let less = later_settled result old mid new counts in
     outcome_then (EachStands places m) (TidyWork (IsCountedClean t) (IsCountedClean between) (Unit {0})) (TidyWork (IsCountedClean between) (IsCountedClean after) (Settled result old new)) (TidyWork (IsCountedClean t) (IsCountedClean after) (Settled result old new))
-    (Unit {0}) (Settled result old new) (StoryRests places m) E h mid new first tt
-    (outcome_weaker (EachStands places m) (EachStands places m) (TidyWork (IsCountedClean between) (IsCountedClean after) (Settled result mid new)) (TidyWork (IsCountedClean between) (IsCountedClean after) (Settled result old new)) (Settled result mid new) (Settled result old new) E E (adds_all first.added h) new
+    (Unit {0}) (Settled result old new) (StoryRests places m) E h old mid new first tt
+    (outcome_weaker (EachStands places m) (EachStands places m) (TidyWork (IsCountedClean between) (IsCountedClean after) (Settled result mid new)) (TidyWork (IsCountedClean between) (IsCountedClean after) (Settled result old new)) (Settled result mid new) (Settled result old new) E E (adds_all first.added h) mid new
     (λ k is. is) (λ a. tidy_weaker (IsCountedClean between) (IsCountedClean after) (Settled result mid new) (Settled result old new) a less) less (λ _ k is. is) second)
     (λ a b one two. tidy_then (IsCountedClean t) (IsCountedClean between) (IsCountedClean after) (Unit {0}) (Settled result old new) a b one tt two)
 
@@ -77,7 +77,7 @@ failures_keep places m t after h e old new did = did
 pub writes_keep : WritesKeep
 writes_keep places m t after p s h result old new did stopped was fewer =
     let E = λ (k : History). EndsWith result (λ v k. StoryRests places m k) (λ k. StoryRests places m k) k in
-    outcome_weaker (EachStands places m) (EachStands places m) (Programs p (λ r. r ≡ s) (is_ok result)) (TidyWork (IsCountedClean t) (IsCountedClean after) (Settled result old new)) (Settled result old new) (Settled result old new) E E h new
+    outcome_weaker (EachStands places m) (EachStands places m) (Programs p (λ r. r ≡ s) (is_ok result)) (TidyWork (IsCountedClean t) (IsCountedClean after) (Settled result old new)) (Settled result old new) (Settled result old new) E E h old new
     (λ k is. is)
     (λ a programs. tidy_programs p (λ r. r ≡ s) (is_ok result) (IsCountedClean t) (IsCountedClean after) (Settled result old new) a programs (λ r is. rw is was) (λ _ q r counted. let before = fewer q r counted in (before.0, λ here spot. before.1 here spot)))
     (λ z. z) (λ _ k is. is)

@@ -1,64 +1,66 @@
 -- What calls leave, one after another.
-use Rattle.std.proofs.Common.{ℕ, true, false, [], ◌∷◌, ◌++◌, Some, Ok, Err, ◌∙◌, ap, subst, arith}
+use Rattle.std.specs.Option.{option_map}
+use Rattle.std.proofs.Common.{ℕ, true, false, [], ◌∷◌, ◌++◌, Ok, Err, ◌∙◌, ap, subst, arith}
 use Rattle.std.specs.List.{All}
 use Rattle.std.proofs.lemmas.List.Elements.{All-tail}
 use Rattle.chip_trait.specs.Story.{Story}
 use Rattle.chip_trait.specs.Moment.{AtEachMoment}
 use Rattle.chip_trait.specs.Told.{History, Told, adds_all}
+use Rattle.chip_trait.proofs.HistoryLemmas.{same_history}
 use Rattle.chip_trait.proofs.MomentLemmas.{at_start, at_next, at_both}
 use Rattle.ipl_rules.specs.State.{Map}
 use Rattle.ipl_meaning.specs.Rests.{EachStands, StoryRests}
 use Rattle.unit_io.specs.Leads.{IsSteady}
 use Rattle.unit_io.specs.ReadsAt.{IsReadAt}
 use Rattle.unit_io.proofs.LeadsLemmas.{twice_added}
-use Rattle.unit_io.proofs.ReadsAtLemmas.{at_told, at_rests}
+use Rattle.unit_io.proofs.ReadsAtLemmas.{history_then, at_steady, at_rests}
 use Rattle.steps.specs.Steps.{Outcome}
 use Rattle.steps.specs.Laws.{NothingIsDone, PartsAreJoined, LessIsSaid, WritesAreOutcomes, FailedWritesAreSteps, WritesAreSteps, ReadsAreOutcomes, FailuresSettle}
 
 pub outcome_none : NothingIsDone
 outcome_none Each Does Settles Then h t steady each does then_is = record {
   added = [];
-  history = steady.told;
+  history = same_history t.history;
   each_moment = at_start (λ e. Each (adds_all e h)) each;
   does = does;
-  settled = λ _. steady.settled;
+  steady = λ _. steady;
   ends = λ _. then_is;
 }
 
 pub outcome_then : PartsAreJoined
-outcome_then Each D1 D2 D3 A B T1 T2 h mid new first done second both =
+outcome_then Each D1 D2 D3 A B T1 T2 h old mid new first done second both =
     let same = twice_added second.added first.added h in record {
       added = second.added ++ first.added;
-      history = second.history ∙ ap Some same;
+      history = second.history ∙ ap (option_map (adds_all second.added)) first.history ∙ history_then second.added first.added old.history;
       each_moment = at_both (λ e. Each (adds_all e h)) second.added first.added first.each_moment
           (λ later e split. subst Each (twice_added e first.added h) (second.each_moment later e split));
       does = both first.added second.added first.does second.does;
-      settled = second.settled;
+      steady = λ b. subst (λ (k : History). IsSteady k new) same (second.steady b);
       ends = λ b. subst T2 same (second.ends b);
     }
 
 pub outcome_weaker : LessIsSaid
-outcome_weaker P Q D1 D2 A B T1 T2 h new each does less then_is did = record {
+outcome_weaker P Q D1 D2 A B T1 T2 h old new each does less then_is did = record {
   added = did.added;
   history = did.history;
   each_moment = λ later e split. each _ (did.each_moment later e split);
   does = does did.added did.does;
-  settled = λ b. did.settled (less b);
+  steady = λ b. did.steady (less b);
   ends = λ b. then_is b _ (did.ends (less b));
 }
 
 -- where it stands then
-pub outcome_steady : (Each : History → Type 0) (Does : Story → Type 0) (Settles : Type 0) (Then : History → Type 0) (h : History) (new : Told) → (did : Outcome Each Does Settles Then h new) → Settles → IsSteady (adds_all did.added h) new
-outcome_steady Each Does Settles Then h new did done = record { told = did.history; settled = did.settled done }
+pub outcome_steady : (Each : History → Type 0) (Does : Story → Type 0) (Settles : Type 0) (Then : History → Type 0) (h : History) (old new : Told) → (did : Outcome Each Does Settles Then h old new) → Settles → IsSteady (adds_all did.added h) new
+outcome_steady Each Does Settles Then h old new did done = did.steady done
 
 pub outcome_written : WritesAreOutcomes
-outcome_written T Each Does Then Else h old new (Ok v) did stopped = record { added = did.added; history = did.history; each_moment = did.each_moment; does = did.does; settled = λ _. did.ends.0; ends = λ _. did.ends.1 }
+outcome_written T Each Does Then Else h old new (Ok v) did stopped = record { added = did.added; history = did.history; each_moment = did.each_moment; does = did.does; steady = λ _. did.ends.0; ends = λ _. did.ends.1 }
 outcome_written T Each Does Then Else h old new (Err e) did stopped = record {
   added = did.added;
   history = did.history;
   each_moment = did.each_moment;
   does = did.does;
-  settled = λ unrisen. absurd (omega (arith, stopped.1, unrisen));
+  steady = λ unrisen. absurd (omega (arith, stopped.1, unrisen));
   ends = λ unrisen. absurd (omega (arith, stopped.1, unrisen));
 }
 
@@ -73,7 +75,7 @@ failed_writes_are_steps T U Each Does Then Holds t after h old new e f did stopp
         lawful = done.1;
         clean = λ unrisen. absurd (omega (arith, stopped.1, unrisen));
       };
-      settled = λ unrisen. absurd (omega (arith, stopped.1, unrisen));
+      steady = λ unrisen. absurd (omega (arith, stopped.1, unrisen));
       ends = λ unrisen. absurd (omega (arith, stopped.1, unrisen));
     }
 
@@ -88,7 +90,7 @@ writes_are_steps T Each Does Then Holds t after h old new (Ok v) did stopped ord
         lawful = done.1;
         clean = λ _. clean v did.added did.does did.ends.1;
       };
-      settled = λ _. did.ends.0;
+      steady = λ _. did.ends.0;
       ends = λ _. holds v did.added did.does did.ends.1;
     }
 writes_are_steps T Each Does Then Holds t after h old new (Err e) did stopped orderly clean holds =
@@ -103,10 +105,10 @@ at_moments At places m h (e ∷ added) each rests =
 pub outcome_reads : ReadsAreOutcomes
 outcome_reads At places m Does Settles Then h old new steady rests did does then_is = record {
   added = did.added;
-  history = at_told At old new h did steady.told;
+  history = did.history;
   each_moment = at_moments At places m h did.added did.each rests;
   does = does;
-  settled = λ _. did.settled ∙ steady.settled;
+  steady = λ _. at_steady At old new h did steady;
   ends = λ _. then_is;
 }
 

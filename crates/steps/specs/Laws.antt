@@ -19,26 +19,26 @@ use Rattle.steps.specs.Steps.{Settled, NoOtherEnd, EndsWith, Outcome, TidyWork, 
 -- nothing was done
 abbrev pub NothingIsDone : Type 1
 NothingIsDone = (Each : History → Type 0) (Does : Story → Type 0) (Settles : Type 0) (Then : History → Type 0) (h : History) (t : Told)
-    → IsSteady h t → Each h → Does [] → Then h → Outcome Each Does Settles Then h t
+    → IsSteady h t → Each h → Does [] → Then h → Outcome Each Does Settles Then h t t
 
 -- one part of it, which settled, and then another
 abbrev pub PartsAreJoined : Type 1
-PartsAreJoined = (Each : History → Type 0) (D1 D2 D3 : Story → Type 0) (A B : Type 0) (T1 T2 : History → Type 0) (h : History) (mid new : Told)
-    → (first : Outcome Each D1 A T1 h mid) → A → Outcome Each D2 B T2 (adds_all first.added h) new
-    → ((a b : Story) → D1 a → D2 b → D3 (b ++ a)) → Outcome Each D3 B T2 h new
+PartsAreJoined = (Each : History → Type 0) (D1 D2 D3 : Story → Type 0) (A B : Type 0) (T1 T2 : History → Type 0) (h : History) (old mid new : Told)
+    → (first : Outcome Each D1 A T1 h old mid) → A → Outcome Each D2 B T2 (adds_all first.added h) mid new
+    → ((a b : Story) → D1 a → D2 b → D3 (b ++ a)) → Outcome Each D3 B T2 h old new
 
 -- the same, said less of
 abbrev pub LessIsSaid : Type 1
-LessIsSaid = (P Q : History → Type 0) (D1 D2 : Story → Type 0) (A B : Type 0) (T1 T2 : History → Type 0) (h : History) (new : Told)
+LessIsSaid = (P Q : History → Type 0) (D1 D2 : Story → Type 0) (A B : Type 0) (T1 T2 : History → Type 0) (h : History) (old new : Told)
     → ((k : History) → P k → Q k) → ((a : Story) → D1 a → D2 a) → (B → A) → (B → (k : History) → T1 k → T2 k)
-    → Outcome P D1 A T1 h new → Outcome Q D2 B T2 h new
+    → Outcome P D1 A T1 h old new → Outcome Q D2 B T2 h old new
 
 -- a call that writes fails only where a write failed: so whatever is said of other ends
 abbrev pub WritesAreOutcomes : Type 1
 WritesAreOutcomes = (T : Type 0) (Each : History → Type 0) (Does : Bool → Story → Type 0) (Then : T → History → Type 0) (Else : History → Type 0)
     (h : History) (old new : Told) (result : Result T ChipFault)
-    → Leads Each Does Then h result new → IfErr result (λ fault. IsStopped fault old new)
-    → Outcome Each (Does (is_ok result)) (Settled result old new) (EndsWith result Then Else) h new
+    → Leads Each Does Then h old result new → IfErr result (λ fault. IsStopped fault old new)
+    → Outcome Each (Does (is_ok result)) (Settled result old new) (EndsWith result Then Else) h old new
 
 -- A call that writes and fails only where a write failed. Its events are lawful, and what was done
 -- and holds then says which sectors are clean, and what holds besides.
@@ -46,7 +46,7 @@ abbrev pub WritesAreSteps : Type 1
 WritesAreSteps = (T : Type 0) (Each : History → Type 0) (Does : Bool → Story → Type 0)
     (Then Holds : T → History → Type 0) (t after : Tables) (h : History) (old new : Told)
     (result : Result T ChipFault)
-    → Leads Each Does Then h result new → IfErr result (λ fault. IsStopped fault old new)
+    → Leads Each Does Then h old result new → IfErr result (λ fault. IsStopped fault old new)
     → ((done : Bool) (a : Story) → Does done a
     → (pieces a ≡ []) × IsLawfulAfter (IsCountedClean t) a)
     → ((v : T) (a : Story) → Does true a → Then v (adds_all a h) → (base : Story)
@@ -59,7 +59,7 @@ abbrev pub FailedWritesAreSteps : Type 1
 FailedWritesAreSteps = (T U : Type 0) (Each : History → Type 0) (Does : Bool → Story → Type 0)
     (Then : T → History → Type 0) (Holds : U → History → Type 0) (t after : Tables) (h : History)
     (old new : Told) (e f : ChipFault)
-    → Leads Each Does Then h (Err e) new → IsStopped e old new
+    → Leads Each Does Then h old (Err e) new → IsStopped e old new
     → ((a : Story) → Does false a → (pieces a ≡ []) × IsLawfulAfter (IsCountedClean t) a)
     → Steps Each t after Holds NoOtherEnd h (Err f) old new
 
@@ -67,7 +67,7 @@ FailedWritesAreSteps = (T U : Type 0) (Each : History → Type 0) (Does : Bool �
 abbrev pub ReadsAreOutcomes : Type 1
 ReadsAreOutcomes = (At : ℕ → ℕ → Type 0) (places : ℕ) (m : Map) (Does : Story → Type 0) (Settles : Type 0) (Then : History → Type 0) (h : History) (old new : Told)
     → IsSteady h old → StoryRests places m h → (did : ReadsAt At old new) → Does did.added → Then (adds_all did.added h)
-    → Outcome (EachStands places m) Does Settles Then h new
+    → Outcome (EachStands places m) Does Settles Then h old new
 
 -- ---- the events
 
@@ -127,6 +127,6 @@ FailuresKeep = (places : ℕ) (m : Map) (t after : Tables) (h : History) (e : Ch
 -- a call of unit_io that writes sectors which count as clean before, and no more then
 abbrev pub WritesKeep : Type 0
 WritesKeep = (places : ℕ) (m : Map) (t after : Tables) (p s : ℕ) (h : History) (result : Result (Unit {0}) ChipFault) (old new : Told)
-    → Leads (EachStands places m) (Programs p (λ r. r ≡ s)) (λ v k. StoryRests places m k) h result new → IfErr result (λ fault. IsStopped fault old new)
+    → Leads (EachStands places m) (Programs p (λ r. r ≡ s)) (λ v k. StoryRests places m k) h old result new → IfErr result (λ fault. IsStopped fault old new)
     → IsCountedClean t p s → ((q r : ℕ) → IsCountedClean after q r → IsCountedClean t q r × (q ≡ p → r ≢ s))
     → Preserves places m t after h result old new

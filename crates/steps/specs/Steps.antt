@@ -1,5 +1,6 @@
 -- What a call leaves that works on a chip, however it ends.
-use Rattle.std.specs.Prelude.{◌≡◌, ℕ, [], ◌++◌, true, Some, Result, MatchResult}
+use Rattle.std.specs.Prelude.{◌≡◌, ℕ, [], ◌++◌, Result, MatchResult}
+use Rattle.std.specs.Option.{option_map}
 use Rattle.chip_trait.specs.Story.{Story, pieces}
 use Rattle.chip_trait.specs.Moment.{AtEachMoment}
 use Rattle.chip_trait.specs.Lawful.{AreClean, IsLawfulAfter}
@@ -9,6 +10,7 @@ use Rattle.ipl_meaning.specs.Layout.{Layout}
 use Rattle.ipl_meaning.specs.Rests.{EachStands, StoryRests}
 use Rattle.ipl_meaning.specs.Tables.{Tables, IsCountedClean}
 use Rattle.ipl_meaning.specs.Agrees.{Agrees}
+use Rattle.unit_io.specs.Leads.{IsSteady}
 
 -- ---- the end of a call
 
@@ -26,14 +28,14 @@ EndsWith result Then Else k = MatchResult result (λ v. Then v k) (λ _. Else k)
 
 -- ---- what it left
 
--- What was left since a history. At each moment of it Each holds of the history then, and Does holds of the events that were
--- added. Where it settled, no write has failed, and Then holds of the history.
-pub record Outcome (Each : History → Type 0) (Does : Story → Type 0) (Settles : Type 0) (Then : History → Type 0) (h : History) (new : Told) : Type 0 where
+-- What was left since a history. What the chip tells grew by the added events. At each moment of them Each holds of the
+-- history then, and Does holds of them. Where it settled, the chip holds what the history then leaves, and Then holds of that.
+pub record Outcome (Each : History → Type 0) (Does : Story → Type 0) (Settles : Type 0) (Then : History → Type 0) (h : History) (old new : Told) : Type 0 where
   pub added : Story
-  pub history : new.history ≡ Some (adds_all added h)
+  pub history : new.history ≡ option_map (adds_all added) old.history
   pub each_moment : AtEachMoment (λ e. Each (adds_all e h)) added
   pub does : Does added
-  pub settled : Settles → new.settled ≡ true
+  pub steady : Settles → IsSteady (adds_all added h) new
   pub ends : Settles → Then (adds_all added h)
 
 -- The events say nothing. They are lawful after any lawful events that leave the one set of sectors clean; and where all settled,
@@ -48,7 +50,7 @@ pub record TidyWork (before after : ℕ → ℕ → Type 0) (Settles : Type 0) (
 -- What a call leaves that turns these tables into those.
 abbrev pub Steps : {T E : Type 0} → (History → Type 0) → Tables → Tables → (T → History → Type 0) → (History → Type 0) → History → Result T E → Told → Told → Type 0
 Steps Each t after Then Else h result old new =
-    Outcome Each (TidyWork (IsCountedClean t) (IsCountedClean after) (Settled result old new)) (Settled result old new) (EndsWith result Then Else) h new
+    Outcome Each (TidyWork (IsCountedClean t) (IsCountedClean after) (Settled result old new)) (Settled result old new) (EndsWith result Then Else) h old new
 
 -- the story rests on the map, and the tables agree
 pub record RestsAgreeing (places : ℕ) (m : Map) (it : Layout) (t : Tables) (k : History) : Type 0 where

@@ -79,7 +79,7 @@ reads_advance Each At next before old result after new each did = record {
       (EndsWith result (λ v k. StoryRests places (next state).map k)
       (λ k. StoryRests places state.map k))
       (EndsWith result (λ v k. StoryRests places (next state).map k)
-      (λ k. StoryRests places state.map k)) h new (each places state) (λ a is. is) (λ z. z)
+      (λ k. StoryRests places state.map k)) h old new (each places state) (λ a is. is) (λ z. z)
       (λ _ k is. is)
       (outcome_reads At places state.map Tidy (Settled result old new)
       (EndsWith result (λ v k. StoryRests places (next state).map k)
@@ -94,11 +94,6 @@ reads_advance Each At next before old result after new each did = record {
 
 -- ---- one call after another
 
--- a chip that tells its story tells what it holds
-pub held_now : (h : History) (t : Told) → IsConsistent t → IsSteady h t
-    → t.contents ≡ Some (held h.start h.story)
-held_now h t consistent steady = consistent.replayed h steady.told steady.settled
-
 pub same_held : (x y : Contents) (t : Told) → t.contents ≡ Some x → t.contents ≡ Some y → x ≡ y
 same_held x y t one two = let both : Some x ≡ Some y = sym one ∙ two in cc both
 
@@ -108,12 +103,12 @@ pub calls_advance : {T U E F : Type 0} (First Second Each : ℕ → State → Hi
     (old mid new : Told)
     → ((places : ℕ) (state : State) (k : History) → First places state k → Each places state k)
     → ((places : ℕ) (state : State) (k : History) → Second places state k → Each places state k)
-    → IsConsistent old → IsConsistent mid → Counts old mid
+    → Counts old mid
     → Advances {T = T} {E = E} First (λ state. state) before old (Ok v) between mid
     → Advances Second next between mid result after new
     → Advances Each next before old result after new
 calls_advance {T = T} {U = U} {E = E} {F = F} First Second Each next before between after v result
-    old mid new one two consistent then_consistent counts first second = record {
+    old mid new one two counts first second = record {
       fits = λ places same settled x told.
           let (y, there, had) = first.fits places same tt x told in
           let (z, last, has) = second.fits places (counts.places ∙ same)
@@ -133,12 +128,12 @@ calls_advance {T = T} {U = U} {E = E} {F = F} First Second Each next before betw
       steps = λ places h it state same steady story.
           let did = first.steps places h it state same steady story in
           let k = adds_all did.added h in
-          let then_steady : IsSteady k mid = record { told = did.history; settled = did.settled tt } in
+          let then_steady : IsSteady k mid = did.steady tt in
           let x = held h.start h.story in
-          let (y, there, had) = first.fits places same tt x (held_now h old consistent steady) in
+          let (y, there, had) = first.fits places same tt x steady.holds in
           let fitted = had it state story.fits in
           let is : y ≡ held k.start k.story = same_held y (held k.start k.story) mid there
-          (held_now k mid then_consistent then_steady) in
+          then_steady.holds in
           let then_story : MemoryFitsStory places k fitted.layout between state = record {
             fits = subst (λ (z : Contents). MemoryFits places (chart_of z) fitted.layout between state)
                 is fitted.fits;
@@ -171,7 +166,7 @@ failures_advance {U = U} {F = F} First Each before after next other e f old new 
       (TidyWork (IsCountedClean before.tables) (IsCountedClean after.tables)
       (Settled {T = U} {E = F} (Err f) old new))
       (Settled {T = U} {E = F} (Err f) old new) (Settled {T = U} {E = F} (Err f) old new)
-      (StoryRests places state.map) (StoryRests places state.map) h new (each places state)
+      (StoryRests places state.map) (StoryRests places state.map) h old new (each places state)
       (λ a is. is) (λ z. z) (λ _ k is. is) (did.steps places h it state same steady story);
 }
 

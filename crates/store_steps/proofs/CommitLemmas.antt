@@ -191,7 +191,7 @@ failed_numbers_lead s tid before after e f old new mine out steps stopped = reco
       outcome_weaker (EachStandsEither places m n) (EachStandsEither places m n)
       (TidyWork (IsCountedClean t) (IsCountedClean (with_it s tid before old new mine out)) Soft)
       (TidyWork (IsCountedClean t) (IsCountedClean after.tables) Soft) Soft Soft NoOtherEnd
-      (StoryRests places m) h new (λ k is. is)
+      (StoryRests places m) h old new (λ k is. is)
       (λ a is. record {
         silent = is.silent;
         lawful = is.lawful;

@@ -1,9 +1,10 @@
 -- A store whose chip was opened, and faults, as a run over a script asks for them.
-use Rattle.std.proofs.Common.{◌≡◌, ℕ, ◌+◌, arith, true, false, [], Some, Err, inl, refl, sym, ◌∙◌, ap, subst}
+use Rattle.std.proofs.Common.{◌≡◌, ℕ, ◌+◌, arith, true, false, [], Err, inl, refl, sym, ◌∙◌, ap, subst}
 use Rattle.chip_trait.specs.Moment.{Leaves}
 use Rattle.chip_trait.specs.Chart.{says}
 use Rattle.chip_trait.specs.Story.{Contents, held}
 use Rattle.chip_trait.specs.Told.{History, Told, adds_all}
+use Rattle.chip_trait.proofs.HistoryLemmas.{same_history}
 use Rattle.chip_trait.proofs.MomentLemmas.{at_start}
 use Rattle.ipl_rules.specs.State.{Limits}
 use Rattle.ipl_model.specs.declared.reply.Reply.{Reply}
@@ -15,37 +16,37 @@ use Rattle.pending_writes.proofs.MemoryFitLemmas.{openings_fit}
 use Rattle.store_trait.specs.declared.fault.Fault.{Fault}
 use Rattle.store_trait.specs.Keeping.{WorkLeaves, WorksFor}
 use Rattle.store_steps.specs.Advances.{KeepsMapOf}
-use Rattle.store_steps.specs.Keeps.{View, limits_of, RestsOnMap, store_keeping, keeps_each, OpenedStoresKeep, IdleFaultsAreWork, IdleFaultsLookUp, FaultsThatLeaveDown}
-use Rattle.store_steps.proofs.KeepLemmas.{IsAt, is_at, work_leaves, at_limits, same_history}
+use Rattle.store_steps.specs.Keeps.{View, limits_of, KeepsStore, store_keeping, keeps_each, OpenedStoresKeep, IdleFaultsAreWork, IdleFaultsLookUp, FaultsThatLeaveDown}
+use Rattle.store_steps.proofs.KeepLemmas.{IsAt, is_at, work_leaves, at_limits}
 
 -- ---- a store whose chip was opened
 
 pub opened_stores_keep : OpenedStoresKeep
-opened_stores_keep units t slots told m none_lost none closed sessions shown story = record {
-  limits_are = refl;
-  story = λ h is. (story h is).0;
-  up = λ runs. record {
-    sessions = sessions;
-    contents = λ x is.
-        let (it, mirrors, says) = shown x is in record {
+opened_stores_keep units t slots told h m none_lost none closed sessions shown steady rests tidy =
+    let (it, mirrors, says) = shown (held h.start h.story) steady.holds in record {
+      limits_are = refl;
+      steady = steady;
+      rests = rests;
+      up = λ runs. record {
+        sessions = sessions;
+        shows = record {
           layout = it;
-          fits = openings_fit (units + 4) (chart_of x) it t slots m mirrors none_lost none closed
-              sessions;
+          fits = openings_fit (units + 4) (chart_of (held h.start h.story)) it t slots m mirrors
+              none_lost none closed sessions;
           says = says;
         };
-    tidy = λ h is. (story h is).1;
-  };
-}
+        tidy = tidy;
+      };
+    }
 
 -- ---- faults
 
 -- nothing was left
-nothing_leaves : (P : Contents → Type 0) (store : View) (h : History) (told : Told)
-    → told.history ≡ Some h → Leaves (says sector_in) P h []
-    → WorkLeaves store_keeping P store h store told false
-nothing_leaves P store h told is each = record {
+abbrev nothing_leaves : (P : Contents → Type 0) (store : View) (h : History) (told : Told)
+    → Leaves (says sector_in) P h [] → WorkLeaves store_keeping P store h store told told false
+nothing_leaves P store h told each = record {
   added = [];
-  history = is;
+  history = same_history told.history;
   each_moment = at_start (Leaves (says sector_in) P h) each;
   silent = refl;
   only = tt;
@@ -54,25 +55,25 @@ nothing_leaves P store h told is each = record {
 }
 
 pub idle_faults_are_work : IdleFaultsAreWork
-idle_faults_are_work c store told late limits state h keeps is = record {
-  leaves = nothing_leaves _ store h told is
-      (λ x image. inl (keeps_each limits store told state h keeps is x image));
+idle_faults_are_work c store told late limits state h keeps = record {
+  leaves = nothing_leaves _ store h told
+      (λ x image. inl (keeps_each limits store told h state keeps x image));
   ends = λ unrisen. keeps;
   drawn = omega arith;
   excuse = λ few. absurd (omega (arith, late, few));
 }
 
 pub idle_faults_look_up : IdleFaultsLookUp
-idle_faults_look_up n store told late limits state h keeps is low = record {
-  leaves = nothing_leaves _ store h told is (keeps_each limits store told state h keeps is);
+idle_faults_look_up n store told late limits state h keeps low = record {
+  leaves = nothing_leaves _ store h told (keeps_each limits store told h state keeps);
   ends = λ unrisen. keeps;
   drawn = omega arith;
   excuse = λ few. absurd (omega (arith, late, few));
 }
 
 pub faults_that_leave_down : FaultsThatLeaveDown
-faults_that_leave_down c before after fault old new consistent suits units up down preserves drawn
-    excused limits state h keeps told =
+faults_that_leave_down c before after fault old new suits units up down preserves drawn excused limits
+    state h keeps =
     subst (λ (l : Limits). WorksFor store_keeping l state c before h (Err fault) after old new)
     (sym keeps.limits_are) (record {
       leaves = work_leaves {T = Reply} {E = Fault} (KeepsMapOf (before.units + 4) state)
@@ -81,20 +82,20 @@ faults_that_leave_down c before after fault old new consistent suits units up do
           (λ later e split x image. inl (way.each_moment later e split x image));
       ends = λ unrisen. record {
         limits_are = ap limits_of (sym units);
-        story = λ j is. subst (RestsOnMap after new state.map)
-            (same_history (adds_all way.added h) j new way.history is) (record {
-              settled = way.settled unrisen;
-              rests = subst (λ (n : ℕ). StoryRests (n + 4) state.map (adds_all way.added h)) (sym units)
-                  (way.ends unrisen);
-            });
+        steady = way.steady unrisen;
+        rests = subst (λ (n : ℕ). StoryRests (n + 4) state.map (adds_all way.added h)) (sym units)
+            (way.ends unrisen);
         up = λ runs. absurd (let clash : true ≡ false = sym down ∙ runs in cc clash);
       };
       drawn = drawn;
-      excuse = excused state (at_limits limits before old state keeps) (held h.start h.story) here.there;
+      excuse = excused h state own;
     })
   where
+    own : KeepsStore (limits_of before.units) before old h state
+    own = at_limits limits before old h state keeps
+
     here : IsAt before old state h
-    here = is_at before old state h consistent up (at_limits limits before old state keeps) told
+    here = is_at before old h state up own
 
     way : Preserves {T = Reply} (before.units + 4) state.map before.memory.tables
         after.memory.tables h (Err fault) old new

@@ -5,7 +5,7 @@ use Rattle.std.proofs.lemmas.Result.{on_err_weaker}
 use Rattle.chip_trait.specs.Moment.{AtEachMoment, Leaves}
 use Rattle.chip_trait.specs.Chart.{says}
 use Rattle.chip_trait.specs.Story.{Story, Contents, held}
-use Rattle.chip_trait.specs.Told.{History, Told, IsConsistent, Unrisen, adds_all}
+use Rattle.chip_trait.specs.Told.{History, Told, Unrisen, adds_all}
 use Rattle.ipl_rules.specs.State.{State, Limits}
 use Rattle.ipl_model.specs.declared.command.Command.{Command}
 use Rattle.ipl_model.specs.declared.reply.Reply.{Reply}
@@ -16,26 +16,24 @@ use Rattle.ipl_meaning.specs.Chart.{Chart, chart_of}
 use Rattle.ipl_meaning.specs.Layout.{Layout}
 use Rattle.ipl_meaning.specs.Stands.{Says}
 use Rattle.ipl_meaning.specs.Rests.{now, StoryRests}
-use Rattle.ipl_meaning.specs.Agrees.{IsTidy}
 use Rattle.unit_io.specs.Leads.{IsSteady}
-use Rattle.unit_io.specs.Reads.{OfContents}
 use Rattle.steps.specs.Steps.{Settled, EndsWith, Steps}
 use Rattle.pending_writes.specs.Fits.{AreSessionsOf}
 use Rattle.store_trait.specs.declared.fault.Fault.{Fault}
 use Rattle.store_trait.specs.Keeping.{AllOf, WorkLeaves, WorksFor, LooksUpFor}
 use Rattle.store_steps.specs.Advances.{memory_of, MemoryFits, MemoryFitsStory, ShowsNext, state_then, Advances, KeepsMapOf, TurnsMapOf}
-use Rattle.store_steps.specs.Keeps.{View, limits_of, ShowsState, RestsOnMap, KeepsStore, store_keeping, LeadsAreWork, KeepersLookUp}
-use Rattle.store_steps.proofs.AdvanceLemmas.{held_now, same_held}
+use Rattle.store_steps.specs.Keeps.{View, limits_of, ShowsState, KeepsStore, store_keeping, LeadsAreWork, KeepersLookUp}
+use Rattle.store_steps.proofs.AdvanceLemmas.{same_held}
 
 -- ---- small facts
 
 -- any events
-all_done : (story : Story) → AllOf (λ e. Unit {0}) story
+pub all_done : (story : Story) → AllOf (λ e. Unit {0}) story
 all_done [] = tt
 all_done (e ∷ story) = (tt, all_done story)
 
 -- a call that was done has settled
-done_settles : {T E : Type 0} (result : Result T E) (old new : Told) → is_ok result ≡ true
+pub done_settles : {T E : Type 0} (result : Result T E) (old new : Told) → is_ok result ≡ true
     → Settled result old new
 done_settles (Ok v) old new done = tt
 done_settles (Err e) old new done = absurd (cc done)
@@ -57,45 +55,33 @@ rests_then : {T E : Type 0} (result : Result T E) (places : ℕ) (next : State �
 rests_then (Ok v) places next state k rests = rests
 rests_then (Err e) places next state k rests = rests
 
--- a history that is told is the one
-pub same_history : (k j : History) (t : Told) → t.history ≡ Some k → t.history ≡ Some j → k ≡ j
-same_history k j t one two = let both : Some k ≡ Some j = sym one ∙ two in cc both
-
 -- ---- a store that keeps a state
 
--- what it has, where the chip tells its history
+-- what it has, where it isn't down
 pub record IsAt (store : View) (old : Told) (state : State) (h : History) : Type 0 where
   pub steady : IsSteady h old
-  pub there : old.contents ≡ Some (held h.start h.story)
   pub sessions : AreSessionsOf store.memory.slots state
   pub shown : ShowsState store state (held h.start h.story)
   pub story : MemoryFitsStory (store.units + 4) h shown.layout store.memory state
 
-pub is_at : (store : View) (old : Told) (state : State) (h : History) → IsConsistent old
-    → store.down ≡ false → KeepsStore (limits_of store.units) store old state
-    → old.history ≡ Some h → IsAt store old state h
-is_at store old state h consistent up keeps told =
-    let on = keeps.story h told in
-    let runs = keeps.up up in
-    let steady : IsSteady h old = record { told = told; settled = on.settled } in
-    let there = held_now h old consistent steady in
-    let shown = runs.contents (held h.start h.story) there in record {
-      steady = steady;
-      there = there;
-      sessions = runs.sessions;
-      shown = shown;
-      story = record { fits = shown.fits; tidy = runs.tidy h told; rests = on.rests };
-    }
+pub is_at : (store : View) (old : Told) (h : History) (state : State) → store.down ≡ false
+    → KeepsStore (limits_of store.units) store old h state → IsAt store old state h
+is_at store old h state up keeps = let runs = keeps.up up in record {
+  steady = keeps.steady;
+  sessions = runs.sessions;
+  shown = runs.shows;
+  story = record { fits = runs.shows.fits; tidy = runs.tidy; rests = keeps.rests };
+}
 
 -- ---- a call of it
 
 -- what work leaves on the way
-pub work_leaves : {T E : Type 0} (Each : History → Type 0) (Then : T → History → Type 0)
+abbrev pub work_leaves : {T E : Type 0} (Each : History → Type 0) (Then : T → History → Type 0)
     (Else : History → Type 0) (before after : View) (h : History) (result : Result T E)
     (old new : Told) (P : Contents → Type 0)
     → (did : Steps Each before.memory.tables after.memory.tables Then Else h result old new)
     → AtEachMoment (Leaves (says sector_in) P h) did.added
-    → WorkLeaves store_keeping P before h after new (is_ok result)
+    → WorkLeaves store_keeping P before h after old new (is_ok result)
 work_leaves Each Then Else before after h result old new P did moments = record {
   added = did.added;
   history = did.history;
@@ -126,10 +112,11 @@ module _ {T E : Type 0} (Each : ℕ → State → History → Type 0) (next : St
   then = state_then result next state
 
   -- what the store keeps then
-  keeps_then : Settled result old new → KeepsStore (limits_of before.units) after new then
+  keeps_then : Settled result old new
+      → KeepsStore (limits_of before.units) after new (adds_all did.added h) then
   keeps_then settled =
       let (y, told_then, had) = advances.fits places (sym suits) settled (held h.start h.story)
-      at.there in
+      at.steady.holds in
       let at_end = had at.shown.layout state at.shown.fits in
       let showing : ShowsState after then y = record {
         layout = at_end.layout;
@@ -140,38 +127,34 @@ module _ {T E : Type 0} (Each : ℕ → State → History → Type 0) (next : St
             at_end.shows at.shown.says);
       } in
       let k = adds_all did.added h in
-      let resting : RestsOnMap after new then.map k = record {
-        settled = did.settled settled;
+      let steady = did.steady settled in record {
+        limits_are = ap limits_of (sym units);
+        steady = steady;
         rests = subst (λ (n : ℕ). StoryRests (n + 4) then.map k) (sym units)
             (rests_then result places next state k (did.ends settled));
-      } in record {
-        limits_are = ap limits_of (sym units);
-        story = λ j is. subst (RestsOnMap after new then.map)
-            (same_history k j new did.history is) resting;
         up = λ runs. record {
           sessions = at_end.fits.sessions;
-          contents = λ z is. subst (ShowsState after then) (same_held y z new told_then is) showing;
-          tidy = λ j is. subst (λ (i : History). IsTidy i.story after.memory.tables)
-              (same_history k j new did.history is)
-              (did.does.clean settled h.story at.story.tidy);
+          shows = subst (ShowsState after then)
+              (same_held y (held k.start k.story) new told_then steady.holds) showing;
+          tidy = did.does.clean settled h.story at.story.tidy;
         };
       }
 
 -- ---- work, and looking up
 
 -- the limits are those of the units
-pub at_limits : (limits : Limits) (store : View) (t : Told) (state : State)
-    → KeepsStore limits store t state → KeepsStore (limits_of store.units) store t state
-at_limits limits store t state keeps =
-    subst (λ (l : Limits). KeepsStore l store t state) keeps.limits_are keeps
+pub at_limits : (limits : Limits) (store : View) (t : Told) (h : History) (state : State)
+    → KeepsStore limits store t h state → KeepsStore (limits_of store.units) store t h state
+at_limits limits store t h state keeps =
+    subst (λ (l : Limits). KeepsStore l store t h state) keeps.limits_are keeps
 
 -- the model's next state
 abbrev stepped : View → Command → State → State
 stepped store c state = (step (limits_of store.units) state c).0
 
 pub leads_are_work : LeadsAreWork
-leads_are_work c before after result old new consistent suits units up leads replies drawn excused
-    limits state h keeps told =
+leads_are_work c before after result old new suits units up leads replies drawn excused limits state
+    h keeps =
     subst (λ (l : Limits). WorksFor store_keeping l state c before h result after old new)
     (sym keeps.limits_are) (record {
       leaves = work_leaves (TurnsMapOf (stepped before c) (before.units + 4) state)
@@ -182,16 +165,15 @@ leads_are_work c before after result old new consistent suits units up leads rep
           (keeps_then (TurnsMapOf (stepped before c)) (stepped before c) before after result old new
           state h here suits units
           leads);
-      drawn = drawn state own (held h.start h.story) here.there;
-      excuse = on_err_weaker result (λ excuse. excuse state own (held h.start h.story) here.there)
-          excused;
+      drawn = drawn h state own;
+      excuse = on_err_weaker result (λ excuse. excuse h state own) excused;
     })
   where
-    own : KeepsStore (limits_of before.units) before old state
-    own = at_limits limits before old state keeps
+    own : KeepsStore (limits_of before.units) before old h state
+    own = at_limits limits before old h state keeps
 
     here : IsAt before old state h
-    here = is_at before old state h consistent up own told
+    here = is_at before old h state up own
 
     way : Steps (TurnsMapOf (stepped before c) (before.units + 4) state) before.memory.tables
         after.memory.tables
@@ -200,22 +182,26 @@ leads_are_work c before after result old new consistent suits units up leads rep
     way = did (TurnsMapOf (stepped before c)) (stepped before c) before after result old new state h
         here suits units leads
 
+    then : History
+    then = adds_all way.added h
+
     by_end : (r : Result Reply Fault)
-        → IfOk r (λ reply. (state : State) → KeepsStore (limits_of before.units) before old state
-        → OfContents old (λ x. (step (limits_of before.units) state c).1 ≡ reply ∷ []))
-        → (Settled r old new → KeepsStore (limits_of before.units) after new
+        → IfOk r (λ reply. (h : History) (state : State)
+        → KeepsStore (limits_of before.units) before old h state
+        → (step (limits_of before.units) state c).1 ≡ reply ∷ [])
+        → (Settled r old new → KeepsStore (limits_of before.units) after new then
         (state_then r (λ state. (step (limits_of before.units) state c).0) state))
         → MatchResult r
-        (λ reply. KeepsStore (limits_of before.units) after new
+        (λ reply. KeepsStore (limits_of before.units) after new then
         (step (limits_of before.units) state c).0
         × ((step (limits_of before.units) state c).1 ≡ reply ∷ []))
-        (λ fault. Unrisen old new → KeepsStore (limits_of before.units) after new state)
-    by_end (Ok reply) answers kept = (kept tt, answers state own (held h.start h.story) here.there)
+        (λ fault. Unrisen old new → KeepsStore (limits_of before.units) after new then state)
+    by_end (Ok reply) answers kept = (kept tt, answers h state own)
     by_end (Err fault) answers kept = kept
 
 pub keepers_look_up : KeepersLookUp
-keepers_look_up n before after result old new consistent suits units up slots keeper finds drawn
-    excused limits state h keeps told low =
+keepers_look_up n before after result old new suits units up slots keeper finds drawn excused limits
+    state h keeps low =
     subst (λ (l : Limits). LooksUpFor store_keeping l state n before h result after old new)
     (sym keeps.limits_are) (record {
       leaves = work_leaves (KeepsMapOf (before.units + 4) state)
@@ -226,15 +212,14 @@ keepers_look_up n before after result old new consistent suits units up slots ke
           (keeps_then KeepsMapOf (λ state. state) before after result old new state h here suits
           units whole);
       drawn = drawn;
-      excuse = on_err_weaker result (λ excuse. excuse state own (held h.start h.story) here.there)
-          excused;
+      excuse = on_err_weaker result (λ excuse. excuse h state own) excused;
     })
   where
-    own : KeepsStore (limits_of before.units) before old state
-    own = at_limits limits before old state keeps
+    own : KeepsStore (limits_of before.units) before old h state
+    own = at_limits limits before old h state keeps
 
     here : IsAt before old state h
-    here = is_at before old state h consistent up own told
+    here = is_at before old h state up own
 
     whole : Advances KeepsMapOf (λ state. state) before.memory old result after.memory new
     whole = subst (λ (s : Slots). Advances KeepsMapOf (λ state. state) before.memory old result
@@ -246,17 +231,20 @@ keepers_look_up n before after result old new consistent suits units up slots ke
         (λ k. StoryRests (before.units + 4) state.map k) h result old new
     way = did KeepsMapOf (λ state. state) before after result old new state h here suits units whole
 
+    then : History
+    then = adds_all way.added h
+
     low_here : n < 960 * before.units
     low_here = subst (λ (l : Limits). n < l.names) keeps.limits_are low
 
     by_end : (r : Result (Option (List ℕ)) Fault)
-        → IfOk r (λ found. (state : State) → KeepsStore (limits_of before.units) before old state
-        → n < 960 * before.units → OfContents old (λ x. found ≡ get state.map n))
-        → (Settled r old new → KeepsStore (limits_of before.units) after new
+        → IfOk r (λ found. (h : History) (state : State)
+        → KeepsStore (limits_of before.units) before old h state
+        → n < 960 * before.units → found ≡ get state.map n)
+        → (Settled r old new → KeepsStore (limits_of before.units) after new then
         (state_then r (λ state. state) state))
         → MatchResult r
-        (λ found. KeepsStore (limits_of before.units) after new state × (found ≡ get state.map n))
-        (λ fault. Unrisen old new → KeepsStore (limits_of before.units) after new state)
-    by_end (Ok found) found_is kept =
-        (kept tt, found_is state own low_here (held h.start h.story) here.there)
+        (λ found. KeepsStore (limits_of before.units) after new then state × (found ≡ get state.map n))
+        (λ fault. Unrisen old new → KeepsStore (limits_of before.units) after new then state)
+    by_end (Ok found) found_is kept = (kept tt, found_is h state own low_here)
     by_end (Err fault) found_is kept = kept

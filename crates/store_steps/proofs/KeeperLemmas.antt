@@ -1,6 +1,6 @@
 -- Calls that keep each state.
 use Rattle.std.proofs.Common.{◌≡◌, ℕ, ◌-◌, ◌<◌, [], Result, Ok, Err, is_ok, Some, None, refl, sym, subst}
-use Rattle.chip_trait.specs.Told.{Told, Counts, IsConsistent}
+use Rattle.chip_trait.specs.Told.{Told, Counts}
 use Rattle.ipl_base.specs.declared.fault.ChipFault.{ChipFault}
 use Rattle.ipl_rules.specs.State.{Map, State}
 use Rattle.record_locks.specs.Held.{Slots, number_of}
@@ -61,15 +61,14 @@ nothing_keeps_states t frames old slots =
 -- one call that was done, and then another, whatever they answer
 pub keepers_then : {T U E F : Type 0} (t between after : Tables) (frames middle later : Frames)
     (v : T) (result : Result U F) (old mid new : Told)
-    → IsConsistent old → IsConsistent mid → Counts old mid
+    → Counts old mid
     → KeepsState {T = T} {E = E} t frames old (Ok v) between middle mid
     → KeepsState between middle mid result after later new
     → KeepsState t frames old result after later new
-keepers_then t between after frames middle later v result old mid new consistent then_consistent
-    counts first second slots =
+keepers_then t between after frames middle later v result old mid new counts first second slots =
     calls_advance KeepsMapOf KeepsMapOf KeepsMapOf (λ state. state) (memory_of t frames slots)
     (memory_of between middle slots) (memory_of after later slots) v result old mid new
-    (λ places state k is. is) (λ places state k is. is) consistent then_consistent counts
+    (λ places state k is. is) (λ places state k is. is) counts
     (first slots) (second slots)
 
 pub keepers_are_joined : KeepersAreJoined

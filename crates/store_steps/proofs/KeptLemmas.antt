@@ -1,7 +1,8 @@
 -- What is known of a state that a store keeps which isn't down.
 use Rattle.std.proofs.Common.{◌≡◌, ℕ, ◌+◌, false, [], ◌∷◌, List, Option, Some, None, Ok, sym, ◌∙◌, ap, arith}
 use Rattle.std.specs.FinMap.{get}
-use Rattle.chip_trait.specs.Told.{Told}
+use Rattle.chip_trait.specs.Story.{held}
+use Rattle.chip_trait.specs.Told.{History, Told}
 use Rattle.ipl_base.specs.Places.{home_of}
 use Rattle.ipl_rules.specs.Refusals.{refuses_get, refuses_share}
 use Rattle.ipl_rules.specs.State.{Limits, State, see}
@@ -11,7 +12,6 @@ use Rattle.record_locks.specs.Held.{Slots, number_of}
 use Rattle.record_locks.specs.Standing.{state_of}
 use Rattle.ipl_meaning.specs.Chart.{chart_of}
 use Rattle.ipl_meaning.specs.Tables.{Tables}
-use Rattle.unit_io.specs.Reads.{OfContents}
 use Rattle.page_ops.specs.Pending.{seen_by}
 use Rattle.pending_writes.specs.Pending.{name_at}
 use Rattle.pending_writes.specs.Frames.{Frame, Frames}
@@ -23,19 +23,20 @@ use Rattle.store_steps.proofs.ViewLemmas.{frames_tell_state}
 
 -- ---- what it has
 
-pub kept_limits : (limits : Limits) (store : View) (t : Told) (state : State)
-    → KeepsStore limits store t state → limits ≡ limits_of store.units
-kept_limits limits store t state keeps = keeps.limits_are
+pub kept_limits : (limits : Limits) (store : View) (t : Told) (h : History) (state : State)
+    → KeepsStore limits store t h state → limits ≡ limits_of store.units
+kept_limits limits store t h state keeps = keeps.limits_are
 
-pub kept_sessions : (limits : Limits) (store : View) (t : Told) (state : State)
-    → store.down ≡ false → KeepsStore limits store t state
+pub kept_sessions : (limits : Limits) (store : View) (t : Told) (h : History) (state : State)
+    → store.down ≡ false → KeepsStore limits store t h state
     → AreSessionsOf store.memory.slots state
-kept_sessions limits store t state up keeps = (keeps.up up).sessions
+kept_sessions limits store t h state up keeps = (keeps.up up).sessions
 
 -- a layout in which the memory fits, and the pages say the map
-pub kept_shown : (limits : Limits) (store : View) (t : Told) (state : State)
-    → store.down ≡ false → KeepsStore limits store t state → OfContents t (ShowsState store state)
-kept_shown limits store t state up keeps = (keeps.up up).contents
+pub kept_shown : (limits : Limits) (store : View) (t : Told) (h : History) (state : State)
+    → store.down ≡ false → KeepsStore limits store t h state
+    → ShowsState store state (held h.start h.story)
+kept_shown limits store t h state up keeps = (keeps.up up).shows
 
 -- ---- what frames tell of it
 
@@ -48,17 +49,19 @@ name_of_home n = omega arith
 
 -- whatever the call answered
 pub kept_frames_tell_on : {T E : Type 0} (v : T) (n : ℕ) (store : View) (t : Tables)
-    (later : Frames) (f : Frame) (state : State) (old new : Told)
+    (later : Frames) (f : Frame) (h : History) (state : State) (old new : Told)
     → store.units + 4 ≡ old.places → store.down ≡ false
     → KeepsState {T = T} {E = E} store.memory.tables store.memory.frames old (Ok v) t later new
     → later (home_of n).unit (home_of n).page ≡ Some f
-    → KeepsStore (limits_of store.units) store old state
-    → OfContents old (λ x. TellsName store.memory.slots state n f)
-kept_frames_tell_on v n store t later f state old new suits up keeper there keeps x told =
+    → KeepsStore (limits_of store.units) store old h state
+    → TellsName store.memory.slots state n f
+kept_frames_tell_on v n store t later f h state old new suits up keeper there keeps =
     let places = store.units + 4 in
     let home = home_of n in
-    let shown = kept_shown (limits_of store.units) store old state up keeps x told in
-    let (y, told_then, had) = (keeper store.memory.slots).fits places (sym suits) tt x told in
+    let x = held h.start h.story in
+    let shown = kept_shown (limits_of store.units) store old h state up keeps in
+    let (y, told_then, had) = (keeper store.memory.slots).fits places (sym suits) tt x
+    keeps.steady.holds in
     let on = had shown.layout state shown.fits in
     let (low, few) = on.fits.framed.within home.unit home.page f there in
     let tells = frames_tell_state places (chart_of x) (chart_of y) shown.layout state.map

@@ -1,6 +1,6 @@
 -- Calls that lead to a next state.
 use Rattle.std.proofs.Common.{ℕ, Result, Ok, Err, inl}
-use Rattle.chip_trait.specs.Told.{History, Told, Counts, IsConsistent}
+use Rattle.chip_trait.specs.Told.{History, Told, Counts}
 use Rattle.ipl_base.specs.declared.fault.ChipFault.{ChipFault}
 use Rattle.ipl_rules.specs.State.{State}
 use Rattle.ipl_rules.specs.Operations.{after_restart}
@@ -54,15 +54,14 @@ keepers_lead = keepers_lead_still
 -- answer
 pub keepers_lead_on : {T U E F : Type 0} (next : State → State) (before : Memory)
     (between : Tables) (middle : Frames) (after : Memory) (v : T) (result : Result U F)
-    (old mid new : Told) → IsConsistent old → IsConsistent mid → Counts old mid
+    (old mid new : Told) → Counts old mid
     → KeepsState {T = T} {E = E} before.tables before.frames old (Ok v) between middle mid
     → LeadsTo next (memory_of between middle before.slots) mid result after new
     → LeadsTo next before old result after new
-keepers_lead_on next before between middle after v result old mid new consistent then_consistent
-    counts first second =
+keepers_lead_on next before between middle after v result old mid new counts first second =
     calls_advance KeepsMapOf (TurnsMapOf next) (TurnsMapOf next) next before
     (memory_of between middle before.slots) after v result old mid new (either_map next)
-    (λ places state k is. is) consistent then_consistent counts (first before.slots) second
+    (λ places state k is. is) counts (first before.slots) second
 
 pub keepers_then_lead : KeepersThenLead
 keepers_then_lead next before between middle after = keepers_lead_on next before between middle

@@ -95,7 +95,7 @@ module _ (places : ℕ) (m n : Map) (h : History) (it : Layout) (t : Tables) (ol
   at_start = λ x is. inl (agreeing.rests.each x is)
 
   waited : (result : Result (Unit {0}) ChipFault) → Waited result old mid
-      → Leads Each Tidy HasWaited h result mid
+      → Leads Each Tidy HasWaited h old result mid
   waited result did = leads_waited Each Tidy h old mid steady HasWaited result did at_start
       (barriers_keep_either places m n h at_start) (tidy_barrier (IsCountedClean t))
       (tidy_none (IsCountedClean t) (Unit {0})) refl
@@ -127,7 +127,7 @@ number_in_steps places next_places status next tid result old mid new same count
       then_says = says;
     } in
     let second = subst (λ (p : ℕ). AddsInSteps p status next (tid ∷ []) result mid new) same steps k
-    it t m n active (record { told = first.history; settled = first.settled tt }) has
+    it t m n active (first.steady tt) has
     (subst (λ (j : History). IsReadyToAdd places j it t m n (tid ∷ []) active) (sym (first.ends tt))
     ready) in
     let after = with_added t (tid ∷ []) (1 + next) active in

@@ -25,22 +25,22 @@ module _ (T U E F : Type 0) (First Second Each : History → Type 0) (t between 
       let Ends = λ (k : History). EndsWith result AtNext ElseNext k in
       let less = later_settled result old mid new counts in
       let wide : Outcome Each (TidyWork (IsCountedClean t) (IsCountedClean between) (Unit {0}))
-      (Unit {0}) (AtFirst v) h mid = record {
+      (Unit {0}) (AtFirst v) h old mid = record {
         added = first.added;
         history = first.history;
         each_moment = λ later e split. one _ (first.each_moment later e split);
         does = first.does;
-        settled = first.settled;
+        steady = first.steady;
         ends = first.ends;
       } in
       outcome_then Each (TidyWork (IsCountedClean t) (IsCountedClean between) (Unit {0}))
       (TidyWork (IsCountedClean between) (IsCountedClean after) (Settled result old new))
       (TidyWork (IsCountedClean t) (IsCountedClean after) (Settled result old new))
-      (Unit {0}) (Settled result old new) (AtFirst v) Ends h mid new wide tt
+      (Unit {0}) (Settled result old new) (AtFirst v) Ends h old mid new wide tt
       (outcome_weaker Second Each
       (TidyWork (IsCountedClean between) (IsCountedClean after) (Settled result mid new))
       (TidyWork (IsCountedClean between) (IsCountedClean after) (Settled result old new))
-      (Settled result mid new) (Settled result old new) Ends Ends (adds_all first.added h) new two
+      (Settled result mid new) (Settled result old new) Ends Ends (adds_all first.added h) mid new two
       (λ a. tidy_weaker (IsCountedClean between) (IsCountedClean after) (Settled result mid new)
       (Settled result old new) a less) less (λ _ k is. is) second)
       (λ a b x y. tidy_then (IsCountedClean t) (IsCountedClean between) (IsCountedClean after) (Unit {0})
@@ -57,7 +57,7 @@ steps_weaker P Q t after AtFirst AtNext ElseFirst ElseNext h result old new each
     (TidyWork (IsCountedClean t) (IsCountedClean after) (Settled result old new))
     (TidyWork (IsCountedClean t) (IsCountedClean after) (Settled result old new))
     (Settled result old new) (Settled result old new) (EndsWith result AtFirst ElseFirst)
-    (EndsWith result AtNext ElseNext) h new each (λ a is. is) (λ z. z)
+    (EndsWith result AtNext ElseNext) h old new each (λ a is. is) (λ z. z)
     (λ _ k is. at_end result AtFirst AtNext ElseFirst ElseNext k then_is else_is is) did
   where
     at_end : {T E : Type 0} (result : Result T E) (AtFirst AtNext : T → History → Type 0)

@@ -69,9 +69,9 @@ state_then (Ok v) next state = next state
 state_then (Err e) next state = state
 
 -- What a call leaves of a store's memory and its chip. Where the chip tells what it holds, and no
--- write failed, the memory fits the state then. Where it tells its story, which rests on the map of
--- a state that the memory fits, Each holds at each moment, and the story rests on the map then,
--- unless a write failed.
+-- write failed, the memory fits the state then. Over each history that leaves that, and rests on the
+-- map of a state that the memory fits, Each holds at each moment, and the history then rests on the
+-- map then, unless a write failed.
 pub record Advances {T E : Type 0} (Each : ℕ → State → History → Type 0) (next : State → State)
     (before : Memory) (old : Told) (result : Result T E) (after : Memory) (new : Told)
     : Type 0 where

@@ -1,13 +1,12 @@
 -- How a store keeps a state on a chip, as a run over a script asks for it.
 use Rattle.std.specs.Prelude.{ℕ, ◌≡◌, ◌≢◌, ◌<◌, ◌≤◌, ◌+◌, ◌*◌, Bool, true, false, [], ◌∷◌, ◌++◌, List, Option, Some, None, refl, Result, Ok, Err, IfOk, OnErr}
-use Rattle.std.specs.Option.{option_map}
 use Rattle.std.specs.FinMap.{get}
-use Rattle.std.proofs.Common.{sym, ◌∙◌, subst, arith}
+use Rattle.std.proofs.Common.{sym, ◌∙◌, ap, subst, arith}
 use Rattle.ipl_base.specs.declared.limits.TheConstants.{RESERVED_PLACES, UNIT_NAMES, SESSIONS}
 use Rattle.chip_trait.specs.Chart.{says}
 use Rattle.chip_trait.specs.Moment.{Leaves}
-use Rattle.chip_trait.specs.Story.{Contents}
-use Rattle.chip_trait.specs.Told.{History, Told, Rose, IsConsistent, adds_all}
+use Rattle.chip_trait.specs.Story.{Story, Contents, held}
+use Rattle.chip_trait.specs.Told.{History, Told, Rose, adds_all}
 use Rattle.ipl_base.specs.declared.fault.ChipFault.{ChipFault}
 use Rattle.ipl_base.specs.declared.fault.ChipFault.TheVariants.{ReadFault, Stopped, Damaged, Malformed}
 use Rattle.ipl_base.specs.declared.fault.ImageFault.{ImageFault}
@@ -58,24 +57,21 @@ pub record ShowsState (store : View) (state : State) (x : Contents) : Type 0 whe
   pub fits : MemoryFits (store.units + RESERVED_PLACES) (chart_of x) layout store.memory state
   pub says : Says (store.units + RESERVED_PLACES) (chart_of x) layout state.map
 
--- What a store keeps that isn't down. The sessions are the state's; where the chip tells what it
--- holds, that shows the state; and where it tells its history, what is counted as clean is clean.
-pub record IsUp (store : View) (t : Told) (state : State) : Type 0 where
+-- What a store keeps that isn't down. The sessions are the state's; what the chip holds shows the
+-- state; and what is counted as clean is clean after the story.
+pub record IsUp (store : View) (h : History) (state : State) : Type 0 where
   pub sessions : AreSessionsOf store.memory.slots state
-  pub contents : OfContents t (ShowsState store state)
-  pub tidy : (h : History) → t.history ≡ Some h → IsTidy h.story store.memory.tables
+  pub shows : ShowsState store state (held h.start h.story)
+  pub tidy : IsTidy h.story store.memory.tables
 
--- no write has failed, and the story rests on the map
-pub record RestsOnMap (store : View) (t : Told) (m : Map) (h : History) : Type 0 where
-  pub settled : t.settled ≡ true
-  pub rests : StoryRests (store.units + RESERVED_PLACES) m h
-
--- Where the chip tells its history, its story rests on the state's map; and a store that isn't down
--- keeps the rest.
-pub record KeepsStore (limits : Limits) (store : View) (t : Told) (state : State) : Type 0 where
+-- The chip holds what the history leaves, and no write has failed; the story rests on the state's
+-- map; and a store that isn't down keeps the rest.
+pub record KeepsStore (limits : Limits) (store : View) (t : Told) (h : History) (state : State)
+    : Type 0 where
   pub limits_are : limits ≡ limits_of store.units
-  pub story : (h : History) → t.history ≡ Some h → RestsOnMap store t state.map h
-  pub up : store.down ≡ false → IsUp store t state
+  pub steady : IsSteady h t
+  pub rests : StoryRests (store.units + RESERVED_PLACES) state.map h
+  pub up : store.down ≡ false → IsUp store h state
 
 -- the store of a chip that was opened: no page is in a frame
 abbrev pub opened_with : ℕ → Tables → Slots → View
@@ -154,44 +150,38 @@ said_tidy : (t : Tables) (pieces : List (List ℕ)) (h : History) → IsTidy h.s
 said_tidy t [] h tidy = tidy
 said_tidy t (piece ∷ pieces) h tidy = said_tidy t pieces h tidy
 
-said_before : (pieces : List (List ℕ)) (before : Option History) (h : History)
-    → Some h ≡ option_map (adds_all (sayings pieces)) before
-    → (k : History) × (before ≡ Some k) × (h ≡ adds_all (sayings pieces) k)
-said_before pieces None h is = absurd (never is)
-  where
-    never : Some h ≡ None → ⊥
-    never e = cc
-said_before pieces (Some k) h is = (k, refl, cc)
+-- and what the chip holds is what it held
+said_held : (start : Contents) (pieces : List (List ℕ)) (story : Story)
+    → held start (sayings pieces ++ story) ≡ held start story
+said_held start [] story = refl
+said_held start (piece ∷ pieces) story = said_held start pieces story
 
-pub keeps_still : (limits : Limits) (store : View) (old new : Told) (state : State)
-    → Still old new → KeepsStore limits store old state → KeepsStore limits store new state
-keeps_still limits store old new state still keeps = record {
+pub keeps_still : (limits : Limits) (store : View) (old new : Told) (h : History) (state : State)
+    → (still : Still old new) → KeepsStore limits store old h state
+    → KeepsStore limits store new (adds_all (sayings still.pieces) h) state
+keeps_still limits store old new h state still keeps = record {
   limits_are = keeps.limits_are;
-  story = λ h told.
-      let before = said_before still.pieces old.history h (sym told ∙ still.history) in
-      let on = keeps.story before.0 before.1 in record {
-        settled = still.settled ∙ on.settled;
-        rests = subst (StoryRests (store.units + RESERVED_PLACES) state.map) (sym before.2)
-            (said_rests (store.units + RESERVED_PLACES) state.map still.pieces before.0 on.rests);
-      };
+  steady = record {
+    holds = still.contents ∙ keeps.steady.holds
+        ∙ ap Some (sym (said_held h.start still.pieces h.story));
+    settled = still.settled ∙ keeps.steady.settled;
+  };
+  rests = said_rests (store.units + RESERVED_PLACES) state.map still.pieces h keeps.rests;
   up = λ runs.
       let was = keeps.up runs in record {
         sessions = was.sessions;
-        contents = λ x told. was.contents x (sym still.contents ∙ told);
-        tidy = λ h told.
-            let before = said_before still.pieces old.history h (sym told ∙ still.history) in
-            subst (λ (k : History). IsTidy k.story store.memory.tables) (sym before.2)
-            (said_tidy store.memory.tables still.pieces before.0 (was.tidy before.0 before.1));
+        shows = subst (ShowsState store state) (sym (said_held h.start still.pieces h.story)) was.shows;
+        tidy = said_tidy store.memory.tables still.pieces h was.tidy;
       };
 }
 
-pub keeps_each : (limits : Limits) (store : View) (t : Told) (state : State) (h : History)
-    → KeepsStore limits store t state → t.history ≡ Some h
+pub keeps_each : (limits : Limits) (store : View) (t : Told) (h : History) (state : State)
+    → KeepsStore limits store t h state
     → Leaves (says sector_in) (λ x. Stands (limits.units + RESERVED_PLACES) (chart_of x) state.map) h []
-keeps_each limits store t state h keeps told =
+keeps_each limits store t h state keeps =
     subst (λ (l : Limits). Leaves (says sector_in)
     (λ x. Stands (l.units + RESERVED_PLACES) (chart_of x) state.map) h []) (sym keeps.limits_are)
-    (keeps.story h told).rests.each
+    keeps.rests.each
 
 -- ---- the seam
 
@@ -218,37 +208,38 @@ store_keeping = record {
 
 -- a store whose chip was opened keeps the state at rest of the map that the chip stands for
 abbrev pub OpenedStoresKeep : Type 0
-OpenedStoresKeep = (units : ℕ) (t : Tables) (slots : Slots) (told : Told) (m : Map)
+OpenedStoresKeep = (units : ℕ) (t : Tables) (slots : Slots) (told : Told) (h : History) (m : Map)
     → NoneIsLost (units + RESERVED_PLACES) t → t.active ≡ [] → ((s : ℕ) → number_of slots s ≡ None)
     → AreSessionsOf slots (at_rest m)
     → OfContents told (λ x. (it : Layout) × Mirrors (units + RESERVED_PLACES) (chart_of x) it t
     × Says (units + RESERVED_PLACES) (chart_of x) it m)
-    → ((h : History) → told.history ≡ Some h
-    → RestsOnMap (opened_with units t slots) told m h × IsTidy h.story t)
-    → KeepsStore (limits_of units) (opened_with units t slots) told (at_rest m)
+    → IsSteady h told → StoryRests (units + RESERVED_PLACES) m h → IsTidy h.story t
+    → KeepsStore (limits_of units) (opened_with units t slots) told h (at_rest m)
 
--- A fault of a call has its excuse, where the store keeps a state and the chip tells what it holds.
+-- A fault of a call has its excuse, where the store keeps a state.
 abbrev pub IsExcused : ℕ → View → Told → Told → Type 0
-IsExcused n store old new = (state : State) → KeepsStore (limits_of store.units) store old state
-    → OfContents old (λ x. Excuses store_keeping n store old new)
+IsExcused n store old new = (h : History) (state : State)
+    → KeepsStore (limits_of store.units) store old h state → Excuses store_keeping n store old new
 
--- Few numbers were drawn, where the store keeps a state and the chip tells what it holds: a chip that
--- tells nothing may have any when it is opened again.
+-- Few numbers were drawn, where the store keeps a state: a chip that tells nothing may have any when
+-- it is opened again.
 abbrev pub DrawsFew : ℕ → View → Told → View → Type 0
-DrawsFew n before old after = (state : State) → KeepsStore (limits_of before.units) before old state
-    → OfContents old (λ x. after.memory.tables.next ≤ before.memory.tables.next + n)
+DrawsFew n before old after = (h : History) (state : State)
+    → KeepsStore (limits_of before.units) before old h state
+    → after.memory.tables.next ≤ before.memory.tables.next + n
 
 -- What a call leaves that leads to the model's next state, and answers the model's reply where the
--- chip tells what it holds, is the work of the command, where few numbers were drawn and a fault has
--- its excuse.
+-- store keeps a state, is the work of the command, where few numbers were drawn and a fault has its
+-- excuse.
 abbrev pub LeadsAreWork : Type 0
 LeadsAreWork = (c : Command) (before after : View) (result : Result Reply Fault) (old new : Told)
-    → IsConsistent old → before.units + RESERVED_PLACES ≡ old.places → after.units ≡ before.units
+    → before.units + RESERVED_PLACES ≡ old.places → after.units ≡ before.units
     → before.down ≡ false
     → LeadsTo (λ state. (step (limits_of before.units) state c).0) before.memory old result
     after.memory new
-    → IfOk result (λ reply. (state : State) → KeepsStore (limits_of before.units) before old state
-    → OfContents old (λ x. (step (limits_of before.units) state c).1 ≡ reply ∷ []))
+    → IfOk result (λ reply. (h : History) (state : State)
+    → KeepsStore (limits_of before.units) before old h state
+    → (step (limits_of before.units) state c).1 ≡ reply ∷ [])
     → DrawsFew WORK_DRAWS before old after
     → OnErr result (IsExcused WORK_DRAWS before old new)
     → Works store_keeping c before old result after new
@@ -259,27 +250,28 @@ pub record TellsName (slots : Slots) (state : State) (n : ℕ) (f : Frame) : Typ
   pub seen : (s tid : ℕ) → number_of slots s ≡ Some tid
       → seen_by tid (f.values (home_of n).slot) (f.pending (home_of n).slot) ≡ see state s n
 
--- after a call that keeps each state and was done, where the chip told what it held
+-- after a call that keeps each state and was done
 abbrev pub KeptFramesTell : Type 0
-KeptFramesTell = (n : ℕ) (store : View) (t : Tables) (later : Frames) (f : Frame) (state : State)
-    (old new : Told) → store.units + RESERVED_PLACES ≡ old.places → store.down ≡ false
+KeptFramesTell = (n : ℕ) (store : View) (t : Tables) (later : Frames) (f : Frame) (h : History)
+    (state : State) (old new : Told) → store.units + RESERVED_PLACES ≡ old.places → store.down ≡ false
     → KeepsState {T = Unit {0}} {E = ChipFault} store.memory.tables store.memory.frames old (Ok tt)
     t later new
     → later (home_of n).unit (home_of n).page ≡ Some f
-    → KeepsStore (limits_of store.units) store old state
-    → OfContents old (λ x. TellsName store.memory.slots state n f)
+    → KeepsStore (limits_of store.units) store old h state
+    → TellsName store.memory.slots state n f
 
--- What a call leaves that keeps each state, and answers a record of its map where the chip tells
--- what it holds, looks the record up, likewise.
+-- What a call leaves that keeps each state, and answers a record of its map, looks the record up,
+-- likewise.
 abbrev pub KeepersLookUp : Type 0
 KeepersLookUp = (n : ℕ) (before after : View) (result : Result (Option (List ℕ)) Fault)
     (old new : Told)
-    → IsConsistent old → before.units + RESERVED_PLACES ≡ old.places → after.units ≡ before.units
+    → before.units + RESERVED_PLACES ≡ old.places → after.units ≡ before.units
     → before.down ≡ false → after.memory.slots ≡ before.memory.slots
     → KeepsState before.memory.tables before.memory.frames old result after.memory.tables
     after.memory.frames new
-    → IfOk result (λ found. (state : State) → KeepsStore (limits_of before.units) before old state
-    → n < UNIT_NAMES * before.units → OfContents old (λ x. found ≡ get state.map n))
+    → IfOk result (λ found. (h : History) (state : State)
+    → KeepsStore (limits_of before.units) before old h state
+    → n < UNIT_NAMES * before.units → found ≡ get state.map n)
     → after.memory.tables.next ≤ before.memory.tables.next + LOOK_UP_DRAWS
     → OnErr result (IsExcused LOOK_UP_DRAWS before old new)
     → LooksUp store_keeping n before old result after new
@@ -300,7 +292,7 @@ IdleFaultsLookUp = (n : ℕ) (store : View) (told : Told)
 -- few numbers and has its excuse
 abbrev pub FaultsThatLeaveDown : Type 0
 FaultsThatLeaveDown = (c : Command) (before after : View) (fault : Fault) (old new : Told)
-    → IsConsistent old → before.units + RESERVED_PLACES ≡ old.places → after.units ≡ before.units
+    → before.units + RESERVED_PLACES ≡ old.places → after.units ≡ before.units
     → before.down ≡ false → after.down ≡ true
     → ((h : History) (it : Layout) (state : State) → IsSteady h old
     → MemoryFitsStory (before.units + RESERVED_PLACES) h it before.memory state

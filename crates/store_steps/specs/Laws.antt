@@ -1,7 +1,7 @@
 -- How what calls of a store leave is joined.
 use Rattle.std.specs.Prelude.{ℕ, ◌≡◌, ◌<◌, ◌-◌, [], List, length, Option, Some, None, Result, Ok, Err, All, is_ok}
 use Rattle.ipl_base.specs.declared.limits.TheConstants.{RESERVED_PLACES, PAGES, SLOTS}
-use Rattle.chip_trait.specs.Told.{History, Told, Counts, IsConsistent}
+use Rattle.chip_trait.specs.Told.{History, Told, Counts}
 use Rattle.ipl_base.specs.declared.fault.ChipFault.{ChipFault}
 use Rattle.ipl_rules.specs.State.{Map, State, at_rest}
 use Rattle.ipl_rules.specs.Operations.{after_commit, after_restart}
@@ -42,7 +42,7 @@ NothingKeepsStates = (t : Tables) (frames : Frames) (old : Told)
 abbrev pub KeepersAreJoined : Type 0
 KeepersAreJoined = (t between after : Tables) (frames middle later : Frames)
     (result : Result (Unit {0}) ChipFault) (old mid new : Told)
-    → IsConsistent old → IsConsistent mid → Counts old mid
+    → Counts old mid
     → KeepsState {T = Unit {0}} {E = ChipFault} t frames old (Ok tt) between middle mid
     → KeepsState between middle mid result after later new
     → KeepsState t frames old result after later new
@@ -139,7 +139,7 @@ MemoryLeads = (next : State → State) (before after : Memory) (old : Told)
 abbrev pub KeepersThenLead : Type 0
 KeepersThenLead = (next : State → State) (before : Memory) (between : Tables) (middle : Frames)
     (after : Memory) (result : Result (Unit {0}) ChipFault) (old mid new : Told)
-    → IsConsistent old → IsConsistent mid → Counts old mid
+    → Counts old mid
     → KeepsState {T = Unit {0}} {E = ChipFault} before.tables before.frames old (Ok tt) between
     middle mid
     → LeadsTo next (memory_of between middle before.slots) mid result after new

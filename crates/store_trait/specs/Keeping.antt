@@ -1,5 +1,6 @@
 -- How a store keeps a state on a chip, and what one command's work leaves.
-use Rattle.std.specs.Prelude.{OnErr, ◌≡◌, ◌⊎◌, ◌<◌, ◌≤◌, ◌+◌, ◌-◌, ◌^◌, max, ℕ, Bool, true, List, [], ◌∷◌, Option, Some, Result, MatchResult, is_ok}
+use Rattle.std.specs.Prelude.{OnErr, ◌≡◌, ◌⊎◌, ◌<◌, ◌≤◌, ◌+◌, ◌-◌, ◌^◌, max, ℕ, Bool, true, List, [], ◌∷◌, Option, Result, MatchResult, is_ok}
+use Rattle.std.specs.Option.{option_map}
 use Rattle.std.specs.FinMap.{get}
 use Rattle.ipl_rules.specs.State.{Map, State, Limits}
 use Rattle.ipl_model.specs.declared.command.Command.{Command}
@@ -12,7 +13,7 @@ use Rattle.chip_trait.specs.Moment.{AtEachMoment, Leaves}
 use Rattle.chip_trait.specs.Lawful.{IsLawfulAfter, LeavesClean}
 use Rattle.chip_trait.specs.Told.{History, Told, adds_all, Rose, Unrisen}
 use Rattle.store_trait.specs.declared.fault.Fault.{Fault}
-use Rattle.store_trait.specs.Onward.{Further, Still}
+use Rattle.store_trait.specs.Onward.{Further, Still, sayings}
 
 -- each of these events is so
 abbrev pub AllOf : (Event → Type 0) → Story → Type 0
@@ -25,8 +26,8 @@ pub record Keeping (S : Type 0) : Type 1 where
   pub checks : List ℕ → Bool
   -- under these limits the contents of a chip stand for these records
   pub stands : Limits → Contents → Map → Type 0
-  -- under these limits the store, over a chip that tells this, keeps the state
-  pub holds : Limits → S → Told → State → Type 0
+  -- under these limits the store, over a chip that tells this and holds what this history leaves, keeps the state
+  pub holds : Limits → S → Told → History → State → Type 0
   -- the store is made for a chip of so many places, and may go on
   pub suits : S → ℕ → Type 0
   -- the store counts this sector of this place as clean
@@ -37,12 +38,12 @@ pub record Keeping (S : Type 0) : Type 1 where
   pub does : Event → Type 0
   -- a fault comes only where this was so of what was told before it and after it
   pub cause : Fault → Told → Told → Type 0
-  -- whatever a power cut leaves of a chip whose history is told stands for the records
-  pub each : (limits : Limits) (store : S) (t : Told) (state : State) (h : History) → holds limits store t state
-      → t.history ≡ Some h → Leaves checks (λ x. stands limits x state.map) h []
+  -- whatever a power cut leaves of such a chip stands for the records
+  pub each : (limits : Limits) (store : S) (t : Told) (h : History) (state : State) → holds limits store t h state
+      → Leaves checks (λ x. stands limits x state.map) h []
   -- what is said and what is read of a script changes nothing
-  pub still : (limits : Limits) (store : S) (old new : Told) (state : State) → Still old new
-      → holds limits store old state → holds limits store new state
+  pub still : (limits : Limits) (store : S) (old new : Told) (h : History) (state : State) → (still : Still old new)
+      → holds limits store old h state → holds limits store new (adds_all (sayings still.pieces) h) state
   -- a cause is one for a longer time too
   pub caused : (fault : Fault) (first old new last : Told) → Further first old → cause fault old new
       → Further new last → cause fault first last
@@ -89,13 +90,13 @@ IsSingle command.Syntax = Unit {0}
 
 -- over stores of one kind
 module _ {S : Type 0} (k : Keeping S) where
-  -- What work leaves that says nothing. At each moment of it a power cut leaves contents with P; it is lawful, after any
-  -- lawful events that leave the sectors clean which the store counts so; and done, it leaves those clean that the store
-  -- counts so then.
-  pub record WorkLeaves (P : Contents → Type 0) (before : S) (h : History) (then : S) (new : Told)
+  -- What work leaves that says nothing. What the chip tells grew by the added events. At each moment of them a power cut
+  -- leaves contents with P; they are lawful, after any lawful events that leave the sectors clean which the store counts so;
+  -- and done, they leave those clean that the store counts so then.
+  pub record WorkLeaves (P : Contents → Type 0) (before : S) (h : History) (then : S) (old new : Told)
       (done : Bool) : Type 0 where
     pub added : Story
-    pub history : new.history ≡ Some (adds_all added h)
+    pub history : new.history ≡ option_map (adds_all added) old.history
     pub each_moment : AtEachMoment (Leaves k.checks P h) added
     pub silent : pieces added ≡ []
     pub only : AllOf k.does added
@@ -109,8 +110,8 @@ module _ {S : Type 0} (k : Keeping S) where
     pub spent : IsSpent → LAST_NUMBER < max (k.counter before) FOUND_NUMBER + n
 
   -- the store still keeps the state, unless a write failed
-  abbrev pub Stays : Limits → S → Told → Told → State → Type 0
-  Stays limits store old new state = Unrisen old new → k.holds limits store new state
+  abbrev pub Stays : Limits → S → Told → Told → History → State → Type 0
+  Stays limits store old new h state = Unrisen old new → k.holds limits store new h state
 
   -- as long as n numbers are left below 2^63, the chip failed
   abbrev pub Excuses : ℕ → S → Told → Told → Type 0
@@ -122,29 +123,29 @@ module _ {S : Type 0} (k : Keeping S) where
   pub record WorksFor (limits : Limits) (state : State) (c : Command) (before : S) (h : History)
       (result : Result Reply Fault) (then : S) (old new : Told) : Type 0 where
     pub leaves : WorkLeaves
-        (λ x. k.stands limits x state.map ⊎ k.stands limits x (step limits state c).0.map) before h then new
+        (λ x. k.stands limits x state.map ⊎ k.stands limits x (step limits state c).0.map) before h then old new
         (is_ok result)
     pub ends : MatchResult result
-        (λ reply. k.holds limits then new (step limits state c).0 × ((step limits state c).1 ≡ reply ∷ []))
-        (λ fault. Stays limits then old new state)
+        (λ reply. k.holds limits then new (adds_all leaves.added h) (step limits state c).0
+        × ((step limits state c).1 ≡ reply ∷ []))
+        (λ fault. Stays limits then old new (adds_all leaves.added h) state)
     pub drawn : k.counter then ≤ k.counter before + WORK_DRAWS
     pub excuse : OnErr result (Excuses WORK_DRAWS before old new)
 
   abbrev pub Works : Command → S → Told → Result Reply Fault → S → Told → Type 0
   Works c before old result then new = (limits : Limits) (state : State) (h : History)
-      → k.holds limits before old state → old.history ≡ Some h
-      → WorksFor limits state c before h result then old new
+      → k.holds limits before old h state → WorksFor limits state c before h result then old new
 
   -- Looking a record up: wherever the power is cut, the chip stands for the same records.
   pub record LooksUpFor (limits : Limits) (state : State) (n : ℕ) (before : S) (h : History)
       (result : Result (Option (List ℕ)) Fault) (then : S) (old new : Told) : Type 0 where
-    pub leaves : WorkLeaves (λ x. k.stands limits x state.map) before h then new (is_ok result)
-    pub ends : MatchResult result (λ found. k.holds limits then new state × (found ≡ get state.map n))
-        (λ fault. Stays limits then old new state)
+    pub leaves : WorkLeaves (λ x. k.stands limits x state.map) before h then old new (is_ok result)
+    pub ends : MatchResult result
+        (λ found. k.holds limits then new (adds_all leaves.added h) state × (found ≡ get state.map n))
+        (λ fault. Stays limits then old new (adds_all leaves.added h) state)
     pub drawn : k.counter then ≤ k.counter before + LOOK_UP_DRAWS
     pub excuse : OnErr result (Excuses LOOK_UP_DRAWS before old new)
 
   abbrev pub LooksUp : ℕ → S → Told → Result (Option (List ℕ)) Fault → S → Told → Type 0
   LooksUp n before old result then new = (limits : Limits) (state : State) (h : History)
-      → k.holds limits before old state → old.history ≡ Some h
-      → n < limits.names → LooksUpFor limits state n before h result then old new
+      → k.holds limits before old h state → n < limits.names → LooksUpFor limits state n before h result then old new

@@ -1,6 +1,6 @@
 //! What keeps records on a chip and does the work of commands.
 ghost use Rattle.std.specs.Prelude.{◌≡◌, ◌<◌, ◌≤◌, ℕ, IfErr, OnOk, IsErrOf};
-ghost use Rattle.chip_trait.specs.Told.{Told, Counts};
+ghost use Rattle.chip_trait.specs.Told.{History, Told, Counts};
 
 use crate::Fault;
 use chip_trait::Chip;
@@ -18,7 +18,7 @@ pub trait Store {
     /// Names are numbers below this.
     fn names(&self) -> u32
         ensures most { result ≤ 983040 }
-        ensures limit { (limits : Limits) (t : Told) (state : State) → keeping.holds limits self.now t state
+        ensures limit { (limits : Limits) (t : Told) (h : History) (state : State) → keeping.holds limits self.now t h state
             → result ≡ limits.names };
 
     /// Does the work of a command that has one line as its reply, and answers that line.

@@ -2,7 +2,7 @@
 use Rattle.std.proofs.Common.{◌≡◌, ◌≢◌, ℕ, ◌<◌, ◌≤◌, ◌+◌, ◌*◌, ◌^◌, Bool, true, false, eqb, [], ◌∷◌, List, map, length, Some, None, Result, Ok, Err, refl, sym, ◌∙◌, ap, subst, arith}
 use Rattle.std.specs.List.{All}
 use Rattle.std.proofs.lemmas.Bool.{eqb-true, eq-eqb}
-use Rattle.chip_trait.specs.Told.{Told, IsConsistent}
+use Rattle.chip_trait.specs.Told.{Told}
 use Rattle.chip_trait.proofs.CountsLemmas.{counts_none}
 use Rattle.ipl_base.specs.declared.fault.ChipFault.{ChipFault}
 use Rattle.ipl_base.specs.declared.name.Name.{Name}
@@ -180,16 +180,15 @@ BEFORE_NUMBER = 2 ^ 14 + 14 * 64
 
 -- its records were written out, and then its number was added, or not
 pub committed : (s : ℕ) (old mid new : Transactions) (result : Result (Unit {0}) ChipFault)
-    (before between after : Told) → IsConsistent before → IsConsistent between
+    (before between after : Told)
     → Upholds BEFORE_NUMBER old.pages before (Ok (tt {0})) mid.pages between
     → mid.sessions ≡ old.sessions
     → Turns (λ state. after_commit state s) 1 mid between result new after
     → Turns (λ state. after_commit state s) (2 ^ 15) old before result new after
-committed s old mid new result before between after consistent then_consistent did same turns =
+committed s old mid new result before between after did same turns =
     let next = λ (state : State). after_commit state s in
     turns_weaker next (BEFORE_NUMBER + 1) (2 ^ 15) old new result before after (omega arith)
-    (upheld_then next BEFORE_NUMBER 1 old mid new result before between after consistent
-    then_consistent did same turns)
+    (upheld_then next BEFORE_NUMBER 1 old mid new result before between after did same turns)
 
 -- they weren't
 pub not_committed : (s : ℕ) (old new : Transactions) (e : ChipFault) (before after : Told)

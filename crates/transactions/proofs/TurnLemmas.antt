@@ -1,6 +1,6 @@
 -- Calls that keep each state, and then one that leads to the next.
 use Rattle.std.proofs.Common.{◌≡◌, ℕ, ◌≤◌, ◌+◌, Result, Ok, Err, sym, ◌∙◌, ap, subst, arith}
-use Rattle.chip_trait.specs.Told.{Told, IsConsistent}
+use Rattle.chip_trait.specs.Told.{Told}
 use Rattle.ipl_base.specs.declared.fault.ChipFault.{ChipFault}
 use Rattle.ipl_rules.specs.State.{State}
 use Rattle.record_locks.specs.Held.{Slots, numbers_in}
@@ -33,15 +33,13 @@ upheld_order_then most old new result before after order did same =
 -- after a call that was done, one that leads on
 pub upheld_then : (next : State → State) (n m : ℕ) (old mid new : Transactions)
     (result : Result (Unit {0}) ChipFault) (before between after : Told)
-    → IsConsistent before → IsConsistent between
     → Upholds n old.pages before (Ok (tt {0})) mid.pages between → mid.sessions ≡ old.sessions
     → Turns next m mid between result new after
     → Turns next (n + m) old before result new after
-upheld_then next n m old mid new result before between after consistent then_consistent did same
-    turns =
+upheld_then next n m old mid new result before between after did same turns =
     let counts = did.accounts.counts in record {
       leads = keepers_then_lead next (memory_in old) (tables_in mid.pages) (frames_in mid.pages)
-          (memory_in new) result before between after consistent then_consistent counts did.keeps
+          (memory_in new) result before between after counts did.keeps
           (subst (λ (slots : Slots). LeadsTo next
           (memory_of (tables_in mid.pages) (frames_in mid.pages) slots) between result
           (memory_in new) after) same turns.leads);

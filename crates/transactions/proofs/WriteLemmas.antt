@@ -1,6 +1,6 @@
 -- What a write makes of the memory of a store.
 use Rattle.std.proofs.Common.{◌≡◌, ℕ, ◌<◌, ◌-◌, ◌*◌, Some, IsSome, Ok, inl, inr, refl, sym, ◌∙◌, ap, subst, arith}
-use Rattle.chip_trait.specs.Told.{Told, IsConsistent}
+use Rattle.chip_trait.specs.Told.{Told}
 use Rattle.chip_trait.proofs.CountsLemmas.{counts_none}
 use Rattle.ipl_base.specs.declared.fault.ChipFault.{ChipFault}
 use Rattle.ipl_base.specs.declared.spot.Home.{Home}
@@ -94,8 +94,7 @@ was_put s n u r old new told order low mine of_unit valid home slots locks parts
 
 -- after the record's page was brought into its frame
 pub was_written : (s n u : ℕ) (r : Record) (old new : Transactions) (mid : Pages)
-    (before after : Told) → IsConsistent before → IsConsistent after
-    → IsInOrder before.places old → s < 32 → number_of old.sessions s ≡ Some r.tid
+    (before after : Told) → IsInOrder before.places old → s < 32 → number_of old.sessions s ≡ Some r.tid
     → n < 960 * (before.places - 4) → n ≡ name_at u r.page r.slot → IsRecord r
     → Upholds 14 old.pages before (Ok (tt {0})) mid after
     → new.sessions ≡ after_write old.sessions s n → LocksHold new.sessions
@@ -104,13 +103,12 @@ pub was_written : (s n u : ℕ) (r : Record) (old new : Transactions) (mid : Pag
     → KeepsPins mid.pool new.pages.pool
     → Turns {T = Unit {0}} (λ state. rules.after_write state s (n, r.change)) 14 old before (Ok tt)
     new after
-was_written s n u r old new mid before after consistent then_consistent order low mine within home
-    valid did slots locks parts changes pins =
+was_written s n u r old new mid before after order low mine within home valid did slots locks parts
+    changes pins =
     let between : Transactions = record { pages = mid; sessions = old.sessions } in
     let next = λ (state : State). rules.after_write state s (n, r.change) in
     let places = did.accounts.counts.places in
-    upheld_then next 14 0 old between new (Ok tt) before after after consistent then_consistent did
-    refl
+    upheld_then next 14 0 old between new (Ok tt) before after after did refl
     (was_put s n u r between new after
     (upheld_order_then 14 old between (Ok tt) before after order did refl) low mine
     (omega (arith, within, home, places, valid.page, valid.slot)) valid (sym home) slots locks parts

@@ -1,5 +1,5 @@
 -- The work of commands, in one part after another.
-use Rattle.std.proofs.Common.{◌≡◌, ◌⊎◌, inl, inr, ◌≤◌, Bool, true, false, List, [], ◌∷◌, ◌++◌, map, Some, Ok, Err, refl, sym, ◌∙◌, ap, subst, append_assoc}
+use Rattle.std.proofs.Common.{◌≡◌, ◌⊎◌, inl, inr, ◌≤◌, Bool, true, false, List, [], ◌∷◌, ◌++◌, map, Ok, Err, refl, sym, ◌∙◌, ap, subst, append_assoc}
 use Rattle.std.proofs.lemmas.List.{append-nil}
 use Rattle.ipl_rules.specs.State.{State, Limits}
 use Rattle.ipl_model.specs.declared.command.Command.{Command}
@@ -7,13 +7,14 @@ use Rattle.ipl_model.specs.declared.reply.Reply.{Reply}
 use Rattle.ipl_model.specs.Step.{step}
 use Rattle.ipl_model.specs.Run.{after_all}
 use Rattle.ipl_model.proofs.RunLemmas.{after_all-append}
-use Rattle.chip_trait.specs.Story.{Contents}
+use Rattle.chip_trait.specs.Story.{Story, Contents}
 use Rattle.chip_trait.specs.Moment.{Leaves}
 use Rattle.chip_trait.specs.Told.{History, Told, adds_all}
 use Rattle.chip_trait.proofs.MomentLemmas.{at_start}
 use Rattle.store_trait.specs.declared.fault.Fault.{Fault}
 use Rattle.store_trait.specs.Keeping.{Keeping, WorkLeaves, WorksFor}
 use Rattle.store_trait.proofs.OnwardLemmas.{unrisen_later}
+use Rattle.script_run.proofs.RunLemmas.{twice_added}
 use Rattle.trial_commands.specs.Summary.{Exchange, TrialCounts, counts_of, exchanges}
 use Rattle.trial_run.specs.Trial.{StandsAlong, IsDone, IsCutShort}
 use Rattle.trial_run.proofs.OrderLemmas.{order_then, order_longer, order_one}
@@ -63,12 +64,12 @@ module _ {S : Type 0} (k : Keeping S) (limits : Limits) where
 
   -- no command yet
   pub done_none : (state : State) (counts : TrialCounts) (store : S) (h : History) (t : Told)
-      → k.holds limits store t state → t.history ≡ Some h → IsDone k limits state [] counts store h counts store t
-  done_none state counts store h t holds told = record {
+      → k.holds limits store t h state → IsDone k limits state [] counts store h counts store t t
+  done_none state counts store h t holds = record {
     leaves = work_none k (StandsAlong k limits state []) store h t
-        (λ x is. along_all state [] x (k.each limits store t state h holds told x is)) told;
+        (λ x is. along_all state [] x (k.each limits store t h state holds x is));
     each_command = at_start (Leaves k.checks (λ x. k.stands limits x state.map) h)
-        (k.each limits store t state h holds told);
+        (k.each limits store t h state holds);
     holds = holds;
     counting = λ seen is. is ∙ ap counts_of (sym (append-nil seen));
   }
@@ -77,13 +78,13 @@ module _ {S : Type 0} (k : Keeping S) (limits : Limits) where
   pub done_one : (state : State) (c : Command) (counts counted : TrialCounts) (before then : S) (h : History)
       (old new : Told) (r : Reply) → WorksFor k limits state c before h (Ok r) then old new
       → ((seen : List Exchange) → counts ≡ counts_of seen → counted ≡ counts_of (seen ++ (c, r) ∷ []))
-      → IsDone k limits state (c ∷ []) counts before h counted then new
+      → IsDone k limits state (c ∷ []) counts before h counted then old new
   done_one state c counts counted before then h old new r w noted = record {
     leaves = work_weaker k
         (λ x. k.stands limits x state.map ⊎ k.stands limits x (step limits state c).0.map)
-        (StandsAlong k limits state (c ∷ [])) before then h new true (along_one state c) w.leaves;
+        (StandsAlong k limits state (c ∷ [])) before then h old new true (along_one state c) w.leaves;
     each_command = order_one k limits state c h w.leaves.added w.leaves.silent w.leaves.each_moment
-        (k.each limits then new (step limits state c).0 (adds_all w.leaves.added h) w.ends.0 w.leaves.history);
+        (k.each limits then new (adds_all w.leaves.added h) (step limits state c).0 w.ends.0);
     holds = w.ends.0;
     counting = λ seen is.
         noted seen is
@@ -99,32 +100,41 @@ module _ {S : Type 0} (k : Keeping S) (limits : Limits) where
     commands_are = refl;
     leaves = work_weaker k
         (λ x. k.stands limits x state.map ⊎ k.stands limits x (step limits state c).0.map)
-        (StandsAlong k limits state (c ∷ [])) before then h new false (along_one state c) w.leaves;
+        (StandsAlong k limits state (c ∷ [])) before then h old new false (along_one state c) w.leaves;
     each_command = w.leaves.each_moment;
     stays = w.ends;
   }
 
   module _ (state : State) (cs ds : List Command) (counts mid_counts : TrialCounts) (before mid then : S) (h : History)
-      (between new : Told) (first : IsDone k limits state cs counts before h mid_counts mid between) where
+      (old between new : Told) (first : IsDone k limits state cs counts before h mid_counts mid old between) where
     abbrev both : (done : Bool)
-        → WorkLeaves k (StandsAlong k limits (after_all limits state cs) ds) mid (adds_all first.leaves.added h) then new done
-        → WorkLeaves k (StandsAlong k limits state (cs ++ ds)) before h then new done
+        → WorkLeaves k (StandsAlong k limits (after_all limits state cs) ds) mid (adds_all first.leaves.added h) then between new done
+        → WorkLeaves k (StandsAlong k limits state (cs ++ ds)) before h then old new done
     both done leaves =
         let P = StandsAlong k limits state (cs ++ ds) in
-        work_then k P before mid then h between new done
-        (work_weaker k (StandsAlong k limits state cs) P before mid h between true (along_longer state cs ds) first.leaves)
+        work_then k P before mid then h old between new done
+        (work_weaker k (StandsAlong k limits state cs) P before mid h old between true (along_longer state cs ds) first.leaves)
         (work_weaker k (StandsAlong k limits (after_all limits state cs) ds) P mid then
-        (adds_all first.leaves.added h) new done (along_behind state cs ds) leaves)
+        (adds_all first.leaves.added h) between new done (along_behind state cs ds) leaves)
+
+    -- the store keeps a state over the history behind both parts
+    holds_both : (added : Story) (s t : State) → s ≡ t
+        → k.holds limits then new (adds_all added (adds_all first.leaves.added h)) s
+        → k.holds limits then new (adds_all (added ++ first.leaves.added) h) t
+    holds_both added s t same holds =
+        subst (k.holds limits then new (adds_all (added ++ first.leaves.added) h)) same
+        (subst (λ (g : History). k.holds limits then new g s) (twice_added added first.leaves.added h) holds)
 
     -- then more commands
     pub done_then : (counted : TrialCounts)
-        → IsDone k limits (after_all limits state cs) ds mid_counts mid (adds_all first.leaves.added h) counted then new
-        → IsDone k limits state (cs ++ ds) counts before h counted then new
+        → IsDone k limits (after_all limits state cs) ds mid_counts mid (adds_all first.leaves.added h) counted then between new
+        → IsDone k limits state (cs ++ ds) counts before h counted then old new
     done_then counted next = record {
       leaves = both true next.leaves;
       each_command = order_then k limits state cs ds [] h first.leaves.added next.leaves.added first.leaves.silent
           first.each_command next.each_command;
-      holds = subst (k.holds limits then new) (sym (after_all-append limits state cs ds)) next.holds;
+      holds = holds_both next.leaves.added (after_all limits (after_all limits state cs) ds)
+          (after_all limits state (cs ++ ds)) (sym (after_all-append limits state cs ds)) next.holds;
       counting = λ seen is.
           let earlier = exchanges limits state cs in
           let later = exchanges limits (after_all limits state cs) ds in
@@ -134,10 +144,10 @@ module _ {S : Type 0} (k : Keeping S) (limits : Limits) where
     }
 
     -- or a fault in one of them
-    pub cut_then : (old : Told) → old.write_faults ≤ between.write_faults
+    pub cut_then : old.write_faults ≤ between.write_faults
         → IsCutShort k limits (after_all limits state cs) ds mid (adds_all first.leaves.added h) then between new
         → IsCutShort k limits state (cs ++ ds) before h then old new
-    cut_then old le next = record {
+    cut_then le next = record {
       done = cs ++ next.done;
       later = next.later;
       commands_are = ap (λ (l : List Command). cs ++ l) next.commands_are ∙ sym (append_assoc cs next.done next.later);
@@ -145,7 +155,8 @@ module _ {S : Type 0} (k : Keeping S) (limits : Limits) where
       each_command = order_then k limits state cs next.done next.later h first.leaves.added next.leaves.added
           first.leaves.silent first.each_command next.each_command;
       stays = λ quiet.
-          subst (k.holds limits then new) (sym (after_all-append limits state cs next.done))
+          holds_both next.leaves.added (after_all limits (after_all limits state cs) next.done)
+          (after_all limits state (cs ++ next.done)) (sym (after_all-append limits state cs next.done))
           (next.stays (unrisen_later old between new le quiet));
     }
 
@@ -156,7 +167,7 @@ module _ {S : Type 0} (k : Keeping S) (limits : Limits) where
     done = cut.done;
     later = cut.later ++ ds;
     commands_are = ap (λ (l : List Command). l ++ ds) cut.commands_are ∙ append_assoc cut.done cut.later ds;
-    leaves = work_weaker k (StandsAlong k limits state cs) (StandsAlong k limits state (cs ++ ds)) before then h new false
+    leaves = work_weaker k (StandsAlong k limits state cs) (StandsAlong k limits state (cs ++ ds)) before then h old new false
         (along_longer state cs ds) cut.leaves;
     each_command = order_longer k limits state cut.done cut.later ds h cut.leaves.added cut.each_command;
     stays = cut.stays;

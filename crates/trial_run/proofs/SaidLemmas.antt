@@ -1,5 +1,5 @@
 -- Pieces that are said, and nothing else.
-use Rattle.std.proofs.Common.{◌≡◌, ◌⊎◌, inl, inr, ℕ, ◌+◌, ◌<◌, Bool, List, [], ◌∷◌, ◌++◌, take, drop, length, get_or, reverse, Some, refl, sym, ◌∙◌, ap, subst}
+use Rattle.std.proofs.Common.{◌≡◌, ◌⊎◌, inl, inr, ℕ, ◌+◌, ◌<◌, Bool, List, [], ◌∷◌, ◌++◌, take, drop, length, get_or, reverse, refl, sym, ◌∙◌, ap, subst}
 use Rattle.std.specs.Option.{option_map}
 use Rattle.std.proofs.lemmas.List.{append-nil, reverse-append, reverse-reverse, take-append-drop, drop_more, take_more}
 use Rattle.ipl_rules.specs.State.{State, Limits}
@@ -122,22 +122,10 @@ clean_sayings sectors [] base clean = clean
 clean_sayings sectors (piece ∷ said) base clean = clean_sayings sectors said base clean
 
 module _ {S : Type 0} (k : Keeping S) (limits : Limits) (state : State) (store : S) (h : History) (old new : Told)
-    (said : List (List ℕ)) (holds : k.holds limits store old state) (told : old.history ≡ Some h)
+    (said : List (List ℕ)) (holds : k.holds limits store old h state)
     (has : HasSaid said old new) where
-  pub saying_each : (done : Bool) → SayingLeaves k limits state.map said store h store new done
-  saying_each done = record {
-    added = sayings (reverse said);
-    history = has.history ∙ ap (option_map (adds_all (sayings (reverse said)))) told;
-    each_moment = each_saying k.checks (λ x. k.stands limits x state.map) h (reverse said)
-        (k.each limits store old state h holds told);
-    says = pieces-sayings (reverse said) ∙ reverse-reverse said;
-    only = only_sayings k.does (reverse said);
-    lawful = record { lawful = λ base lawful clean. lawful_sayings (reverse said) base lawful };
-    clean = λ e. record { clean = λ base lawful clean. clean_sayings (k.clean store) (reverse said) base clean };
-  }
-
-  -- and the store keeps the state
-  pub kept_still : k.holds limits store new state
+  -- the store keeps the state
+  pub kept_still : k.holds limits store new (adds_all (sayings (reverse said)) h) state
   kept_still =
       let still : Still old new = record {
         places = has.places;
@@ -145,4 +133,19 @@ module _ {S : Type 0} (k : Keeping S) (limits : Limits) (state : State) (store :
         contents = has.contents;
         pieces = reverse said;
         history = has.history;
-      } in k.still limits store old new state still holds
+      } in k.still limits store old new h state still holds
+
+  -- so the lines are said
+  pub saying_each : (done : Bool) → (leaves : SayingLeaves k limits state.map said store h store old new done)
+      × k.holds limits store new (adds_all leaves.added h) state
+  saying_each done =
+      let leaves : SayingLeaves k limits state.map said store h store old new done = record {
+        added = sayings (reverse said);
+        history = has.history;
+        each_moment = each_saying k.checks (λ x. k.stands limits x state.map) h (reverse said)
+            (k.each limits store old h state holds);
+        says = pieces-sayings (reverse said) ∙ reverse-reverse said;
+        only = only_sayings k.does (reverse said);
+        lawful = record { lawful = λ base lawful clean. lawful_sayings (reverse said) base lawful };
+        clean = λ e. record { clean = λ base lawful clean. clean_sayings (k.clean store) (reverse said) base clean };
+      } in (leaves, kept_still)

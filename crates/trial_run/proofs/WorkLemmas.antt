@@ -1,21 +1,23 @@
 -- Work that says nothing, in one part after another.
-use Rattle.std.proofs.Common.{◌≡◌, ℕ, Bool, true, List, [], ◌++◌, Some, refl, ◌∙◌, ap}
+use Rattle.std.proofs.Common.{ℕ, Bool, true, List, [], ◌++◌, refl, ◌∙◌, ap}
+use Rattle.std.specs.Option.{option_map}
 use Rattle.chip_trait.specs.Story.{Contents, pieces}
 use Rattle.chip_trait.specs.Moment.{Leaves}
 use Rattle.chip_trait.specs.Told.{History, Told, adds_all}
+use Rattle.chip_trait.proofs.HistoryLemmas.{same_history, history_then}
 use Rattle.chip_trait.proofs.LawfulLemmas.{lawful_none, clean_none, lawful_then, clean_then}
 use Rattle.chip_trait.proofs.MomentLemmas.{at_start, at_both}
 use Rattle.chip_trait.proofs.SaidLemmas.{pieces-append}
 use Rattle.store_trait.specs.Keeping.{Keeping, WorkLeaves}
-use Rattle.script_run.proofs.RunLemmas.{all_both, twice_added, regrouped}
+use Rattle.script_run.proofs.RunLemmas.{all_both, regrouped}
 
 module _ {S : Type 0} (k : Keeping S) where
   -- none
   abbrev pub work_none : (P : Contents → Type 0) (store : S) (h : History) (t : Told) → Leaves k.checks P h []
-      → t.history ≡ Some h → WorkLeaves k P store h store t true
-  work_none P store h t here told = record {
+      → WorkLeaves k P store h store t t true
+  work_none P store h t here = record {
     added = [];
-    history = told;
+    history = same_history t.history;
     each_moment = at_start (Leaves k.checks P h) here;
     silent = refl;
     only = tt;
@@ -24,9 +26,9 @@ module _ {S : Type 0} (k : Keeping S) where
   }
 
   -- less said of what is left
-  abbrev pub work_weaker : (P Q : Contents → Type 0) (before then : S) (h : History) (new : Told) (done : Bool)
-      → ((x : Contents) → P x → Q x) → WorkLeaves k P before h then new done → WorkLeaves k Q before h then new done
-  work_weaker P Q before then h new done f w = record {
+  abbrev pub work_weaker : (P Q : Contents → Type 0) (before then : S) (h : History) (old new : Told) (done : Bool)
+      → ((x : Contents) → P x → Q x) → WorkLeaves k P before h then old new done → WorkLeaves k Q before h then old new done
+  work_weaker P Q before then h old new done f w = record {
     added = w.added;
     history = w.history;
     each_moment = λ later e split x is. f x (w.each_moment later e split x is);
@@ -37,12 +39,13 @@ module _ {S : Type 0} (k : Keeping S) where
   }
 
   -- one part after another
-  abbrev pub work_then : (P : Contents → Type 0) (before mid then : S) (h : History) (between new : Told)
-      (done : Bool) (first : WorkLeaves k P before h mid between true)
-      → WorkLeaves k P mid (adds_all first.added h) then new done → WorkLeaves k P before h then new done
-  work_then P before mid then h between new done first two = record {
+  abbrev pub work_then : (P : Contents → Type 0) (before mid then : S) (h : History) (old between new : Told)
+      (done : Bool) (first : WorkLeaves k P before h mid old between true)
+      → WorkLeaves k P mid (adds_all first.added h) then between new done → WorkLeaves k P before h then old new done
+  work_then P before mid then h old between new done first two = record {
     added = two.added ++ first.added;
-    history = two.history ∙ ap Some (twice_added two.added first.added h);
+    history = two.history ∙ ap (option_map (adds_all two.added)) first.history
+        ∙ history_then two.added first.added old.history;
     each_moment = at_both (Leaves k.checks P h) two.added first.added first.each_moment
         (λ later f split x is. two.each_moment later f split x (regrouped k.checks h f first.added x is));
     silent = pieces-append two.added first.added

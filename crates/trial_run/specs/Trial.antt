@@ -1,5 +1,5 @@
 -- What a trial does with a store, and what it leaves, wherever it stops.
-use Rattle.std.specs.Prelude.{◌≡◌, ◌⊎◌, ℕ, true, false, List, [], ◌∷◌, ◌++◌, reverse, Some, Result, Ok, Err, MatchResult, is_ok}
+use Rattle.std.specs.Prelude.{◌≡◌, ◌⊎◌, ℕ, true, false, List, [], ◌∷◌, ◌++◌, reverse, Result, Ok, Err, MatchResult, is_ok}
 use Rattle.std.specs.Option.{option_map}
 use Rattle.ipl_rules.specs.State.{State, Limits}
 use Rattle.ipl_model.specs.declared.command.Command.{Command}
@@ -78,10 +78,10 @@ module _ {S : Type 0} (k : Keeping S) where
   -- The work of these commands is done, and each is counted with its reply. At each moment of it the
   -- chip stands for the records after the first of them.
   pub record IsDone (limits : Limits) (state : State) (commands : List Command) (counts : TrialCounts) (before : S)
-      (h : History) (counted : TrialCounts) (then : S) (new : Told) : Type 0 where
-    pub leaves : WorkLeaves k (StandsAlong limits state commands) before h then new true
+      (h : History) (counted : TrialCounts) (then : S) (old new : Told) : Type 0 where
+    pub leaves : WorkLeaves k (StandsAlong limits state commands) before h then old new true
     pub each_command : CommandByCommand limits state commands [] h leaves.added
-    pub holds : k.holds limits then new (after_all limits state commands)
+    pub holds : k.holds limits then new (adds_all leaves.added h) (after_all limits state commands)
     pub counting : (seen : List Exchange) → counts ≡ counts_of seen
         → counted ≡ counts_of (seen ++ exchanges limits state commands)
 
@@ -92,38 +92,38 @@ module _ {S : Type 0} (k : Keeping S) where
     pub done : List Command
     pub later : List Command
     pub commands_are : commands ≡ done ++ later
-    pub leaves : WorkLeaves k (StandsAlong limits state commands) before h then new false
+    pub leaves : WorkLeaves k (StandsAlong limits state commands) before h then old new false
     pub each_command : CommandByCommand limits state done later h leaves.added
-    pub stays : Stays k limits then old new (after_all limits state done)
+    pub stays : Stays k limits then old new (adds_all leaves.added h) (after_all limits state done)
 
   abbrev pub DoesAll : List Command → TrialCounts → S → Told → Result (Unit {0}) Stop → TrialCounts → S → Told → Type 0
   DoesAll commands counts before old result counted then new = (limits : Limits) (state : State) (h : History)
-      → k.holds limits before old state → old.history ≡ Some h →
+      → k.holds limits before old h state →
       MatchResult result
-      (λ _. IsDone limits state commands counts before h counted then new)
+      (λ _. IsDone limits state commands counts before h counted then old new)
       (λ _. IsCutShort limits state commands before h then old new)
 
   -- ---- the records are looked up
 
   -- records were looked up, and these lines of theirs were taken
   pub record IsTaken (limits : Limits) (state : State) (lines : List (List ℕ)) (sum : RecordSum) (before : S)
-      (h : History) (later : RecordSum) (then : S) (new : Told) : Type 0 where
-    pub leaves : WorkLeaves k (λ x. k.stands limits x state.map) before h then new true
-    pub holds : k.holds limits then new state
+      (h : History) (later : RecordSum) (then : S) (old new : Told) : Type 0 where
+    pub leaves : WorkLeaves k (λ x. k.stands limits x state.map) before h then old new true
+    pub holds : k.holds limits then new (adds_all leaves.added h) state
     pub taking : (seen : List (List ℕ)) → HasTaken sum seen → HasTaken later (seen ++ lines)
 
   -- the look-ups stopped in one of them
   pub record IsLost (limits : Limits) (state : State) (before : S) (h : History) (then : S) (old new : Told)
       : Type 0 where
-    pub leaves : WorkLeaves k (λ x. k.stands limits x state.map) before h then new false
-    pub stays : Stays k limits then old new state
+    pub leaves : WorkLeaves k (λ x. k.stands limits x state.map) before h then old new false
+    pub stays : Stays k limits then old new (adds_all leaves.added h) state
 
   abbrev pub TakesAll : Limits → (State → List (List ℕ)) → RecordSum → S → Told → Result (Unit {0}) Stop → RecordSum
       → S → Told → Type 0
   TakesAll limits lines sum before old result later then new = (state : State) (h : History)
-      → k.holds limits before old state → old.history ≡ Some h →
+      → k.holds limits before old h state →
       MatchResult result
-      (λ _. IsTaken limits state (lines state) sum before h later then new)
+      (λ _. IsTaken limits state (lines state) sum before h later then old new)
       (λ _. IsLost limits state before h then old new)
 
   -- ---- the whole trial
@@ -160,26 +160,27 @@ module _ {S : Type 0} (k : Keeping S) where
   TrialEnds (Err stop.Output) limits state commands h added R = EndsInLines limits state commands h added R
   TrialEnds (Err stop.TooLong) limits state commands h added R = ⊥
 
-  -- Whatever moment the power is cut at, the chip stands for the records after the first of the
-  -- commands, and after all of them from the first line on. What was said is a beginning of the
-  -- summary, line by line, and all of it where the trial is done. No sector is programmed twice. R
-  -- says of a state how the store keeps it at the end.
+  -- What the chip tells grew by the added events. Whatever moment of them the power is cut at, the
+  -- chip stands for the records after the first of the commands, and after all of them from the first
+  -- line on. What was said is a beginning of the summary, line by line, and all of it where the trial
+  -- is done. No sector is programmed twice. R says of the history at the end, and of a state, how the
+  -- store keeps it then.
   pub record TrialLeaves (limits : Limits) (state : State) (commands : List Command) (before : S) (h : History)
-      (R : State → Type 0) (then : S) (new : Told) (result : Result (Unit {0}) Stop) : Type 0 where
+      (R : History → State → Type 0) (then : S) (old new : Told) (result : Result (Unit {0}) Stop) : Type 0 where
     pub added : Story
-    pub history : new.history ≡ Some (adds_all added h)
+    pub history : new.history ≡ option_map (adds_all added) old.history
     pub each_moment : AtEachMoment (λ e. Leaves k.checks (StandsBehind limits state commands (pieces e)) h e) added
     pub lines : SaysLines (trial_lines limits state commands) (pieces added)
     pub all : is_ok result ≡ true → pieces added ≡ trial_lines limits state commands
     pub only : AllOf (IsSaidOr k.does) added
     pub lawful : IsLawfulAfter (k.clean before) added
     pub clean : is_ok result ≡ true → LeavesClean (k.clean before) (k.clean then) added
-    pub ends : TrialEnds result limits state commands h added R
+    pub ends : TrialEnds result limits state commands h added (R (adds_all added h))
 
   -- a trial of these commands, to its end or to where it stopped
   abbrev pub RunsTrial : List Command → S → Told → Result (Unit {0}) Stop → S → Told → Type 0
   RunsTrial commands before old result then new = (limits : Limits) (state : State) (h : History)
-      → k.holds limits before old state → old.history ≡ Some h →
+      → k.holds limits before old h state →
       MatchResult result
-      (λ _. TrialLeaves limits state commands before h (k.holds limits then new) then new (Ok tt))
-      (λ s. TrialLeaves limits state commands before h (Stays k limits then old new) then new (Err s))
+      (λ _. TrialLeaves limits state commands before h (k.holds limits then new) then old new (Ok tt))
+      (λ s. TrialLeaves limits state commands before h (Stays k limits then old new) then old new (Err s))

@@ -90,14 +90,14 @@ impl Store for ModelStore {
     ghost keeping = { record {
       checks = λ bytes. false;
       stands = λ limits x m. Unit {0};
-      holds = λ limits store t state. ⊥;
+      holds = λ limits store t h state. ⊥;
       suits = λ store places. Unit {0};
       clean = λ store p s. ⊥;
       counter = λ store. 0;
       does = λ e. Unit {0};
       cause = λ fault old new. Unit {0};
-      each = λ limits store t state h holds told. absurd holds;
-      still = λ limits store old new state same holds. holds;
+      each = λ limits store t h state holds. absurd holds;
+      still = λ limits store old new h state same holds. holds;
       caused = λ fault first old new last before cause after. tt;
     } };
 

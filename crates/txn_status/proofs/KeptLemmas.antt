@@ -23,14 +23,14 @@ use Rattle.txn_status.specs.Writing.{LeadsPart, KeepsParts, IsHeaded}
 
 -- a header that switches a map to itself keeps it
 pub header_keeps : (places : ℕ) (m : Map) (h : History) (p units generation : ℕ) (head : Sector)
-    → IsStatusHead units generation head → (result : Result (Unit {0}) ChipFault) (new : Told)
-    → SwitchesMap places m m (Programs p (IsSpot 0)) (λ done. Gains p 0 head) h result new
-    → KeepsMap places m (Programs p (IsSpot 0)) (λ done. IsHeaded p units generation) h result new
-header_keeps places m h p units generation head is result new did =
+    → IsStatusHead units generation head → (old : Told) (result : Result (Unit {0}) ChipFault) (new : Told)
+    → SwitchesMap places m m (Programs p (IsSpot 0)) (λ done. Gains p 0 head) h old result new
+    → KeepsMap places m (Programs p (IsSpot 0)) (λ done. IsHeaded p units generation) h old result new
+header_keeps places m h p units generation head is old result new did =
     leads_weaker (EachStandsEither places m m) (EachStands places m)
     (Programs p (IsSpot 0)) (Programs p (IsSpot 0))
     (λ done k. StoryRests places m k × Gains p 0 head (now h) (now k))
-    (λ done k. StoryRests places m k × IsHeaded p units generation (now h) (now k)) h result new
+    (λ done k. StoryRests places m k × IsHeaded p units generation (now h) (now k)) h old result new
     (λ k each. either_is_kept places m k each) (λ done a same. same)
     (λ done k held. (held.0, (head, is, held.1))) did
 
@@ -80,7 +80,7 @@ parts_more p generation serial numbers i c y z so gains = record {
 
 pub keeps_none : (places p generation serial : ℕ) (numbers : List ℕ) (m : Map) (h : History)
     (t : Told) → IsSteady h t → StoryRests places m h
-    → KeepsParts places p generation serial numbers 0 m h (Ok tt) t
+    → KeepsParts places p generation serial numbers 0 m h t (Ok tt) t
 keeps_none places p generation serial numbers m h t steady rests =
     leads_none (EachStands places m) (Programs p (IsPartSpot 0))
     (λ done k. StoryRests places m k × HasParts p generation serial numbers 0 (now h) (now k))
@@ -91,12 +91,12 @@ keeps_none places p generation serial numbers m h t steady rests =
 pub keeps_more : (places p generation serial : ℕ) (numbers : List ℕ) (m : Map) (h : History)
     (total i : ℕ) → i < total → now h p 0 ≡ None
     → ((s : ℕ) → IsPartSpot total s → age h.story p s ≡ Clean)
-    → (mid new : Told) (result : Result (Unit {0}) ChipFault)
-    → KeepsParts places p generation serial numbers i m h (Ok tt) mid
+    → (old mid new : Told) (result : Result (Unit {0}) ChipFault)
+    → KeepsParts places p generation serial numbers i m h old (Ok tt) mid
     → LeadsPart places p (1 + i) (commit_sector generation (serial + i) (part_of numbers i))
     mid result new
-    → KeepsParts places p generation serial numbers (i + 1) m h result new
-keeps_more places p generation serial numbers m h total i few bare clean mid new result so one =
+    → KeepsParts places p generation serial numbers (i + 1) m h old result new
+keeps_more places p generation serial numbers m h total i few bare clean old mid new result so one =
     let sector = commit_sector generation (serial + i) (part_of numbers i) in
     let k = adds_all so.added h in
     leads_then (EachStands places m) (Programs p (IsPartSpot i)) (Programs p (IsSpot (1 + i)))
@@ -106,8 +106,8 @@ keeps_more places p generation serial numbers m h total i few bare clean mid new
     (λ done then. StoryRests places m then × Gains p (1 + i) sector (now k) (now then))
     (λ done then. StoryRests places m then
     × HasParts p generation serial numbers (i + 1) (now h) (now then))
-    h tt mid new result so
-    (one m k (record { told = so.history; settled = so.ends.0 }) so.ends.1.0
+    h tt old mid new result so
+    (one m k so.ends.0 so.ends.1.0
     (so.ends.1.1.others p 0 (λ _ least most. omega (arith, least)) ∙ bare)
     (λ zero_one. omega (arith, zero_one))
     (so.does.others h.story p (1 + i) (λ _ spot. omega (arith, spot.1))
@@ -124,14 +124,14 @@ keeps_more places p generation serial numbers m h total i few bare clean mid new
 
 -- one part failed
 pub keeps_failed : (places p generation serial : ℕ) (numbers : List ℕ) (m : Map) (h : History)
-    (i total : ℕ) (e f : ChipFault) (new : Told) → i ≤ total
-    → KeepsParts places p generation serial numbers i m h (Err e) new
-    → KeepsParts places p generation serial numbers total m h (Err f) new
-keeps_failed places p generation serial numbers m h i total e f new few did =
+    (i total : ℕ) (e f : ChipFault) (old new : Told) → i ≤ total
+    → KeepsParts places p generation serial numbers i m h old (Err e) new
+    → KeepsParts places p generation serial numbers total m h old (Err f) new
+keeps_failed places p generation serial numbers m h i total e f old new few did =
     leads_failed (EachStands places m) (Programs p (IsPartSpot i)) (Programs p (IsPartSpot total))
     (λ done k. StoryRests places m k × HasParts p generation serial numbers i (now h) (now k))
     (λ done k. StoryRests places m k × HasParts p generation serial numbers total (now h) (now k))
-    h e f new did
+    h e f old new did
     (λ a programs. programs_wider p (IsPartSpot i) (IsPartSpot total) false false a
     (λ s is. (is.0, omega (arith, is.1, few))) programs)
 

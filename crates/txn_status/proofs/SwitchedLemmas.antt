@@ -45,7 +45,7 @@ not_counted places c it t p s mirrors taken (small, inr (inr (at, high))) =
 abbrev pub LeadsErase : ℕ → ℕ → Told → Result (Unit {0}) ChipFault → Told → Type 0
 LeadsErase places p old result new = (m : Map) (it : Layout) (h : History)
     → IsSteady h old → StoryRests places m h → Laid places (now h) it → IsIdle places (now h) it p
-    → KeepsMap places m (Clears p) (λ done. IsCleared p) h result new
+    → KeepsMap places m (Clears p) (λ done. IsCleared p) h old result new
 
 -- Whatever a call does that begins with an erase and then programs: it says nothing, and is lawful.
 orderly_clears : (t : Tables) (p : ℕ) (done : Bool) (a : Story) → Clears p done a
@@ -82,7 +82,7 @@ module _ (places : ℕ) (status : Status) (next p : ℕ) (kept : List ℕ) (with
       (ready : IsReadyToSwitch places h it t m p kept)
       (switched : IsSwitched t after p next kept) where
     first : KeepsMap {T = Unit {0}} {E = ChipFault} places m (Clears p) (λ done. IsCleared p) h
-        (Ok tt) mid1
+        old (Ok tt) mid1
     first = begin m it h steady ready.rests ready.agrees.mirrors.laid ready.taken.idle
 
     -- the place was erased, and holds the numbers
@@ -111,7 +111,7 @@ module _ (places : ℕ) (status : Status) (next p : ℕ) (kept : List ℕ) (with
     two : (result : Result (Unit {0}) ChipFault)
         → LeadsParts places p next (next + 1) kept mid1 result mid2
         → Leads (EachStands places m) (λ done a. Refills p (IsPartSpot (parts_of kept)) a)
-        (λ done k. IsKept k) h result mid2
+        (λ done k. IsKept k) h old result mid2
     unfolding first
     two result say =
         leads_then (EachStands places m) (Clears p) (Programs p (IsPartSpot (parts_of kept)))
@@ -119,9 +119,8 @@ module _ (places : ℕ) (status : Status) (next p : ℕ) (kept : List ℕ) (with
         (λ done k. StoryRests places m k × IsCleared p (now h) (now k))
         (λ done k. StoryRests places m k × HasParts p next (next + 1) kept (parts_of kept)
         (now (adds_all first.added h)) (now k))
-        (λ done k. IsKept k) h tt mid1 mid2 result first
-        (say m (adds_all first.added h) (record { told = first.history; settled = first.ends.0 })
-        first.ends.1.0 (first.ends.1.1.bare 0) (λ s spot. first.does.fresh refl h.story s))
+        (λ done k. IsKept k) h tt old mid1 mid2 result first
+        (say m (adds_all first.added h) first.ends.0 first.ends.1.0 (first.ends.1.1.bare 0) (λ s spot. first.does.fresh refl h.story s))
         (λ a b one then. refills_from p (IsPartSpot (parts_of kept)) (is_ok result) b a one then)
         (λ done k is. record {
           rests = is.0;
@@ -152,15 +151,15 @@ module _ (places : ℕ) (status : Status) (next p : ℕ) (kept : List ℕ) (with
       three : (result : Result (Unit {0}) ChipFault)
           → LeadsHeader places p (places - 4) next mid2 result new
           → Leads (EachStands places m) (Rewrites p (1 + parts_of kept)) (λ done k. IsSealed k)
-          h result new
+          h old result new
       three result seals =
           let so = two (Ok tt) say in
           let k = adds_all so.added h in
           leads_then (EachStands places m) (λ done a. Refills p (IsPartSpot (parts_of kept)) a)
           (Programs p (IsSpot 0)) (Rewrites p (1 + parts_of kept)) (λ done then. IsKept then)
           (λ done then. StoryRests places m then × IsHeaded p (places - 4) next (now k) (now then))
-          (λ done then. IsSealed then) h tt mid2 new result so
-          (seals m k (record { told = so.history; settled = so.ends.0 }) so.ends.1.rests
+          (λ done then. IsSealed then) h tt old mid2 new result so
+          (seals m k so.ends.0 so.ends.1.rests
           (so.does.fresh h.story 0 (λ spot. omega (arith, spot.0)))
           (λ head is_head. stands_then places (now h) (now k) it t p kept head
           (prepared k head so.ends.1 is_head) m ready.says ready.keeps))

@@ -22,7 +22,7 @@ abbrev pub LeadsCommit : ℕ → ℕ → ℕ → Sector
 LeadsCommit places p s sector old result new = (m n : Map) (h : History)
     → IsSteady h old → StoryRests places m h → IsClosed h.story → age h.story p s ≡ Clean
     → Stands places (with_sector (now h) p s sector) n
-    → SwitchesMap places m n (Programs p (IsSpot s)) (λ done. Gains p s sector) h result new
+    → SwitchesMap places m n (Programs p (IsSpot s)) (λ done. Gains p s sector) h old result new
 
 -- a commit sector in a place without a header: it keeps the map
 abbrev pub LeadsPart : ℕ → ℕ → ℕ → Sector
@@ -30,14 +30,14 @@ abbrev pub LeadsPart : ℕ → ℕ → ℕ → Sector
 LeadsPart places p s sector old result new = (m : Map) (h : History)
     → IsSteady h old → StoryRests places m h → now h p 0 ≡ None → s ≢ 0
     → age h.story p s ≡ Clean
-    → KeepsMap places m (Programs p (IsSpot s)) (λ done. Gains p s sector) h result new
+    → KeepsMap places m (Programs p (IsSpot s)) (λ done. Gains p s sector) h old result new
 
 -- the first n parts of the numbers, in such a place
 abbrev pub KeepsParts : ℕ → ℕ → ℕ → ℕ → List ℕ → ℕ → Map
-    → History → Result (Unit {0}) ChipFault → Told → Type 0
-KeepsParts places p generation serial numbers n m h result new =
+    → History → Told → Result (Unit {0}) ChipFault → Told → Type 0
+KeepsParts places p generation serial numbers n m h old result new =
     KeepsMap places m (Programs p (IsPartSpot n))
-    (λ done. HasParts p generation serial numbers n) h result new
+    (λ done. HasParts p generation serial numbers n) h old result new
 
 -- all parts of them
 abbrev pub LeadsParts : ℕ → ℕ → ℕ → ℕ → List ℕ
@@ -45,7 +45,7 @@ abbrev pub LeadsParts : ℕ → ℕ → ℕ → ℕ → List ℕ
 LeadsParts places p generation serial numbers old result new = (m : Map) (h : History)
     → IsSteady h old → StoryRests places m h → now h p 0 ≡ None
     → ((s : ℕ) → IsPartSpot (parts_of numbers) s → age h.story p s ≡ Clean)
-    → KeepsParts places p generation serial numbers (parts_of numbers) m h result new
+    → KeepsParts places p generation serial numbers (parts_of numbers) m h old result new
 
 -- the chart has a status header for so many units too
 abbrev pub IsHeaded : ℕ → ℕ → ℕ → Chart → Chart → Type 0
@@ -59,4 +59,4 @@ LeadsHeader places p units generation old result new = (m : Map) (h : History)
     → ((head : Sector) → IsStatusHead units generation head
     → Stands places (with_sector (now h) p 0 head) m)
     → KeepsMap places m (Programs p (IsSpot 0)) (λ done. IsHeaded p units generation)
-    h result new
+    h old result new

@@ -73,15 +73,15 @@ pub record IsOpenFor (places p page : ℕ) (m : Map) (h : History) : Type 0 wher
 -- what the call for one piece says of each map and history
 abbrev pub PieceSays : (places p u g page : ℕ) (text : List ℕ) (n : ℕ) (old : Told) (result : Result (Unit {0}) ChipFault) (new : Told) → Type 0
 PieceSays places p u g page text n old result new = (m : Map) (h : History) → IsSteady h old → StoryRests places m h → now h p 0 ≡ None → age h.story p (base_sector_of page n) ≡ Clean
-    → KeepsMap places m (Programs p (IsSpot (base_sector_of page n))) (λ done. Gains p (base_sector_of page n) (base_sector u g page n text)) h result new
+    → KeepsMap places m (Programs p (IsSpot (base_sector_of page n))) (λ done. Gains p (base_sector_of page n) (base_sector u g page n text)) h old result new
 
-module _ (places p u g page : ℕ) (text : List ℕ) (m : Map) (h : History) where
+module _ (places p u g page : ℕ) (text : List ℕ) (m : Map) (h : History) (first : Told) where
   -- after n pieces
   abbrev pub Piled : ℕ → Told → Type 0
-  Piled n t = KeepsMap {T = Unit {0}} {E = ChipFault} places m (Programs p (IsPieceSpot page n)) (λ done. HasPieces p u g page text n) h (Ok tt) t
+  Piled n t = KeepsMap {T = Unit {0}} {E = ChipFault} places m (Programs p (IsPieceSpot page n)) (λ done. HasPieces p u g page text n) h first (Ok tt) t
 
-  pub piled_none : (t : Told) → IsSteady h t → IsOpenFor places p page m h → Piled 0 t
-  piled_none t steady ready = leads_none (EachStands places m) (Programs p (IsPieceSpot page 0)) (RestsWith places m (λ done. HasPieces p u g page text 0) h) h t tt steady
+  pub piled_none : IsSteady h first → IsOpenFor places p page m h → Piled 0 first
+  piled_none steady ready = leads_none (EachStands places m) (Programs p (IsPieceSpot page 0)) (RestsWith places m (λ done. HasPieces p u g page text 0) h) h first tt steady
       ready.rests.each (programs_none p (IsPieceSpot page 0) true) (ready.rests, pieces_none p u g page text (now h))
 
   module _ (ready : IsOpenFor places p page m h) (n : ℕ) (few : n < 16) (mid : Told) where
@@ -91,40 +91,40 @@ module _ (places p u g page : ℕ) (text : List ℕ) (m : Map) (h : History) whe
     clean_then : (added : Story) → Programs p (IsPieceSpot page n) true added → age (added ++ h.story) p (base_sector_of page n) ≡ Clean
     clean_then added did = did.others h.story p (base_sector_of page n) (λ same is. absurd (omega (arith, is.1))) (ready.clean (base_sector_of page n) (omega arith, omega (arith, few)))
 
-    next : (result : Result (Unit {0}) ChipFault) (new : Told) (first : Piled n mid) → PieceSays places p u g page text n mid result new
-        → KeepsMap places m (Programs p (IsSpot (base_sector_of page n))) (λ done. Gains p (base_sector_of page n) (base_sector u g page n text)) (adds_all first.added h) result new
-    next result new first says = says m (adds_all first.added h) (record { told = first.history; settled = first.ends.0 }) first.ends.1.0
-        (bare_then (adds_all first.added h) first.ends.1.1) (clean_then first.added first.does)
+    next : (result : Result (Unit {0}) ChipFault) (new : Told) (before : Piled n mid) → PieceSays places p u g page text n mid result new
+        → KeepsMap places m (Programs p (IsSpot (base_sector_of page n))) (λ done. Gains p (base_sector_of page n) (base_sector u g page n text)) (adds_all before.added h) mid result new
+    next result new before says = says m (adds_all before.added h) before.ends.0 before.ends.1.0
+        (bare_then (adds_all before.added h) before.ends.1.1) (clean_then before.added before.does)
 
     apart_spots : (s : ℕ) → IsPieceSpot page n s → IsSpot (base_sector_of page n) s → ⊥
     apart_spots s is at = omega (arith, is.1, at)
 
     pub piled_more : (new : Told) → Piled n mid → PieceSays places p u g page text n mid (Ok tt) new → Piled (n + 1) new
-    piled_more new first says = leads_then (EachStands places m) (Programs p (IsPieceSpot page n)) (Programs p (IsSpot (base_sector_of page n))) (Programs p (IsPieceSpot page (n + 1)))
+    piled_more new before says = leads_then (EachStands places m) (Programs p (IsPieceSpot page n)) (Programs p (IsSpot (base_sector_of page n))) (Programs p (IsPieceSpot page (n + 1)))
         (RestsWith places m (λ done. HasPieces p u g page text n) h)
-        (RestsWith places m (λ done. Gains p (base_sector_of page n) (base_sector u g page n text)) (adds_all first.added h))
-        (RestsWith places m (λ done. HasPieces p u g page text (n + 1)) h) h tt mid new (Ok tt) first (next (Ok tt) new first says)
+        (RestsWith places m (λ done. Gains p (base_sector_of page n) (base_sector u g page n text)) (adds_all before.added h))
+        (RestsWith places m (λ done. HasPieces p u g page text (n + 1)) h) h tt first mid new (Ok tt) before (next (Ok tt) new before says)
         (λ a b one two. programs_then p (IsPieceSpot page n) (IsSpot (base_sector_of page n)) (IsPieceSpot page (n + 1)) true true b a apart_spots
         (λ s is. (is.0, omega (arith, is.1))) (λ s at. (omega (arith, at), omega (arith, at))) one two)
-        (λ w k is. (is.0, pieces_more p u g page text n (now h) (now (adds_all first.added h)) (now k) first.ends.1.1 is.1))
+        (λ w k is. (is.0, pieces_more p u g page text n (now h) (now (adds_all before.added h)) (now k) before.ends.1.1 is.1))
 
     -- a piece that failed
     pub piled_fails : {U F : Type 0} (Then : U → History → Type 0) (e : ChipFault) (f : F) (new : Told) → Piled n mid → PieceSays places p u g page text n mid (Err e) new
-        → Leads {T = U} {E = F} (EachStands places m) (Programs p (IsPieceSpot page 16)) Then h (Err f) new
-    piled_fails Then e f new first says =
-        let both : Leads {T = Unit {0}} {E = ChipFault} (EachStands places m) (Programs p (IsPieceSpot page 16)) (λ done then. Unit {0}) h (Err e) new =
+        → Leads {T = U} {E = F} (EachStands places m) (Programs p (IsPieceSpot page 16)) Then h first (Err f) new
+    piled_fails Then e f new before says =
+        let both : Leads {T = Unit {0}} {E = ChipFault} (EachStands places m) (Programs p (IsPieceSpot page 16)) (λ done then. Unit {0}) h first (Err e) new =
         leads_then (EachStands places m) (Programs p (IsPieceSpot page n)) (Programs p (IsSpot (base_sector_of page n))) (Programs p (IsPieceSpot page 16))
         (RestsWith places m (λ done. HasPieces p u g page text n) h)
-        (RestsWith places m (λ done. Gains p (base_sector_of page n) (base_sector u g page n text)) (adds_all first.added h))
-        (λ done then. Unit {0}) h tt mid new (Err e) first (next (Err e) new first says)
+        (RestsWith places m (λ done. Gains p (base_sector_of page n) (base_sector u g page n text)) (adds_all before.added h))
+        (λ done then. Unit {0}) h tt first mid new (Err e) before (next (Err e) new before says)
         (λ a b one two. programs_then p (IsPieceSpot page n) (IsSpot (base_sector_of page n)) (IsPieceSpot page 16) true false b a apart_spots
         (λ s is. (is.0, omega (arith, is.1, few))) (λ s at. (omega (arith, at), omega (arith, at, few))) one two)
         (λ w k is. tt) in
-        leads_failed (EachStands places m) (Programs p (IsPieceSpot page 16)) (Programs p (IsPieceSpot page 16)) (λ done then. Unit {0}) Then h e f new both (λ a one. one)
+        leads_failed (EachStands places m) (Programs p (IsPieceSpot page 16)) (Programs p (IsPieceSpot page 16)) (λ done then. Unit {0}) Then h e f first new both (λ a one. one)
 
   -- all pieces
   pub piled_all : (n : ℕ) → n ≤ 16 → (t : Told) → Piled n t
-      → KeepsMap {T = ℕ} {E = ChipFault} places m (Programs p (IsPieceSpot page 16)) (λ n. HasPieces p u g page text n) h (Ok n) t
+      → KeepsMap {T = ℕ} {E = ChipFault} places m (Programs p (IsPieceSpot page 16)) (λ n. HasPieces p u g page text n) h first (Ok n) t
   piled_all n few t did = record {
     added = did.added;
     history = did.history;
@@ -149,14 +149,14 @@ cut_piece text p e at within = elim (cases_lt (p * 480 + 480) (length text)) [
 ]
 
 -- the pieces of a page's text are the page
-pub page_leads : (places p u g page : ℕ) (text : List ℕ) (slots : Slots) → text ≡ page_text slots → (m : Map) (h : History) (new : Told) (result : Result ℕ ChipFault) → IfOk result (λ n. IsCutInto text n)
-    → KeepsMap places m (Programs p (IsPieceSpot page 16)) (λ n. HasPieces p u g page text n) h result new
-    → KeepsMap places m (Programs p (IsPieceSpot page 16)) (λ n. HasPage p u g page slots n) h result new
-page_leads places p u g page text slots is m h new (Ok n) cut did = record {
+pub page_leads : (places p u g page : ℕ) (text : List ℕ) (slots : Slots) → text ≡ page_text slots → (m : Map) (h : History) (old new : Told) (result : Result ℕ ChipFault) → IfOk result (λ n. IsCutInto text n)
+    → KeepsMap places m (Programs p (IsPieceSpot page 16)) (λ n. HasPieces p u g page text n) h old result new
+    → KeepsMap places m (Programs p (IsPieceSpot page 16)) (λ n. HasPage p u g page slots n) h old result new
+page_leads places p u g page text slots is m h old new (Ok n) cut did = record {
   added = did.added;
   history = did.history;
   each_moment = did.each_moment;
   does = did.does;
   ends = (did.ends.0, (did.ends.1.0, record { cut = rw (← is) cut; pieces = rw (← is) did.ends.1.1 }));
 }
-page_leads places p u g page text slots is m h new (Err e) cut did = record { added = did.added; history = did.history; each_moment = did.each_moment; does = did.does; ends = tt }
+page_leads places p u g page text slots is m h old new (Err e) cut did = record { added = did.added; history = did.history; each_moment = did.each_moment; does = did.does; ends = tt }

@@ -33,7 +33,7 @@ module _ (places : ℕ) (m : Map) (it : Layout) (h : History) (p : ℕ) (rests :
   Erased done added = Clears p false added × (done ≡ true → added ≡ Erase p ∷ [])
 
   erase_leads : (old new : Told) (result : Result (Unit {0}) ChipFault) → IsSteady h old → Did (Erase p) result old new
-      → Leads (EachStands places m) Erased (λ done then. then ≡ adds (Erase p) h) h result new
+      → Leads (EachStands places m) Erased (λ done then. then ≡ adds (Erase p) h) h old result new
   unfolding Erased
   erase_leads old new result steady did =
       leads_did (EachStands places m) Erased h old new steady (λ done then. then ≡ adds (Erase p) h) (Erase p) result did
@@ -41,30 +41,30 @@ module _ (places : ℕ) (m : Map) (it : Layout) (h : History) (p : ℕ) (rests :
 
   -- both
   pub begin_leads : (old mid new : Told) (result : Result (Unit {0}) ChipFault) → IsSteady h old → Did (Erase p) (Ok tt) old mid → Waited result mid new
-      → KeepsMap places m (Clears p) (λ done. IsCleared p) h result new
+      → KeepsMap places m (Clears p) (λ done. IsCleared p) h old result new
   unfolding Erased
   begin_leads old mid new result steady erase wait =
       let first = erase_leads old mid (Ok tt) steady erase in
       let after : EachStands places m (adds (Erase p) h) = erases_keep places m h it p rests laid within idle in
       let at : adds_all first.added h ≡ adds (Erase p) h = first.ends.1 in
-      let here : IsSteady (adds (Erase p) h) mid = subst (λ (k : History). IsSteady k mid) at (steady_after (EachStands places m) Erased (λ done then. then ≡ adds (Erase p) h) h tt mid first) in
-      let second : Leads (EachStands places m) (λ done b. Clears p done (b ++ Erase p ∷ [])) (λ done then. then ≡ adds Barrier (adds (Erase p) h)) (adds (Erase p) h) result new =
+      let here : IsSteady (adds (Erase p) h) mid = subst (λ (k : History). IsSteady k mid) at (steady_after (EachStands places m) Erased (λ done then. then ≡ adds (Erase p) h) h tt old mid first) in
+      let second : Leads (EachStands places m) (λ done b. Clears p done (b ++ Erase p ∷ [])) (λ done then. then ≡ adds Barrier (adds (Erase p) h)) (adds (Erase p) h) mid result new =
       leads_waited (EachStands places m) (λ done b. Clears p done (b ++ Erase p ∷ [])) (adds (Erase p) h) mid new here (λ done then. then ≡ adds Barrier (adds (Erase p) h)) result wait
       after (barriers_rest places m (adds (Erase p) h) (held_stands places m (adds (Erase p) h) after)).each (clears_all p) (clears_erase p) refl in
       leads_then (EachStands places m) Erased (λ done b. Clears p done (b ++ Erase p ∷ [])) (Clears p) (λ done then. then ≡ adds (Erase p) h)
-      (λ done then. then ≡ adds Barrier (adds (Erase p) h)) (RestsWith places m (λ done. IsCleared p) h) h tt mid new result first
-      (subst (λ (k : History). Leads (EachStands places m) (λ done b. Clears p done (b ++ Erase p ∷ [])) (λ done then. then ≡ adds Barrier (adds (Erase p) h)) k result new) (sym at) second)
+      (λ done then. then ≡ adds Barrier (adds (Erase p) h)) (RestsWith places m (λ done. IsCleared p) h) h tt old mid new result first
+      (subst (λ (k : History). Leads (EachStands places m) (λ done b. Clears p done (b ++ Erase p ∷ [])) (λ done then. then ≡ adds Barrier (adds (Erase p) h)) k mid result new) (sym at) second)
       (λ a b one two. subst (λ (l : Story). Clears p (is_ok result) (b ++ l)) (sym (one.1 refl)) two)
       (λ w k is. subst (λ (j : History). StoryRests places m j × IsCleared p (now h) (now j)) (sym is)
       (barriers_rest places m (adds (Erase p) h) (held_stands places m (adds (Erase p) h) after), erased_chart p (held h.start h.story)))
 
   -- the erase failed
   pub begin_fails : {F : Type 0} (old new : Told) (f : F) → IsSteady h old → Breaks (Erase p) old new
-      → KeepsMap {T = Unit {0}} {E = F} places m (Clears p) (λ done. IsCleared p) h (Err f) new
+      → KeepsMap {T = Unit {0}} {E = F} places m (Clears p) (λ done. IsCleared p) h old (Err f) new
   unfolding Erased
   begin_fails old new f steady erase =
       leads_failed (EachStands places m) Erased (Clears p) (λ done then. then ≡ adds (Erase p) h) (RestsWith places m (λ done. IsCleared p) h)
-      h Stopped f new (erase_leads old new (Err Stopped) steady erase) (λ a one. one.0)
+      h Stopped f old new (erase_leads old new (Err Stopped) steady erase) (λ a one. one.0)
 
 -- what is told of the contents
 pub begin_tells : (p : ℕ) (old mid new : Told) (result : Result (Unit {0}) ChipFault) → Did (Erase p) (Ok tt) old mid → Waited result mid new → OnOk result (Charts (IsCleared p) old new)

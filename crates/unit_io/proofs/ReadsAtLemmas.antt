@@ -6,7 +6,7 @@ use Rattle.std.proofs.lemmas.Iterator.Adapters.{option_map_id}
 use Rattle.std.proofs.lemmas.List.Elements.{All-nil, All-cons, All-head, All-tail, All-append, All-weaker}
 use Rattle.chip_trait.specs.declared.event.Event.{Event}
 use Rattle.chip_trait.specs.declared.event.Event.TheVariants.{Read, Program, Erase, Barrier, Said}
-use Rattle.chip_trait.specs.Story.{Story}
+use Rattle.chip_trait.specs.Story.{Story, held}
 use Rattle.chip_trait.specs.Told.{History, Told, Counts, adds, adds_all}
 use Rattle.ipl_base.specs.declared.fault.ChipFault.{ChipFault}
 use Rattle.ipl_rules.specs.State.{Map}
@@ -17,6 +17,7 @@ use Rattle.ipl_meaning.specs.Agrees.{Agrees}
 use Rattle.ipl_meaning.proofs.StoryLemmas.{reads_keep}
 use Rattle.ipl_meaning.proofs.AgreeLemmas.{reads_agree}
 use Rattle.chip_trait.proofs.CountsLemmas.{counts_none, counts_then}
+use Rattle.unit_io.specs.Leads.{IsSteady}
 use Rattle.unit_io.specs.Reads.{Asked}
 use Rattle.unit_io.specs.ReadsAt.{IsReadAt, ReadsAt}
 
@@ -99,8 +100,24 @@ at_asked At p s (Err e) old new is did counts = elim did.history [
 
 -- ---- what such reads leave
 
-pub at_told : (At : ℕ → ℕ → Type 0) (old new : Told) (h : History) → (did : ReadsAt At old new) → old.history ≡ Some h → new.history ≡ Some (adds_all did.added h)
-at_told At old new h did told = did.history ∙ ap (option_map (adds_all did.added)) told
+-- the chip holds what it held
+pub at_held : (At : ℕ → ℕ → Type 0) (h : History) (added : Story) → All (IsReadAt At) added → held h.start (added ++ h.story) ≡ held h.start h.story
+at_held At h [] each = refl
+at_held At h (e ∷ added) each = go e (All-head (IsReadAt At) e added each) (at_held At h added (All-tail (IsReadAt At) e added each))
+  where
+    go : (e : Event) → IsReadAt At e → held h.start (added ++ h.story) ≡ held h.start h.story → held h.start (e ∷ added ++ h.story) ≡ held h.start h.story
+    go (Read p s) is before = before
+    go (Program p s bytes) is before = absurd is
+    go (Erase p) is before = absurd is
+    go Barrier is before = absurd is
+    go (Said piece) is before = absurd is
+
+-- so it goes on holding what its history leaves
+pub at_steady : (At : ℕ → ℕ → Type 0) (old new : Told) (h : History) → (did : ReadsAt At old new) → IsSteady h old → IsSteady (adds_all did.added h) new
+at_steady At old new h did steady = record {
+  holds = did.contents ∙ steady.holds ∙ ap Some (sym (at_held At h did.added did.each));
+  settled = did.settled ∙ steady.settled;
+}
 
 pub at_rests : (At : ℕ → ℕ → Type 0) (places : ℕ) (m : Map) (h : History) (added : Story) → All (IsReadAt At) added → StoryRests places m h → StoryRests places m (adds_all added h)
 at_rests At places m h [] each rests = rests

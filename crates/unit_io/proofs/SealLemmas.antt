@@ -18,7 +18,7 @@ use Rattle.ipl_meaning.proofs.StoryLemmas.{held_stands, barriers_rest, barriers_
 use Rattle.unit_io.specs.Leads.{IsSteady, Leads, RestsWith, SwitchesMap, Did, Waited}
 use Rattle.unit_io.specs.Spots.{Programs, IsSpot}
 use Rattle.unit_io.specs.Charts.{Charts, Gains}
-use Rattle.unit_io.proofs.LeadsLemmas.{leads_did, leads_waited, leads_then, leads_failed, steady_after}
+use Rattle.unit_io.proofs.LeadsLemmas.{leads_did, leads_waited, leads_then, leads_failed, steady_after, steady_then}
 use Rattle.unit_io.proofs.SpotLemmas.{programs_none, programs_one, programs_barrier, programs_then, programs_wider}
 use Rattle.unit_io.proofs.SectorLemmas.{untouched, programmed_chart}
 
@@ -36,7 +36,7 @@ module _ (places : ℕ) (m n : Map) (h : History) (p t : ℕ) (bytes : List ℕ)
 
   module _ (closed : IsClosed h.story) where
     header_leads : (old mid : Told) (result : Result (Unit {0}) ChipFault) → IsSteady h old → Did (Program p t bytes) result old mid
-        → Leads (EachStandsEither places m n) (Programs p (IsSpot t)) (λ done then. then ≡ adds (Program p t bytes) h) h result mid
+        → Leads (EachStandsEither places m n) (Programs p (IsSpot t)) (λ done then. then ≡ adds (Program p t bytes) h) h old result mid
     header_leads old mid result steady did =
         leads_did (EachStandsEither places m n) (Programs p (IsSpot t)) h old mid steady (λ done then. then ≡ adds (Program p t bytes) h) (Program p t bytes) result did
         (λ x is. inl (rests.each x is)) (programs_lead places m n h p t bytes head rests closed (untouched h p t clean) says stands).0
@@ -44,29 +44,29 @@ module _ (places : ℕ) (m n : Map) (h : History) (p t : ℕ) (bytes : List ℕ)
 
     -- the header and the barrier behind it
     pub added_leads : (old mid new : Told) (result : Result (Unit {0}) ChipFault) → IsSteady h old → Did (Program p t bytes) (Ok tt) old mid → Waited result mid new
-        → SwitchesMap places m n (Programs p (IsSpot t)) (λ done. Gains p t head) h result new
+        → SwitchesMap places m n (Programs p (IsSpot t)) (λ done. Gains p t head) h old result new
     added_leads old mid new result steady program wait =
         let k : History = adds (Program p t bytes) h in
         let first = header_leads old mid (Ok tt) steady program in
         let (either, after_it) = programs_lead places m n h p t bytes head rests closed (untouched h p t clean) says stands in
         let at : adds_all first.added h ≡ k = first.ends.1 in
-        let here : IsSteady k mid = subst (λ (j : History). IsSteady j mid) at (steady_after (EachStandsEither places m n) (Programs p (IsSpot t)) (λ done then. then ≡ adds (Program p t bytes) h) h tt mid first) in
-        let second : Leads (EachStandsEither places m n) (Programs p (λ s. ⊥)) (λ done then. then ≡ adds Barrier k) k result new =
+        let here : IsSteady k mid = subst (λ (j : History). IsSteady j mid) at (steady_after (EachStandsEither places m n) (Programs p (IsSpot t)) (λ done then. then ≡ adds (Program p t bytes) h) h tt old mid first) in
+        let second : Leads (EachStandsEither places m n) (Programs p (λ s. ⊥)) (λ done then. then ≡ adds Barrier k) k mid result new =
         leads_waited (EachStandsEither places m n) (Programs p (λ s. ⊥)) k mid new here (λ done then. then ≡ adds Barrier k) result wait
         either (barriers_keep_either places m n k either) (programs_barrier p (λ s. ⊥) true) (programs_none p (λ s. ⊥) false) refl in
         leads_then (EachStandsEither places m n) (Programs p (IsSpot t)) (Programs p (λ s. ⊥)) (Programs p (IsSpot t)) (λ done then. then ≡ adds (Program p t bytes) h)
-        (λ done then. then ≡ adds Barrier k) (RestsWith places n (λ done. Gains p t head) h) h tt mid new result first
-        (subst (λ (j : History). Leads (EachStandsEither places m n) (Programs p (λ s. ⊥)) (λ done then. then ≡ adds Barrier k) j result new) (sym at) second)
+        (λ done then. then ≡ adds Barrier k) (RestsWith places n (λ done. Gains p t head) h) h tt old mid new result first
+        (subst (λ (j : History). Leads (EachStandsEither places m n) (Programs p (λ s. ⊥)) (λ done then. then ≡ adds Barrier k) j mid result new) (sym at) second)
         (λ a b one two. programs_before p (IsSpot t) true (is_ok result) b a one two)
         (λ w j is. subst (λ (i : History). StoryRests places n i × Gains p t head (now h) (now i)) (sym is)
         (barriers_rest places n k after_it, held_program sector_in h.start h.story p t bytes head says))
 
     -- the header failed
     pub added_fails : {F : Type 0} (old new : Told) (f : F) → IsSteady h old → Breaks (Program p t bytes) old new
-        → SwitchesMap {T = Unit {0}} {E = F} places m n (Programs p (IsSpot t)) (λ done. Gains p t head) h (Err f) new
+        → SwitchesMap {T = Unit {0}} {E = F} places m n (Programs p (IsSpot t)) (λ done. Gains p t head) h old (Err f) new
     added_fails old new f steady broke =
         leads_failed (EachStandsEither places m n) (Programs p (IsSpot t)) (Programs p (IsSpot t)) (λ done then. then ≡ adds (Program p t bytes) h)
-        (RestsWith places n (λ done. Gains p t head) h) h Stopped f new (header_leads old new (Err Stopped) steady broke) (λ a one. one)
+        (RestsWith places n (λ done. Gains p t head) h) h Stopped f old new (header_leads old new (Err Stopped) steady broke) (λ a one. one)
 
 -- the barrier before the header, and what is known of the story behind it
 pub settled_rests : (places : ℕ) (m : Map) (h : History) → StoryRests places m h → StoryRests places m (adds Barrier h)
@@ -74,29 +74,29 @@ settled_rests places m h rests = barriers_rest places m h (held_stands places m 
 
 -- and where the chip stands
 pub steady_settled : (h : History) (old mid : Told) → IsSteady h old → Waited (Ok tt) old mid → IsSteady (adds Barrier h) mid
-steady_settled h old mid steady wait = record { told = wait.history ∙ ap (option_map (adds Barrier)) steady.told; settled = wait.settled ∙ steady.settled }
+steady_settled h old mid steady wait = steady_then Barrier h old mid steady wait
 
 module _ (places : ℕ) (m n : Map) (h : History) (p : ℕ) (head : Sector) (rests : StoryRests places m h) (old mid : Told) (steady : IsSteady h old) where
-  waits : (result : Result (Unit {0}) ChipFault) → Waited result old mid → Leads (EachStandsEither places m n) (Programs p (λ s. ⊥)) (λ done then. then ≡ adds Barrier h) h result mid
+  waits : (result : Result (Unit {0}) ChipFault) → Waited result old mid → Leads (EachStandsEither places m n) (Programs p (λ s. ⊥)) (λ done then. then ≡ adds Barrier h) h old result mid
   waits result wait = leads_waited (EachStandsEither places m n) (Programs p (λ s. ⊥)) h old mid steady (λ done then. then ≡ adds Barrier h) result wait
       (λ x is. inl (rests.each x is)) (λ x is. inl ((settled_rests places m h rests).each x is)) (programs_barrier p (λ s. ⊥) true) (programs_none p (λ s. ⊥) false) refl
 
   pub seal_leads : (new : Told) (result : Result (Unit {0}) ChipFault) → Waited (Ok tt) old mid
-      → SwitchesMap places m n (Programs p (IsSpot 0)) (λ done. Gains p 0 head) (adds Barrier h) result new
-      → SwitchesMap places m n (Programs p (IsSpot 0)) (λ done. Gains p 0 head) h result new
+      → SwitchesMap places m n (Programs p (IsSpot 0)) (λ done. Gains p 0 head) (adds Barrier h) mid result new
+      → SwitchesMap places m n (Programs p (IsSpot 0)) (λ done. Gains p 0 head) h old result new
   seal_leads new result wait second =
       let first = waits (Ok tt) wait in
       leads_then (EachStandsEither places m n) (Programs p (λ s. ⊥)) (Programs p (IsSpot 0)) (Programs p (IsSpot 0)) (λ done then. then ≡ adds Barrier h)
-      (RestsWith places n (λ done. Gains p 0 head) h) (RestsWith places n (λ done. Gains p 0 head) h) h tt mid new result first
-      (subst (λ (j : History). Leads (EachStandsEither places m n) (Programs p (IsSpot 0)) (RestsWith places n (λ done. Gains p 0 head) h) j result new) (sym first.ends.1) second)
+      (RestsWith places n (λ done. Gains p 0 head) h) (RestsWith places n (λ done. Gains p 0 head) h) h tt old mid new result first
+      (subst (λ (j : History). Leads (EachStandsEither places m n) (Programs p (IsSpot 0)) (RestsWith places n (λ done. Gains p 0 head) h) j mid result new) (sym first.ends.1) second)
       (λ a b one two. programs_after p (IsSpot 0) true (is_ok result) b a one two)
       (λ w k is. is)
 
   pub seal_fails : {F : Type 0} (f : F) → Halts old mid
-      → SwitchesMap {T = Unit {0}} {E = F} places m n (Programs p (IsSpot 0)) (λ done. Gains p 0 head) h (Err f) mid
+      → SwitchesMap {T = Unit {0}} {E = F} places m n (Programs p (IsSpot 0)) (λ done. Gains p 0 head) h old (Err f) mid
   seal_fails f halted =
       leads_failed (EachStandsEither places m n) (Programs p (λ s. ⊥)) (Programs p (IsSpot 0)) (λ done then. then ≡ adds Barrier h)
-      (RestsWith places n (λ done. Gains p 0 head) h) h Stopped f mid (waits (Err Stopped) halted)
+      (RestsWith places n (λ done. Gains p 0 head) h) h Stopped f old mid (waits (Err Stopped) halted)
       (λ a one. programs_wider p (λ s. ⊥) (IsSpot 0) false false a (λ s none. absurd none) one)
 
 -- what is told of the contents

@@ -35,19 +35,19 @@ module _ (places p s : ℕ) (bytes : List ℕ) (sector : Sector) (says : sector_
     (steady : IsSteady h old) (did : Did (Program p s bytes) result old new) (rests : StoryRests places m h) (clean : age h.story p s ≡ Clean) where
   -- where the story rests on the map after it too
   kept : StoryRests places m (adds (Program p s bytes) h)
-      → KeepsMap places m (Programs p (IsSpot s)) (λ done. Gains p s sector) h result new
+      → KeepsMap places m (Programs p (IsSpot s)) (λ done. Gains p s sector) h old result new
   kept after_it = leads_did (EachStands places m) (Programs p (IsSpot s)) h old new steady (RestsWith places m (λ done. Gains p s sector) h)
       (Program p s bytes) result did rests.each after_it.each (programs_one p s bytes) (programs_none p (IsSpot s) false)
       (after_it, held_program sector_in h.start h.story p s bytes sector says)
 
   -- in a place without a header
   pub aside_leads : now h p 0 ≡ None → s ≢ 0
-      → KeepsMap places m (Programs p (IsSpot s)) (λ done. Gains p s sector) h result new
+      → KeepsMap places m (Programs p (IsSpot s)) (λ done. Gains p s sector) h old result new
   aside_leads bare other = kept (asides_keep places m h p s bytes sector rests (untouched h p s clean) says bare other)
 
   -- among the live sectors of its unit
   pub log_leads : (it : Layout) (u : ℕ) (records : List Record) → Laid places (now h) it → MayLog places (now h) it u p s sector records
-      → KeepsMap places m (Programs p (IsSpot s)) (λ done. Gains p s sector) h result new
+      → KeepsMap places m (Programs p (IsSpot s)) (λ done. Gains p s sector) h old result new
   log_leads it u records laid may = kept (log_sectors_keep places m h it u p s bytes sector records rests (untouched h p s clean) says laid may)
 
 -- what is told of the contents
@@ -58,7 +58,7 @@ program_tells p s bytes sector old new (Ok v) says did = λ x told.
 program_tells p s bytes sector old new (Err e) says did = tt
 
 -- the same call, its spot and its sector named otherwise
-pub aside_renamed : (places p s t : ℕ) (sector other : Sector) (m : Map) (h : History) (new : Told) (result : Result (Unit {0}) ChipFault) → s ≡ t → sector ≡ other
-    → KeepsMap places m (Programs p (IsSpot s)) (λ done. Gains p s sector) h result new
-    → KeepsMap places m (Programs p (IsSpot t)) (λ done. Gains p t other) h result new
-aside_renamed places p s t sector other m h new result at is did = rw (← at, ← is) did
+pub aside_renamed : (places p s t : ℕ) (sector other : Sector) (m : Map) (h : History) (old new : Told) (result : Result (Unit {0}) ChipFault) → s ≡ t → sector ≡ other
+    → KeepsMap places m (Programs p (IsSpot s)) (λ done. Gains p s sector) h old result new
+    → KeepsMap places m (Programs p (IsSpot t)) (λ done. Gains p t other) h old result new
+aside_renamed places p s t sector other m h old new result at is did = rw (← at, ← is) did

@@ -1,8 +1,9 @@
 -- What a call leaves that writes to a chip.
 use Rattle.std.specs.Prelude.{ℕ, ◌≡◌, Bool, true, Result, MatchResult, IfOk, is_ok, Some}
+use Rattle.std.specs.Option.{option_map}
 use Rattle.chip_trait.specs.declared.event.Event.{Event}
 use Rattle.chip_trait.specs.declared.event.Event.TheVariants.{Barrier}
-use Rattle.chip_trait.specs.Story.{Story}
+use Rattle.chip_trait.specs.Story.{Story, held}
 use Rattle.chip_trait.specs.Moment.{AtEachMoment}
 use Rattle.chip_trait.specs.Told.{History, Told, Appends, Breaks, Halts, Rose, adds_all}
 use Rattle.ipl_base.specs.declared.fault.ChipFault.{ChipFault}
@@ -11,19 +12,21 @@ use Rattle.ipl_rules.specs.State.{Map}
 use Rattle.ipl_meaning.specs.Chart.{Chart}
 use Rattle.ipl_meaning.specs.Rests.{now, EachStands, EachStandsEither, StoryRests}
 
--- the chip tells this history, and no write has failed
+-- The chip holds what this history leaves, and no write has failed. The chip need not tell this history: of one that tells
+-- only what it holds, that may be taken as the start.
 pub record IsSteady (h : History) (t : Told) : Type 0 where
-  pub told : t.history ≡ Some h
+  pub holds : t.contents ≡ Some (held h.start h.story)
   pub settled : t.settled ≡ true
 
--- What a call leaves that began at a history. At each moment of it Each holds of the history then. Does holds of the events
--- that it added, whether it was done or not. Done, no write has failed, and Then holds of its answer and the history.
-pub record Leads {T E : Type 0} (Each : History → Type 0) (Does : Bool → Story → Type 0) (Then : T → History → Type 0) (h : History) (result : Result T E) (new : Told) : Type 0 where
+-- What a call leaves that began at a history. What the chip tells grew by the added events. At each moment of them Each holds
+-- of the history then. Does holds of them, whether the call was done or not. Done, the chip holds what the history then
+-- leaves, and Then holds of the answer and that history.
+pub record Leads {T E : Type 0} (Each : History → Type 0) (Does : Bool → Story → Type 0) (Then : T → History → Type 0) (h : History) (old : Told) (result : Result T E) (new : Told) : Type 0 where
   pub added : Story
-  pub history : new.history ≡ Some (adds_all added h)
+  pub history : new.history ≡ option_map (adds_all added) old.history
   pub each_moment : AtEachMoment (λ e. Each (adds_all e h)) added
   pub does : Does (is_ok result) added
-  pub ends : IfOk result (λ v. (new.settled ≡ true) × Then v (adds_all added h))
+  pub ends : IfOk result (λ v. IsSteady (adds_all added h) new × Then v (adds_all added h))
 
 -- The story rests on the map, and F holds of the answer, of the chart at the history before and of the chart then.
 abbrev pub RestsWith : {T : Type 0} → ℕ → Map → (T → Chart → Chart → Type 0) → History → T → History → Type 0
@@ -32,15 +35,15 @@ RestsWith places m F h v then = StoryRests places m then × F v (now h) (now the
 -- What a call leaves that keeps the map. Whatever a power cut leaves at any moment of it stands for the map; and done, the
 -- story rests on it, with F of the answer and of the charts before and after.
 abbrev pub KeepsMap : {T E : Type 0} → ℕ → Map → (Bool → Story → Type 0) → (T → Chart → Chart → Type 0)
-    → History → Result T E → Told → Type 0
-KeepsMap places m Does F h result new = Leads (EachStands places m) Does (RestsWith places m F h) h result new
+    → History → Told → Result T E → Told → Type 0
+KeepsMap places m Does F h old result new = Leads (EachStands places m) Does (RestsWith places m F h) h old result new
 
 -- What a call leaves that switches the map. Whatever a power cut leaves at any moment of it stands for the old map or for the
 -- new one; and done, the story rests on the new one, with F of the answer and of the charts before and after.
 abbrev pub SwitchesMap : {T E : Type 0} → ℕ → Map → Map → (Bool → Story → Type 0) → (T → Chart → Chart → Type 0)
-    → History → Result T E → Told → Type 0
-SwitchesMap places m n Does F h result new =
-    Leads (EachStandsEither places m n) Does (RestsWith places n F h) h result new
+    → History → Told → Result T E → Told → Type 0
+SwitchesMap places m n Does F h old result new =
+    Leads (EachStandsEither places m n) Does (RestsWith places n F h) h old result new
 
 -- a program or an erase was done, or it broke
 abbrev pub Did : Event → Result (Unit {0}) ChipFault → Told → Told → Type 0

@@ -35,7 +35,7 @@ pub fn prepare_commit<C: Chip>(
     ensures aside { (m : Map) (h : History) → IsSteady h (C.told chip.old) → StoryRests (C.told chip.old).places m h
         → now h spot.place 0 ≡ None → spot.sector ≢ 0 → age h.story spot.place spot.sector ≡ Clean
         → KeepsMap (C.told chip.old).places m (Programs spot.place (IsSpot spot.sector))
-        (λ done. Gains spot.place spot.sector (sector_of head.now payload.now)) h result (C.told chip.new) }
+        (λ done. Gains spot.place spot.sector (sector_of head.now payload.now)) h (C.told chip.old) result (C.told chip.new) }
     ensures tells { OnOk result (Charts (Gains spot.place spot.sector (sector_of head.now payload.now)) (C.told chip.old) (C.told chip.new)) }
     ensures costs { Spends (ProgramsAt spot.place 1 0 6) (C.told chip.old) (C.told chip.new) }
     ensures accounts { Accounts IsStopped result (C.told chip.old) (C.told chip.new) }
@@ -62,7 +62,7 @@ pub fn add_commit<C: Chip>(
         → StoryRests (C.told chip.old).places m h → IsClosed h.story → age h.story spot.place spot.sector ≡ Clean
         → Stands (C.told chip.old).places (with_sector (now h) spot.place spot.sector (sector_of head.now payload.now)) n
         → SwitchesMap (C.told chip.old).places m n (Programs spot.place (IsSpot spot.sector))
-        (λ done. Gains spot.place spot.sector (sector_of head.now payload.now)) h result (C.told chip.new) }
+        (λ done. Gains spot.place spot.sector (sector_of head.now payload.now)) h (C.told chip.old) result (C.told chip.new) }
     ensures tells { OnOk result (Charts (Gains spot.place spot.sector (sector_of head.now payload.now)) (C.told chip.old) (C.told chip.new)) }
     ensures costs { Spends (ProgramsAt spot.place 1 1 6) (C.told chip.old) (C.told chip.new) }
     ensures accounts { Accounts IsStopped result (C.told chip.old) (C.told chip.new) }

@@ -52,7 +52,7 @@ fn program_piece<C: Chip>(
         → now h place 0 ≡ None → age h.story place (base_sector_of page piece) ≡ Clean
         → KeepsMap (C.told chip.old).places m (Programs place (IsSpot (base_sector_of page piece)))
         (λ done. Gains place (base_sector_of page piece) (base_sector head.now.unit head.now.generation page piece text.now))
-        h result (C.told chip.new) }
+        h (C.told chip.old) result (C.told chip.new) }
     ensures tells { OnOk result (Charts (Gains place (base_sector_of page piece) (base_sector head.now.unit head.now.generation page piece text.now)) (C.told chip.old) (C.told chip.new)) }
     ensures plain { AddsPlain (C.told chip.old) (C.told chip.new) }
     ensures spares { OnOk result (Spares place (C.told chip.old) (C.told chip.new)) }
@@ -93,7 +93,7 @@ fn program_pieces<C: Chip>(
     ensures keeps { (m : Map) (h : History) → IsSteady h (C.told chip.old) → StoryRests (C.told chip.old).places m h
         → now h place 0 ≡ None → ((s : ℕ) → IsPieceSpot page 16 s → age h.story place s ≡ Clean)
         → KeepsMap (C.told chip.old).places m (Programs place (IsPieceSpot page 16))
-        (λ n. HasPieces place head.now.unit head.now.generation page text.now n) h result (C.told chip.new) }
+        (λ n. HasPieces place head.now.unit head.now.generation page text.now n) h (C.told chip.old) result (C.told chip.new) }
     ensures tells { IfOk result (λ n. Charts (HasPieces place head.now.unit head.now.generation page text.now n) (C.told chip.old) (C.told chip.new)) }
     ensures plain { AddsPlain (C.told chip.old) (C.told chip.new) }
     ensures cut { IfOk result (λ n. IsCutInto text.now n) }
@@ -126,7 +126,7 @@ pub fn program_page<C: Chip>(
     ensures keeps { (m : Map) (h : History) → IsSteady h (C.told chip.old) → StoryRests (C.told chip.old).places m h
         → now h place 0 ≡ None → ((s : ℕ) → IsPieceSpot page 16 s → age h.story place s ≡ Clean)
         → KeepsMap (C.told chip.old).places m (Programs place (IsPieceSpot page 16))
-        (λ n. HasPage place head.now.unit head.now.generation page map.now n) h result (C.told chip.new) }
+        (λ n. HasPage place head.now.unit head.now.generation page map.now n) h (C.told chip.old) result (C.told chip.new) }
     ensures tells { IfOk result (λ n. Charts (HasPage place head.now.unit head.now.generation page map.now n) (C.told chip.old) (C.told chip.new)) }
     ensures plain { AddsPlain (C.told chip.old) (C.told chip.new) }
     ensures few { IfOk result (λ n. n ≤ 16) }

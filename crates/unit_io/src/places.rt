@@ -31,7 +31,7 @@ pub fn begin_unit<C: Chip>(chip: &mut C, place: u32) -> Result<(), ChipFault>
     ensures keeps { (m : Map) (it : Layout) (h : History) → IsSteady h (C.told chip.old) → StoryRests (C.told chip.old).places m h
         → Laid (C.told chip.old).places (now h) it → IsIdle (C.told chip.old).places (now h) it place
         → KeepsMap (C.told chip.old).places m (Clears place) (λ done. IsCleared place)
-        h result (C.told chip.new) }
+        h (C.told chip.old) result (C.told chip.new) }
     ensures tells { OnOk result (Charts (IsCleared place) (C.told chip.old) (C.told chip.new)) }
     ensures plain { AddsPlain (C.told chip.old) (C.told chip.new) }
     ensures spares { OnOk result (Spares place (C.told chip.old) (C.told chip.new)) }
@@ -50,7 +50,7 @@ fn add_header<C: Chip>(chip: &mut C, place: u32, bytes: &[u8; 512]) -> Result<()
         → StoryRests (C.told chip.old).places m h → IsClosed h.story → age h.story place 0 ≡ Clean
         → Stands (C.told chip.old).places (with_sector (now h) place 0 said) n
         → SwitchesMap (C.told chip.old).places m n (Programs place (IsSpot 0))
-        (λ done. Gains place 0 said) h result (C.told chip.new) }
+        (λ done. Gains place 0 said) h (C.told chip.old) result (C.told chip.new) }
     ensures tells { (said : Sector) → sector_in bytes.now ≡ Some said → OnOk result (Charts (Gains place 0 said) (C.told chip.old) (C.told chip.new)) }
     ensures plain { IsPlain bytes.now → AddsPlain (C.told chip.old) (C.told chip.new) }
     ensures spares { OnOk result (Spares place (C.told chip.old) (C.told chip.new)) }
@@ -75,7 +75,7 @@ pub fn seal<C: Chip>(chip: &mut C, place: u32, head: &Head, payload: &[u8]) -> R
         → StoryRests (C.told chip.old).places m h → age h.story place 0 ≡ Clean
         → Stands (C.told chip.old).places (with_sector (now h) place 0 (sector_of head.now payload.now)) n
         → SwitchesMap (C.told chip.old).places m n (Programs place (IsSpot 0))
-        (λ done. Gains place 0 (sector_of head.now payload.now)) h result (C.told chip.new) }
+        (λ done. Gains place 0 (sector_of head.now payload.now)) h (C.told chip.old) result (C.told chip.new) }
     ensures tells { OnOk result (Charts (Gains place 0 (sector_of head.now payload.now)) (C.told chip.old) (C.told chip.new)) }
     ensures plain { IsPlainSector (sector_of head.now payload.now) → AddsPlain (C.told chip.old) (C.told chip.new) }
     ensures spares { OnOk result (Spares place (C.told chip.old) (C.told chip.new)) }

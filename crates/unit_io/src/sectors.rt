@@ -34,7 +34,7 @@ pub(crate) fn program_aside<C: Chip>(
     ensures aside { (m : Map) (h : History) (said : Sector) → sector_in bytes.now ≡ Some said → IsSteady h (C.told chip.old)
         → StoryRests (C.told chip.old).places m h → now h place 0 ≡ None → sector ≢ 0 → age h.story place sector ≡ Clean
         → KeepsMap (C.told chip.old).places m (Programs place (IsSpot sector))
-        (λ done. Gains place sector said) h result (C.told chip.new) }
+        (λ done. Gains place sector said) h (C.told chip.old) result (C.told chip.new) }
     ensures tells { (said : Sector) → sector_in bytes.now ≡ Some said → OnOk result (Charts (Gains place sector said) (C.told chip.old) (C.told chip.new)) }
     ensures plain { IsPlain bytes.now → AddsPlain (C.told chip.old) (C.told chip.new) }
     ensures spares { OnOk result (Spares place (C.told chip.old) (C.told chip.new)) }
@@ -63,11 +63,11 @@ pub fn program_log<C: Chip>(
         → MayLog (C.told chip.old).places (now h) it u spot.place spot.sector (sector_of head.now payload.now) records
         → age h.story spot.place spot.sector ≡ Clean
         → KeepsMap (C.told chip.old).places m (Programs spot.place (IsSpot spot.sector))
-        (λ done. Gains spot.place spot.sector (sector_of head.now payload.now)) h result (C.told chip.new) }
+        (λ done. Gains spot.place spot.sector (sector_of head.now payload.now)) h (C.told chip.old) result (C.told chip.new) }
     ensures aside { (m : Map) (h : History) → IsSteady h (C.told chip.old) → StoryRests (C.told chip.old).places m h
         → now h spot.place 0 ≡ None → spot.sector ≢ 0 → age h.story spot.place spot.sector ≡ Clean
         → KeepsMap (C.told chip.old).places m (Programs spot.place (IsSpot spot.sector))
-        (λ done. Gains spot.place spot.sector (sector_of head.now payload.now)) h result (C.told chip.new) }
+        (λ done. Gains spot.place spot.sector (sector_of head.now payload.now)) h (C.told chip.old) result (C.told chip.new) }
     ensures tells { OnOk result (Charts (Gains spot.place spot.sector (sector_of head.now payload.now)) (C.told chip.old) (C.told chip.new)) }
     ensures spares { OnOk result (Spares spot.place (C.told chip.old) (C.told chip.new)) }
     ensures costs { Spends (ProgramsAt spot.place 1 0 5) (C.told chip.old) (C.told chip.new) }

@@ -4,8 +4,7 @@ use Rattle.ipl_cli.proofs.top.format_first.Goals as goal
 pub returns-in-Ok : goal.returns-in-Ok
 returns-in-Ok g c = record {
   formats = was_formatted (g.D.Chip.told c.args.desk.now) (g.D.Chip.told c.format.new.chip)
-      c.requires.fits c.format.ensures.counts c.in-Ok.ensures.settled
-      (g.met.D.Chip.consistent c.format.new.chip) (λ h told. c.in-Ok.ensures.formats h told);
+      c.requires.fits c.format.ensures.counts c.in-Ok.ensures.formats;
 }
 
 pub returns-in-Err : goal.returns-in-Err
@@ -13,5 +12,5 @@ returns-in-Err g c = record {
   formats = rw c.format_end.ensures
       (not_formatted (g.D.Chip.told c.args.desk.now) (g.D.Chip.told c.format.new.chip)
       c.requires.fits c.format.ensures.counts c.in-Err.fault c.in-Err.ensures.geometry.0
-      c.in-Err.ensures.stopped (λ h told. c.in-Err.ensures.formats h told));
+      c.in-Err.ensures.stopped c.in-Err.ensures.formats);
 }

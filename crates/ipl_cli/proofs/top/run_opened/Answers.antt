@@ -28,7 +28,7 @@ returns-in_err-run_over-clause-cause g c =
     rw (e.1, e.2) (opened_cause (g.D.Chip.told c.args.desk.now)
     (g.D.Chip.told c.start_opened.new.desk) c.in_ok-store.store c.in_ok-store.ensures.starts
     c.run_over.new.store (g.D.Chip.told c.run_over.new.desk)
-    (g.met.D.Chip.consistent c.args.desk.now) c.args.frames (Err c.in_err-run_over.field-0.0)
+    c.args.frames (Err c.in_err-run_over.field-0.0)
     c.in_err-run_over.ensures.runs)
 
 pub returns-clause-leaves : goal.returns-clause-leaves

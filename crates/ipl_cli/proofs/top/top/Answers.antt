@@ -1,8 +1,11 @@
-use Rattle.std.proofs.Common.{map}
+use Rattle.std.proofs.Common.{ℕ, map, subst}
 use Rattle.std.specs.String.{string_bytes}
 use Rattle.command_line.specs.Choice.{requested}
 use Rattle.ipl_cli.proofs.NoteLemmas.{ends, none_falls}
 use Rattle.ipl_cli.proofs.TopLemmas.{end_opened, end_refuses, end_laid, end_read, end_formatted, end_part, end_stops, end_formats, end_trials, end_views, end_only_views, end_early, end_wanting, end_other, end_words, end_chip, end_image, end_script, end_output, end_long, end_spent, end_invalid, end_completes}
+use Rattle.ipl_cli.specs.Ending.{AtStatus}
+use Rattle.ipl_cli.specs.Top.{RunsOpened}
+use Rattle.ipl_cli.proofs.RecordLemmas.{opened_records, formatted_records}
 use Rattle.ipl_cli.proofs.top.top.Goals as goal
 
 pub returns-clause-ends : goal.returns-clause-ends
@@ -42,6 +45,18 @@ pub returns-clause-formatted : goal.returns-clause-formatted
 returns-clause-formatted g c = end_formatted (requested (map string_bytes c.args.words.now))
     (g.D.Chip.told c.args.desk.now) (g.D.Chip.told c.finish.new.desk) c.finish.result
     (returns-clause-ends g c)
+
+pub returns-clause-records : goal.returns-clause-records
+returns-clause-records g c = λ asks done.
+    let old = g.D.Chip.told c.args.desk.now in
+    let new = g.D.Chip.told c.finish.new.desk in
+    opened_records old new (g.met.D.Chip.consistent c.args.desk.now)
+    (subst (λ (n : ℕ). AtStatus (RunsOpened old new) n) done (returns-clause-opened g c asks))
+
+pub returns-clause-anew : goal.returns-clause-anew
+returns-clause-anew g c = λ asks done.
+    formatted_records (g.D.Chip.told c.args.desk.now) (g.D.Chip.told c.finish.new.desk)
+    (g.met.D.Chip.consistent c.args.desk.now) (returns-clause-formatted g c asks done)
 
 pub returns-clause-part : goal.returns-clause-part
 returns-clause-part g c = end_part (requested (map string_bytes c.args.words.now))

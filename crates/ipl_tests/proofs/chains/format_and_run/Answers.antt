@@ -2,8 +2,8 @@ use Rattle.std.proofs.Common.{◌≡◌, ℕ, [], subst, arith}
 use Rattle.std.proofs.lemmas.Bool.Decides.{nat_tests}
 use Rattle.store_trait.proofs.OnwardLemmas.{unrisen_later}
 use Rattle.ipl_cli.specs.Ending.{AtStatus}
-use Rattle.ipl_cli.specs.Top.{RunsOpened}
-use Rattle.ipl_tests.specs.Chains.{RestsOn, records_after, no_records}
+use Rattle.ipl_cli.specs.Top.{RunsOpened, records_after}
+use Rattle.ipl_tests.specs.Chains.{RestsOn, no_records}
 use Rattle.ipl_tests.proofs.ChainLemmas.{run_rests, format_rests}
 use Rattle.ipl_tests.proofs.chains.format_and_run.Goals as goal
 

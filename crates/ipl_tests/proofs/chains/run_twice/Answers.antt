@@ -2,8 +2,7 @@ use Rattle.std.proofs.Common.{◌≡◌, ℕ, [], subst, arith}
 use Rattle.std.proofs.lemmas.Bool.Decides.{nat_tests}
 use Rattle.store_trait.proofs.OnwardLemmas.{unrisen_later}
 use Rattle.ipl_cli.specs.Ending.{AtStatus}
-use Rattle.ipl_cli.specs.Top.{RunsOpened}
-use Rattle.ipl_tests.specs.Chains.{records_after}
+use Rattle.ipl_cli.specs.Top.{RunsOpened, records_after}
 use Rattle.ipl_tests.proofs.ChainLemmas.{run_rests, unrisen_first}
 use Rattle.ipl_tests.proofs.chains.run_twice.Goals as goal
 

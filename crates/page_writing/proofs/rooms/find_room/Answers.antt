@@ -91,8 +91,7 @@ returns-in_err-spot-clause-steps g c =
     let reads = c.in_ok-generation.ensures.looks.reads in
     let holds = subst (λ (n : ℕ). Holds n t after) reads.counts.places c.in_err-spot.ensures.holds in
     rw (e.1, e.2) (unplaced_steps _ old.places u t after old mid new holds.known.none_lost
-    holds.active reads (g.met.C.Chip.consistent c.args.chip.now)
-    (g.met.C.Chip.consistent c.log_place.new.chip)
+    holds.active reads
     c.in_err-spot.field-0.0
     (subst (λ (n : ℕ). MakesRoomInSteps IsPlaced n u t after mid (Err c.in_err-spot.field-0.0) new)
     reads.counts.places c.in_err-spot.ensures.steps))
@@ -166,8 +165,6 @@ returns-then-place-home-clause-steps g c =
     let first = subst (λ (p : ℕ). OfContents old (Says u p c.in_ok-generation.generation))
     c.current-home.ensures.place c.in_ok-generation.ensures.exact in
     room_steps _ old.places u t after old mid new holds.known.none_lost holds.active reads
-    (g.met.C.Chip.consistent c.args.chip.now)
-    (g.met.C.Chip.consistent c.log_place.new.chip)
     spot c.in_ok-generation.generation made
     (λ y told. generation_first old.places t u after c.in_ok-generation.generation old y low stays
     first)
@@ -219,8 +216,7 @@ returns-in_err-merged-clause-steps g c =
     reads.counts.places c.in_ok-spot.ensures.steps in
     let last = g.C.Chip.told c.read_generation-2.new.chip in
     rw (e.1, e.2) (lost_steps _ old.places u t after old mid new holds.known.none_lost holds.active
-    reads (g.met.C.Chip.consistent c.args.chip.now)
-    (g.met.C.Chip.consistent c.log_place.new.chip)
+    reads
     _ last spot c.in_err-merged.field-0.0
     (counts_then old mid new reads.counts c.in_ok-spot.ensures.accounts.counts)
     made c.in_err-merged.ensures.looks.reads)
@@ -314,8 +310,6 @@ returns-clause-steps g c =
     let says = subst (λ (p : ℕ). OfContents new (Says u p c.in_ok-merged.merged))
     c.current-place.ensures.place c.in_ok-merged.ensures.exact in
     read_steps _ old.places u t after old mid new holds.known.none_lost holds.active reads
-    (g.met.C.Chip.consistent c.args.chip.now)
-    (g.met.C.Chip.consistent c.log_place.new.chip)
     _ last spot c.in_ok-merged.merged
     (counts_then old mid new reads.counts c.in_ok-spot.ensures.accounts.counts)
     made later

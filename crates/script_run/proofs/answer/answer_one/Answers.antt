@@ -6,17 +6,17 @@ use Rattle.script_run.proofs.CompleteLemmas.{completes_work, completes_fault, co
 use Rattle.script_run.proofs.answer.answer_one.Goals as goal
 
 pub returns-in_err-reply-clause-answers : goal.returns-in_err-reply-clause-answers
-returns-in_err-reply-clause-answers g c = λ limits state h holds told.
+returns-in_err-reply-clause-answers g c = λ limits state h holds.
     let stop = err_from_is_err_and c.from_residual.result c.from_residual.ensures.1 in
-    rw stop.1 (rw stop.2 (failed g.S.Store.keeping limits state c.args.command.now c.args.store.now c.work.new.self h _ _ _ (c.in_err-reply.ensures.works limits state h holds told)))
+    rw stop.1 (rw stop.2 (failed g.S.Store.keeping limits state c.args.command.now c.args.store.now c.work.new.self h _ _ _ (c.in_err-reply.ensures.works limits state h holds)))
 
 pub returns-in-Ok-clause-answers : goal.returns-in-Ok-clause-answers
-returns-in-Ok-clause-answers g c = λ limits state h holds told.
-    answered g.S.Store.keeping limits state c.args.command.now c.args.store.now c.work.new.self h _ _ _ _ (c.in_ok-reply.ensures.works limits state h holds told) c.in-Ok.ensures.says
+returns-in-Ok-clause-answers g c = λ limits state h holds.
+    answered g.S.Store.keeping limits state c.args.command.now c.args.store.now c.work.new.self h _ _ _ _ (c.in_ok-reply.ensures.works limits state h holds) c.in-Ok.ensures.says
 
 pub returns-in-Err-clause-answers : goal.returns-in-Err-clause-answers
-returns-in-Err-clause-answers g c = λ limits state h holds told.
-    unsaid g.S.Store.keeping limits state c.args.command.now c.args.store.now c.work.new.self h _ _ _ _ (c.in_ok-reply.ensures.works limits state h holds told) c.in-Err.ensures.says
+returns-in-Err-clause-answers g c = λ limits state h holds.
+    unsaid g.S.Store.keeping limits state c.args.command.now c.args.store.now c.work.new.self h _ _ _ _ (c.in_ok-reply.ensures.works limits state h holds) c.in-Err.ensures.says
 
 pub returns-in_err-reply-clause-along : goal.returns-in_err-reply-clause-along
 returns-in_err-reply-clause-along g c =
@@ -35,12 +35,12 @@ returns-in-Err-clause-along g c =
 
 pub returns-in_err-reply-clause-completes : goal.returns-in_err-reply-clause-completes
 returns-in_err-reply-clause-completes g c = λ limits keeps.
-    completes_fault c.from_residual.result c.from_residual.ensures.1 (c.in_err-reply.ensures.works limits keeps.state keeps.history keeps.holds keeps.told)
+    completes_fault c.from_residual.result c.from_residual.ensures.1 (c.in_err-reply.ensures.works limits keeps.state keeps.history keeps.holds)
 
 pub returns-in-Ok-clause-completes : goal.returns-in-Ok-clause-completes
 returns-in-Ok-clause-completes g c = λ limits keeps.
-    completes_said (completes_work (c.in_ok-reply.ensures.works limits keeps.state keeps.history keeps.holds keeps.told)) c.in-Ok.ensures.says (omega arith)
+    completes_said (completes_work (c.in_ok-reply.ensures.works limits keeps.state keeps.history keeps.holds)) c.in-Ok.ensures.says (omega arith)
 
 pub returns-in-Err-clause-completes : goal.returns-in-Err-clause-completes
 returns-in-Err-clause-completes g c = λ limits keeps.
-    completes_unsaid (completes_work (c.in_ok-reply.ensures.works limits keeps.state keeps.history keeps.holds keeps.told)) (omega arith)
+    completes_unsaid (completes_work (c.in_ok-reply.ensures.works limits keeps.state keeps.history keeps.holds)) (omega arith)

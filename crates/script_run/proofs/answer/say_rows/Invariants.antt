@@ -1,6 +1,6 @@
-use Rattle.std.proofs.Common.{◌≡◌, ◌≤◌, ◌<◌, ◌-◌, ◌*◌, true, Some}
+use Rattle.std.proofs.Common.{◌≡◌, ◌≤◌, ◌<◌, ◌-◌, ◌*◌, true}
 use Rattle.ipl_rules.specs.State.{State, Limits}
-use Rattle.chip_trait.specs.Told.{History}
+use Rattle.chip_trait.specs.Told.{History, adds_all}
 use Rattle.store_trait.specs.Keeping.{LOOK_UP_DRAWS}
 use Rattle.script_run.specs.Run.{SayingLeaves}
 use Rattle.script_run.specs.Goes.{KeepsSome, rows_lines}
@@ -13,8 +13,8 @@ invariant-loop-n g l =
     let told = g.D.Chip.told in
     let k = g.S.Store.keeping in
     record {
-      says : (limits : Limits) → l.end ≤ limits.names → (state : State) (h : History) → k.holds limits l.fn.store (told l.fn.desk) state → (told l.fn.desk).history ≡ Some h
-          → SayingLeaves k limits state.map (rows_lines state.map l.first (l.n - l.first)) l.fn.store h l.store (told l.desk) true × k.holds limits l.store (told l.desk) state;
+      says : (limits : Limits) → l.end ≤ limits.names → (state : State) (h : History) → k.holds limits l.fn.store (told l.fn.desk) h state
+          → (leaves : SayingLeaves k limits state.map (rows_lines state.map l.first (l.n - l.first)) l.fn.store h l.store (told l.fn.desk) (told l.desk) true) × k.holds limits l.store (told l.desk) (adds_all leaves.added h) state;
       along : SoFar k (LOOK_UP_DRAWS * (l.n - l.first)) l.fn.store (told l.fn.desk) l.store (told l.desk);
       completes : (limits : Limits) → l.end ≤ limits.names → KeepsSome k limits l.fn.store (told l.fn.desk) → CompletesSoFar k limits (LOOK_UP_DRAWS * (l.n - l.first)) l.fn.store (told l.fn.desk) l.store (told l.desk);
       none : l.end < l.first → l.n ≡ l.first;

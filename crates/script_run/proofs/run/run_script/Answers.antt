@@ -16,8 +16,8 @@ pub loop-total-init : goal.loop-total-init
 loop-total-init g c =
     let t = g.D.Chip.told c.args.desk.now in
     let k = g.S.Store.keeping in record {
-      running = λ limits state h holds told source left.
-          subst (λ (l : List ℕ). Running k limits state source c.args.store.now h c.args.store.now l t) (sym c.new-line.ensures) (running_none k limits state source c.args.store.now h t holds told left);
+      running = λ limits state h holds source left.
+          subst (λ (l : List ℕ). Running k limits state source c.args.store.now h c.args.store.now l t t) (sym c.new-line.ensures) (running_none k limits state source c.args.store.now h t holds left);
       suited = λ places suits. suits;
       further = further_none t;
       bytes = grew_none t.beside.script_bytes;
@@ -34,8 +34,8 @@ loop-total-preserved g c =
     let at = g.D.Chip.told in
     let o = c.in_ok-count.ensures in
     let k = g.S.Store.keeping in record {
-      running = λ limits state h holds told source left.
-          running_more k limits state source c.args.store.now c.loop-total.store t.new.store h c.loop-total.line t.new.line (at c.loop-total.desk) (at t.new.desk) c.in_ok-count.count (was.running limits state h holds told source left) (λ s g' now is. o.takes limits s g' now is);
+      running = λ limits state h holds source left.
+          running_more k limits state source c.args.store.now c.loop-total.store t.new.store h c.loop-total.line t.new.line (at c.args.desk.now) (at c.loop-total.desk) (at t.new.desk) c.in_ok-count.count (was.running limits state h holds source left) (λ s g' now. o.takes limits s g' now);
       suited = λ places suits. o.along.suited places (was.suited places suits);
       further = further_then (at c.args.desk.now) (at c.loop-total.desk) (at t.new.desk) was.further t.ensures.along.beside;
       bytes = grew_then (at c.args.desk.now).beside.script_bytes (at c.loop-total.desk).beside.script_bytes (at t.new.desk).beside.script_bytes c.loop-total.total c.in_ok-count.count was.bytes o.bytes;
@@ -47,20 +47,20 @@ loop-total-preserved g c =
     }
 
 pub returns-clause-run : goal.returns-clause-run
-returns-clause-run g c = λ limits state h holds told source left.
-    stops_weaker g.S.Store.keeping limits state _ source c.args.store.now c.loop-total.store h _ _ _ _ (λ s kept quiet. kept)
-    (running_stopped g.S.Store.keeping limits state source c.args.store.now c.loop-total.store h c.loop-total.line (g.D.Chip.told c.loop-total.desk) (c.loop-total.invariant.running limits state h holds told source left))
+returns-clause-run g c = λ limits state h holds source left.
+    stops_weaker g.S.Store.keeping limits state _ source c.args.store.now c.loop-total.store h _ _ _ _ _ (λ a s kept quiet. kept)
+    (running_stopped g.S.Store.keeping limits state source c.args.store.now c.loop-total.store h c.loop-total.line (g.D.Chip.told c.args.desk.now) (g.D.Chip.told c.loop-total.desk) (c.loop-total.invariant.running limits state h holds source left))
 
 pub returns-in_err-count-clause-run : goal.returns-in_err-count-clause-run
-returns-in_err-count-clause-run g c = λ limits state h holds told source left.
+returns-in_err-count-clause-run g c = λ limits state h holds source left.
     let k = g.S.Store.keeping in
     let at = g.D.Chip.told in
     let t = c.take_next in
     let stop = err_from_is_err_and c.from_residual.result c.from_residual.ensures.1 in
-    rw stop.1 (rw stop.2 (running_failed k limits state source c.args.store.now c.loop-total.store t.new.store h (Stays k limits t.new.store (at c.args.desk.now) (at t.new.desk)) c.loop-total.line (at c.loop-total.desk) (at t.new.desk) _
-    (c.loop-total.invariant.running limits state h holds told source left)
-    (λ s g' now is rest more. stops_weaker k limits s _ rest c.loop-total.store t.new.store g' _ _ (at t.new.desk) _
-    (λ n. stays_later k limits t.new.store (at c.args.desk.now) (at c.loop-total.desk) (at t.new.desk) n c.loop-total.invariant.further.writes) (c.in_err-count.ensures.takes limits s g' now is rest more))))
+    rw stop.1 (rw stop.2 (running_failed k limits state source c.args.store.now c.loop-total.store t.new.store h (Stays k limits t.new.store (at c.args.desk.now) (at t.new.desk)) c.loop-total.line (at c.args.desk.now) (at c.loop-total.desk) (at t.new.desk) _
+    (c.loop-total.invariant.running limits state h holds source left)
+    (λ s g' now rest more. stops_weaker k limits s _ rest c.loop-total.store t.new.store g' _ _ (at c.loop-total.desk) (at t.new.desk) _
+    (λ a n. stays_later k limits t.new.store (at c.args.desk.now) (at c.loop-total.desk) (at t.new.desk) a n c.loop-total.invariant.further.writes) (c.in_err-count.ensures.takes limits s g' now rest more))))
 
 pub returns-in_err-count-clause-cause : goal.returns-in_err-count-clause-cause
 returns-in_err-count-clause-cause g c =
@@ -70,15 +70,15 @@ returns-in_err-count-clause-cause g c =
     (cause_earlier g.S.Store.keeping (at c.args.desk.now) (at c.loop-total.desk) (at c.take_next.new.desk) _ c.loop-total.invariant.further c.in_err-count.ensures.along.cause))
 
 pub returns-then-count-eq0-clause-run : goal.returns-then-count-eq0-clause-run
-returns-then-count-eq0-clause-run g c = λ limits state h holds told source left.
+returns-then-count-eq0-clause-run g c = λ limits state h holds source left.
     let k = g.S.Store.keeping in
     let at = g.D.Chip.told in
     let t = c.take_next in
     let a = c.answer_line in
     let answers = subst (λ (l : List ℕ). Answers k (commands_in (line_of l)) t.new.store (at t.new.desk) a.result a.new.store (at a.new.desk)) c.bytes.ensures a.ensures.answers in
     ends_later k limits state source c.args.store.now a.new.store h a.result (at c.args.desk.now) (at t.new.desk) (at a.new.desk) (omega (arith, c.loop-total.invariant.further.writes, c.in_ok-count.ensures.along.beside.writes))
-    (running_last k limits state source c.args.store.now c.loop-total.store t.new.store a.new.store h c.loop-total.line t.new.line (at c.loop-total.desk) (at t.new.desk) (at a.new.desk) c.in_ok-count.count a.result
-    (c.loop-total.invariant.running limits state h holds told source left) (λ s g' now is. c.in_ok-count.ensures.takes limits s g' now is) c.if-count-eq0.true answers a.ensures.along.beside)
+    (running_last k limits state source c.args.store.now c.loop-total.store t.new.store a.new.store h c.loop-total.line t.new.line (at c.args.desk.now) (at c.loop-total.desk) (at t.new.desk) (at a.new.desk) c.in_ok-count.count a.result
+    (c.loop-total.invariant.running limits state h holds source left) (λ s g' now. c.in_ok-count.ensures.takes limits s g' now) c.if-count-eq0.true answers a.ensures.along.beside)
 
 pub returns-clause-long : goal.returns-clause-long
 returns-clause-long g c = λ x.

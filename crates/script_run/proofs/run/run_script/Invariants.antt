@@ -13,8 +13,8 @@ invariant-loop-total g l =
     let told = g.D.Chip.told in
     let k = g.S.Store.keeping in
     record {
-      running : (limits : Limits) (state : State) (h : History) → k.holds limits l.fn.store (told l.fn.desk) state → (told l.fn.desk).history ≡ Some h → (source : List ℕ) → (told l.fn.desk).beside.left ≡ Some source
-          → Running k limits state source l.fn.store h l.store l.line (told l.desk);
+      running : (limits : Limits) (state : State) (h : History) → k.holds limits l.fn.store (told l.fn.desk) h state → (source : List ℕ) → (told l.fn.desk).beside.left ≡ Some source
+          → Running k limits state source l.fn.store h l.store l.line (told l.fn.desk) (told l.desk);
       suited : (places : ℕ) → k.suits l.fn.store places → k.suits l.store places;
       further : Further (told l.fn.desk) (told l.desk);
       bytes : Grew (told l.fn.desk).beside.script_bytes l.total (told l.desk).beside.script_bytes;

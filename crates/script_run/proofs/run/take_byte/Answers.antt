@@ -12,9 +12,9 @@ returns-then-byte-eq10-clause-takes g c =
     c.answer_line-answered.result c.bytes.ensures c.if-byte-eq10.true c.clear.ensures c.answer_line-answered.ensures.answers
 
 pub returns-clause-takes : goal.returns-clause-takes
-returns-clause-takes g c = λ limits state h holds told.
-    subst (λ (l : List ℕ). Goes g.S.Store.keeping limits state c.args.line.now (c.args.byte ∷ []) c.args.store.now h c.args.store.now l (g.D.Chip.told c.args.desk.now)) (sym c.push.ensures)
-    (goes_byte g.S.Store.keeping limits state c.args.line.now c.args.byte c.args.store.now h (g.D.Chip.told c.args.desk.now) (ne_eqb c.args.byte 10 c.if-byte-eq10.false) holds told)
+returns-clause-takes g c = λ limits state h holds.
+    subst (λ (l : List ℕ). Goes g.S.Store.keeping limits state c.args.line.now (c.args.byte ∷ []) c.args.store.now h c.args.store.now l (g.D.Chip.told c.args.desk.now) (g.D.Chip.told c.args.desk.now)) (sym c.push.ensures)
+    (goes_byte g.S.Store.keeping limits state c.args.line.now c.args.byte c.args.store.now h (g.D.Chip.told c.args.desk.now) (ne_eqb c.args.byte 10 c.if-byte-eq10.false) holds)
 
 pub returns-clause-along : goal.returns-clause-along
 returns-clause-along g c = along_none

@@ -1,4 +1,4 @@
-use Rattle.std.proofs.Common.{arith, take, refl, ◌∙◌}
+use Rattle.std.proofs.Common.{arith, take, refl}
 use Rattle.std.proofs.lemmas.List.{length-take}
 use Rattle.std.proofs.lemmas.Result.{err_from_is_err_and}
 use Rattle.store_trait.specs.Keeping.{Stays}
@@ -10,7 +10,7 @@ use Rattle.script_run.proofs.CompleteLemmas.{completes_more, completes_stop, com
 use Rattle.script_run.proofs.run.take_next.Goals as goal
 
 pub returns-in_err-take_piece-in-Ok-clause-takes : goal.returns-in_err-take_piece-in-Ok-clause-takes
-returns-in_err-take_piece-in-Ok-clause-takes g c = λ limits state h holds told source left.
+returns-in_err-take_piece-in-Ok-clause-takes g c = λ limits state h holds source left.
     let k = g.S.Store.keeping in
     let at = g.D.Chip.told in
     let r = c.in-Ok.ensures in
@@ -20,12 +20,12 @@ returns-in_err-take_piece-in-Ok-clause-takes g c = λ limits state h holds told 
     let new = at t.new.desk in
     let stop = err_from_is_err_and c.from_residual.result c.from_residual.ensures.1 in
     rw stop.1 (rw stop.2 (stopped k limits state c.args.line.now source (take c.in-Ok.count c.read_script.new.buf) c.read_script.new.buf c.in-Ok.count (Stays k limits t.new.store old new) old mid new c.args.store.now t.new.store h _
-    r.bytes.0 t.ensures.along.beside left (r.bytes.2 source left) refl
-    (λ tail. run_weaker k limits state _ c.args.store.now t.new.store h _ _ new _ (λ s. stays_later k limits t.new.store old mid new s r.chip.writes)
-    (c.in_err-take_piece-in-Ok.ensures.takes limits state h (holds_beside k limits c.args.store.now old mid state r.chip holds) (r.chip.history ∙ told) tail))))
+    r.chip r.bytes.0 t.ensures.along.beside left (r.bytes.2 source left) refl
+    (λ tail. run_weaker k limits state _ c.args.store.now t.new.store h _ _ mid new _ (λ a s. stays_later k limits t.new.store old mid new a s r.chip.writes)
+    (c.in_err-take_piece-in-Ok.ensures.takes limits state h (holds_beside k limits c.args.store.now old mid h state r.chip holds) tail))))
 
 pub returns-in_ok-take_piece-in-Ok-clause-takes : goal.returns-in_ok-take_piece-in-Ok-clause-takes
-returns-in_ok-take_piece-in-Ok-clause-takes g c = λ limits state h holds told source left.
+returns-in_ok-take_piece-in-Ok-clause-takes g c = λ limits state h holds source left.
     let k = g.S.Store.keeping in
     let at = g.D.Chip.told in
     let r = c.in-Ok.ensures in
@@ -33,16 +33,16 @@ returns-in_ok-take_piece-in-Ok-clause-takes g c = λ limits state h holds told s
     let old = at c.args.desk.now in
     let mid = at c.read_script.new.self in
     took k limits state c.args.line.now source (take c.in-Ok.count c.read_script.new.buf) c.read_script.new.buf c.in-Ok.count old mid (at t.new.desk) c.args.store.now t.new.store h t.new.line
-    r.bytes.0 t.ensures.along.beside left (r.bytes.2 source left) refl
-    (c.in_ok-take_piece-in-Ok.ensures.takes limits state h (holds_beside k limits c.args.store.now old mid state r.chip holds) (r.chip.history ∙ told))
+    r.chip r.bytes.0 t.ensures.along.beside left (r.bytes.2 source left) refl
+    (c.in_ok-take_piece-in-Ok.ensures.takes limits state h (holds_beside k limits c.args.store.now old mid h state r.chip holds))
 
 pub returns-in-Err-clause-takes : goal.returns-in-Err-clause-takes
-returns-in-Err-clause-takes g c = λ limits state h holds told source left.
+returns-in-Err-clause-takes g c = λ limits state h holds source left.
     let k = g.S.Store.keeping in
     let old = g.D.Chip.told c.args.desk.now in
     let new = g.D.Chip.told c.read_script.new.self in
     let r = c.in-Err.ensures in
-    stopped_at_once k limits state c.args.line.now source _ old new c.args.store.now h holds told (λ quiet. holds_beside k limits c.args.store.now old new state r.chip holds) r.chip r.bytes left
+    stopped_at_once k limits state c.args.line.now source _ old new c.args.store.now h holds (λ quiet. holds_beside k limits c.args.store.now old new h state r.chip holds) r.chip r.bytes left
 
 pub returns-in_err-take_piece-in-Ok-clause-along : goal.returns-in_err-take_piece-in-Ok-clause-along
 returns-in_err-take_piece-in-Ok-clause-along g c =

@@ -1,4 +1,4 @@
-use Rattle.std.proofs.Common.{◌≡◌, ◌*◌, take, Some}
+use Rattle.std.proofs.Common.{◌*◌, take}
 use Rattle.ipl_rules.specs.State.{State, Limits}
 use Rattle.chip_trait.specs.Told.{History}
 use Rattle.store_trait.specs.Keeping.{COMMAND_DRAWS}
@@ -12,8 +12,8 @@ invariant-loop-byte g l =
     let told = g.D.Chip.told in
     let k = g.S.Store.keeping in
     record {
-      goes : (limits : Limits) (state : State) (h : History) → k.holds limits l.fn.store (told l.fn.desk) state → (told l.fn.desk).history ≡ Some h
-          → Goes k limits state l.fn.line (take l.byte-index l.piece) l.fn.store h l.store l.line (told l.desk);
+      goes : (limits : Limits) (state : State) (h : History) → k.holds limits l.fn.store (told l.fn.desk) h state
+          → Goes k limits state l.fn.line (take l.byte-index l.piece) l.fn.store h l.store l.line (told l.fn.desk) (told l.desk);
       along : SoFar k (COMMAND_DRAWS * l.byte-index) l.fn.store (told l.fn.desk) l.store (told l.desk);
       completes : (limits : Limits) → KeepsSome k limits l.fn.store (told l.fn.desk) → CompletesSoFar k limits (COMMAND_DRAWS * l.byte-index) l.fn.store (told l.fn.desk) l.store (told l.desk);
     }

@@ -48,7 +48,7 @@ loop-i-preserved g c =
     so.drawn (get_or_read payloads _ _ low c.index-payloads-i.is []) in record {
       keeps = λ m h steady rests bare clean.
           keeps_more old.places p head.unit head.generation serial payloads m h (length payloads) i
-          low bare clean mid new (Ok tt) (so.keeps m h steady rests bare clean)
+          low bare clean old mid new (Ok tt) (so.keeps m h steady rests bare clean)
           (log_named mid.places old.places p _ _ _ _ mid new (Ok tt) so.counts.places refl same
           says.writes);
       tells = charts_then (HasLogs p head.unit head.generation serial payloads i)
@@ -80,9 +80,9 @@ returns-in_err-write_log-clause-writes g c = λ m h steady rests bare clean.
     so.drawn (get_or_read payloads _ _ low c.index-payloads-i.is []) in
     let e = err_from_is_err_and c.from_residual.result c.from_residual.ensures.1 in
     rw e.1 (keeps_failed old.places p head.unit head.generation serial payloads m h (i + 1)
-    (length payloads) fault e.0 new (omega (arith, low))
+    (length payloads) fault e.0 old new (omega (arith, low))
     (keeps_more old.places p head.unit head.generation serial payloads m h (length payloads) i
-    low bare clean mid new (Err fault) (so.keeps m h steady rests bare clean)
+    low bare clean old mid new (Err fault) (so.keeps m h steady rests bare clean)
     (log_named mid.places old.places p _ _ _ _ mid new (Err fault) so.counts.places refl same
     c.in_err-write_log.ensures.writes)))
 
@@ -91,8 +91,8 @@ returns-clause-writes g c = λ m h steady rests bare clean.
     let head = c.args.head.now in
     let done : c.loop-i.i ≡ length c.args.payloads.now = omega arith in
     subst (λ (n : ℕ). KeepsLogs (g.C.Chip.told c.args.chip.now).places c.args.place head.unit
-    head.generation c.args.counter.now c.args.payloads.now n m h (Ok tt)
-    (g.C.Chip.told c.loop-i.chip)) done (c.loop-i.invariant.keeps m h steady rests bare clean)
+    head.generation c.args.counter.now c.args.payloads.now n m h
+    (g.C.Chip.told c.args.chip.now) (Ok tt) (g.C.Chip.told c.loop-i.chip)) done (c.loop-i.invariant.keeps m h steady rests bare clean)
 
 pub returns-in_err-write_log-clause-costs : goal.returns-in_err-write_log-clause-costs
 returns-in_err-write_log-clause-costs g c =

@@ -16,7 +16,7 @@ pub record AreWritten (first t : Told) (p u generation serial : ℕ) (payloads :
   pub keeps : (m : Map) (h : History) → IsSteady h first → StoryRests first.places m h
       → now h p 0 ≡ None
       → ((s : ℕ) → IsLogSpotBelow (length payloads) s → age h.story p s ≡ Clean)
-      → KeepsLogs first.places p u generation serial payloads n m h (Ok tt) t
+      → KeepsLogs first.places p u generation serial payloads n m h first (Ok tt) t
   pub tells : Charts (HasLogs p u generation serial payloads n) first t
   pub costs : Spends (ProgramsAt p n 0 5) first t
   pub counts : Counts first t

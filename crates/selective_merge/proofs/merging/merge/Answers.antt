@@ -47,7 +47,6 @@ returns-clause-steps g c =
     (spots_in c.args.parts.now.overflow c.args.unit))
     c.args.unit c.in_ok-home.home c.learn.new.scratch.log t after old mid new
     c.merge_known.result looks.reads c.in_ok-home.ensures.learns
-    (g.met.C.Chip.consistent c.args.chip.now)
     (subst (λ (q : ℕ). MergesFromInSteps q c.args.unit from t after mid c.merge_known.result new)
     looks.reads.counts.places c.merge_known.ensures.steps)
 

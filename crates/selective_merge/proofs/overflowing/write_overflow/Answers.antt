@@ -12,7 +12,8 @@ returns-in_err-begin_unit-clause-opens g c = λ m it t h steady rests mirrors fr
     let places = (g.C.Chip.told c.args.chip.now).places in
     let e = err_from_is_err_and c.from_residual.result c.from_residual.ensures.1 in
     rw e.1 (open_unerased places c.args.place c.args.units c.args.generation m it t h mirrors free
-    c.in_err-begin_unit.field-0.0 e.0 (g.C.Chip.told c.begin_unit.new.chip)
+    c.in_err-begin_unit.field-0.0 e.0 (g.C.Chip.told c.args.chip.now)
+    (g.C.Chip.told c.begin_unit.new.chip)
     (c.in_err-begin_unit.ensures.keeps m it h steady rests mirrors.laid
     (free_places_are_idle places _ it t c.args.place mirrors free)))
 
@@ -36,7 +37,8 @@ returns-clause-opens g c = λ m it t h steady rests mirrors free.
       counts = c.write_overflow_header.ensures;
     } in
     let begun = c.in_ok-begin_unit.ensures in
-    place_opened places c.args.place c.args.units c.args.generation m it t h mirrors free head mid new
+    place_opened places c.args.place c.args.units c.args.generation m it t h mirrors free head
+    (g.C.Chip.told c.args.chip.now) mid new
     c.seal.result is
     (begun.keeps m it h steady rests mirrors.laid
     (free_places_are_idle places _ it t c.args.place mirrors free))

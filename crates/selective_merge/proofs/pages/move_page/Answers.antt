@@ -33,7 +33,7 @@ returns-clause-moves g c =
     c.apply_committed.ensures.rebased old mid late
     (page_asked_at {T = Unit {0}} from.place c.args.page c.from-count.result (Ok tt) old mid read.asks
     read.accounts.counts) _ c.from-count.ensures c.args.head.now.unit c.requires.unit read.page
-    c.program_page.result (g.met.C.Chip.consistent c.args.chip.now) c.program_page.ensures.keeps
+    c.program_page.result c.program_page.ensures.keeps
     read.accounts.counts.places c.program_page.ensures.accounts.cause
 
 pub returns-clause-tells : goal.returns-clause-tells

@@ -115,7 +115,7 @@ returns-clause-moves g c = λ m h steady rests bare clean.
     let from = from_home c.args.home.now c.args.status.now.numbers c.args.log.now in
     let done : c.loop-page.page ≡ 15 = omega arith in
     subst (λ (k : ℕ). MovedSoFar told.places from c.args.place c.args.head.now.generation m h k
-    c.loop-page.pieces (g.C.Chip.told c.loop-page.chip)) done
+    c.loop-page.pieces told (g.C.Chip.told c.loop-page.chip)) done
     (c.loop-page.invariant.moves m h steady rests bare clean)
 
 pub returns-in_err-count-clause-costs : goal.returns-in_err-count-clause-costs

@@ -21,7 +21,7 @@ pub record AreMoved (from : Source) (p generation : ℕ) (first t : Told) (k : �
   pub moves : (m : Map) (h : History) → IsSteady h first → StoryRests first.places m h
       → now h p 0 ≡ None
       → ((s : ℕ) → IsBaseSpotBelow 15 s → age h.story p s ≡ Clean)
-      → MovedSoFar first.places from p generation m h k pieces t
+      → MovedSoFar first.places from p generation m h k pieces first t
   pub tells : Charts (HasMoved from p generation pieces k) first t
   pub costs : Spends (ProgramsAt p (16 * k) 0 4) first t
   pub counts : Counts first t

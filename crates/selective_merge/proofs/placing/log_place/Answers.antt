@@ -65,7 +65,6 @@ returns-then-carried-le-THRESHOLD-clause-steps g c =
     placed_behind Merged (IsLogRead (slice_index c.args.parts.now.directory.current c.args.unit)
     (spots_in c.args.parts.now.overflow c.args.unit))
     u t after old mid new counted.looks.reads c.merged_spot.result
-    (g.met.C.Chip.consistent c.args.chip.now)
     (if_ok _ _ c.merged_spot.result
     (λ spot home x y it told mirrors merged. placed_few old.places _ y it t after u spot.place
     spot.sector c.in_ok-carried.carried full
@@ -116,7 +115,6 @@ returns-clause-steps g c =
     placed_behind IsElsewhere (IsLogRead (slice_index c.args.parts.now.directory.current c.args.unit)
     (spots_in c.args.parts.now.overflow c.args.unit))
     u t after old mid new counted.looks.reads c.elsewhere.result
-    (g.met.C.Chip.consistent c.args.chip.now)
     (if_ok _ _ c.elsewhere.result
     (λ spot there x y it told mirrors is. placed_elsewhere old.places _ y it t after u spot.place
     spot.sector c.in_ok-carried.carried full

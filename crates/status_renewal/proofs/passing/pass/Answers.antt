@@ -47,8 +47,7 @@ returns-in_err-take_unit-clause-steps g c = λ places same m it h steady rests a
     (tables_of c.loop-unit.parts) (tables_of c.take_unit.new.parts)
     (g.C.Chip.told c.args.chip.now) (g.C.Chip.told c.loop-unit.chip)
     (g.C.Chip.told c.take_unit.new.chip) (Err c.in_err-take_unit.field-0.0) c.loop-unit.unit
-    c.loop-unit.kept so_far.counts (g.met.C.Chip.consistent c.args.chip.now)
-    (g.met.C.Chip.consistent c.loop-unit.chip) steady agrees
+    c.loop-unit.kept so_far.counts steady agrees
     (λ x is mirrors. so_far.passes places x it same is mirrors)
     (so_far.steps places same m it h steady rests agrees)
     (λ k was there resting agreeing. c.in_err-take_unit.ensures.steps places
@@ -92,7 +91,6 @@ loop-unit-preserved g c =
           (so_far.spares places x it same is mirrors);
       steps = λ places same m it h steady rests agrees. passed_then places m h it t between after
           old mid new (Ok tt) c.loop-unit.unit c.loop-unit.kept so_far.counts
-          (g.met.C.Chip.consistent c.args.chip.now) (g.met.C.Chip.consistent c.loop-unit.chip)
           steady agrees (λ x is mirrors. so_far.passes places x it same is mirrors)
           (so_far.steps places same m it h steady rests agrees)
           (λ k was there resting agreeing. c.in_ok-take_unit.ensures.steps places

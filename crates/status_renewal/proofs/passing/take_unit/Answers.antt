@@ -148,7 +148,6 @@ returns-clause-steps g c = λ places same m it h steady rests agrees.
     let new = g.C.Chip.told c.merge.new.chip in
     let after = tables_of c.merge.new.parts in
     read_then _ places m h it t after old mid new c.merge.result
-    (g.met.C.Chip.consistent c.args.chip.now) (g.met.C.Chip.consistent c.read_live.new.chip)
     steady rests agrees c.read_live.ensures.looks.reads
     (λ k there resting agreeing. steps_preserve places m k t after
     (λ done j. RestsMerged places m (now k) it t unit after j)

@@ -61,7 +61,6 @@ returns-in_err-renew-clause-steps g c =
     let e = err_from_is_err_and c.from_residual-in_err-renew.result
     c.from_residual-in_err-renew.ensures.1 in
     rw (e.1 ∙ ap Err e.2) (recovers_failed old.places t after old mid new
-    (g.met.C.Chip.consistent c.args.chip.now) (g.met.C.Chip.consistent c.recover.new.chip)
     c.recover.ensures.looks.reads
     (λ x told. opened_parts old.places (chart_of x) directory overflow status counter active
     c.requires.active (c.in_ok-recover.ensures.opened x told)
@@ -122,7 +121,6 @@ returns-clause-steps g c =
     let t = of_parts directory overflow status counter active in
     let after = tables_of c.renew.new.parts in
     recovers_done old.places t after old mid new
-    (g.met.C.Chip.consistent c.args.chip.now) (g.met.C.Chip.consistent c.recover.new.chip)
     c.recover.ensures.looks.reads
     (λ x told. opened_parts old.places (chart_of x) directory overflow status counter active
     c.requires.active (c.in_ok-recover.ensures.opened x told)

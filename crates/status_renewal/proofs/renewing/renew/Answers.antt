@@ -76,8 +76,7 @@ returns-clause-steps g c = λ m it h steady rests agrees.
     let drawn = c.renew_place.new.counter in
     let after = with_tables between directory status drawn in
     passed_then old.places m h it t between after old mid new c.renew_place.result
-    (old.places - 4) kept c.pass.ensures.accounts.counts
-    (g.met.C.Chip.consistent c.args.chip.now) (g.met.C.Chip.consistent c.pass.new.chip) steady
+    (old.places - 4) kept c.pass.ensures.accounts.counts steady
     agrees
     (λ x told mirrors. subst (λ (k : List ℕ). HasPassed old.places (old.places - 4) (chart_of x)
     it t k mid between) (sym c.as_slice.ensures.numbers)

@@ -11,7 +11,7 @@ use Rattle.trial_run.proofs.TrialLemmas.{trial_cut, trial_lost, trial_ends, comp
 use Rattle.trial_run.proofs.run.run_trial.Goals as goal
 
 pub returns-in_err-do_all-clause-run : goal.returns-in_err-do_all-clause-run
-returns-in_err-do_all-clause-run g c = λ limits state h holds told.
+returns-in_err-do_all-clause-run g c = λ limits state h holds.
     let stop = err_from_is_err_and c.from_residual.result c.from_residual.ensures.1 in
     let failed = c.in_err-do_all.ensures in
     let k = g.S.Store.keeping in
@@ -22,7 +22,7 @@ returns-in_err-do_all-clause-run g c = λ limits state h holds told.
     (subst
     (λ (source : Source).
     IsCutShort k limits state (commands_from source c.args.count) c.args.store.now h c.do_all.new.store old new)
-    c.of-commands.ensures (failed.does limits state h holds told))))
+    c.of-commands.ensures (failed.does limits state h holds))))
 
 pub returns-in_err-do_all-clause-completes : goal.returns-in_err-do_all-clause-completes
 returns-in_err-do_all-clause-completes g c = λ limits keeps.
@@ -30,7 +30,7 @@ returns-in_err-do_all-clause-completes g c = λ limits keeps.
     (c.in_err-do_all.ensures.completes limits keeps)) (omega arith)
 
 pub returns-in_err-take_all-clause-run : goal.returns-in_err-take_all-clause-run
-returns-in_err-take_all-clause-run g c = λ limits state h holds told.
+returns-in_err-take_all-clause-run g c = λ limits state h holds.
     let residual = c.from_residual-in_err-take_all in
     let stop = err_from_is_err_and residual.result residual.ensures.1 in
     let failed = c.in_err-take_all.ensures in
@@ -42,12 +42,11 @@ returns-in_err-take_all-clause-run g c = λ limits state h holds told.
     let done = subst
     (λ (source : Source).
     IsDone k limits state (commands_from source c.args.count) c.new-tally.result c.args.store.now h
-    c.do_all.new.tally c.do_all.new.store between) c.of-commands.ensures (worked.does limits state h holds told) in
+    c.do_all.new.tally c.do_all.new.store old between) c.of-commands.ensures (worked.does limits state h holds) in
     rw stop.1 (rw stop.2 (trial_lost k limits state commands c.args.store.now h c.do_all.new.store
     c.take_all.new.store old between (g.D.Chip.told c.take_all.new.desk) c.new-tally.result c.do_all.new.tally done _
     failed.stops worked.along.beside.writes
-    (failed.takes limits (after_all limits state commands) (adds_all done.leaves.added h) done.holds
-    done.leaves.history)))
+    (failed.takes limits (after_all limits state commands) (adds_all done.leaves.added h) done.holds)))
 
 pub returns-in_err-take_all-clause-completes : goal.returns-in_err-take_all-clause-completes
 returns-in_err-take_all-clause-completes g c = λ limits keeps.
@@ -57,7 +56,7 @@ returns-in_err-take_all-clause-completes g c = λ limits keeps.
     (omega arith)
 
 pub returns-clause-run : goal.returns-clause-run
-returns-clause-run g c = λ limits state h holds told.
+returns-clause-run g c = λ limits state h holds.
     let worked = c.in_ok-do_all.ensures in
     let k = g.S.Store.keeping in
     let commands = trial_commands c.args.units c.args.seed c.args.count in
@@ -66,12 +65,11 @@ returns-clause-run g c = λ limits state h holds told.
     let done = subst
     (λ (source : Source).
     IsDone k limits state (commands_from source c.args.count) c.new-tally.result c.args.store.now h
-    c.do_all.new.tally c.do_all.new.store between) c.of-commands.ensures (worked.does limits state h holds told) in
+    c.do_all.new.tally c.do_all.new.store old between) c.of-commands.ensures (worked.does limits state h holds) in
     trial_ends k limits state commands c.args.store.now h c.do_all.new.store c.take_all.new.store old between
     (g.D.Chip.told c.take_all.new.desk) (g.D.Chip.told c.say_lines.new.desk) c.new-tally.result c.do_all.new.tally
     c.new-records.result c.take_all.new.records c.summary_lines.result done
-    (c.in_ok-take_all.ensures.takes limits (after_all limits state commands) (adds_all done.leaves.added h) done.holds
-    done.leaves.history)
+    (c.in_ok-take_all.ensures.takes limits (after_all limits state commands) (adds_all done.leaves.added h) done.holds)
     c.new-tally.ensures c.new-records.ensures.none c.summary_lines.ensures.lines c.say_lines.result c.say_lines.ensures.says
     c.say_lines.ensures.stop
 

@@ -13,39 +13,38 @@ use Rattle.trial_run.proofs.take.take_below.Goals as goal
 
 pub loop-n-init : goal.loop-n-init
 loop-n-init g c = record {
-  takes = λ limits named state h holds told.
-      taken_none g.S.Store.keeping limits state c.args.records.now c.args.store.now h _ holds told;
+  takes = λ limits named state h holds.
+      taken_none g.S.Store.keeping limits state c.args.records.now c.args.store.now h _ holds;
   along = along_none;
   completes = λ limits named keeps. completes_none keeps;
   few = omega arith;
 }
 
 pub returns-in_err-take_one-clause-takes : goal.returns-in_err-take_one-clause-takes
-returns-in_err-take_one-clause-takes g c = λ limits named state h holds told.
+returns-in_err-take_one-clause-takes g c = λ limits named state h holds.
     let stop = err_from_is_err_and c.from_residual.result c.from_residual.ensures.1 in
     let was = c.loop-n.invariant in
-    let so_far = was.takes limits named state h holds told in
+    let so_far = was.takes limits named state h holds in
     rw stop.1 (lost_then g.S.Store.keeping limits state (record_lines state.map c.loop-n.n) c.args.records.now
-    c.loop-n.records c.args.store.now c.loop-n.store c.take_one.new.store h _ _ so_far (g.D.Chip.told c.args.desk.now)
+    c.loop-n.records c.args.store.now c.loop-n.store c.take_one.new.store h _ _ _ so_far
     was.along.beside.writes
-    (c.in_err-take_one.ensures.takes limits (omega arith) state (adds_all so_far.leaves.added h) so_far.holds
-    so_far.leaves.history))
+    (c.in_err-take_one.ensures.takes limits (omega arith) state (adds_all so_far.leaves.added h) so_far.holds))
 
 pub loop-n-preserved : goal.loop-n-preserved
 loop-n-preserved g c =
     let k = g.S.Store.keeping in
     let new = c.take_one.new in
     record {
-      takes = λ limits named state h holds told.
-          let so_far = c.loop-n.invariant.takes limits named state h holds told in
+      takes = λ limits named state h holds.
+          let so_far = c.loop-n.invariant.takes limits named state h holds in
           subst
           (λ (lines : List (List ℕ)).
-          IsTaken k limits state lines c.args.records.now c.args.store.now h new.records new.store (g.D.Chip.told new.desk))
+          IsTaken k limits state lines c.args.records.now c.args.store.now h new.records new.store (g.D.Chip.told c.args.desk.now) (g.D.Chip.told new.desk))
           (sym (lines_more state.map c.loop-n.n))
           (taken_then k limits state (record_lines state.map c.loop-n.n) c.args.records.now c.loop-n.records
-          c.args.store.now c.loop-n.store new.store h _ _ so_far (row_lines c.loop-n.n (get state.map c.loop-n.n))
+          c.args.store.now c.loop-n.store new.store h _ _ _ so_far (row_lines c.loop-n.n (get state.map c.loop-n.n))
           new.records
-          (c.in_ok-take_one.ensures.takes limits (omega arith) state (adds_all so_far.leaves.added h) so_far.holds so_far.leaves.history));
+          (c.in_ok-take_one.ensures.takes limits (omega arith) state (adds_all so_far.leaves.added h) so_far.holds));
       along = along_more (along_then c.loop-n.invariant.along c.in_ok-take_one.ensures.along) (omega arith);
       completes = λ limits named keeps.
           completes_more (completes_then (c.loop-n.invariant.completes limits named keeps)
@@ -55,9 +54,9 @@ loop-n-preserved g c =
     }
 
 pub returns-clause-takes : goal.returns-clause-takes
-returns-clause-takes g c = λ limits named state h holds told.
+returns-clause-takes g c = λ limits named state h holds.
     let all : c.loop-n.n ≡ c.args.names = omega arith in
     subst
     (λ (n : ℕ). IsTaken g.S.Store.keeping limits state (record_lines state.map n) c.args.records.now c.args.store.now h
-    c.loop-n.records c.loop-n.store (g.D.Chip.told c.loop-n.desk)) all
-    (c.loop-n.invariant.takes limits named state h holds told)
+    c.loop-n.records c.loop-n.store (g.D.Chip.told c.args.desk.now) (g.D.Chip.told c.loop-n.desk)) all
+    (c.loop-n.invariant.takes limits named state h holds)

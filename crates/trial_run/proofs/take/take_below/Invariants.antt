@@ -1,4 +1,4 @@
-use Rattle.std.proofs.Common.{◌≡◌, ◌≤◌, ◌*◌, Some}
+use Rattle.std.proofs.Common.{◌≤◌, ◌*◌}
 use Rattle.ipl_rules.specs.State.{State, Limits}
 use Rattle.chip_trait.specs.Told.{History}
 use Rattle.store_trait.specs.Keeping.{LOOK_UP_DRAWS}
@@ -16,8 +16,8 @@ invariant-loop-n g l =
     let k = g.S.Store.keeping in
     record {
       takes : (limits : Limits) → l.names ≤ limits.names → (state : State) (h : History)
-          → k.holds limits l.fn.store (told l.fn.desk) state → (told l.fn.desk).history ≡ Some h
-          → IsTaken k limits state (record_lines state.map l.n) l.fn.records l.fn.store h l.records l.store (told l.desk);
+          → k.holds limits l.fn.store (told l.fn.desk) h state
+          → IsTaken k limits state (record_lines state.map l.n) l.fn.records l.fn.store h l.records l.store (told l.fn.desk) (told l.desk);
       along : SoFar k (LOOK_UP_DRAWS * l.n) l.fn.store (told l.fn.desk) l.store (told l.desk);
       completes : (limits : Limits) → l.names ≤ limits.names → KeepsSome k limits l.fn.store (told l.fn.desk)
           → CompletesSoFar k limits (LOOK_UP_DRAWS * l.n) l.fn.store (told l.fn.desk) l.store (told l.desk);

@@ -18,19 +18,19 @@ loop-i-init g c =
     let at = g.D.Chip.told c.args.desk.now in
     record {
       goes = goes_none c.args.commands.now;
-      does = λ limits state h holds told.
+      does = λ limits state h holds.
           subst
           (λ (l : List Command).
-          IsDone k limits state l c.args.tally.now c.args.store.now h c.args.tally.now c.args.store.now at)
+          IsDone k limits state l c.args.tally.now c.args.store.now h c.args.tally.now c.args.store.now at at)
           (sym (commands_none c.args.commands.now))
-          (done_none k limits state c.args.tally.now c.args.store.now h at holds told);
+          (done_none k limits state c.args.tally.now c.args.store.now h at holds);
       along = along_none;
       completes = λ limits keeps. completes_none keeps;
       few = omega (arith, c.requires.none);
     }
 
 pub returns-in_err-do_one-clause-does : goal.returns-in_err-do_one-clause-does
-returns-in_err-do_one-clause-does g c = λ limits state h holds told.
+returns-in_err-do_one-clause-does g c = λ limits state h holds.
     let stop = err_from_is_err_and c.from_residual.result c.from_residual.ensures.1 in
     let k = g.S.Store.keeping in
     let first = c.args.commands.now in
@@ -40,7 +40,7 @@ returns-in_err-do_one-clause-does g c = λ limits state h holds told.
     let old = g.D.Chip.told c.args.desk.now in
     let new = g.D.Chip.told c.do_one.new.desk in
     let was = c.loop-i.invariant in
-    let so_far = was.does limits state h holds told in
+    let so_far = was.does limits state h holds in
     let done = commands_from first i in
     let rest = c.args.count - (i + 1) in
     let all : i + 1 + rest ≡ c.args.count = omega arith in
@@ -50,8 +50,8 @@ returns-in_err-do_one-clause-does g c = λ limits state h holds told.
     (cut_longer k limits state (done ++ command ∷ []) (commands_from later rest) c.args.store.now c.do_one.new.store h
     old new
     (cut_then k limits state done (command ∷ []) c.args.tally.now c.loop-i.tally c.args.store.now c.loop-i.store
-    c.do_one.new.store h _ new so_far old was.along.beside.writes
-    (c.in_err-do_one.ensures.does limits _ (adds_all so_far.leaves.added h) so_far.holds so_far.leaves.history))))
+    c.do_one.new.store h old _ new so_far was.along.beside.writes
+    (c.in_err-do_one.ensures.does limits _ (adds_all so_far.leaves.added h) so_far.holds))))
 
 pub returns-in_err-do_one-clause-completes : goal.returns-in_err-do_one-clause-completes
 returns-in_err-do_one-clause-completes g c = λ limits keeps.
@@ -70,16 +70,16 @@ loop-i-preserved g c =
     record {
       goes = goes_next first c.loop-i.commands later command c.loop-i.i c.loop-i.invariant.goes
           c.next-command.ensures.next;
-      does = λ limits state h holds told.
-          let so_far = c.loop-i.invariant.does limits state h holds told in
+      does = λ limits state h holds.
+          let so_far = c.loop-i.invariant.does limits state h holds in
           subst
           (λ (l : List Command).
-          IsDone k limits state l c.args.tally.now c.args.store.now h new.tally new.store (g.D.Chip.told new.desk))
+          IsDone k limits state l c.args.tally.now c.args.store.now h new.tally new.store (g.D.Chip.told c.args.desk.now) (g.D.Chip.told new.desk))
           (sym (one_more first c.loop-i.commands later command c.loop-i.i c.loop-i.invariant.goes
           c.next-command.ensures.next))
           (done_then k limits state (commands_from first c.loop-i.i) (command ∷ []) c.args.tally.now c.loop-i.tally
-          c.args.store.now c.loop-i.store new.store h _ _ so_far new.tally
-          (c.in_ok-do_one.ensures.does limits _ (adds_all so_far.leaves.added h) so_far.holds so_far.leaves.history));
+          c.args.store.now c.loop-i.store new.store h _ _ _ so_far new.tally
+          (c.in_ok-do_one.ensures.does limits _ (adds_all so_far.leaves.added h) so_far.holds));
       along = along_more (along_then c.loop-i.invariant.along c.in_ok-do_one.ensures.along) (omega arith);
       completes = λ limits keeps.
           completes_more (completes_then (c.loop-i.invariant.completes limits keeps)
@@ -89,12 +89,12 @@ loop-i-preserved g c =
     }
 
 pub returns-clause-does : goal.returns-clause-does
-returns-clause-does g c = λ limits state h holds told.
+returns-clause-does g c = λ limits state h holds.
     let all : c.loop-i.i ≡ c.args.count = omega arith in
     subst
     (λ (n : ℕ). IsDone g.S.Store.keeping limits state (commands_from c.args.commands.now n) c.args.tally.now
-    c.args.store.now h c.loop-i.tally c.loop-i.store (g.D.Chip.told c.loop-i.desk)) all
-    (c.loop-i.invariant.does limits state h holds told)
+    c.args.store.now h c.loop-i.tally c.loop-i.store (g.D.Chip.told c.args.desk.now) (g.D.Chip.told c.loop-i.desk)) all
+    (c.loop-i.invariant.does limits state h holds)
 
 pub returns-clause-completes : goal.returns-clause-completes
 returns-clause-completes g c = λ limits keeps. completes_more (c.loop-i.invariant.completes limits keeps) (omega arith)

@@ -1,4 +1,4 @@
-use Rattle.std.proofs.Common.{◌≡◌, ◌≤◌, ◌*◌, Some}
+use Rattle.std.proofs.Common.{◌≤◌, ◌*◌}
 use Rattle.ipl_rules.specs.State.{State, Limits}
 use Rattle.chip_trait.specs.Told.{History}
 use Rattle.store_trait.specs.Keeping.{WORK_DRAWS}
@@ -17,9 +17,8 @@ invariant-loop-i g l =
     let k = g.S.Store.keeping in
     record {
       goes : GoesOn l.fn.commands l.i l.commands;
-      does : (limits : Limits) (state : State) (h : History) → k.holds limits l.fn.store (told l.fn.desk) state
-          → (told l.fn.desk).history ≡ Some h
-          → IsDone k limits state (commands_from l.fn.commands l.i) l.fn.tally l.fn.store h l.tally l.store (told l.desk);
+      does : (limits : Limits) (state : State) (h : History) → k.holds limits l.fn.store (told l.fn.desk) h state
+          → IsDone k limits state (commands_from l.fn.commands l.i) l.fn.tally l.fn.store h l.tally l.store (told l.fn.desk) (told l.desk);
       along : SoFar k (WORK_DRAWS * l.i) l.fn.store (told l.fn.desk) l.store (told l.desk);
       completes : (limits : Limits) → KeepsSome k limits l.fn.store (told l.fn.desk)
           → CompletesSoFar k limits (WORK_DRAWS * l.i) l.fn.store (told l.fn.desk) l.store (told l.desk);

@@ -11,7 +11,7 @@ returns-clause-keeps g c = λ m h steady rests clean stands.
       serial = refl;
       counts = c.write_status_header.ensures;
     } in
-    header_keeps _ m h c.args.place c.args.units c.args.generation _ is c.seal.result _
+    header_keeps _ m h c.args.place c.args.units c.args.generation _ is _ c.seal.result _
     (c.seal.ensures.leads m m h steady rests clean (stands _ is))
 
 pub returns-clause-tells : goal.returns-clause-tells

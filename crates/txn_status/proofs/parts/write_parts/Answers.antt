@@ -55,7 +55,7 @@ loop-i-preserved g c =
     (c.draw-serial.ensures.drawn ∙ so.drawn) c.part_of.ensures.part in record {
       keeps = λ m h steady rests bare clean.
           keeps_more old.places c.args.place c.args.generation c.args.counter.now numbers m h
-          (parts_of numbers) i low bare clean mid new (Ok tt) (so.keeps m h steady rests bare clean)
+          (parts_of numbers) i low bare clean old mid new (Ok tt) (so.keeps m h steady rests bare clean)
           (next_leads mid.places old.places c.args.place (1 + i) _ _ mid new (Ok tt)
           so.counts.places same w.aside);
       tells = told_more c.args.place c.args.generation c.args.counter.now numbers i old mid new
@@ -81,9 +81,9 @@ returns-in_err-write_part-clause-keeps g c = λ m h steady rests bare clean.
     (c.draw-serial.ensures.drawn ∙ so.drawn) c.part_of.ensures.part in
     let e = err_from_is_err_and c.from_residual.result c.from_residual.ensures.1 in
     rw e.1 (keeps_failed old.places c.args.place c.args.generation c.args.counter.now numbers m h
-    (i + 1) (parts_of numbers) fault e.0 new (omega (arith, low))
+    (i + 1) (parts_of numbers) fault e.0 old new (omega (arith, low))
     (keeps_more old.places c.args.place c.args.generation c.args.counter.now numbers m h
-    (parts_of numbers) i low bare clean mid new (Err fault) (so.keeps m h steady rests bare clean)
+    (parts_of numbers) i low bare clean old mid new (Err fault) (so.keeps m h steady rests bare clean)
     (next_leads mid.places old.places c.args.place (1 + i) _ _ mid new (Err fault)
     so.counts.places same c.in_err-write_part.ensures.aside)))
 
@@ -92,8 +92,8 @@ returns-clause-keeps g c = λ m h steady rests bare clean.
     let done : c.loop-i.i ≡ parts_of c.args.numbers.now =
     omega (arith, c.part_count-count.ensures.parts) in
     subst (λ (n : ℕ). KeepsParts (g.C.Chip.told c.args.chip.now).places c.args.place
-    c.args.generation c.args.counter.now c.args.numbers.now n m h (Ok tt)
-    (g.C.Chip.told c.loop-i.chip)) done (c.loop-i.invariant.keeps m h steady rests bare clean)
+    c.args.generation c.args.counter.now c.args.numbers.now n m h
+    (g.C.Chip.told c.args.chip.now) (Ok tt) (g.C.Chip.told c.loop-i.chip)) done (c.loop-i.invariant.keeps m h steady rests bare clean)
 
 pub returns-in_err-write_part-clause-costs : goal.returns-in_err-write_part-clause-costs
 returns-in_err-write_part-clause-costs g c =

@@ -17,7 +17,7 @@ pub record AreWritten (first t : Told) (place generation serial : ℕ) (numbers 
   pub keeps : (m : Map) (h : History) → IsSteady h first → StoryRests first.places m h
       → now h place 0 ≡ None
       → ((s : ℕ) → IsPartSpot (parts_of numbers) s → age h.story place s ≡ Clean)
-      → KeepsParts first.places place generation serial numbers n m h (Ok tt) t
+      → KeepsParts first.places place generation serial numbers n m h first (Ok tt) t
   pub tells : Charts (HasParts place generation serial numbers n) first t
   pub costs : Spends (ProgramsAt place n 0 6) first t
   pub counts : Counts first t

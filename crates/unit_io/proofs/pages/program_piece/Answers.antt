@@ -7,7 +7,7 @@ use Rattle.unit_io.proofs.pages.program_piece.Goals as goal
 pub returns-clause-aside : goal.returns-clause-aside
 returns-clause-aside g c = λ m h steady rests bare clean.
     let base : Sector = record { kind = 4; version = 1; unit = c.args.head.now.unit; generation = c.args.head.now.generation; serial = c.from.result; payload = piece_of c.args.text.now c.args.piece } in
-    aside_renamed _ c.args.place c.base_sector.result _ base _ m h _ _ c.base_sector.ensures.sector (rw c.from.ensures refl)
+    aside_renamed _ c.args.place c.base_sector.result _ base _ m h _ _ _ c.base_sector.ensures.sector (rw c.from.ensures refl)
     (c.program_aside.ensures.aside m h base (rw c.piece_of.ensures.piece at c.encode.ensures.said) steady rests bare (omega (arith, c.base_sector.ensures.in_range)) (rw c.base_sector.ensures.sector clean))
 
 pub returns-clause-costs : goal.returns-clause-costs

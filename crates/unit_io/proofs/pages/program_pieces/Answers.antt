@@ -22,7 +22,7 @@ pub loop-piece-preserved : goal.loop-piece-preserved
 loop-piece-preserved g c =
     let so_far = c.loop-piece.invariant in
     let few : c.loop-piece.piece < 16 = omega (arith, c.piece_count-count.ensures.few) in record {
-      keeps = λ m h steady ready. piled_more _ c.args.place c.args.head.now.unit c.args.head.now.generation c.args.page c.args.text.now m h ready c.loop-piece.piece few (g.C.Chip.told c.loop-piece.chip) _
+      keeps = λ m h steady ready. piled_more _ c.args.place c.args.head.now.unit c.args.head.now.generation c.args.page c.args.text.now m h (g.C.Chip.told c.args.chip.now) ready c.loop-piece.piece few (g.C.Chip.told c.loop-piece.chip) _
           (so_far.keeps m h steady ready)
           (subst (λ (q : ℕ). PieceSays q c.args.place c.args.head.now.unit c.args.head.now.generation c.args.page c.args.text.now c.loop-piece.piece (g.C.Chip.told c.loop-piece.chip) (Ok tt) (g.C.Chip.told c.program_piece.new.chip))
           so_far.counts.places c.in_ok-program_piece.ensures.aside);
@@ -39,7 +39,7 @@ returns-in_err-program_piece-clause-keeps g c = λ m h steady rests bare clean.
     let few : c.loop-piece.piece < 16 = omega (arith, c.piece_count-count.ensures.few) in
     let ready : IsOpenFor _ c.args.place c.args.page m h = record { rests = rests; bare = bare; clean = clean } in
     let e = err_from_is_err_and c.from_residual.result c.from_residual.ensures.1 in
-    rw e.1 (piled_fails _ c.args.place c.args.head.now.unit c.args.head.now.generation c.args.page c.args.text.now m h ready c.loop-piece.piece few (g.C.Chip.told c.loop-piece.chip) _ c.in_err-program_piece.field-0.0 e.0 _
+    rw e.1 (piled_fails _ c.args.place c.args.head.now.unit c.args.head.now.generation c.args.page c.args.text.now m h (g.C.Chip.told c.args.chip.now) ready c.loop-piece.piece few (g.C.Chip.told c.loop-piece.chip) _ c.in_err-program_piece.field-0.0 e.0 _
     (so_far.keeps m h steady ready)
     (subst (λ (q : ℕ). PieceSays q c.args.place c.args.head.now.unit c.args.head.now.generation c.args.page c.args.text.now c.loop-piece.piece (g.C.Chip.told c.loop-piece.chip) (Err c.in_err-program_piece.field-0.0) (g.C.Chip.told c.program_piece.new.chip))
     so_far.counts.places c.in_err-program_piece.ensures.aside))
@@ -47,8 +47,8 @@ returns-in_err-program_piece-clause-keeps g c = λ m h steady rests bare clean.
 pub returns-clause-keeps : goal.returns-clause-keeps
 returns-clause-keeps g c = λ m h steady rests bare clean.
     let done : c.loop-piece.piece ≡ c.piece_count-count.result = omega arith in
-    piled_all _ c.args.place c.args.head.now.unit c.args.head.now.generation c.args.page c.args.text.now m h c.piece_count-count.result c.piece_count-count.ensures.few (g.C.Chip.told c.loop-piece.chip)
-    (subst (λ (n : ℕ). Piled (g.C.Chip.told c.args.chip.now).places c.args.place c.args.head.now.unit c.args.head.now.generation c.args.page c.args.text.now m h n (g.C.Chip.told c.loop-piece.chip)) done
+    piled_all _ c.args.place c.args.head.now.unit c.args.head.now.generation c.args.page c.args.text.now m h (g.C.Chip.told c.args.chip.now) c.piece_count-count.result c.piece_count-count.ensures.few (g.C.Chip.told c.loop-piece.chip)
+    (subst (λ (n : ℕ). Piled (g.C.Chip.told c.args.chip.now).places c.args.place c.args.head.now.unit c.args.head.now.generation c.args.page c.args.text.now m h (g.C.Chip.told c.args.chip.now) n (g.C.Chip.told c.loop-piece.chip)) done
     (c.loop-piece.invariant.keeps m h steady (record { rests = rests; bare = bare; clean = clean })))
 
 pub returns-in_err-program_piece-clause-plain : goal.returns-in_err-program_piece-clause-plain

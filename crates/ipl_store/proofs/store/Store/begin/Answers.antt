@@ -26,3 +26,6 @@ returns-in_err-admit-clause-framed g c = λ u page is. is
 
 pub returns-clause-framed : goal.returns-clause-framed
 returns-clause-framed g c = c.begin.ensures.framed
+
+pub returns-clause-drawn : goal.returns-clause-drawn
+returns-clause-drawn g c = c.begin.ensures.drawn

@@ -110,8 +110,7 @@ returns-clause-fetches g c =
     ∙ sym c.in_ok-admit.ensures in
     let after = g.C.Chip.told c.bring.new.chip in
     shared_fetches early (λ state. after_share state c.args.s c.args.n) c.args.n store
-    c.bring.new.self c.share.new.self old after none (g.met.C.Chip.consistent c.args.chip.now)
-    (g.met.C.Chip.consistent c.bring.new.chip) c.in_ok-bring.ensures.fetches
+    c.bring.new.self c.share.new.self old after none c.in_ok-bring.ensures.fetches
     c.share.ensures.turns c.share.ensures.pages
 
 pub returns-clause-looks : goal.returns-clause-looks
@@ -128,8 +127,7 @@ returns-clause-looks g c = λ found.
     looks_answered early (λ state. after_share state c.args.s c.args.n) c.args.n store old (Ok tt)
     (record c.bring.new.self { transactions = c.share.new.self }) after
     (shared_fetches early (λ state. after_share state c.args.s c.args.n) c.args.n store
-    c.bring.new.self c.share.new.self old after none (g.met.C.Chip.consistent c.args.chip.now)
-    (g.met.C.Chip.consistent c.bring.new.chip) c.in_ok-bring.ensures.fetches
+    c.bring.new.self c.share.new.self old after none c.in_ok-bring.ensures.fetches
     c.share.ensures.turns c.share.ensures.pages) found
 
 pub returns-clause-session : goal.returns-clause-session

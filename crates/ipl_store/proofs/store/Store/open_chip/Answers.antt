@@ -40,7 +40,7 @@ returns-clause-opens g c =
     let fresh : IsFresh store =
     record { up = refl; idle = c.forget.ensures.idle; empty = c.forget.ensures.empty } in
     fresh_opens old.places store made fresh c.in_ok-recover.ensures.holds old
-    (g.C.Chip.told c.recover.new.chip) (g.met.C.Chip.consistent c.args.chip.now)
+    (g.C.Chip.told c.recover.new.chip)
     c.in_ok-recover.ensures.tells c.in_ok-recover.ensures.steps c.in_ok-recover.ensures.number
     c.in_ok-recover.ensures.left
 

@@ -9,8 +9,7 @@ pub returns-clause-upholds : goal.returns-clause-upholds
 returns-clause-upholds g c =
     upholds_then 14 0 c.args.self.now c.make_room.new.self c.load.new.self c.load.result
     (g.C.Chip.told c.args.chip.now) (g.C.Chip.told c.make_room.new.chip)
-    (g.C.Chip.told c.load.new.chip) (g.met.C.Chip.consistent c.args.chip.now)
-    (g.met.C.Chip.consistent c.make_room.new.chip) c.in_ok-make_room.ensures.upholds
+    (g.C.Chip.told c.load.new.chip) c.in_ok-make_room.ensures.upholds
     c.load.ensures.upholds
 
 pub returns-clause-fresh : goal.returns-clause-fresh

@@ -35,8 +35,7 @@ returns-clause-upholds g c =
     let mid = c.write_out.new.self in
     leaves_upholds c.args.unit c.args.page c.args.self.now mid
     (record { parts = mid.parts; pool = c.free_frame.new.pool }) (g.C.Chip.told c.args.chip.now)
-    (g.C.Chip.told c.write_out.new.chip) (g.met.C.Chip.consistent c.args.chip.now)
-    (g.met.C.Chip.consistent c.write_out.new.chip) c.facts.ensures.once c.requires.unheld is.upholds
+    (g.C.Chip.told c.write_out.new.chip) c.facts.ensures.once c.requires.unheld is.upholds
     is.frames c.free_frame.ensures.frames c.free_frame.ensures.pins refl
 
 pub returns-clause-absent : goal.returns-clause-absent

@@ -24,7 +24,6 @@ returns-in_err-write_out-clause-upholds g c =
     rw (e.1, e.2) (unwritten_upholds c.loop-i.i c.len-i-end.result (map (λ n. n.0) c.args.names.now)
     c.args.self.now (g.C.Chip.told c.args.chip.now) c.loop-i.self (g.C.Chip.told c.loop-i.chip)
     c.write_out.new.self (g.C.Chip.told c.write_out.new.chip) c.in_err-write_out.field-0.0
-    (g.met.C.Chip.consistent c.args.chip.now) (g.met.C.Chip.consistent c.loop-i.chip)
     c.loop-i-test.true c.len-i-end.ensures.few c.loop-i.invariant c.in_err-write_out.ensures.upholds)
 
 pub loop-i-preserved : goal.loop-i-preserved
@@ -35,7 +34,6 @@ loop-i-preserved g c = elim c.if-has_page.branch [
       c.page_at-unit.result.1 (map (λ n. n.0) c.args.names.now) c.args.self.now
       (g.C.Chip.told c.args.chip.now) c.loop-i.self (g.C.Chip.told c.loop-i.chip)
       w.write_out.new.self (g.C.Chip.told w.write_out.new.chip)
-      (g.met.C.Chip.consistent c.args.chip.now) (g.met.C.Chip.consistent c.loop-i.chip)
       (omega (arith, c.loop-i-test.true, c.len-i-end.ensures.all))
       (sym c.has_page.ensures ∙ w.if-has_page.true) is.idle c.page_at-unit.ensures.page c.page_at-unit.ensures.number c.loop-i.invariant is.upholds
       is.frames is.order is.status is.costs)

@@ -30,5 +30,4 @@ returns-in-Restart g c = rw c.in-Restart.is c.restart.ensures
 
 pub returns-in-Syntax : goal.returns-in-Syntax
 returns-in-Syntax g c =
-    rw c.in-Syntax.is (syntax_does c.args.self.now (g.C.Chip.told c.args.chip.now) c.requires.runs
-    (g.met.C.Chip.consistent c.args.chip.now))
+    rw c.in-Syntax.is (syntax_does c.args.self.now (g.C.Chip.told c.args.chip.now) c.requires.runs)

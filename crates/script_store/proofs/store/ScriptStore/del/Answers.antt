@@ -23,6 +23,5 @@ returns g c =
     (record { store = c.del.new.self }) after) (sym c.reply_of.ensures)
     (calls_do (λ v. reply.Ok) (command.Del c.args.s c.args.n) refusal
     (λ state. after_write state c.args.s (c.args.n, None)) 14 c.args.self.now
-    (record { store = c.del.new.self }) before after c.del.result c.requires.runs
-    (g.met.C.Chip.consistent c.args.chip.now) (omega arith) refl (λ state. refl)
+    (record { store = c.del.new.self }) before after c.del.result c.requires.runs (omega arith) refl (λ state. refl)
     (on_ok c.del.result (λ state x told shown. refl)) c.del.ensures.calls)

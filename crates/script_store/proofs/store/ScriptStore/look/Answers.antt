@@ -10,6 +10,5 @@ returns g c =
     let after = g.C.Chip.told c.find.new.chip in
     subst (λ (r : Result (Option (List ℕ)) Fault). Finds c.args.n c.args.self.now before r
     c.find.new.self after) (sym c.looked_up.ensures)
-    (call_finds c.args.n c.args.self.now c.find.new.self before after c.requires.runs
-    (g.met.C.Chip.consistent c.args.chip.now) c.find.result c.find.ensures.committed
+    (call_finds c.args.n c.args.self.now c.find.new.self before after c.requires.runs c.find.result c.find.ensures.committed
     c.find.ensures.calls)

@@ -26,6 +26,5 @@ returns g c =
     (record { store = c.put.new.self }) after) (sym c.reply_of.ensures)
     (calls_do (λ v. reply.Ok) (command.Put c.args.s c.args.n c.bytes.result.now) refusal
     (λ state. after_write state c.args.s (c.args.n, Some c.bytes.result.now)) 14 c.args.self.now
-    (record { store = c.put.new.self }) before after c.put.result c.requires.runs
-    (g.met.C.Chip.consistent c.args.chip.now) (omega arith) refl (λ state. refl)
+    (record { store = c.put.new.self }) before after c.put.result c.requires.runs (omega arith) refl (λ state. refl)
     (on_ok c.put.result (λ state x told shown. refl)) c.put.ensures.calls))

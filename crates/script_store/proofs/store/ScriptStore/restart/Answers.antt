@@ -15,7 +15,7 @@ returns-in-Ok g c =
     subst (λ (r : Result (Unit {0}) ImageFault). Does command.Restart c.args.self.now before
     (restarted r) b after) c.in-Ok.is
     (restart_does c.args.self.now b before after (tables_in b.store.transactions.pages)
-    c.requires.runs (g.met.C.Chip.consistent c.args.chip.now) c.open_chip.ensures.sound
+    c.requires.runs c.open_chip.ensures.sound
     c.open_chip.result c.open_chip.ensures.opens c.open_chip.ensures.tries
     c.open_chip.ensures.leads)
 
@@ -27,6 +27,6 @@ returns-in-Err g c =
     subst (λ (r : Result (Unit {0}) ImageFault). Does command.Restart c.args.self.now before
     (restarted r) b after) c.in-Err.is
     (restart_does c.args.self.now b before after (tables_in b.store.transactions.pages)
-    c.requires.runs (g.met.C.Chip.consistent c.args.chip.now) c.open_chip.ensures.sound
+    c.requires.runs c.open_chip.ensures.sound
     c.open_chip.result c.open_chip.ensures.opens c.open_chip.ensures.tries
     c.open_chip.ensures.leads)

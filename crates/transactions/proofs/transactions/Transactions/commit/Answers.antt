@@ -53,7 +53,6 @@ returns-clause-turns g c =
     committed c.args.s c.args.self.now c.write_session_out.new.self c.commit_number.new.self
     c.commit_number.result (g.C.Chip.told c.args.chip.now)
     (g.C.Chip.told c.write_session_out.new.chip) (g.C.Chip.told c.commit_number.new.chip)
-    (g.met.C.Chip.consistent c.args.chip.now) (g.met.C.Chip.consistent c.write_session_out.new.chip)
     says.upholds says.sessions c.commit_number.ensures.turns
 
 pub returns-clause-idle : goal.returns-clause-idle

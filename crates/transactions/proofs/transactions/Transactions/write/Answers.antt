@@ -50,7 +50,6 @@ returns-clause-turns g c =
       pages = record { parts = c.prepare.new.self.parts; pool = c.put_record.new.pool };
       sessions = c.write.new.self;
     }) c.prepare.new.self (g.C.Chip.told c.args.chip.now) (g.C.Chip.told c.prepare.new.chip)
-    (g.met.C.Chip.consistent c.args.chip.now) (g.met.C.Chip.consistent c.prepare.new.chip)
     c.requires.order c.requires.session (sym c.number.ensures ∙ c.in-Some.is) c.requires.name
     c.home-home.ensures.exact c.has_spelling.ensures c.in_ok-prepare.ensures.upholds did
     (locks_of c.write.new.self c.facts.ensures.all c.facts.ensures.one_writer c.facts.ensures.few)

@@ -23,7 +23,6 @@ returns-clause-upholds g c =
     upholds_then (2 ^ 14) (14 * 64) c.args.self.now.pages c.ready_status.new.self
     c.write_names_out.new.self c.write_names_out.result (g.C.Chip.told c.args.chip.now)
     (g.C.Chip.told c.ready_status.new.chip) (g.C.Chip.told c.write_names_out.new.chip)
-    (g.met.C.Chip.consistent c.args.chip.now) (g.met.C.Chip.consistent c.ready_status.new.chip)
     c.in_ok-ready_status.ensures.upholds c.write_names_out.ensures.upholds
 
 pub returns-clause-out : goal.returns-clause-out
