@@ -10,11 +10,13 @@ use Rattle.ipl_base.specs.declared.fault.StoreFault.TheVariants.{Down, Spent, Ch
 use Rattle.ipl_rules.specs.State.{State}
 use Rattle.buffer_pool.specs.Holding.{KeepsPins}
 use Rattle.store_trait.specs.Keeping.{LAST_NUMBER}
-use Rattle.ipl_meaning.specs.Chart.{chart_of}
+use Rattle.ipl_meaning.specs.Chart.{Chart, chart_of}
 use Rattle.ipl_meaning.specs.Stands.{Says}
 use Rattle.unit_io.specs.Accounts.{Accounts}
+use Rattle.unit_io.specs.Charts.{Charts}
 use Rattle.unit_io.specs.Reads.{OfContents}
 use Rattle.merge_rules.specs.Faults.{FailsByChipAlone}
+use Rattle.selective_merge.specs.Throughout.{ChartsThroughout}
 use Rattle.store_steps.specs.Advances.{MemoryFits, TurnsMapOf, LeadsTo}
 use Rattle.store_steps.specs.Keeps.{ShowsState}
 use Rattle.store_steps.proofs.AdvanceLemmas.{answers_advance, calls_advance, failures_advance}
@@ -291,6 +293,13 @@ done_ends P (Ok v) was is result ends did =
     subst (λ (r : Result (Unit {0}) StoreFault). OnOk r P) (sym ends.0) did
 done_ends P (Err e) was is result ends did =
     subst (λ (r : Result (Unit {0}) StoreFault). OnOk r P) (sym ends.0) tt
+
+-- what a merge that is done makes of the contents
+pub throughout_done : (F : Chart → Chart → Type 0) (G : Chart → Chart → Type 0)
+    (result : Result (Unit {0}) ChipFault) (old new : Told)
+    → ChartsThroughout (λ done. F) G result old new → OnOk result (Charts F old new)
+throughout_done F G (Ok v) old new tells = tells
+throughout_done F G (Err e) old new tells = tt
 
 -- pages that stay in their frames
 pub kept_framed : (old new : Store) (t : Transactions) (kept : List ℕ)

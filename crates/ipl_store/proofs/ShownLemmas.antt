@@ -19,7 +19,7 @@ use Rattle.record_locks.specs.Held.{number_of}
 use Rattle.page_ops.specs.Pending.{seen_by}
 use Rattle.buffer_pool.proofs.HoldingLemmas.{nothing_keeps, both_keep}
 use Rattle.page_frames.specs.declared.pages.Pages.{Pages}
-use Rattle.page_frames.specs.Pages.{tables_in, frames_in, IsFramed}
+use Rattle.page_frames.specs.Pages.{tables_in, frames_in, IsFramed, KeepsFramed}
 use Rattle.page_frames.proofs.SpendLemmas.{nothing_spent, logs_of_reads}
 use Rattle.transactions.specs.declared.transactions.Transactions.{Transactions}
 use Rattle.transactions.specs.Turns.{TurnsInMemory}
@@ -99,6 +99,7 @@ looks_as early next n old before v new after did = record {
   };
   holds = did.holds;
   framed = subst IsSome (sym did.names.there) refl;
+  stays = did.stays;
 }
 
 looks_fail : {U : Type 0} (early : Option StoreFault) (next : State → State) (n : ℕ)
@@ -124,6 +125,7 @@ looks_fail {U} early next n old before fault new after did = record {
   };
   holds = did.holds;
   framed = tt;
+  stays = did.stays;
 }
 
 pub looks_answered : {U : Type 0} (early : Option StoreFault) (next : State → State) (n : ℕ)
@@ -144,6 +146,7 @@ let_in_fetches early next n old before result new after none did = record {
   calls = let_in_calls early next 14 old before result new after none did.calls;
   holds = did.holds;
   names = did.names;
+  stays = did.stays;
 }
 
 -- one that was refused
@@ -154,6 +157,7 @@ refused_fetches early next n store told fault is sound = record {
   calls = calls_refused early next 14 store told (Err fault) fault is refl sound;
   holds = nothing_keeps store.transactions.pages.pool;
   names = tt;
+  stays = λ room u page is. is;
 }
 
 -- which asks nothing
@@ -188,6 +192,7 @@ failed_fetches early next n old before fault new after none did = record {
   calls = failed_calls early next 14 old before fault new after none did.calls;
   holds = did.holds;
   names = tt;
+  stays = did.stays;
 }
 
 -- the page was brought, and then something was done in memory that leaves all pages
@@ -207,4 +212,5 @@ shared_fetches early next n old mid t before after none did turns same = record 
         ∙ did.names.there;
     tells = did.names.tells;
   };
+  stays = λ room. subst (KeepsFramed old.transactions.pages) (sym same) (did.stays room);
 }

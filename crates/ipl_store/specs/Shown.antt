@@ -12,7 +12,7 @@ use Rattle.buffer_pool.specs.Pools.{PoolView}
 use Rattle.buffer_pool.specs.Holding.{IsHeld, IsPage, IsAtRest}
 use Rattle.store_steps.specs.Keeps.{ShowsState, TellsName}
 use Rattle.page_writing.specs.Spending.{ErasesAndLogs}
-use Rattle.page_frames.specs.Pages.{frames_in, IsFramed, HasFreeFrame}
+use Rattle.page_frames.specs.Pages.{frames_in, IsFramed, KeepsFramedFor, HasFreeFrame}
 use Rattle.ipl_store.specs.declared.store.Store.{Store}
 use Rattle.ipl_store.specs.Calls.{view_of, KeepsHolds, Calls}
 
@@ -65,13 +65,16 @@ pub record IsRepooled (old new : Store) : Type 0 where
 
 -- ---- calls that bring a name's page into a frame
 
--- such a call; done, the frame tells the name
+-- such a call; done, the frame tells the name. Where the page is in a frame or a frame is free, no
+-- page leaves its frame.
 pub record Fetches (early : Option StoreFault) (next : State → State) (n : ℕ) (old : Store)
     (before : Told) (result : Result (Unit {0}) StoreFault) (new : Store) (after : Told)
     : Type 0 where
   pub calls : Calls early next 14 old before result new after
   pub holds : KeepsHolds old new
   pub names : OnOk result (FramesName n old before new)
+  pub stays : KeepsFramedFor (home_of n).unit (home_of n).page old.transactions.pages
+      new.transactions.pages
 
 -- What is asked of the chip for it: nothing where the page is in a frame, only reads where a frame
 -- is free, and else what writes the records of one page out.
@@ -85,10 +88,13 @@ abbrev pub answered : {U : Type 0} → Result (Unit {0}) StoreFault → U → Re
 answered (Ok v) found = Ok found
 answered (Err e) found = Err e
 
--- a call that lends what the frame has of the name; done, the page is in a frame
+-- a call that lends what the frame has of the name; done, the page is in a frame, and no other page
+-- leaves one where it was there before or a frame was free
 pub record Looks {T : Type 0} (early : Option StoreFault) (next : State → State) (n : ℕ)
     (old : Store) (before : Told) (result : Result T StoreFault) (new : Store) (after : Told)
     : Type 0 where
   pub calls : Calls early next 14 old before result new after
   pub holds : KeepsHolds old new
   pub framed : OnOk result (IsFramed new.transactions.pages (home_of n).unit (home_of n).page)
+  pub stays : KeepsFramedFor (home_of n).unit (home_of n).page old.transactions.pages
+      new.transactions.pages

@@ -9,7 +9,7 @@ ghost use Rattle.record_locks.specs.Held.{written_of};
 ghost use Rattle.record_locks.specs.Standing.{state_of};
 ghost use Rattle.store_steps.specs.Keeps.{limits_of};
 ghost use Rattle.page_writing.specs.Spending.{ErasesAndLogs};
-ghost use Rattle.page_frames.specs.Pages.{IsFramed, KeepsFramed};
+ghost use Rattle.page_frames.specs.Pages.{IsFramed, KeepsFramed, KeepsFramedFor};
 ghost use Rattle.transactions.specs.Costs.{pages_to_write, CommitCosts};
 ghost use Rattle.ipl_store.specs.Calls.{IsSound, KeepsHolds, Calls, early_fault, entry_fault};
 
@@ -37,6 +37,8 @@ impl Store {
         ensures holds { KeepsHolds self.old self.new }
         ensures framed { OnOk result
             (IsFramed self.new.transactions.pages (home_of n).unit (home_of n).page) }
+        ensures stays { KeepsFramedFor (home_of n).unit (home_of n).page
+            self.old.transactions.pages self.new.transactions.pages }
         ensures costs { Spends (ErasesAndLogs self.old.transactions.pages.parts.directory)
             (C.told chip.old) (C.told chip.new) }
     {
@@ -61,6 +63,8 @@ impl Store {
         ensures holds { KeepsHolds self.old self.new }
         ensures framed { OnOk result
             (IsFramed self.new.transactions.pages (home_of n).unit (home_of n).page) }
+        ensures stays { KeepsFramedFor (home_of n).unit (home_of n).page
+            self.old.transactions.pages self.new.transactions.pages }
         ensures costs { Spends (ErasesAndLogs self.old.transactions.pages.parts.directory)
             (C.told chip.old) (C.told chip.new) }
     {

@@ -4,7 +4,7 @@ ghost use Rattle.unit_io.specs.Costs.{Costs, Spends};
 ghost use Rattle.buffer_pool.specs.Holding.{pinned_count, IsHeld, IsAtRest};
 ghost use Rattle.store_trait.specs.Keeping.{LAST_NUMBER};
 ghost use Rattle.page_writing.specs.Spending.{ErasesAndLogs};
-ghost use Rattle.page_frames.specs.Pages.{IsFramed, KeepsFramed, HasFreeFrame};
+ghost use Rattle.page_frames.specs.Pages.{IsFramed, KeepsFramed, KeepsFramedFor, HasFreeFrame};
 ghost use Rattle.ipl_store.specs.Calls.{
   counter_of,
   IsSound,
@@ -36,8 +36,8 @@ impl Store {
             (λ state. state) 14 self.old (C.told chip.old) result self.new (C.told chip.new) }
         ensures holds { OnOk result (HoldsAlso self.old unit page self.new) }
         ensures framed { OnOk result (IsFramed self.new.transactions.pages unit page) }
-        ensures stays { IsFramed self.old.transactions.pages unit page
-            → KeepsFramed self.old.transactions.pages self.new.transactions.pages }
+        ensures stays { KeepsFramedFor unit page self.old.transactions.pages
+            self.new.transactions.pages }
         ensures same { OnErr result (KeepsHolds self.old self.new) }
         ensures again { is_held self.old.transactions.pages.pool unit page ≡ true
             → (self.new ≡ self.old) × (C.told chip.new ≡ C.told chip.old) }
@@ -87,8 +87,8 @@ impl Store {
             self.old (C.told chip.old) result self.new (C.told chip.new) }
         ensures holds { KeepsHolds self.old self.new }
         ensures framed { OnOk result (IsFramed self.new.transactions.pages unit page) }
-        ensures stays { IsFramed self.old.transactions.pages unit page
-            → KeepsFramed self.old.transactions.pages self.new.transactions.pages }
+        ensures stays { KeepsFramedFor unit page self.old.transactions.pages
+            self.new.transactions.pages }
         ensures free { HasFreeFrame self.old.transactions.pages
             → Spends (Costs 0 0 0 []) (C.told chip.old) (C.told chip.new) }
         ensures costs { Spends (ErasesAndLogs self.old.transactions.pages.parts.directory)

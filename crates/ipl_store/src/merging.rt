@@ -1,10 +1,12 @@
 //! A merge that is asked for.
 ghost use Rattle.std.specs.Prelude.{◌≤◌, slice_index, is_ok, OnOk};
+ghost use Rattle.unit_io.specs.Charts.{Charts};
 ghost use Rattle.unit_io.specs.Costs.{Spends};
 ghost use Rattle.ipl_rules.specs.Refusals.{refuses_merge};
+ghost use Rattle.selective_merge.specs.Merging.{Merges};
 ghost use Rattle.selective_merge.specs.Spending.{ErasesFor};
 ghost use Rattle.store_steps.specs.Keeps.{limits_of};
-ghost use Rattle.page_frames.specs.Pages.{KeepsFramed};
+ghost use Rattle.page_frames.specs.Pages.{tables_in, KeepsFramed};
 ghost use Rattle.ipl_store.specs.Calls.{
   IsSound,
   KeepsHolds,
@@ -27,7 +29,12 @@ impl Store {
             self.old (C.told chip.old) result self.new (C.told chip.new) }
         ensures holds { KeepsHolds self.old self.new }
         ensures framed { KeepsFramed self.old.transactions.pages self.new.transactions.pages }
-        // Done, three log sectors of the unit's place at least are clean.
+        // Done, the unit stands at a new place, its pages show the same, and its log is what open
+        // sessions wrote last.
+        ensures merges { OnOk result (Charts (Merges (C.told chip.old).places unit
+            (tables_in self.old.transactions.pages) (tables_in self.new.transactions.pages))
+            (C.told chip.old) (C.told chip.new)) }
+        // Three log sectors of that place at least are clean.
         ensures room { OnOk result
             (slice_index self.new.transactions.pages.parts.directory.written unit ≤ 12) }
         ensures costs { Spends (ErasesFor self.old.transactions.pages.parts.directory

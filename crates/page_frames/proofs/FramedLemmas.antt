@@ -1,14 +1,15 @@
 -- Pages that stay in their frames.
-use Rattle.std.proofs.Common.{◌≡◌, ℕ, [], Option, Some, None, inl, inr, refl, sym, subst}
+use Rattle.std.proofs.Common.{◌≡◌, ℕ, [], Option, Some, None, Result, Ok, Err, inl, inr, refl, sym, subst}
 use Rattle.std.specs.Prelude.{IsSome}
 use Rattle.std.specs.Option.{option_map}
+use Rattle.ipl_base.specs.declared.fault.ChipFault.{ChipFault}
 use Rattle.buffer_pool.specs.Pools.{PoolView}
 use Rattle.frame_changes.specs.Views.{frames_of}
-use Rattle.pending_writes.specs.Frames.{Frame, Frames, with_frame_log}
+use Rattle.pending_writes.specs.Frames.{Frame, Frames, with_frame_at, with_frame_log}
 use Rattle.pending_writes.proofs.MemoryLemmas.{cases_page}
 use Rattle.pending_writes.proofs.SameLemmas.{frame_here, frame_other}
 use Rattle.page_frames.specs.declared.pages.Pages.{Pages}
-use Rattle.page_frames.specs.Pages.{frames_in, KeepsFramed, emptied}
+use Rattle.page_frames.specs.Pages.{frames_in, KeepsFramed, BringsPage, emptied}
 
 -- where the frames are the same
 pub pool_framed : (old new : Pages) → new.pool ≡ old.pool → KeepsFramed old new
@@ -34,3 +35,21 @@ pub out_framed : (u page : ℕ) (old new : Pages) → frames_in new ≡ emptied 
 out_framed u page old new is v q there =
     subst (λ (frames : Frames). IsSome (frames v q)) (sym is)
     (emptied_framed (frames_in old) u page v q there)
+
+-- a page that is in a frame then, whatever was there, and all others
+pub set_framed : (u page : ℕ) (f : Frame) (old new : Pages)
+    → frames_in new ≡ with_frame_at (frames_in old) u page (Some f) → KeepsFramed old new
+set_framed u page f old new is v q there =
+    subst (λ (frames : Frames). IsSome (frames v q)) (sym is) (elim (cases_page u page v q) [
+      | inl here ↦ subst IsSome
+          (sym (frame_here (frames_in old) u page (Some f) v q here.0 here.1)) refl
+      | inr apart ↦ subst IsSome
+          (sym (frame_other (frames_in old) u page (Some f) v q apart)) there
+    ])
+
+-- a page that was brought in, or wasn't
+pub brings_framed : (result : Result (Unit {0}) ChipFault) (u page : ℕ) (old new : Pages)
+    → BringsPage result u page (frames_in old) (frames_in new) → KeepsFramed old new
+brings_framed (Ok v) u page old new (f, empty, is) = set_framed u page f old new is
+brings_framed (Err e) u page old new same = λ v q there.
+    subst (λ (frames : Frames). IsSome (frames v q)) (sym same) there

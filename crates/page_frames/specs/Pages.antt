@@ -1,5 +1,5 @@
 -- Pages in frames over the tables of a chip, as contracts see them, and what their calls leave.
-use Rattle.std.specs.Prelude.{ℕ, ◌≡◌, ◌≤◌, ◌<◌, ◌+◌, [], IsSome, Some, Result, Ok, Err, OnOk}
+use Rattle.std.specs.Prelude.{ℕ, ◌≡◌, ◌⊎◌, ◌≤◌, ◌<◌, ◌+◌, [], IsSome, Some, Result, Ok, Err, OnOk}
 use Rattle.ipl_base.specs.declared.limits.TheConstants.{RESERVED_PLACES}
 use Rattle.std.specs.Option.{option_map}
 use Rattle.chip_trait.specs.Told.{Told}
@@ -43,6 +43,10 @@ KeepsFramed old new = (u page : ℕ) → IsFramed old u page → IsFramed new u 
 -- a frame is free
 abbrev pub HasFreeFrame : Pages → Type 0
 HasFreeFrame pages = slab_len pages.pool.buffers < pages.pool.limit
+
+-- where the page is in a frame or a frame is free, pages that are in frames stay in them
+abbrev pub KeepsFramedFor : ℕ → ℕ → Pages → Pages → Type 0
+KeepsFramedFor u page old new = (IsFramed old u page ⊎ HasFreeFrame old) → KeepsFramed old new
 
 -- the page is in a frame, with no records in memory
 abbrev pub IsFresh : Pages → ℕ → ℕ → Type 0

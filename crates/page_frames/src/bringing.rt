@@ -17,6 +17,8 @@ ghost use Rattle.page_frames.specs.Pages.{
   IsFramed,
   IsFresh,
   HasFreeFrame,
+  KeepsFramed,
+  KeepsFramedFor,
   IsReady,
   Upholds,
   LoadsFrame,
@@ -147,6 +149,7 @@ impl Pages {
         ensures upholds { Upholds 14 self.old (C.told chip.old) result self.new (C.told chip.new) }
         ensures complete { Completes self.old result (C.told chip.old) }
         ensures fresh { OnOk result (IsFresh self.new unit page) }
+        ensures framed { HasFreeFrame self.old → KeepsFramed self.old self.new }
         ensures idle { HasFreeFrame self.old
             → Spends (Costs 0 0 0 []) (C.told chip.old) (C.told chip.new) }
         ensures status { self.new.parts.status ≡ self.old.parts.status }
@@ -166,6 +169,7 @@ impl Pages {
         ensures upholds { Upholds 14 self.old (C.told chip.old) result self.new (C.told chip.new) }
         ensures complete { Completes self.old result (C.told chip.old) }
         ensures there { OnOk result (IsFramed self.new unit page) }
+        ensures framed { KeepsFramedFor unit page self.old self.new }
         ensures idle { IsFramed self.old unit page
             → (self.new ≡ self.old) × (C.told chip.new ≡ C.told chip.old) }
         ensures free { HasFreeFrame self.old
@@ -195,6 +199,7 @@ impl Pages {
         ensures upholds { Upholds 14 self.old (C.told chip.old) result self.new (C.told chip.new) }
         ensures complete { Completes self.old result (C.told chip.old) }
         ensures room { OnOk result (MayPut (frames_in self.new) unit (record_of logged.now)) }
+        ensures framed { KeepsFramedFor unit logged.now.page self.old self.new }
         ensures idle { MayPut (frames_in self.old) unit (record_of logged.now)
             → C.told chip.new ≡ C.told chip.old }
         ensures free { frames_in self.old unit logged.now.page ≡ None → HasFreeFrame self.old

@@ -8,7 +8,7 @@ ghost use Rattle.ipl_rules.specs.Operations.{after_write};
 ghost use Rattle.record_locks.specs.Locks.{refuses_write};
 ghost use Rattle.page_writing.specs.Spending.{ErasesAndLogs};
 ghost use Rattle.page_frames.specs.Complete.{Completes};
-ghost use Rattle.page_frames.specs.Pages.{IsFramed};
+ghost use Rattle.page_frames.specs.Pages.{IsFramed, KeepsFramedFor};
 ghost use Rattle.transactions.specs.Turns.{IsInOrder, Turns};
 
 use crate::Transactions;
@@ -37,6 +37,8 @@ impl Transactions {
         ensures complete { Completes self.old.pages result (C.told chip.old) }
         ensures framed { OnOk result
             (IsFramed self.new.pages (home_of name.0).unit (home_of name.0).page) }
+        ensures stays { KeepsFramedFor (home_of name.0).unit (home_of name.0).page
+            self.old.pages self.new.pages }
         ensures costs { Spends (ErasesAndLogs self.old.pages.parts.directory)
             (C.told chip.old) (C.told chip.new) }
     {

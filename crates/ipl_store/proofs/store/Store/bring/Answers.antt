@@ -1,9 +1,9 @@
 use Rattle.std.proofs.Common.{None, OnOk, refl, sym, ap, subst}
 use Rattle.ipl_base.specs.declared.spot.Home.{Home}
-use Rattle.page_frames.specs.Pages.{IsFramed}
+use Rattle.page_frames.specs.Pages.{IsFramed, KeepsFramedFor}
 use Rattle.ipl_store.specs.declared.store.Store.{Store}
 use Rattle.ipl_store.specs.Shown.{FramesName}
-use Rattle.ipl_store.proofs.CallLemmas.{pages_move, moved_calls, kept_holds, done_ends}
+use Rattle.ipl_store.proofs.CallLemmas.{pages_move, moved_calls, kept_holds, kept_framed, done_ends}
 use Rattle.ipl_store.proofs.ShownLemmas.{names_told}
 use Rattle.ipl_store.proofs.store.Store.bring.Goals as goal
 
@@ -31,6 +31,10 @@ returns-clause-fetches g c =
           c.bring-done.ensures.upholds.keeps
           (subst (λ (h : Home). OnOk c.bring-done.result (IsFramed pages h.unit h.page))
           c.home-home.ensures.home c.bring-done.ensures.there));
+      stays = λ room. kept_framed store c.end.new.self
+          (record store.transactions { pages = pages }) store.kept rest
+          (subst (λ (h : Home). KeepsFramedFor h.unit h.page store.transactions.pages pages)
+          c.home-home.ensures.home c.bring-done.ensures.framed room);
     }
 
 pub returns-clause-sessions : goal.returns-clause-sessions

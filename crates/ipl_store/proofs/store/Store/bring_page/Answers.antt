@@ -1,5 +1,4 @@
-use Rattle.std.proofs.Common.{None, refl, sym, subst}
-use Rattle.page_frames.specs.Pages.{KeepsFramed}
+use Rattle.std.proofs.Common.{None, refl}
 use Rattle.ipl_store.proofs.CallLemmas.{pages_move, moved_calls, kept_holds, kept_framed, ended_framed}
 use Rattle.ipl_store.proofs.store.Store.bring_page.Goals as goal
 
@@ -30,8 +29,7 @@ returns-clause-framed g c =
     c.end.result c.end.ensures.rest c.end.ensures.ends c.bring-done.ensures.there
 
 pub returns-clause-stays : goal.returns-clause-stays
-returns-clause-stays g c = λ there.
+returns-clause-stays g c = λ room.
     let store = c.args.self.now in
     kept_framed store c.end.new.self (record store.transactions { pages = c.bring-done.new.self })
-    store.kept c.end.ensures.rest (subst (KeepsFramed store.transactions.pages)
-    (sym (c.bring-done.ensures.idle there).0) (λ u page is. is))
+    store.kept c.end.ensures.rest (c.bring-done.ensures.framed room)

@@ -6,7 +6,7 @@ use Rattle.record_locks.specs.Standing.{state_of}
 use Rattle.store_steps.specs.Keeps.{limits_of}
 use Rattle.transactions.specs.Turns.{Turns}
 use Rattle.ipl_store.specs.Calls.{early_fault, entry_fault}
-use Rattle.ipl_store.proofs.CallLemmas.{let_in, turns_move, moved_calls, kept_holds, ended_framed}
+use Rattle.ipl_store.proofs.CallLemmas.{let_in, turns_move, moved_calls, kept_holds, kept_framed, ended_framed}
 use Rattle.ipl_store.proofs.store.Store.put.Goals as goal
 
 pub returns-clause-calls : goal.returns-clause-calls
@@ -40,3 +40,10 @@ pub returns-clause-framed : goal.returns-clause-framed
 returns-clause-framed g c = ended_framed (home_of c.args.n).unit (home_of c.args.n).page
     c.args.self.now c.end.new.self c.write-done.new.self c.args.self.now.kept c.write-done.result
     c.end.result c.end.ensures.rest c.end.ensures.ends c.write-done.ensures.framed
+
+pub returns-in_err-admit-clause-stays : goal.returns-in_err-admit-clause-stays
+returns-in_err-admit-clause-stays g c = λ room u page is. is
+
+pub returns-clause-stays : goal.returns-clause-stays
+returns-clause-stays g c = λ room. kept_framed c.args.self.now c.end.new.self c.write-done.new.self
+    c.args.self.now.kept c.end.ensures.rest (c.write-done.ensures.stays room)

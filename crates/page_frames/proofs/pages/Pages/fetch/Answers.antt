@@ -3,6 +3,10 @@ use Rattle.page_frames.proofs.BringLemmas.{brings_fresh}
 use Rattle.page_frames.proofs.SpendLemmas.{logs_then_reads}
 use Rattle.page_frames.proofs.UpholdLemmas.{upholds_then}
 use Rattle.page_frames.proofs.CompleteLemmas.{completes_then}
+use Rattle.std.proofs.Common.{sym, subst}
+use Rattle.page_frames.specs.declared.pages.Pages.{Pages}
+use Rattle.page_frames.specs.Pages.{KeepsFramed}
+use Rattle.page_frames.proofs.FramedLemmas.{brings_framed}
 use Rattle.page_frames.proofs.pages.Pages.fetch.Goals as goal
 
 pub returns-clause-upholds : goal.returns-clause-upholds
@@ -34,3 +38,15 @@ pub returns-in_err-make_room-clause-complete : goal.returns-in_err-make_room-cla
 returns-in_err-make_room-clause-complete g c =
     let e = err_from_is_err_and c.from_residual.result c.from_residual.ensures.1 in
     rw (e.1, e.2) c.in_err-make_room.ensures.complete
+
+pub returns-in_err-make_room-clause-framed : goal.returns-in_err-make_room-clause-framed
+returns-in_err-make_room-clause-framed g c = λ free.
+    subst (KeepsFramed c.args.self.now) (sym (c.in_err-make_room.ensures.idle free).0)
+    (λ u q is. is)
+
+pub returns-clause-framed : goal.returns-clause-framed
+returns-clause-framed g c = λ free.
+    subst (λ (pages : Pages). KeepsFramed pages c.load.new.self)
+    (c.in_ok-make_room.ensures.idle free).0
+    (brings_framed c.load.result c.args.unit c.args.page c.make_room.new.self c.load.new.self
+    c.load.ensures.brings)

@@ -2,6 +2,8 @@ use Rattle.std.proofs.lemmas.Result.{on_ok_weaker}
 use Rattle.log_records.specs.View.{record_of}
 use Rattle.page_frames.proofs.BringLemmas.{fits_fresh, out_fresh}
 use Rattle.page_frames.proofs.UpholdLemmas.{upholds_none}
+use Rattle.std.proofs.Common.{inl, inr, sym, ◌∙◌}
+use Rattle.std.proofs.lemmas.Bool.{false≢true}
 use Rattle.page_frames.proofs.pages.Pages.prepare.Goals as goal
 
 pub returns-then-has_room-clause-upholds : goal.returns-then-has_room-clause-upholds
@@ -21,3 +23,15 @@ returns-clause-room g c =
     on_ok_weaker c.fetch.result
     (fits_fresh c.fetch.new.self c.args.unit (record_of c.args.logged.now) c.short.ensures)
     c.fetch.ensures.fresh
+
+pub returns-then-has_room-clause-framed : goal.returns-then-has_room-clause-framed
+returns-then-has_room-clause-framed g c = λ room u q is. is
+
+pub returns-then-is_framed-clause-framed : goal.returns-then-is_framed-clause-framed
+returns-then-is_framed-clause-framed g c = λ room. c.write_out.ensures.framed
+
+pub returns-clause-framed : goal.returns-clause-framed
+returns-clause-framed g c = λ room. elim room [
+  | inl there ↦ absurd (false≢true (sym c.if-is_framed.false ∙ c.is_framed.ensures.1 there))
+  | inr free ↦ c.fetch.ensures.framed free
+]

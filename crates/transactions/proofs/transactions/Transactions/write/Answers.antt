@@ -11,6 +11,9 @@ use Rattle.transactions.proofs.OpenLemmas.{writes_numbered, unrefused_done}
 use Rattle.transactions.proofs.SessionLemmas.{locks_of}
 use Rattle.transactions.proofs.TurnLemmas.{upheld_no_more}
 use Rattle.transactions.proofs.WriteLemmas.{put_framed, was_written}
+use Rattle.std.proofs.Common.{subst}
+use Rattle.page_frames.specs.Pages.{KeepsFramedFor}
+use Rattle.page_frames.proofs.FramedLemmas.{set_framed}
 use Rattle.transactions.proofs.transactions.Transactions.write.Goals as goal
 
 pub unreachable-requires : goal.unreachable-requires
@@ -72,3 +75,17 @@ returns-clause-framed g c =
     (record { parts = c.prepare.new.self.parts; pool = c.put_record.new.pool })
     (ap (λ (h : Home). h.unit) (sym c.home-home.ensures.home))
     (ap (λ (h : Home). h.page) (sym c.home-home.ensures.home)) c.put_record.ensures.put
+
+pub returns-in_err-prepare-clause-stays : goal.returns-in_err-prepare-clause-stays
+returns-in_err-prepare-clause-stays g c =
+    subst (λ (h : Home). KeepsFramedFor h.unit h.page c.args.self.now.pages c.prepare.new.self)
+    c.home-home.ensures.home c.in_err-prepare.ensures.framed
+
+pub returns-clause-stays : goal.returns-clause-stays
+returns-clause-stays g c = λ room u page there.
+    let at = c.home-home.result in
+    let put = c.put_record.ensures.put in
+    set_framed at.unit at.page put.now c.prepare.new.self
+    (record { parts = c.prepare.new.self.parts; pool = c.put_record.new.pool }) put.frames u page
+    (subst (λ (h : Home). KeepsFramedFor h.unit h.page c.args.self.now.pages c.prepare.new.self)
+    c.home-home.ensures.home c.in_ok-prepare.ensures.framed room u page there)
