@@ -1,5 +1,5 @@
-//! A trial over the model itself: a store that takes its replies from the plain model, and a desk that
-//! has no place and keeps what is said.
+//! A trial over the model itself: a store that takes its replies from the plain model, and a desk whose
+//! chip keeps nothing, and that keeps what is said.
 ghost use Rattle.std.proofs.Common.{subst, refl};
 ghost use Rattle.std.specs.Prelude.{◌-◌, ◌^◌, Option, None, MatchOption, true, false};
 
@@ -13,7 +13,7 @@ use std::alloc::Global;
 use std::test::Fail;
 use store_trait::{Fault, Store};
 
-/// It has no place, and says at most so many bytes.
+/// Its chip has eight places and keeps nothing; it says at most so many bytes.
 #[derive(Drop)]
 struct Listener {
     said: TextLine,
@@ -24,7 +24,7 @@ impl Chip for Listener {
     ghost use Rattle.chip_trait.specs.Told.{Told, History};
 
     ghost told = { λ desk. record {
-      places = 0;
+      places = 8;
       settled = true;
       history = None;
       contents = None;
@@ -39,7 +39,7 @@ impl Chip for Listener {
     } };
 
     fn units(&self) -> u32 {
-        0
+        8
     }
 
     fn read(&mut self, p: u32, s: u32, _into: &mut [u8; 512]) -> Result<(), Failed> {
