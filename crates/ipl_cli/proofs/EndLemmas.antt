@@ -10,7 +10,7 @@ use Rattle.chip_trait.specs.Image.{IsNoChanceImage}
 use Rattle.chip_trait.specs.Moment.{AtEachMoment, Leaves}
 use Rattle.chip_trait.specs.Lawful.{IsLawful, AreClean}
 use Rattle.chip_trait.specs.Told.{History, Told, Beside, Counts, SayCounts, Appends, FailsToSay, IsPrefix, adds_all, Unrisen}
-use Rattle.chip_trait.proofs.HistoryLemmas.{same_history}
+use Rattle.chip_trait.proofs.HistoryLemmas.{same_history, history_then}
 use Rattle.chip_trait.proofs.MomentLemmas.{at_start, at_both, at_weaker}
 use Rattle.chip_trait.proofs.SaidLemmas.{pieces-append, said-append, silent-part}
 use Rattle.ipl_base.specs.Places.{IsGeometry}
@@ -28,7 +28,6 @@ use Rattle.ipl_meaning.specs.Rests.{EachStands, StoryRests}
 use Rattle.ipl_meaning.proofs.StoryLemmas.{held_stands, says_keep}
 use Rattle.unit_io.specs.Leads.{IsSteady}
 use Rattle.unit_io.proofs.LeadsLemmas.{steady_then}
-use Rattle.unit_io.proofs.ReadsAtLemmas.{history_then}
 use Rattle.restart.specs.Events.{format_events}
 use Rattle.restart.specs.Fresh.{Formats}
 use Rattle.store_trait.specs.Keeping.{Stays}

@@ -1,5 +1,5 @@
 -- What the end of the program says.
-use Rattle.std.proofs.Common.{◌≡◌, ◌≢◌, ◌⊎◌, ◌==◌, ℕ, true, false, [], Some, None, Result, Ok, Err, inl, inr, refl, sym, ◌∙◌, ap, subst, arith}
+use Rattle.std.proofs.Common.{◌≡◌, ◌≢◌, ◌⊎◌, ◌==◌, ℕ, true, false, Some, None, Result, Ok, Err, inl, inr, refl, sym, ◌∙◌, ap, subst, arith}
 use Rattle.chip_trait.specs.Told.{History, Told, Counts, Rose, Grew, IsConsistent}
 use Rattle.ipl_base.specs.Places.{IsGeometry}
 use Rattle.ipl_base.specs.declared.fault.ChipFault.TheVariants.{ReadFault, Stopped, Damaged, Malformed}
@@ -11,6 +11,7 @@ use Rattle.ipl_meaning.specs.Chart.{chart_of}
 use Rattle.opening_rules.proofs.CauseLemmas.{faults_are_caused}
 use Rattle.restart.specs.Fresh.{Formats}
 use Rattle.restart.proofs.LookLemmas.{reads_none}
+use Rattle.status_renewal.specs.Chains.{starts_at}
 use Rattle.store_trait.specs.Keeping.{ChipRose}
 use Rattle.script_run.specs.Goes.{ReadsAll}
 use Rattle.command_line.specs.declared.asked.Request.{Request}
@@ -24,6 +25,7 @@ use Rattle.ipl_cli.specs.Top.{HasFault, IsLaidWell, LaidCause, StrayCause, Opene
 use Rattle.ipl_cli.proofs.EndLemmas.{stopped_early, untouched_runs}
 use Rattle.ipl_cli.proofs.StartLemmas.{opened_excused, stands_well}
 use Rattle.ipl_cli.proofs.ViewLemmas.{untouched_hears, hears_views, hears_only}
+use Rattle.ipl_cli.proofs.RecordLemmas.{steady_start}
 use Rattle.ipl_cli.proofs.StatusLemmas.{chip_status, above_zero, not_zero}
 
 -- ---- a format that fails
@@ -557,8 +559,8 @@ module _ (old new : Told) (consistent : IsConsistent old) (calm : IsCalm old new
   format_never fits (image.NoSpare n) c = c
 
   anew_never : IsTold old → ¬ AnewCause old new
-  anew_never told anew = never_rose (anew (record { start = told.contents; story = [] })
-      (record { holds = told.told; settled = consistent.settled told.contents told.told }))
+  anew_never told anew = never_rose (anew (starts_at told.contents)
+      (steady_start told.contents old consistent told.told))
 
   geometry_never : IsTold old → ¬ ((¬ IsGeometry old.places) ⊎ AnewCause old new)
   geometry_never told (inl other) = other told.fits

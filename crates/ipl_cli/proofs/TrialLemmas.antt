@@ -9,7 +9,7 @@ use Rattle.chip_trait.specs.Lawful.{IsLawful, AreClean}
 use Rattle.chip_trait.specs.Moment.{AtEachMoment, Leaves}
 use Rattle.chip_trait.specs.Story.{Story, Contents, pieces, said, joined}
 use Rattle.chip_trait.specs.Told.{History, Told, Beside, IsPrefix, adds_all, Unrisen}
-use Rattle.chip_trait.proofs.HistoryLemmas.{same_history}
+use Rattle.chip_trait.proofs.HistoryLemmas.{same_history, history_then}
 use Rattle.chip_trait.proofs.MomentLemmas.{at_both, at_weaker}
 use Rattle.chip_trait.proofs.SaidLemmas.{silent-part}
 use Rattle.ipl_base.specs.declared.fault.ImageFault.{ImageFault}
@@ -21,7 +21,6 @@ use Rattle.ipl_meaning.specs.Chart.{chart_of}
 use Rattle.ipl_meaning.specs.Rests.{EachStands, StoryRests}
 use Rattle.ipl_meaning.specs.Stands.{Stands}
 use Rattle.unit_io.specs.Leads.{IsSteady}
-use Rattle.unit_io.proofs.ReadsAtLemmas.{history_then}
 use Rattle.restart.specs.Events.{format_events}
 use Rattle.store_trait.specs.Keeping.{Stays, SCRIPT_DRAWS}
 use Rattle.store_trait.specs.Onward.{Onward}
