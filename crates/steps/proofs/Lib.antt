@@ -1,3 +1,4 @@
 pub mod StepLemmas
 pub mod TidyLemmas
 pub mod MapLemmas
+pub mod TablesLemmas

@@ -11,6 +11,7 @@ use Rattle.ipl_meaning.specs.Rests.{EachStands, StoryRests}
 use Rattle.ipl_meaning.specs.Tables.{Tables, IsCountedClean}
 use Rattle.ipl_meaning.specs.Agrees.{Agrees}
 use Rattle.unit_io.specs.Leads.{IsSteady}
+use Rattle.unit_io.specs.Costs.{Spends}
 
 -- ---- the end of a call
 
@@ -51,6 +52,12 @@ pub record TidyWork (before after : ℕ → ℕ → Type 0) (Settles : Type 0) (
 abbrev pub Steps : {T E : Type 0} → (History → Type 0) → Tables → Tables → (T → History → Type 0) → (History → Type 0) → History → Result T E → Told → Told → Type 0
 Steps Each t after Then Else h result old new =
     Outcome Each (TidyWork (IsCountedClean t) (IsCountedClean after) (Settled result old new)) (Settled result old new) (EndsWith result Then Else) h old new
+
+-- What a call adds that turns these tables into those, whatever the chip tells or holds: lawful events, after any lawful ones
+-- that leave clean what the first tables count so; and where no write failed, they leave clean what the second count so.
+abbrev pub Tidies : {T E : Type 0} → Tables → Result T E → Tables → Told → Told → Type 0
+Tidies t result after old new =
+    Spends (TidyWork (IsCountedClean t) (IsCountedClean after) (Settled result old new)) old new
 
 -- the story rests on the map, and the tables agree
 pub record RestsAgreeing (places : ℕ) (m : Map) (it : Layout) (t : Tables) (k : History) : Type 0 where

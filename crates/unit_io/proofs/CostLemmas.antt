@@ -287,7 +287,7 @@ spends_weaker P Q old new weaker did = record { added = did.added; does = weaker
 pub spends_reads : (At : ℕ → ℕ → Type 0) (kinds : List ℕ) (old new : Told) → ReadsAt At old new → Spends (Costs 0 0 0 kinds) old new
 spends_reads At kinds old new did = record { added = did.added; does = costs_reads At kinds did.added did.each; history = did.history }
 
-one_added : (e : Event) (o : Option History) → option_map (adds e) o ≡ option_map (adds_all (e ∷ [])) o
+pub one_added : (e : Event) (o : Option History) → option_map (adds e) o ≡ option_map (adds_all (e ∷ [])) o
 one_added e None = refl
 one_added e (Some h) = refl
 

@@ -13,3 +13,4 @@ pub mod PlainLemmas
 pub mod ReadsAtLemmas
 pub mod CostLemmas
 pub mod SparesLemmas
+pub mod TidyLemmas

@@ -1,5 +1,5 @@
 //! Commit sectors, programmed.
-ghost use Rattle.std.specs.Prelude.{◌≡◌, ◌≢◌, ◌<◌, ◌≤◌, ℕ, length, OnOk, None};
+ghost use Rattle.std.specs.Prelude.{◌≡◌, ◌≢◌, ◌<◌, ◌≤◌, ℕ, length, OnOk, is_ok, None};
 ghost use Rattle.chip_trait.specs.Image.{IsClosed};
 ghost use Rattle.chip_trait.specs.Lawful.{Clean, age};
 ghost use Rattle.chip_trait.specs.Chart.{with_sector};
@@ -38,6 +38,7 @@ pub fn prepare_commit<C: Chip>(
         (λ done. Gains spot.place spot.sector (sector_of head.now payload.now)) h (C.told chip.old) result (C.told chip.new) }
     ensures tells { OnOk result (Charts (Gains spot.place spot.sector (sector_of head.now payload.now)) (C.told chip.old) (C.told chip.new)) }
     ensures costs { Spends (ProgramsAt spot.place 1 0 6) (C.told chip.old) (C.told chip.new) }
+    ensures tidy { Spends (Programs spot.place (IsSpot spot.sector) (is_ok result)) (C.told chip.old) (C.told chip.new) }
     ensures accounts { Accounts IsStopped result (C.told chip.old) (C.told chip.new) }
 {
     let mut bytes = [0; 512];
@@ -65,6 +66,7 @@ pub fn add_commit<C: Chip>(
         (λ done. Gains spot.place spot.sector (sector_of head.now payload.now)) h (C.told chip.old) result (C.told chip.new) }
     ensures tells { OnOk result (Charts (Gains spot.place spot.sector (sector_of head.now payload.now)) (C.told chip.old) (C.told chip.new)) }
     ensures costs { Spends (ProgramsAt spot.place 1 1 6) (C.told chip.old) (C.told chip.new) }
+    ensures tidy { Spends (Programs spot.place (IsSpot spot.sector) (is_ok result)) (C.told chip.old) (C.told chip.new) }
     ensures accounts { Accounts IsStopped result (C.told chip.old) (C.told chip.new) }
 {
     let mut bytes = [0; 512];

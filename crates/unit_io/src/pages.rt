@@ -1,5 +1,5 @@
 //! The base sectors of a page.
-ghost use Rattle.std.specs.Prelude.{◌≡◌, ◌<◌, ◌≤◌, ◌+◌, ◌*◌, ℕ, length, None, IfOk, OnOk};
+ghost use Rattle.std.specs.Prelude.{◌≡◌, ◌<◌, ◌≤◌, ◌+◌, ◌*◌, ℕ, length, None, IfOk, OnOk, is_ok};
 ghost use Rattle.chip_trait.specs.Lawful.{Clean, age};
 ghost use Rattle.chip_trait.specs.Told.{Told, History};
 ghost use Rattle.ipl_rules.specs.State.{Map};
@@ -57,6 +57,7 @@ fn program_piece<C: Chip>(
     ensures plain { AddsPlain (C.told chip.old) (C.told chip.new) }
     ensures spares { OnOk result (Spares place (C.told chip.old) (C.told chip.new)) }
     ensures costs { Spends (ProgramsAt place 1 0 4) (C.told chip.old) (C.told chip.new) }
+    ensures tidy { Spends (Programs place (IsSpot (base_sector_of page piece)) (is_ok result)) (C.told chip.old) (C.told chip.new) }
     ensures accounts { Accounts IsStopped result (C.told chip.old) (C.told chip.new) }
 {
     let base = Head {
@@ -100,6 +101,7 @@ fn program_pieces<C: Chip>(
     ensures few { IfOk result (λ n. n ≤ 16) }
     ensures spares { OnOk result (Spares place (C.told chip.old) (C.told chip.new)) }
     ensures costs { Spends (ProgramsAt place 16 0 4) (C.told chip.old) (C.told chip.new) }
+    ensures tidy { Spends (Programs place (IsPieceSpot page 16) (is_ok result)) (C.told chip.old) (C.told chip.new) }
     ensures accounts { Accounts IsStopped result (C.told chip.old) (C.told chip.new) }
 {
     let count = piece_count(text);
@@ -132,6 +134,7 @@ pub fn program_page<C: Chip>(
     ensures few { IfOk result (λ n. n ≤ 16) }
     ensures spares { OnOk result (Spares place (C.told chip.old) (C.told chip.new)) }
     ensures costs { Spends (ProgramsAt place 16 0 4) (C.told chip.old) (C.told chip.new) }
+    ensures tidy { Spends (Programs place (IsPieceSpot page 16) (is_ok result)) (C.told chip.old) (C.told chip.new) }
     ensures accounts { Accounts IsStopped result (C.told chip.old) (C.told chip.new) }
 {
     let mut text = [0; 7680];

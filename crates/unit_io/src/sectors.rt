@@ -1,5 +1,5 @@
 //! One sector of a place, programmed.
-ghost use Rattle.std.specs.Prelude.{◌≡◌, ◌≢◌, ◌<◌, ℕ, List, Some, None, OnOk};
+ghost use Rattle.std.specs.Prelude.{◌≡◌, ◌≢◌, ◌<◌, ℕ, List, Some, None, OnOk, is_ok};
 ghost use Rattle.chip_trait.specs.Lawful.{Clean, age};
 ghost use Rattle.chip_trait.specs.Told.{Told, History};
 ghost use Rattle.ipl_rules.specs.State.{Map};
@@ -40,6 +40,7 @@ pub(crate) fn program_aside<C: Chip>(
     ensures spares { OnOk result (Spares place (C.told chip.old) (C.told chip.new)) }
     ensures costs { (said : Sector) → sector_in bytes.now ≡ Some said
         → Spends (ProgramsAt place 1 0 said.kind) (C.told chip.old) (C.told chip.new) }
+    ensures tidy { Spends (Programs place (IsSpot sector) (is_ok result)) (C.told chip.old) (C.told chip.new) }
     ensures accounts { Accounts IsStopped result (C.told chip.old) (C.told chip.new) }
 {
     program(chip, place, sector, bytes)
@@ -71,6 +72,7 @@ pub fn program_log<C: Chip>(
     ensures tells { OnOk result (Charts (Gains spot.place spot.sector (sector_of head.now payload.now)) (C.told chip.old) (C.told chip.new)) }
     ensures spares { OnOk result (Spares spot.place (C.told chip.old) (C.told chip.new)) }
     ensures costs { Spends (ProgramsAt spot.place 1 0 5) (C.told chip.old) (C.told chip.new) }
+    ensures tidy { Spends (Programs spot.place (IsSpot spot.sector) (is_ok result)) (C.told chip.old) (C.told chip.new) }
     ensures accounts { Accounts IsStopped result (C.told chip.old) (C.told chip.new) }
 {
     let mut bytes = [0; 512];

@@ -2,6 +2,9 @@ use Rattle.std.proofs.Common.{refl, arith}
 use Rattle.ipl_format.specs.Sector.{Sector}
 use Rattle.ipl_format.specs.Page.{piece_of}
 use Rattle.unit_io.proofs.SectorLemmas.{aside_renamed}
+use Rattle.std.specs.Prelude.{is_ok}
+use Rattle.chip_trait.specs.Story.{Story}
+use Rattle.unit_io.specs.Spots.{Programs, IsSpot}
 use Rattle.unit_io.proofs.pages.program_piece.Goals as goal
 
 pub returns-clause-aside : goal.returns-clause-aside
@@ -15,3 +18,6 @@ returns-clause-costs g c = c.program_aside.ensures.costs _ c.encode.ensures.said
 
 pub returns-clause-spares : goal.returns-clause-spares
 returns-clause-spares g c = c.program_aside.ensures.spares
+
+pub returns-clause-tidy : goal.returns-clause-tidy
+returns-clause-tidy g c = rw c.base_sector.ensures.sector at c.program_aside.ensures.tidy

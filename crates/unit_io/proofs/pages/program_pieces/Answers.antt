@@ -6,6 +6,10 @@ use Rattle.unit_io.proofs.PlainLemmas.{plain_none, plain_then}
 use Rattle.unit_io.specs.Costs.{ProgramsAt}
 use Rattle.unit_io.proofs.CostLemmas.{spends_none, spends_weaker, nothing_at, programs_at_most, one_piece_more}
 use Rattle.unit_io.proofs.SparesLemmas.{spares_none, spares_then}
+use Rattle.std.proofs.Common.{true, false}
+use Rattle.unit_io.specs.Spots.{Programs, IsPieceSpot}
+use Rattle.unit_io.proofs.SpotLemmas.{programs_none}
+use Rattle.unit_io.proofs.TidyLemmas.{tidy_piece_more, tidy_pieces}
 use Rattle.unit_io.proofs.pages.program_pieces.Goals as goal
 
 pub loop-piece-init : goal.loop-piece-init
@@ -15,6 +19,7 @@ loop-piece-init g c = record {
   plain = plain_none (g.C.Chip.told c.args.chip.now);
   spares = spares_none c.args.place (g.C.Chip.told c.args.chip.now) (g.C.Chip.told c.args.chip.now) refl;
   costs = spends_none (ProgramsAt c.args.place 0 0 4) (g.C.Chip.told c.args.chip.now) (nothing_at c.args.place 0 0 4);
+  tidy = spends_none (Programs c.args.place (IsPieceSpot c.args.page 0) true) (g.C.Chip.told c.args.chip.now) (programs_none c.args.place (IsPieceSpot c.args.page 0) true);
   counts = counts_none (g.C.Chip.told c.args.chip.now);
 }
 
@@ -30,6 +35,7 @@ loop-piece-preserved g c =
       plain = plain_then (g.C.Chip.told c.args.chip.now) (g.C.Chip.told c.loop-piece.chip) (g.C.Chip.told c.program_piece.new.chip) so_far.plain c.in_ok-program_piece.ensures.plain;
       spares = spares_then c.args.place (g.C.Chip.told c.args.chip.now) (g.C.Chip.told c.loop-piece.chip) (g.C.Chip.told c.program_piece.new.chip) so_far.spares c.in_ok-program_piece.ensures.spares;
       costs = one_piece_more c.args.place c.loop-piece.piece (g.C.Chip.told c.args.chip.now) (g.C.Chip.told c.loop-piece.chip) (g.C.Chip.told c.program_piece.new.chip) so_far.costs c.in_ok-program_piece.ensures.costs;
+      tidy = tidy_piece_more c.args.place c.args.page c.loop-piece.piece true (g.C.Chip.told c.args.chip.now) (g.C.Chip.told c.loop-piece.chip) (g.C.Chip.told c.program_piece.new.chip) so_far.tidy c.in_ok-program_piece.ensures.tidy;
       counts = counts_then (g.C.Chip.told c.args.chip.now) (g.C.Chip.told c.loop-piece.chip) (g.C.Chip.told c.program_piece.new.chip) so_far.counts c.in_ok-program_piece.ensures.accounts.counts;
     }
 
@@ -73,3 +79,15 @@ returns-clause-costs g c =
 
 pub returns-clause-spares : goal.returns-clause-spares
 returns-clause-spares g c = c.loop-piece.invariant.spares
+
+pub returns-in_err-program_piece-clause-tidy : goal.returns-in_err-program_piece-clause-tidy
+returns-in_err-program_piece-clause-tidy g c =
+    let few : c.loop-piece.piece < 16 = omega (arith, c.piece_count-count.ensures.few) in
+    let e = err_from_is_err_and c.from_residual.result c.from_residual.ensures.1 in
+    rw e.1 (tidy_pieces c.args.place c.args.page (c.loop-piece.piece + 1) false false (g.C.Chip.told c.args.chip.now) (g.C.Chip.told c.program_piece.new.chip) (omega (arith, few))
+    (tidy_piece_more c.args.place c.args.page c.loop-piece.piece false (g.C.Chip.told c.args.chip.now) (g.C.Chip.told c.loop-piece.chip) (g.C.Chip.told c.program_piece.new.chip) c.loop-piece.invariant.tidy c.in_err-program_piece.ensures.tidy))
+
+pub returns-clause-tidy : goal.returns-clause-tidy
+returns-clause-tidy g c =
+    let few : c.loop-piece.piece ≤ 16 = omega (arith, c.piece_count-count.ensures.few) in
+    tidy_pieces c.args.place c.args.page c.loop-piece.piece true true (g.C.Chip.told c.args.chip.now) (g.C.Chip.told c.loop-piece.chip) few c.loop-piece.invariant.tidy

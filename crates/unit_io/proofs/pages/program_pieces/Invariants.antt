@@ -1,9 +1,10 @@
-use Rattle.std.proofs.Common.{ℕ, List}
+use Rattle.std.proofs.Common.{ℕ, List, true}
 use Rattle.chip_trait.specs.Told.{Told, History, Counts}
 use Rattle.ipl_rules.specs.State.{Map}
 use Rattle.unit_io.specs.Leads.{IsSteady}
 use Rattle.unit_io.specs.Charts.{Charts, Spares, HasPieces}
 use Rattle.unit_io.specs.Plain.{AddsPlain}
+use Rattle.unit_io.specs.Spots.{Programs, IsPieceSpot}
 use Rattle.unit_io.specs.Costs.{ProgramsAt, Spends}
 use Rattle.unit_io.proofs.PageLemmas.{IsOpenFor, Piled}
 use Rattle.unit_io.proofs.pages.program_pieces.Given as goal
@@ -15,6 +16,7 @@ pub record IsPiled (first t : Told) (place unit generation page : ℕ) (text : L
   pub plain : AddsPlain first t
   pub spares : Spares place first t
   pub costs : Spends (ProgramsAt place n 0 4) first t
+  pub tidy : Spends (Programs place (IsPieceSpot page n) true) first t
   pub counts : Counts first t
 
 abbrev pub invariant-loop-piece : goal.invariant-loop-piece

@@ -4,6 +4,10 @@ use Rattle.unit_io.proofs.PlainLemmas.{plain_then, plain_did, plain_waited}
 use Rattle.std.proofs.Common.{Ok, Err, arith}
 use Rattle.unit_io.proofs.CostLemmas.{spends_at_most, spends_at_then, spends_programmed, spends_barred}
 use Rattle.unit_io.proofs.SparesLemmas.{spares_behind, spares_programmed, spares_waited}
+use Rattle.unit_io.proofs.TidyLemmas.{tidy_programmed, tidy_then_waits}
+use Rattle.std.proofs.Common.{true, false}
+use Rattle.std.specs.Prelude.{is_ok}
+use Rattle.unit_io.specs.Spots.{IsSpot}
 use Rattle.unit_io.proofs.places.add_header.Goals as goal
 
 pub returns-in_err-program-clause-leads : goal.returns-in_err-program-clause-leads
@@ -43,3 +47,13 @@ returns-clause-spares g c =
     spares_behind c.args.place old mid new c.barrier.result
     (spares_programmed c.args.place 0 c.args.bytes.now old mid (Ok tt) c.in_ok-program.ensures.did)
     (spares_waited c.args.place mid new c.barrier.result c.barrier.ensures.did)
+
+pub returns-in_err-program-clause-tidy : goal.returns-in_err-program-clause-tidy
+returns-in_err-program-clause-tidy g c =
+    let e = err_from_is_err_and c.from_residual.result c.from_residual.ensures.1 in
+    rw e.1 (tidy_programmed c.args.place 0 _ false _ _ (Err c.in_err-program.field-0.0) c.in_err-program.ensures.did)
+
+pub returns-clause-tidy : goal.returns-clause-tidy
+returns-clause-tidy g c =
+    tidy_then_waits c.args.place (IsSpot 0) true (is_ok c.barrier.result) _ (g.C.Chip.told c.program.new.chip) _ c.barrier.result
+    (tidy_programmed c.args.place 0 _ true _ _ (Ok tt) c.in_ok-program.ensures.did) c.barrier.ensures.did

@@ -5,6 +5,7 @@ use Rattle.std.proofs.Common.{Ok, Err, false, arith}
 use Rattle.std.specs.Prelude.{is_ok}
 use Rattle.unit_io.proofs.CostLemmas.{spends_once_at_most, spends_once_then, spends_erased, spends_barred}
 use Rattle.unit_io.proofs.SparesLemmas.{spares_behind, spares_erased, spares_waited}
+use Rattle.unit_io.proofs.TidyLemmas.{tidy_broken, tidy_begun}
 use Rattle.unit_io.proofs.places.begin_unit.Goals as goal
 
 pub returns-in_err-erase-clause-keeps : goal.returns-in_err-erase-clause-keeps
@@ -47,3 +48,11 @@ returns-clause-spares g c =
     spares_behind c.args.place old mid new c.barrier.result
     (spares_erased c.args.place old mid (Ok tt) c.in_ok-erase.ensures.did)
     (spares_waited c.args.place mid new c.barrier.result c.barrier.ensures.did)
+
+pub returns-in_err-erase-clause-tidy : goal.returns-in_err-erase-clause-tidy
+returns-in_err-erase-clause-tidy g c =
+    let e = err_from_is_err_and c.from_residual.result c.from_residual.ensures.1 in
+    rw e.1 (tidy_broken c.args.place e.0 (g.C.Chip.told c.args.chip.now) (g.C.Chip.told c.erase.new.chip) c.in_err-erase.ensures.did)
+
+pub returns-clause-tidy : goal.returns-clause-tidy
+returns-clause-tidy g c = tidy_begun c.args.place _ (g.C.Chip.told c.erase.new.chip) _ c.barrier.result c.in_ok-erase.ensures.did c.barrier.ensures.did

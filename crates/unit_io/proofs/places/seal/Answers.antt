@@ -6,6 +6,9 @@ use Rattle.unit_io.proofs.PlainLemmas.{plain_then, plain_waited, plain_said}
 use Rattle.std.proofs.Common.{Ok, Err, arith}
 use Rattle.unit_io.proofs.CostLemmas.{spends_at_most, spends_at_then, spends_barred}
 use Rattle.unit_io.proofs.SparesLemmas.{spares_behind, spares_waited}
+use Rattle.unit_io.proofs.TidyLemmas.{tidy_halted, tidy_waits_then}
+use Rattle.std.specs.Prelude.{is_ok}
+use Rattle.unit_io.specs.Spots.{IsSpot}
 use Rattle.unit_io.proofs.places.seal.Goals as goal
 
 pub returns-in_err-barrier-clause-leads : goal.returns-in_err-barrier-clause-leads
@@ -47,3 +50,13 @@ returns-clause-spares g c =
     spares_behind c.args.place old mid (g.C.Chip.told c.add_header.new.chip) c.add_header.result
     (spares_waited c.args.place old mid (Ok tt) c.in_ok-barrier.ensures.did)
     c.add_header.ensures.spares
+
+pub returns-in_err-barrier-clause-tidy : goal.returns-in_err-barrier-clause-tidy
+returns-in_err-barrier-clause-tidy g c =
+    let e = err_from_is_err_and c.from_residual.result c.from_residual.ensures.1 in
+    rw e.1 (tidy_halted c.args.place (IsSpot 0) e.0 (g.C.Chip.told c.args.chip.now) (g.C.Chip.told c.barrier.new.chip) c.in_err-barrier.ensures.did)
+
+pub returns-clause-tidy : goal.returns-clause-tidy
+returns-clause-tidy g c =
+    tidy_waits_then c.args.place (IsSpot 0) (is_ok c.add_header.result) _ (g.C.Chip.told c.barrier.new.chip) _ c.in_ok-barrier.ensures.did
+    c.add_header.ensures.tidy

@@ -2,6 +2,8 @@ use Rattle.unit_io.proofs.SectorLemmas.{aside_leads}
 use Rattle.unit_io.proofs.PlainLemmas.{plain_did}
 use Rattle.unit_io.proofs.CostLemmas.{spends_programmed}
 use Rattle.unit_io.proofs.SparesLemmas.{spares_programmed}
+use Rattle.unit_io.proofs.TidyLemmas.{tidy_programmed}
+use Rattle.std.specs.Prelude.{is_ok}
 use Rattle.unit_io.proofs.sectors.program_aside.Goals as goal
 
 pub returns-clause-aside : goal.returns-clause-aside
@@ -18,3 +20,6 @@ pub returns-clause-spares : goal.returns-clause-spares
 returns-clause-spares g c =
     spares_programmed c.args.place c.args.sector c.args.bytes.now (g.C.Chip.told c.args.chip.now)
     (g.C.Chip.told c.program.new.chip) c.program.result c.program.ensures.did
+
+pub returns-clause-tidy : goal.returns-clause-tidy
+returns-clause-tidy g c = tidy_programmed c.args.place c.args.sector c.args.bytes.now (is_ok c.program.result) _ _ _ c.program.ensures.did

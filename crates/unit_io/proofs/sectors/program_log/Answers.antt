@@ -1,6 +1,8 @@
 use Rattle.unit_io.proofs.SectorLemmas.{aside_leads, log_leads}
 use Rattle.unit_io.proofs.CostLemmas.{spends_of_kind, spends_programmed}
 use Rattle.unit_io.proofs.SparesLemmas.{spares_programmed}
+use Rattle.unit_io.proofs.TidyLemmas.{tidy_programmed}
+use Rattle.std.specs.Prelude.{is_ok}
 use Rattle.unit_io.proofs.sectors.program_log.Goals as goal
 
 pub returns-clause-keeps : goal.returns-clause-keeps
@@ -20,3 +22,6 @@ pub returns-clause-spares : goal.returns-clause-spares
 returns-clause-spares g c =
     spares_programmed c.args.spot.place c.args.spot.sector _ (g.C.Chip.told c.args.chip.now)
     (g.C.Chip.told c.program.new.chip) c.program.result c.program.ensures.did
+
+pub returns-clause-tidy : goal.returns-clause-tidy
+returns-clause-tidy g c = tidy_programmed c.args.spot.place c.args.spot.sector _ (is_ok c.program.result) _ _ _ c.program.ensures.did
