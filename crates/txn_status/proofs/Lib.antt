@@ -5,3 +5,4 @@ pub mod KeptLemmas
 pub mod SwitchLemmas
 pub mod SwitchedLemmas
 pub mod ReadLemmas
+pub mod TidyLemmas

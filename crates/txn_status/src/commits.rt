@@ -1,10 +1,11 @@
 //! Commit sectors, encoded and programmed.
-ghost use Rattle.std.specs.Prelude.{◌≡◌, ◌≤◌, ◌<◌, ◌+◌, ◌++◌, length, OnOk};
+ghost use Rattle.std.specs.Prelude.{◌≡◌, ◌≤◌, ◌<◌, ◌+◌, ◌++◌, length, OnOk, is_ok};
 ghost use Rattle.ipl_format.specs.Numbers.{long};
 ghost use Rattle.unit_io.specs.Accounts.{Accounts};
 ghost use Rattle.unit_io.specs.Leads.{IsStopped};
 ghost use Rattle.unit_io.specs.Costs.{ProgramsAt, Spends};
 ghost use Rattle.unit_io.specs.Charts.{Charts, Gains};
+ghost use Rattle.unit_io.specs.Spots.{Programs, IsSpot};
 ghost use Rattle.txn_status.specs.Commits.{commit_bytes, commit_sector};
 ghost use Rattle.txn_status.specs.Writing.{LeadsCommit, LeadsPart};
 
@@ -67,6 +68,8 @@ pub fn write_commit<C: Chip>(
         (Gains spot.place spot.sector (commit_sector generation serial numbers.now))
         (C.told chip.old) (C.told chip.new)) }
     ensures costs { Spends (ProgramsAt spot.place 1 1 6) (C.told chip.old) (C.told chip.new) }
+    ensures tidy { Spends (Programs spot.place (IsSpot spot.sector) (is_ok result))
+        (C.told chip.old) (C.told chip.new) }
     ensures accounts { Accounts IsStopped result (C.told chip.old) (C.told chip.new) }
 {
     let payload = payload_of(numbers);
@@ -95,6 +98,8 @@ pub fn write_part<C: Chip>(
         (Gains spot.place spot.sector (commit_sector generation serial numbers.now))
         (C.told chip.old) (C.told chip.new)) }
     ensures costs { Spends (ProgramsAt spot.place 1 0 6) (C.told chip.old) (C.told chip.new) }
+    ensures tidy { Spends (Programs spot.place (IsSpot spot.sector) (is_ok result))
+        (C.told chip.old) (C.told chip.new) }
     ensures accounts { Accounts IsStopped result (C.told chip.old) (C.told chip.new) }
 {
     let payload = payload_of(numbers);

@@ -1,12 +1,13 @@
 //! Numbers and a header, put on a new status place.
-ghost use Rattle.std.specs.Prelude.{◌≡◌, ◌≤◌, ◌<◌, ◌+◌, ◌*◌, ◌^◌, length, OnOk};
+ghost use Rattle.std.specs.Prelude.{◌≡◌, ◌≤◌, ◌<◌, ◌+◌, ◌*◌, ◌^◌, length, OnOk, is_ok};
 ghost use Rattle.unit_io.specs.Accounts.{Accounts};
 ghost use Rattle.unit_io.specs.Leads.{IsStopped};
 ghost use Rattle.unit_io.specs.Costs.{ProgramsAt, Spends};
 ghost use Rattle.unit_io.specs.Charts.{Charts};
+ghost use Rattle.unit_io.specs.Spots.{Programs, IsSpot};
 ghost use Rattle.txn_status.specs.Commits.{part_of};
 ghost use Rattle.txn_status.specs.Status.{parts_of};
-ghost use Rattle.txn_status.specs.Switching.{HasParts};
+ghost use Rattle.txn_status.specs.Switching.{HasParts, IsPartSpot};
 ghost use Rattle.txn_status.specs.Writing.{LeadsParts, LeadsHeader, IsHeaded};
 
 use crate::commits::write_part;
@@ -56,6 +57,8 @@ pub fn write_parts<C: Chip>(
     ensures drawn { OnOk result (counter.new ≡ counter.old + parts_of numbers.now) }
     ensures draws { (counter.old ≤ counter.new) × (counter.new ≤ counter.old + 64) }
     ensures costs { Spends (ProgramsAt place 64 0 6) (C.told chip.old) (C.told chip.new) }
+    ensures tidy { Spends (Programs place (IsPartSpot (parts_of numbers.now)) (is_ok result))
+        (C.told chip.old) (C.told chip.new) }
     ensures accounts { Accounts IsStopped result (C.told chip.old) (C.told chip.new) }
 {
     let count = part_count(numbers);
@@ -84,6 +87,8 @@ pub fn seal_status<C: Chip>(
     ensures tells { OnOk result (Charts (IsHeaded place units generation)
         (C.told chip.old) (C.told chip.new)) }
     ensures costs { Spends (ProgramsAt place 1 2 2) (C.told chip.old) (C.told chip.new) }
+    ensures tidy { Spends (Programs place (IsSpot 0) (is_ok result))
+        (C.told chip.old) (C.told chip.new) }
     ensures accounts { Accounts IsStopped result (C.told chip.old) (C.told chip.new) }
 {
     let mut payload = [0; 4];

@@ -7,6 +7,7 @@ ghost use Rattle.unit_io.specs.Accounts.{Accounts};
 ghost use Rattle.unit_io.specs.Leads.{IsStopped};
 ghost use Rattle.unit_io.specs.Costs.{ProgramsAt, ErasesOnce, Spends};
 ghost use Rattle.unit_io.specs.Charts.{Charts};
+ghost use Rattle.unit_io.specs.Spots.{Programs, Rewrites, IsSpot};
 ghost use Rattle.unit_io.specs.Reads.{OfContents};
 ghost use Rattle.unit_io.specs.ReadsAt.{ReadsAt, IsCauseAt};
 ghost use Rattle.ipl_format.specs.Whole.{IsWhole};
@@ -204,6 +205,9 @@ impl Status {
         // One program and a barrier.
         ensures costs { Spends (ProgramsAt self.old.place 1 1 6)
             (C.told chip.old) (C.told chip.new) }
+        // Whatever the chip holds, only the first sector that is known clean is programmed.
+        ensures tidy { Spends (Programs self.old.place (IsSpot self.old.first) (is_ok result))
+            (C.told chip.old) (C.told chip.new) }
         ensures accounts { Accounts IsStopped result (C.told chip.old) (C.told chip.new) }
     {
         let serial = counter.draw();
@@ -251,6 +255,9 @@ impl Status {
             result (C.told chip.old) (C.told chip.new) }
         // One erase, then programs of the place alone, and three barriers.
         ensures costs { Spends (ErasesOnce place 3 (is_ok result))
+            (C.told chip.old) (C.told chip.new) }
+        // Whatever the chip holds, each sector is programmed once, and those behind are clean then.
+        ensures tidy { Spends (Rewrites place (1 + parts_of kept.now) (is_ok result))
             (C.told chip.old) (C.told chip.new) }
         ensures accounts { Accounts IsStopped result (C.told chip.old) (C.told chip.new) }
     {

@@ -1,4 +1,4 @@
-use Rattle.std.proofs.Common.{◌≡◌, ◌<◌, ◌+◌, ℕ, List, Result, Ok, Err, subst, arith, ap, ◌∙◌}
+use Rattle.std.proofs.Common.{◌≡◌, ◌<◌, ◌+◌, ℕ, true, false, List, Result, Ok, Err, subst, arith, ap, ◌∙◌}
 use Rattle.std.proofs.lemmas.Result.{err_from_is_err_and}
 use Rattle.chip_trait.specs.Told.{Told}
 use Rattle.chip_trait.proofs.CountsLemmas.{counts_none, counts_then}
@@ -11,6 +11,7 @@ use Rattle.txn_status.specs.Writing.{LeadsPart, KeepsParts}
 use Rattle.txn_status.proofs.KeptLemmas.{keeps_none, keeps_more, keeps_failed, told_none, told_more}
 use Rattle.unit_io.specs.Costs.{ProgramsAt}
 use Rattle.unit_io.proofs.CostLemmas.{spends_none, spends_at_then, spends_at_most, nothing_at}
+use Rattle.txn_status.proofs.TidyLemmas.{tidy_parts_none, tidy_parts_more, tidy_parts}
 use Rattle.txn_status.proofs.parts.write_parts.Goals as goal
 
 -- the sector that was programmed is the next part
@@ -36,6 +37,7 @@ loop-i-init g c =
           c.args.numbers.now m h told steady rests;
       tells = told_none c.args.place c.args.generation c.args.counter.now c.args.numbers.now told;
       costs = spends_none (ProgramsAt c.args.place 0 0 6) told (nothing_at c.args.place 0 0 6);
+      tidy = tidy_parts_none c.args.place told;
       counts = counts_none told;
       drawn = omega arith;
     }
@@ -62,6 +64,7 @@ loop-i-preserved g c =
           so.tells (subst (λ (z : Sector). Charts (Gains c.args.place (1 + i) z) mid new) same
           w.tells);
       costs = spends_at_then c.args.place i 1 0 0 6 old mid new so.costs w.costs;
+      tidy = tidy_parts_more c.args.place i true old mid new so.tidy w.tidy;
       counts = counts_then old mid new so.counts w.accounts.counts;
       drawn = omega (arith, c.draw-serial.ensures.next, so.drawn);
     }
@@ -110,3 +113,22 @@ pub returns-clause-costs : goal.returns-clause-costs
 returns-clause-costs g c =
     spends_at_most c.args.place c.loop-i.i 64 0 0 6 _ _
     (omega (arith, c.part_count-count.ensures.few)) (omega arith) c.loop-i.invariant.costs
+
+pub returns-in_err-write_part-clause-tidy : goal.returns-in_err-write_part-clause-tidy
+returns-in_err-write_part-clause-tidy g c =
+    let old = g.C.Chip.told c.args.chip.now in
+    let mid = g.C.Chip.told c.loop-i.chip in
+    let new = g.C.Chip.told c.write_part.new.chip in
+    let i = c.loop-i.i in
+    let parts = parts_of c.args.numbers.now in
+    let low : i < parts =
+    omega (arith, c.part_count-count.ensures.parts, c.loop-i-test.true) in
+    let e = err_from_is_err_and c.from_residual.result c.from_residual.ensures.1 in
+    rw e.1 (tidy_parts c.args.place (i + 1) parts false false old new (omega (arith, low))
+    (tidy_parts_more c.args.place i false old mid new c.loop-i.invariant.tidy
+    c.in_err-write_part.ensures.tidy))
+
+pub returns-clause-tidy : goal.returns-clause-tidy
+returns-clause-tidy g c =
+    tidy_parts c.args.place c.loop-i.i (parts_of c.args.numbers.now) true true _ _
+    (omega (arith, c.part_count-count.ensures.parts)) c.loop-i.invariant.tidy

@@ -1,4 +1,4 @@
-use Rattle.std.proofs.Common.{◌≡◌, ◌+◌, ℕ, List, None, Ok}
+use Rattle.std.proofs.Common.{◌≡◌, ◌+◌, ℕ, true, List, None, Ok}
 use Rattle.chip_trait.specs.Lawful.{Clean, age}
 use Rattle.chip_trait.specs.Told.{Told, History, Counts}
 use Rattle.ipl_rules.specs.State.{Map}
@@ -6,6 +6,7 @@ use Rattle.ipl_meaning.specs.Rests.{now, StoryRests}
 use Rattle.unit_io.specs.Leads.{IsSteady}
 use Rattle.unit_io.specs.Costs.{ProgramsAt, Spends}
 use Rattle.unit_io.specs.Charts.{Charts}
+use Rattle.unit_io.specs.Spots.{Programs}
 use Rattle.txn_status.specs.Status.{parts_of}
 use Rattle.txn_status.specs.Switching.{HasParts, IsPartSpot}
 use Rattle.txn_status.specs.Writing.{KeepsParts}
@@ -20,6 +21,7 @@ pub record AreWritten (first t : Told) (place generation serial : ℕ) (numbers 
       → KeepsParts first.places place generation serial numbers n m h first (Ok tt) t
   pub tells : Charts (HasParts place generation serial numbers n) first t
   pub costs : Spends (ProgramsAt place n 0 6) first t
+  pub tidy : Spends (Programs place (IsPartSpot n) true) first t
   pub counts : Counts first t
   pub drawn : counter ≡ serial + n
 

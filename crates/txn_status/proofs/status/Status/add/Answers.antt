@@ -1,4 +1,4 @@
-use Rattle.std.proofs.Common.{◌<◌, ℕ, List, Ok, Err, length, sym, ap, subst, arith}
+use Rattle.std.proofs.Common.{◌<◌, ℕ, true, false, List, Ok, Err, length, sym, ap, subst, arith}
 use Rattle.std.proofs.lemmas.Result.{err_from_is_err_and}
 use Rattle.ipl_meaning.specs.Tables.{Status}
 use Rattle.unit_io.specs.Charts.{Charts, Gains}
@@ -9,6 +9,7 @@ use Rattle.txn_status.specs.Adding.{Adds, AddsInSteps}
 use Rattle.txn_status.specs.Writing.{LeadsCommit}
 use Rattle.txn_status.proofs.AddLemmas.{AreSpelled, spelled_from, added_in_steps, adds_told}
 use Rattle.unit_io.specs.Costs.{ProgramsAt, Spends}
+use Rattle.unit_io.specs.Spots.{Programs, IsSpot}
 use Rattle.txn_status.proofs.status.Status.add.Goals as goal
 
 pub returns-in_err-write_commit-clause-steps : goal.returns-in_err-write_commit-clause-steps
@@ -120,3 +121,16 @@ returns-clause-costs g c =
     subst (λ (s : Status). Spends (ProgramsAt s.place 1 1 6)
     (g.C.Chip.told c.args.chip.now) (g.C.Chip.told c.write_commit.new.chip)) c.self.view_is
     c.in_ok-write_commit.ensures.costs
+
+pub returns-in_err-write_commit-clause-tidy : goal.returns-in_err-write_commit-clause-tidy
+returns-in_err-write_commit-clause-tidy g c =
+    let e = err_from_is_err_and c.from_residual.result c.from_residual.ensures.1 in
+    rw e.1 (subst (λ (s : Status). Spends (Programs s.place (IsSpot s.first) false)
+    (g.C.Chip.told c.args.chip.now) (g.C.Chip.told c.write_commit.new.chip)) c.self.view_is
+    c.in_err-write_commit.ensures.tidy)
+
+pub returns-clause-tidy : goal.returns-clause-tidy
+returns-clause-tidy g c =
+    subst (λ (s : Status). Spends (Programs s.place (IsSpot s.first) true)
+    (g.C.Chip.told c.args.chip.now) (g.C.Chip.told c.write_commit.new.chip)) c.self.view_is
+    c.in_ok-write_commit.ensures.tidy

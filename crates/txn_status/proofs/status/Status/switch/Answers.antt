@@ -12,6 +12,8 @@ use Rattle.txn_status.specs.Writing.{LeadsParts, LeadsHeader, IsHeaded}
 use Rattle.txn_status.proofs.SwitchLemmas.{AreLong}
 use Rattle.txn_status.proofs.SwitchedLemmas.{erase_failed, parts_failed, switched_in_steps, switches_told}
 use Rattle.unit_io.proofs.CostLemmas.{spends_once_at_most, spends_once_then}
+use Rattle.unit_io.proofs.TidyLemmas.{tidy_begun_only}
+use Rattle.txn_status.proofs.TidyLemmas.{tidy_parts_only, tidy_switched}
 use Rattle.txn_status.proofs.status.Status.switch.Goals as goal
 
 -- the clauses of the calls, at the numbers that were drawn and the places of the first chip
@@ -196,3 +198,37 @@ returns-clause-costs g c =
     (spends_once_then c.args.place 64 1 0 6 true old mid1 mid2
     c.in_ok-begin_unit.ensures.costs c.in_ok-write_parts.ensures.costs)
     c.in_ok-seal_status.ensures.costs
+
+pub returns-in_err-begin_unit-clause-tidy : goal.returns-in_err-begin_unit-clause-tidy
+returns-in_err-begin_unit-clause-tidy g c =
+    let e = err_from_is_err_and c.from_residual.result c.from_residual.ensures.1 in
+    rw e.1 (tidy_begun_only c.args.place (1 + parts_of c.args.kept.now)
+    (g.C.Chip.told c.args.chip.now) (g.C.Chip.told c.begin_unit.new.chip)
+    c.in_err-begin_unit.ensures.tidy)
+
+pub returns-in_err-write_parts-clause-tidy : goal.returns-in_err-write_parts-clause-tidy
+returns-in_err-write_parts-clause-tidy g c =
+    let e = err_from_is_err_and c.from_residual-in_err-write_parts.result
+    c.from_residual-in_err-write_parts.ensures.1 in
+    rw e.1 (tidy_parts_only c.args.place (parts_of c.args.kept.now) false
+    (g.C.Chip.told c.args.chip.now) (g.C.Chip.told c.begin_unit.new.chip)
+    (g.C.Chip.told c.write_parts.new.chip) c.in_ok-begin_unit.ensures.tidy
+    c.in_err-write_parts.ensures.tidy)
+
+pub returns-in_err-seal_status-clause-tidy : goal.returns-in_err-seal_status-clause-tidy
+returns-in_err-seal_status-clause-tidy g c =
+    let e = err_from_is_err_and c.from_residual-in_err-seal_status.result
+    c.from_residual-in_err-seal_status.ensures.1 in
+    rw e.1 (tidy_switched c.args.place (parts_of c.args.kept.now) false false
+    (g.C.Chip.told c.args.chip.now) (g.C.Chip.told c.begin_unit.new.chip)
+    (g.C.Chip.told c.write_parts.new.chip) (g.C.Chip.told c.seal_status.new.chip)
+    c.in_ok-begin_unit.ensures.tidy c.in_ok-write_parts.ensures.tidy
+    c.in_err-seal_status.ensures.tidy)
+
+pub returns-clause-tidy : goal.returns-clause-tidy
+returns-clause-tidy g c =
+    tidy_switched c.args.place (parts_of c.args.kept.now) true true
+    (g.C.Chip.told c.args.chip.now) (g.C.Chip.told c.begin_unit.new.chip)
+    (g.C.Chip.told c.write_parts.new.chip) (g.C.Chip.told c.seal_status.new.chip)
+    c.in_ok-begin_unit.ensures.tidy c.in_ok-write_parts.ensures.tidy
+    c.in_ok-seal_status.ensures.tidy
