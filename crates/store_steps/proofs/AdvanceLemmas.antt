@@ -1,7 +1,7 @@
 -- What calls of a store leave, joined.
 use Rattle.std.proofs.Common.{◌≡◌, ℕ, Result, Ok, Err, Some, is_ok, refl, sym, ◌∙◌, subst}
 use Rattle.chip_trait.specs.Story.{Contents, held}
-use Rattle.chip_trait.specs.Told.{History, Told, Counts, IsConsistent, adds_all}
+use Rattle.chip_trait.specs.Told.{History, Told, Counts, adds_all}
 use Rattle.ipl_rules.specs.State.{Map, State}
 use Rattle.ipl_meaning.specs.Chart.{Chart, chart_of}
 use Rattle.ipl_meaning.specs.Layout.{Layout}

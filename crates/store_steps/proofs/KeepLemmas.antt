@@ -1,6 +1,6 @@
 -- What calls of a store leave, as a run over a script asks for it.
 use Rattle.std.specs.FinMap.{get}
-use Rattle.std.proofs.Common.{◌≡◌, ℕ, ◌+◌, ◌<◌, ◌*◌, true, false, [], ◌∷◌, Some, Option, List, Result, MatchResult, IfOk, Ok, Err, is_ok, sym, ◌∙◌, ap, subst}
+use Rattle.std.proofs.Common.{◌≡◌, ℕ, ◌+◌, ◌<◌, ◌*◌, true, false, [], ◌∷◌, Option, List, Result, MatchResult, IfOk, Ok, Err, is_ok, sym, ap, subst}
 use Rattle.std.proofs.lemmas.Result.{on_err_weaker}
 use Rattle.chip_trait.specs.Moment.{AtEachMoment, Leaves}
 use Rattle.chip_trait.specs.Chart.{says}

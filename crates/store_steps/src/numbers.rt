@@ -1,9 +1,10 @@
 //! The number of a session that is committed.
-ghost use Rattle.std.specs.Prelude.{◌≡◌, ◌<◌, ◌≤◌, ◌+◌, ◌^◌, [], ◌∷◌, OnOk, OnErr};
+ghost use Rattle.std.specs.Prelude.{◌≡◌, ◌<◌, ◌≤◌, ◌+◌, ◌^◌, [], ◌∷◌, OnOk, OnErr, is_ok};
 ghost use Rattle.unit_io.specs.Accounts.{Accounts};
 ghost use Rattle.unit_io.specs.Charts.{Charts};
 ghost use Rattle.unit_io.specs.Costs.{ProgramsAt, Spends};
 ghost use Rattle.unit_io.specs.Leads.{IsStopped};
+ghost use Rattle.unit_io.specs.Spots.{Programs, IsSpot};
 ghost use Rattle.txn_status.specs.Status.{room_of, after_add};
 ghost use Rattle.store_steps.specs.Numbers.{AddsNumber, AddsNumberInSteps};
 
@@ -40,6 +41,9 @@ pub fn add_number<C: Chip>(
         result (C.told chip.old) (C.told chip.new) }
     // One program and two barriers.
     ensures costs { Spends (ProgramsAt status.old.place 1 2 6)
+        (C.told chip.old) (C.told chip.new) }
+    // Whatever the chip holds, only the first sector that is known clean is programmed.
+    ensures tidy { Spends (Programs status.old.place (IsSpot status.old.first) (is_ok result))
         (C.told chip.old) (C.told chip.new) }
     ensures accounts { Accounts IsStopped result (C.told chip.old) (C.told chip.new) }
 {

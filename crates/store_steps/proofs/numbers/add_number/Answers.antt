@@ -1,6 +1,8 @@
-use Rattle.std.proofs.Common.{Ok, Err, arith}
+use Rattle.std.proofs.Common.{Ok, Err, is_ok, arith}
 use Rattle.std.proofs.lemmas.Result.{err_from_is_err_and}
 use Rattle.unit_io.proofs.CostLemmas.{spends_barred, spends_at_then, spends_at_most}
+use Rattle.unit_io.specs.Spots.{IsSpot}
+use Rattle.unit_io.proofs.TidyLemmas.{tidy_halted, tidy_waits_then}
 use Rattle.store_steps.proofs.NumberLemmas.{number_adds, number_in_steps, no_number_in_steps}
 use Rattle.store_steps.proofs.numbers.add_number.Goals as goal
 
@@ -47,3 +49,17 @@ returns-clause-costs g c =
     let place = c.args.status.now.place in
     spends_at_then place 0 1 1 1 6 old mid (g.C.Chip.told c.add.new.chip)
     (spends_barred place 6 old mid (Ok tt) c.in_ok-barrier.ensures.did) c.add.ensures.costs
+
+pub returns-in_err-barrier-clause-tidy : goal.returns-in_err-barrier-clause-tidy
+returns-in_err-barrier-clause-tidy g c =
+    let status = c.args.status.now in
+    let e = err_from_is_err_and c.from_residual.result c.from_residual.ensures.1 in
+    rw e.1 (tidy_halted status.place (IsSpot status.first) e.0 (g.C.Chip.told c.args.chip.now)
+    (g.C.Chip.told c.barrier.new.chip) c.in_err-barrier.ensures.did)
+
+pub returns-clause-tidy : goal.returns-clause-tidy
+returns-clause-tidy g c =
+    let status = c.args.status.now in
+    tidy_waits_then status.place (IsSpot status.first) (is_ok c.add.result)
+    (g.C.Chip.told c.args.chip.now) (g.C.Chip.told c.barrier.new.chip)
+    (g.C.Chip.told c.add.new.chip) c.in_ok-barrier.ensures.did c.add.ensures.tidy
