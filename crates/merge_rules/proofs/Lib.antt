@@ -6,3 +6,4 @@ pub mod KnownLemmas
 pub mod GrownLemmas
 pub mod MergeLemmas
 pub mod FaultLemmas
+pub mod KnownCleanLemmas
