@@ -37,7 +37,7 @@ later_lawful p Spot done b a base two lawful clean =
     subst IsLawful (sym (append_assoc b a base)) (two.lawful (a ++ base) lawful clean)
 
 -- base sectors, behind the erase
-fills_pages : (p : ℕ) (done : Bool) (b a : Story) → Clears p true a
+pub fills_pages : (p : ℕ) (done : Bool) (b a : Story) → Clears p true a
     → Programs p (IsBaseSpotBelow 15) done b → Fills p 0 done (b ++ a)
 fills_pages p done b a one two =
     let did = refills_from p (IsBaseSpotBelow 15) done b a one two in record {
@@ -51,7 +51,7 @@ fills_pages p done b a one two =
     }
 
 -- log sectors behind these
-fills_logs : (p n : ℕ) (done : Bool) (b a : Story) → Fills p 0 true a
+pub fills_logs : (p n : ℕ) (done : Bool) (b a : Story) → Fills p 0 true a
     → Programs p (IsLogSpotBelow n) done b → Fills p n done (b ++ a)
 fills_logs p n done b a one two = record {
   silent = silent_both b a two.silent one.silent;

@@ -19,4 +19,5 @@ mod RoomLemmas
 mod SpendLemmas
 mod FewLemmas
 mod SmallLemmas
+pub mod TidyLemmas
 pub mod CompleteLemmas

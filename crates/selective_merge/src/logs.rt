@@ -1,10 +1,11 @@
 //! The log sectors of a merge.
-ghost use Rattle.std.specs.Prelude.{◌≡◌, ◌<◌, ◌≤◌, ◌+◌, ◌^◌, length, OnOk};
+ghost use Rattle.std.specs.Prelude.{◌≡◌, ◌<◌, ◌≤◌, ◌+◌, ◌^◌, length, is_ok, OnOk};
 ghost use Rattle.unit_io.specs.Accounts.{Accounts};
 ghost use Rattle.unit_io.specs.Charts.{Charts, Spares, Gains};
 ghost use Rattle.unit_io.specs.Costs.{ProgramsAt, Spends};
 ghost use Rattle.unit_io.specs.Leads.{IsStopped};
-ghost use Rattle.merge_rules.specs.Packs.{log_sector, HasLogs};
+ghost use Rattle.unit_io.specs.Spots.{Programs, IsSpot};
+ghost use Rattle.merge_rules.specs.Packs.{log_sector, IsLogSpotBelow, HasLogs};
 ghost use Rattle.selective_merge.specs.Writing.{WritesLog, WritesLogs};
 
 use chip_trait::Chip;
@@ -35,6 +36,8 @@ fn write_log<C: Chip>(
     ensures spares { OnOk result (Spares place (C.told chip.old) (C.told chip.new)) }
     ensures drawn { counter.new ≡ counter.old + 1 }
     ensures costs { Spends (ProgramsAt place 1 0 5) (C.told chip.old) (C.told chip.new) }
+    ensures tidy { Spends (Programs place (IsSpot (241 + i)) (is_ok result))
+        (C.told chip.old) (C.told chip.new) }
     ensures accounts { Accounts IsStopped result (C.told chip.old) (C.told chip.new) }
 {
     let log = Head {
@@ -69,6 +72,8 @@ pub fn write_logs<C: Chip>(
     ensures draws { (counter.old ≤ counter.new)
         × (counter.new ≤ counter.old + length payloads.now) }
     ensures costs { Spends (ProgramsAt place (length payloads.now) 0 5)
+        (C.told chip.old) (C.told chip.new) }
+    ensures tidy { Spends (Programs place (IsLogSpotBelow (length payloads.now)) (is_ok result))
         (C.told chip.old) (C.told chip.new) }
     ensures accounts { Accounts IsStopped result (C.told chip.old) (C.told chip.new) }
 {

@@ -9,6 +9,7 @@ ghost use Rattle.unit_directory.specs.Free.{free_count};
 ghost use Rattle.unit_io.specs.Accounts.{Accounts};
 ghost use Rattle.unit_io.specs.Costs.{Spends};
 ghost use Rattle.unit_io.specs.Reads.{OfContents};
+ghost use Rattle.steps.specs.Steps.{Tidies};
 ghost use Rattle.merge_rules.specs.Faults.{pages_fault, fault_with, TellsTheFault};
 ghost use Rattle.merge_rules.specs.Known.{KnowsPlaces};
 ghost use Rattle.merge_rules.specs.Pages.{IsFew};
@@ -76,6 +77,8 @@ fn merge_packed<C: Chip>(
         × (parts.new.counter ≤ parts.old.counter + 13) }
     ensures costs { Spends (ErasesFor parts.old.directory
         (slice_index parts.new.directory.current unit) (is_ok result))
+        (C.told chip.old) (C.told chip.new) }
+    ensures tidy { Tidies (tables_of parts.old) result (tables_of parts.new)
         (C.told chip.old) (C.told chip.new) }
     ensures accounts { Accounts (MoveCause (slice_index parts.old.directory.current unit)) result
         (C.told chip.old) (C.told chip.new) }
@@ -150,6 +153,8 @@ fn merge_known<C: Chip>(
     ensures costs { Spends (ErasesFor parts.old.directory
         (slice_index parts.new.directory.current unit) (is_ok result))
         (C.told chip.old) (C.told chip.new) }
+    ensures tidy { Tidies (tables_of parts.old) result (tables_of parts.new)
+        (C.told chip.old) (C.told chip.new) }
     ensures accounts { Accounts (MergeCause (slice_index parts.old.directory.current unit)
         (spots_in parts.old.overflow unit)) result (C.told chip.old) (C.told chip.new) }
 {
@@ -216,6 +221,8 @@ pub fn merge<C: Chip>(chip: &mut C, parts: &mut Parts, unit: u32) -> Result<(), 
         × (parts.new.counter ≤ parts.old.counter + 13) }
     ensures costs { Spends (ErasesFor parts.old.directory
         (slice_index parts.new.directory.current unit) (is_ok result))
+        (C.told chip.old) (C.told chip.new) }
+    ensures tidy { Tidies (tables_of parts.old) result (tables_of parts.new)
         (C.told chip.old) (C.told chip.new) }
     ensures accounts { Accounts (MergeCause (slice_index parts.old.directory.current unit)
         (spots_in parts.old.overflow unit)) result (C.told chip.old) (C.told chip.new) }

@@ -6,6 +6,8 @@ ghost use Rattle.unit_io.specs.Accounts.{Accounts};
 ghost use Rattle.unit_io.specs.Charts.{Charts};
 ghost use Rattle.unit_io.specs.Costs.{ErasesOnce, Spends};
 ghost use Rattle.unit_io.specs.Leads.{IsStopped};
+ghost use Rattle.unit_io.specs.Spots.{Rewrites};
+ghost use Rattle.steps.specs.Steps.{Tidies};
 ghost use Rattle.merge_rules.specs.Known.{KnowsPlaces};
 ghost use Rattle.selective_merge.specs.Moving.{tables_of, Holds};
 ghost use Rattle.selective_merge.specs.Spending.{ErasesFree};
@@ -32,6 +34,7 @@ fn write_overflow<C: Chip>(
     ensures tells { OnOk result (Charts (IsOpened place units generation)
         (C.told chip.old) (C.told chip.new)) }
     ensures costs { Spends (ErasesOnce place 3 (is_ok result)) (C.told chip.old) (C.told chip.new) }
+    ensures tidy { Spends (Rewrites place 1 (is_ok result)) (C.told chip.old) (C.told chip.new) }
     ensures accounts { Accounts IsStopped result (C.told chip.old) (C.told chip.new) }
 {
     begin_unit(chip, place)?;
@@ -72,6 +75,8 @@ pub fn open_overflow<C: Chip>(chip: &mut C, parts: &mut Parts) -> Result<Spot, C
     ensures draws { (parts.old.counter ≤ parts.new.counter)
         × (parts.new.counter ≤ parts.old.counter + 1) }
     ensures costs { Spends (ErasesFree parts.old.directory) (C.told chip.old) (C.told chip.new) }
+    ensures tidy { Tidies (tables_of parts.old) result (tables_of parts.new)
+        (C.told chip.old) (C.told chip.new) }
     ensures accounts { Accounts IsStopped result (C.told chip.old) (C.told chip.new) }
 {
     known_laws();

@@ -1,13 +1,14 @@
 //! The pages of a unit, moved to another place with the committed records applied.
-ghost use Rattle.std.specs.Prelude.{◌≡◌, ◌≢◌, ◌<◌, ◌≤◌, ◌↔◌, ℕ, IfOk, OnOk};
+ghost use Rattle.std.specs.Prelude.{◌≡◌, ◌≢◌, ◌<◌, ◌≤◌, ◌↔◌, ℕ, is_ok, IfOk, OnOk};
 ghost use Rattle.ipl_format.specs.Page.{IsPage, value_in};
 ghost use Rattle.log_records.specs.View.{record_of};
 ghost use Rattle.unit_io.specs.Accounts.{Accounts};
 ghost use Rattle.unit_io.specs.Charts.{Spares};
 ghost use Rattle.unit_io.specs.Costs.{ProgramsAt, Spends};
 ghost use Rattle.unit_io.specs.Reads.{OfContents};
+ghost use Rattle.unit_io.specs.Spots.{Programs, IsPieceSpot};
 ghost use Rattle.merge_rules.specs.Faults.{page_fault_from, pages_fault, TellsTheFault};
-ghost use Rattle.merge_rules.specs.Pages.{IsFew};
+ghost use Rattle.merge_rules.specs.Pages.{IsBaseSpotBelow, IsFew};
 ghost use Rattle.merge_rules.specs.Packs.{among};
 ghost use Rattle.merge_rules.specs.Moved.{IsRebased, MovesPage, HasMoved, IsAside};
 ghost use Rattle.selective_merge.specs.Homes.{from_home, value_with, MoveCause};
@@ -85,6 +86,8 @@ fn move_page<C: Chip>(
         (page_fault_from x (from_home home.now status.now.numbers log.now) page) result) }
     ensures spares { OnOk result (Spares place (C.told chip.old) (C.told chip.new)) }
     ensures costs { Spends (ProgramsAt place 16 0 4) (C.told chip.old) (C.told chip.new) }
+    ensures tidy { Spends (Programs place (IsPieceSpot page 16) (is_ok result))
+        (C.told chip.old) (C.told chip.new) }
     ensures accounts { Accounts (MoveCause home.now.place) result
         (C.told chip.old) (C.told chip.new) }
 {
@@ -122,6 +125,8 @@ pub fn move_pages<C: Chip>(
         (pages_fault x (from_home home.now status.now.numbers log.now)) result) }
     ensures spares { OnOk result (Spares place (C.told chip.old) (C.told chip.new)) }
     ensures costs { Spends (ProgramsAt place 240 0 4) (C.told chip.old) (C.told chip.new) }
+    ensures tidy { Spends (Programs place (IsBaseSpotBelow 15) (is_ok result))
+        (C.told chip.old) (C.told chip.new) }
     ensures accounts { Accounts (MoveCause home.now.place) result
         (C.told chip.old) (C.told chip.new) }
 {

@@ -5,13 +5,14 @@ ghost use Rattle.unit_io.specs.Charts.{Charts, Spares};
 ghost use Rattle.unit_io.specs.Costs.{ErasesOnce, ProgramsAt, Spends};
 ghost use Rattle.unit_io.specs.Leads.{IsStopped};
 ghost use Rattle.unit_io.specs.Reads.{OfContents};
+ghost use Rattle.unit_io.specs.Spots.{Programs, Rewrites, IsSpot};
 ghost use Rattle.merge_rules.specs.Faults.{pages_fault, TellsTheFault};
 ghost use Rattle.merge_rules.specs.Pages.{IsFew};
 ghost use Rattle.merge_rules.specs.Moved.{IsUnsealed};
 ghost use Rattle.merge_rules.specs.Merged.{IsFilled};
 ghost use Rattle.selective_merge.specs.Homes.{from_home, MoveCause};
 ghost use Rattle.selective_merge.specs.Throughout.{ChartsThroughout};
-ghost use Rattle.selective_merge.specs.Writing.{FillsPlace, IsSealed, SealsUnit, WritesUnit, TellsWritten};
+ghost use Rattle.selective_merge.specs.Writing.{Fills, FillsPlace, IsSealed, SealsUnit, WritesUnit, TellsWritten};
 
 use crate::home::Home;
 use crate::log::Log;
@@ -60,6 +61,8 @@ fn fill<C: Chip>(
         × (counter.new ≤ counter.old + length payloads.now) }
     ensures costs { Spends (ErasesOnce place 1 (is_ok result))
         (C.told chip.old) (C.told chip.new) }
+    ensures tidy { Spends (Fills place (length payloads.now) (is_ok result))
+        (C.told chip.old) (C.told chip.new) }
     ensures accounts { Accounts (MoveCause home.now.place) result
         (C.told chip.old) (C.told chip.new) }
 {
@@ -91,6 +94,8 @@ fn seal_unit<C: Chip>(
         (C.told chip.old) (C.told chip.new)) }
     ensures spares { OnOk result (Spares place (C.told chip.old) (C.told chip.new)) }
     ensures costs { Spends (ProgramsAt place 1 2 1) (C.told chip.old) (C.told chip.new) }
+    ensures tidy { Spends (Programs place (IsSpot 0) (is_ok result))
+        (C.told chip.old) (C.told chip.new) }
     ensures accounts { Accounts IsStopped result (C.told chip.old) (C.told chip.new) }
 {
     let mut payload = [0; 20];
@@ -145,6 +150,8 @@ pub fn write_unit<C: Chip>(
     ensures draws { (counter.old ≤ counter.new)
         × (counter.new ≤ counter.old + length payloads.now) }
     ensures costs { Spends (ErasesOnce place 3 (is_ok result))
+        (C.told chip.old) (C.told chip.new) }
+    ensures tidy { Spends (Rewrites place (241 + length payloads.now) (is_ok result))
         (C.told chip.old) (C.told chip.new) }
     ensures accounts { Accounts (MoveCause home.now.place) result
         (C.told chip.old) (C.told chip.new) }

@@ -4,6 +4,7 @@ ghost use Rattle.overflow.specs.Lists.{spots_in};
 ghost use Rattle.unit_io.specs.Accounts.{Accounts};
 ghost use Rattle.unit_io.specs.Costs.{Spends};
 ghost use Rattle.unit_io.specs.ReadsAt.{ReadsAt};
+ghost use Rattle.steps.specs.Steps.{Tidies};
 ghost use Rattle.merge_rules.specs.Known.{KnowsPlaces};
 ghost use Rattle.selective_merge.specs.Homes.{MergeCause};
 ghost use Rattle.selective_merge.specs.Merging.{Merges, StaysMirrored, MergesInSteps, FailsAsMerge, CompletesMerge};
@@ -42,6 +43,8 @@ fn merged_spot<C: Chip>(chip: &mut C, parts: &mut Parts, unit: u32) -> Result<Sp
     ensures draws { (parts.old.counter ≤ parts.new.counter)
         × (parts.new.counter ≤ parts.old.counter + 13) }
     ensures costs { Spends (ErasesFree parts.old.directory) (C.told chip.old) (C.told chip.new) }
+    ensures tidy { Tidies (tables_of parts.old) result (tables_of parts.new)
+        (C.told chip.old) (C.told chip.new) }
     ensures accounts { Accounts (MergeCause (slice_index parts.old.directory.current unit)
         (spots_in parts.old.overflow unit)) result (C.told chip.old) (C.told chip.new) }
 {
@@ -72,6 +75,8 @@ fn elsewhere<C: Chip>(chip: &mut C, parts: &mut Parts, unit: u32) -> Result<Spot
     ensures draws { (parts.old.counter ≤ parts.new.counter)
         × (parts.new.counter ≤ parts.old.counter + 13) }
     ensures costs { Spends (ErasesFree parts.old.directory) (C.told chip.old) (C.told chip.new) }
+    ensures tidy { Tidies (tables_of parts.old) result (tables_of parts.new)
+        (C.told chip.old) (C.told chip.new) }
     ensures accounts { Accounts (MergeCause (slice_index parts.old.directory.current unit)
         (spots_in parts.old.overflow unit)) result (C.told chip.old) (C.told chip.new) }
 {
@@ -121,6 +126,8 @@ pub fn log_place<C: Chip>(chip: &mut C, parts: &mut Parts, unit: u32) -> Result<
     ensures draws { (parts.old.counter ≤ parts.new.counter)
         × (parts.new.counter ≤ parts.old.counter + 13) }
     ensures costs { Spends (ErasesFree parts.old.directory) (C.told chip.old) (C.told chip.new) }
+    ensures tidy { Tidies (tables_of parts.old) result (tables_of parts.new)
+        (C.told chip.old) (C.told chip.new) }
     ensures accounts { Accounts (MergeCause (slice_index parts.old.directory.current unit)
         (spots_in parts.old.overflow unit)) result (C.told chip.old) (C.told chip.new) }
 {

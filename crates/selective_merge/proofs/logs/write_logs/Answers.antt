@@ -1,4 +1,4 @@
-use Rattle.std.proofs.Common.{◌≡◌, ◌<◌, ◌+◌, ℕ, [], length, Ok, Err, subst, arith, refl}
+use Rattle.std.proofs.Common.{◌≡◌, ◌<◌, ◌+◌, ℕ, true, false, [], length, Ok, Err, subst, arith, refl}
 use Rattle.std.specs.Prelude.{slice_index_or}
 use Rattle.std.proofs.lemmas.List.{get_or_read}
 use Rattle.std.proofs.lemmas.Result.{err_from_is_err_and}
@@ -7,11 +7,12 @@ use Rattle.ipl_format.specs.Sector.{Sector}
 use Rattle.unit_io.specs.Charts.{Charts, Gains}
 use Rattle.unit_io.specs.Costs.{ProgramsAt}
 use Rattle.unit_io.proofs.CostLemmas.{nothing_at, spends_at_most, spends_at_then, spends_none}
-use Rattle.merge_rules.specs.Packs.{log_sector, HasLogs}
+use Rattle.merge_rules.specs.Packs.{log_sector, IsLogSpotBelow, HasLogs}
 use Rattle.selective_merge.specs.Writing.{KeepsLogs}
 use Rattle.selective_merge.proofs.ThroughoutLemmas.{charts_none, charts_then}
 use Rattle.selective_merge.proofs.WriteLemmas.{logs_none, logs_more, keeps_none, keeps_more, keeps_failed, log_named, same_log}
 use Rattle.unit_io.proofs.SparesLemmas.{spares_none, spares_then}
+use Rattle.selective_merge.proofs.TidyLemmas.{tidy_none, tidy_log_more, tidy_logs}
 use Rattle.selective_merge.proofs.logs.write_logs.Goals as goal
 
 pub loop-i-init : goal.loop-i-init
@@ -26,6 +27,7 @@ loop-i-init g c =
           (HasLogs c.args.place head.unit head.generation c.args.counter.now payloads 0) told
           (logs_none c.args.place head.unit head.generation c.args.counter.now payloads);
       costs = spends_none (ProgramsAt c.args.place 0 0 5) told (nothing_at c.args.place 0 0 5);
+      tidy = tidy_none c.args.place (IsLogSpotBelow 0) true told;
       counts = counts_none told;
       spares = spares_none c.args.place told told refl;
       drawn = omega arith;
@@ -58,6 +60,7 @@ loop-i-preserved g c =
           (subst (λ (z : Sector). Charts (Gains p (241 + i) z) mid new) same says.tells)
           (λ x y z one two. logs_more p head.unit head.generation serial payloads i x y z one two);
       costs = spends_at_then p i 1 0 0 5 old mid new so.costs says.costs;
+      tidy = tidy_log_more p i true old mid new so.tidy says.tidy;
       counts = counts_then old mid new so.counts says.accounts.counts;
       spares = spares_then p old mid new so.spares says.spares;
       drawn = omega (arith, so.drawn, says.drawn);
@@ -115,3 +118,21 @@ returns-clause-costs g c =
 
 pub returns-clause-spares : goal.returns-clause-spares
 returns-clause-spares g c = c.loop-i.invariant.spares
+
+pub returns-in_err-write_log-clause-tidy : goal.returns-in_err-write_log-clause-tidy
+returns-in_err-write_log-clause-tidy g c =
+    let old = g.C.Chip.told c.args.chip.now in
+    let mid = g.C.Chip.told c.loop-i.chip in
+    let new = g.C.Chip.told c.write_log.new.chip in
+    let p = c.args.place in
+    let i = c.loop-i.i in
+    let low : i < length c.args.payloads.now = omega arith in
+    tidy_logs p (i + 1) (length c.args.payloads.now) false _ old new (omega (arith, low))
+    (tidy_log_more p i false old mid new c.loop-i.invariant.tidy c.in_err-write_log.ensures.tidy)
+
+pub returns-clause-tidy : goal.returns-clause-tidy
+returns-clause-tidy g c =
+    let i = c.loop-i.i in
+    let done : i ≡ length c.args.payloads.now = omega arith in
+    tidy_logs c.args.place i (length c.args.payloads.now) true true (g.C.Chip.told c.args.chip.now)
+    (g.C.Chip.told c.loop-i.chip) (omega (arith, done)) c.loop-i.invariant.tidy

@@ -1,4 +1,4 @@
-use Rattle.std.proofs.Common.{◌≡◌, ◌+◌, ℕ, List, None, Ok, length}
+use Rattle.std.proofs.Common.{◌≡◌, ◌+◌, ℕ, true, List, None, Ok, length}
 use Rattle.chip_trait.specs.Lawful.{Clean, age}
 use Rattle.chip_trait.specs.Told.{Told, History, Counts}
 use Rattle.ipl_rules.specs.State.{Map}
@@ -6,6 +6,7 @@ use Rattle.ipl_meaning.specs.Rests.{now, StoryRests}
 use Rattle.unit_io.specs.Charts.{Charts, Spares}
 use Rattle.unit_io.specs.Costs.{ProgramsAt, Spends}
 use Rattle.unit_io.specs.Leads.{IsSteady}
+use Rattle.unit_io.specs.Spots.{Programs}
 use Rattle.merge_rules.specs.Packs.{IsLogSpotBelow, HasLogs}
 use Rattle.selective_merge.specs.Writing.{KeepsLogs}
 use Rattle.selective_merge.proofs.logs.write_logs.Given as goal
@@ -19,6 +20,7 @@ pub record AreWritten (first t : Told) (p u generation serial : ℕ) (payloads :
       → KeepsLogs first.places p u generation serial payloads n m h first (Ok tt) t
   pub tells : Charts (HasLogs p u generation serial payloads n) first t
   pub costs : Spends (ProgramsAt p n 0 5) first t
+  pub tidy : Spends (Programs p (IsLogSpotBelow n) true) first t
   pub counts : Counts first t
   pub spares : Spares p first t
   pub drawn : counter ≡ serial + n

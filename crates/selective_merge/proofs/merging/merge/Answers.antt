@@ -14,6 +14,8 @@ use Rattle.selective_merge.proofs.SpendLemmas.{for_read, erases_for_behind}
 use Rattle.selective_merge.proofs.WholeLemmas.{merge_behind, merged_told, merge_unread, told_unread}
 use Rattle.merge_rules.proofs.FaultLemmas.{fault_unread}
 use Rattle.selective_merge.proofs.CompleteLemmas.{merge_told, merge_completes, spared_behind}
+use Rattle.steps.proofs.TablesLemmas.{tables_read}
+use Rattle.selective_merge.proofs.TidyLemmas.{tidies_behind}
 use Rattle.selective_merge.proofs.merging.merge.Goals as goal
 
 pub returns-in_err-home-clause-steps : goal.returns-in_err-home-clause-steps
@@ -134,3 +136,18 @@ returns-clause-spares g c =
     spared_behind (tables_of c.args.parts.now).places (g.C.Chip.told c.args.chip.now)
     (g.C.Chip.told c.learn.new.chip) (g.C.Chip.told c.merge_known.new.chip) c.merge_known.result
     c.in_ok-home.ensures.looks.reads.contents c.merge_known.ensures.spares
+
+pub returns-in_err-home-clause-tidy : goal.returns-in_err-home-clause-tidy
+returns-in_err-home-clause-tidy g c =
+    tables_read (IsLogRead (slice_index c.args.parts.now.directory.current c.args.unit)
+    (spots_in c.args.parts.now.overflow c.args.unit)) (tables_of c.args.parts.now) _
+    (g.C.Chip.told c.args.chip.now) (g.C.Chip.told c.learn.new.chip)
+    c.in_err-home.ensures.looks.reads
+
+pub returns-clause-tidy : goal.returns-clause-tidy
+returns-clause-tidy g c =
+    tidies_behind (IsLogRead (slice_index c.args.parts.now.directory.current c.args.unit)
+    (spots_in c.args.parts.now.overflow c.args.unit)) (tables_of c.args.parts.now)
+    (tables_of c.merge_known.new.parts) c.merge_known.result (g.C.Chip.told c.args.chip.now)
+    (g.C.Chip.told c.learn.new.chip) (g.C.Chip.told c.merge_known.new.chip)
+    c.in_ok-home.ensures.looks.reads c.merge_known.ensures.tidy

@@ -1,4 +1,4 @@
-use Rattle.std.proofs.Common.{◌≡◌, ◌<◌, ◌≤◌, ◌+◌, ℕ, true, false, length, slice_index, refl, sym, ◌∙◌, ap, subst, arith}
+use Rattle.std.proofs.Common.{◌≡◌, ◌<◌, ◌≤◌, ◌+◌, ℕ, true, false, length, slice_index, Ok, Err, refl, sym, ◌∙◌, ap, subst, arith}
 use Rattle.std.proofs.lemmas.List.{length-set}
 use Rattle.ipl_meaning.specs.Chart.{chart_of}
 use Rattle.ipl_meaning.specs.Mirrors.{NoneIsLost}
@@ -14,6 +14,7 @@ use Rattle.selective_merge.proofs.MovingLemmas.{moved_from}
 use Rattle.selective_merge.proofs.HeldLemmas.{given_back, taken_but, held_back, held_moved, home_used, more_free}
 use Rattle.selective_merge.proofs.MergedLemmas.{to_merge, many_packs, merged_there, merged_steps, merge_failed, stays_mirrored}
 use Rattle.selective_merge.proofs.CompleteLemmas.{used_spared}
+use Rattle.selective_merge.proofs.TidyLemmas.{moves_tidily, gives_back_tidily}
 use Rattle.selective_merge.proofs.merging.merge_packed.Goals as goal
 
 pub take_free-place-requires : goal.take_free-place-requires
@@ -312,3 +313,42 @@ returns-in-Ok-clause-drawn g c =
       c.move_unit.ensures.counter,
       c.move_unit.ensures.room,
     )
+
+pub returns-in-Ok-clause-tidy : goal.returns-in-Ok-clause-tidy
+returns-in-Ok-clause-tidy g c =
+    let t = tables_of c.args.parts.now in
+    let after = tables_of c.move_unit.new.parts in
+    let u = c.args.unit in
+    let p = c.take_free-place.result in
+    let next = c.write_unit.new.counter in
+    let used = length c.payloads-payloads.result.now in
+    moves_tidily (g.C.Chip.told c.args.chip.now).places t c.requires.known p
+    c.take_free-place.ensures.free (Unit {0}) after u used next (Ok tt)
+    (g.C.Chip.told c.args.chip.now) (g.C.Chip.told c.write_unit.new.chip) c.requires.unit c.facts.ensures.logs
+    (subst (λ (d : Places). IsMoved (record {
+      places = d;
+      overflow = t.overflow;
+      status = t.status;
+      next = next;
+      active = t.active;
+    }) after u p used) c.take_free-place.ensures.taken
+    (c.move_unit.ensures.moved c.requires.known.overflows_apart)) c.in-Ok.ensures.tidy
+
+pub returns-in-Err-clause-tidy : goal.returns-in-Err-clause-tidy
+returns-in-Err-clause-tidy g c =
+    let t = tables_of c.args.parts.now in
+    let p = c.take_free-place.result in
+    let next = c.write_unit.new.counter in
+    let back : c.give_back.new.self ≡ t.places =
+    c.give_back.ensures ∙ (ap (λ (d : Places). with_use d p false) c.take_free-place.ensures.taken
+    ∙ given_back t.places p c.take_free-place.ensures.in_range c.take_free-place.ensures.free) in
+    gives_back_tidily (g.C.Chip.told c.args.chip.now).places t c.requires.known p
+    c.take_free-place.ensures.free (Unit {0}) _ _ next (Err c.in-Err.fault)
+    (g.C.Chip.told c.args.chip.now) (g.C.Chip.told c.write_unit.new.chip)
+    (ap (λ (d : Places). record {
+      places = d;
+      overflow = t.overflow;
+      status = t.status;
+      next = next;
+      active = t.active;
+    }) back) c.in-Err.ensures.tidy

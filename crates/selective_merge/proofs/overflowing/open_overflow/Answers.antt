@@ -1,4 +1,4 @@
-use Rattle.std.proofs.Common.{true, ◌≡◌, ◌+◌, ℕ, false, refl, sym, ◌∙◌, ap, subst, arith}
+use Rattle.std.proofs.Common.{true, ◌≡◌, ◌+◌, ℕ, false, Ok, refl, sym, ◌∙◌, ap, subst, arith}
 use Rattle.ipl_base.specs.declared.spot.Spot.{Spot}
 use Rattle.ipl_meaning.specs.Chart.{chart_of}
 use Rattle.ipl_meaning.specs.Tables.{Places, with_use}
@@ -8,6 +8,7 @@ use Rattle.selective_merge.specs.Moving.{tables_of}
 use Rattle.selective_merge.proofs.HeldLemmas.{given_back, held_back}
 use Rattle.selective_merge.proofs.SpendLemmas.{frees_once}
 use Rattle.selective_merge.proofs.OverflowLemmas.{opened_mirrors, opened_steps, open_failed, tables_same}
+use Rattle.selective_merge.proofs.TidyLemmas.{opens_tidily}
 use Rattle.selective_merge.proofs.overflowing.open_overflow.Goals as goal
 
 pub take_free-place-requires : goal.take_free-place-requires
@@ -107,3 +108,14 @@ returns-in-Err-clause-costs g c =
     frees_once (tables_of c.args.parts.now).places c.take_free-place.result false
     (g.C.Chip.told c.args.chip.now) (g.C.Chip.told c.write_overflow.new.chip)
     c.take_free-place.ensures.free c.in-Err.ensures.costs
+
+pub returns-in-Ok-clause-tidy : goal.returns-in-Ok-clause-tidy
+returns-in-Ok-clause-tidy g c =
+    let t = tables_of c.args.parts.now in
+    let p = c.take_free-place.result in
+    opens_tidily (g.C.Chip.told c.args.chip.now).places t c.requires.known p
+    c.take_free-place.ensures.free Spot _ c.draw-generation.new.self
+    (Ok (record { place = p; sector = 1 })) (g.C.Chip.told c.args.chip.now)
+    (g.C.Chip.told c.write_overflow.new.chip)
+    (tables_same t _ _ _ _ _ _ c.take_free-place.ensures.taken c.add_place.ensures refl)
+    c.in-Ok.ensures.tidy

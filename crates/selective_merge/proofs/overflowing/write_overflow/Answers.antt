@@ -5,6 +5,7 @@ use Rattle.ipl_format.specs.Sector.{Sector}
 use Rattle.ipl_meaning.proofs.MirrorLemmas.{free_places_are_idle}
 use Rattle.unit_io.proofs.CostLemmas.{spends_once_at_most, spends_once_then}
 use Rattle.selective_merge.proofs.OverflowLemmas.{HeaderSays, IsOverflowHead, open_unerased, place_opened, opened_told}
+use Rattle.selective_merge.proofs.TidyLemmas.{tidy_headed}
 use Rattle.selective_merge.proofs.overflowing.write_overflow.Goals as goal
 
 pub returns-in_err-begin_unit-clause-opens : goal.returns-in_err-begin_unit-clause-opens
@@ -76,3 +77,9 @@ returns-clause-costs g c =
     spends_once_then c.args.place 1 1 2 3 (is_ok c.seal.result) (g.C.Chip.told c.args.chip.now)
     (g.C.Chip.told c.begin_unit.new.chip) (g.C.Chip.told c.seal.new.chip)
     c.in_ok-begin_unit.ensures.costs c.seal.ensures.costs
+
+pub returns-clause-tidy : goal.returns-clause-tidy
+returns-clause-tidy g c =
+    tidy_headed c.args.place (is_ok c.seal.result) (g.C.Chip.told c.args.chip.now)
+    (g.C.Chip.told c.begin_unit.new.chip) (g.C.Chip.told c.seal.new.chip)
+    c.in_ok-begin_unit.ensures.tidy c.seal.ensures.tidy

@@ -8,6 +8,8 @@ use Rattle.selective_merge.proofs.ThroughoutLemmas.{page_asked_at}
 use Rattle.unit_io.proofs.SparesLemmas.{spares_none, spares_behind}
 use Rattle.merge_rules.specs.Faults.{page_fault_from}
 use Rattle.merge_rules.proofs.FaultLemmas.{fault_as, page_told, page_fine, tells_written}
+use Rattle.unit_io.specs.Spots.{IsPieceSpot}
+use Rattle.selective_merge.proofs.TidyLemmas.{tidy_read, tidy_behind}
 use Rattle.selective_merge.proofs.pages.move_page.Goals as goal
 
 pub returns-in_err-read_page-clause-moves : goal.returns-in_err-read_page-clause-moves
@@ -93,3 +95,21 @@ returns-clause-spares g c =
     (spares_none c.args.place old mid (page_asked_at {T = Unit {0}} c.args.home.now.place
     c.args.page c.from-count.result (Ok tt) old mid read.asks read.accounts.counts).contents)
     c.program_page.ensures.spares
+
+pub returns-in_err-read_page-clause-tidy : goal.returns-in_err-read_page-clause-tidy
+returns-in_err-read_page-clause-tidy g c =
+    let old = g.C.Chip.told c.args.chip.now in
+    let new = g.C.Chip.told c.read_page.new.chip in
+    tidy_read _ c.args.place (IsPieceSpot c.args.page 16) _ old new (page_asked_at {T = Unit {0}}
+    c.args.home.now.place c.args.page c.from-count.result (Err c.in_err-read_page.field-0.0) old new
+    c.in_err-read_page.ensures.asks c.in_err-read_page.ensures.accounts.counts)
+
+pub returns-clause-tidy : goal.returns-clause-tidy
+returns-clause-tidy g c =
+    let old = g.C.Chip.told c.args.chip.now in
+    let mid = g.C.Chip.told c.read_page.new.chip in
+    let read = c.in_ok-read_page.ensures in
+    tidy_behind _ c.args.place (IsPieceSpot c.args.page 16) _ old mid
+    (g.C.Chip.told c.program_page.new.chip)
+    (page_asked_at {T = Unit {0}} c.args.home.now.place c.args.page c.from-count.result (Ok tt) old
+    mid read.asks read.accounts.counts) c.program_page.ensures.tidy

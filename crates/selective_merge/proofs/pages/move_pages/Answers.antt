@@ -1,4 +1,4 @@
-use Rattle.std.proofs.Common.{◌≡◌, ◌+◌, ◌*◌, ◌<◌, ◌≤◌, ℕ, replicate, Ok, Err, subst, arith, refl, sym, ◌∙◌}
+use Rattle.std.proofs.Common.{◌≡◌, ◌+◌, ◌*◌, ◌<◌, ◌≤◌, ℕ, true, false, replicate, Ok, Err, subst, arith, refl, sym, ◌∙◌}
 use Rattle.std.proofs.lemmas.List.{length-set}
 use Rattle.std.proofs.lemmas.Result.{err_from_is_err_and}
 use Rattle.chip_trait.proofs.CountsLemmas.{counts_none, counts_then}
@@ -16,6 +16,8 @@ use Rattle.ipl_base.proofs.FirstLemmas.{first_more}
 use Rattle.unit_io.proofs.SparesLemmas.{spares_none, spares_then}
 use Rattle.merge_rules.specs.Faults.{page_fault_from}
 use Rattle.merge_rules.proofs.FaultLemmas.{fault_as, page_from_alike, first_page}
+use Rattle.selective_merge.proofs.TidyLemmas.{tidy_none, tidy_page_more, tidy_pages}
+use Rattle.merge_rules.specs.Pages.{IsBaseSpotBelow}
 use Rattle.selective_merge.proofs.pages.move_pages.Goals as goal
 
 pub loop-page-init : goal.loop-page-init
@@ -29,6 +31,7 @@ loop-page-init g c =
       tells = charts_none (HasMoved from c.args.place generation (replicate 15 0) 0) told
           (moved_none from c.args.place generation (replicate 15 0));
       costs = spends_none (ProgramsAt c.args.place 0 0 4) told (nothing_at c.args.place 0 0 4);
+      tidy = tidy_none c.args.place (IsBaseSpotBelow 0) true told;
       counts = counts_none told;
       sound = λ x _. refl;
       spares = spares_none c.args.place told told refl;
@@ -63,6 +66,7 @@ loop-page-preserved g c =
           (omega (arith, low, so.long)) so.few small one two);
       costs = spends_at_most p (16 * k + 16) (16 * (k + 1)) 0 0 4 old new (omega arith) (omega arith)
           (spends_at_then p (16 * k) 16 0 0 4 old mid new so.costs says.costs);
+      tidy = tidy_page_more p k true old mid new so.tidy says.tidy;
       counts = counts_then old mid new so.counts says.accounts.counts;
       sound = λ x told.
           let (y, told_y, same) = so.spares x told in
@@ -157,3 +161,21 @@ returns-clause-fault g c = λ x told.
 
 pub returns-clause-spares : goal.returns-clause-spares
 returns-clause-spares g c = c.loop-page.invariant.spares
+
+pub returns-in_err-count-clause-tidy : goal.returns-in_err-count-clause-tidy
+returns-in_err-count-clause-tidy g c =
+    let old = g.C.Chip.told c.args.chip.now in
+    let mid = g.C.Chip.told c.loop-page.chip in
+    let new = g.C.Chip.told c.move_page.new.chip in
+    let p = c.args.place in
+    let k = c.loop-page.page in
+    let low : k < 15 = omega arith in
+    tidy_pages p (k + 1) 15 false _ old new (omega (arith, low))
+    (tidy_page_more p k false old mid new c.loop-page.invariant.tidy c.in_err-count.ensures.tidy)
+
+pub returns-clause-tidy : goal.returns-clause-tidy
+returns-clause-tidy g c =
+    let k = c.loop-page.page in
+    let done : k ≡ 15 = omega arith in
+    tidy_pages c.args.place k 15 true true (g.C.Chip.told c.args.chip.now)
+    (g.C.Chip.told c.loop-page.chip) (omega (arith, done)) c.loop-page.invariant.tidy

@@ -1,4 +1,4 @@
-use Rattle.std.proofs.Common.{◌≡◌, ◌*◌, ℕ, List, None, length}
+use Rattle.std.proofs.Common.{◌≡◌, ◌*◌, ℕ, true, List, None, length}
 use Rattle.chip_trait.specs.Lawful.{Clean, age}
 use Rattle.chip_trait.specs.Told.{Told, History, Counts}
 use Rattle.ipl_rules.specs.State.{Map}
@@ -9,6 +9,7 @@ use Rattle.unit_io.specs.Reads.{OfContents}
 use Rattle.merge_rules.specs.Faults.{page_fault_from}
 use Rattle.unit_io.specs.Costs.{ProgramsAt, Spends}
 use Rattle.unit_io.specs.Leads.{IsSteady}
+use Rattle.unit_io.specs.Spots.{Programs}
 use Rattle.merge_rules.specs.Moved.{Source, HasMoved}
 use Rattle.merge_rules.specs.Pages.{IsBaseSpotBelow, IsFew}
 use Rattle.selective_merge.specs.Homes.{from_home}
@@ -24,6 +25,7 @@ pub record AreMoved (from : Source) (p generation : ℕ) (first t : Told) (k : �
       → MovedSoFar first.places from p generation m h k pieces first t
   pub tells : Charts (HasMoved from p generation pieces k) first t
   pub costs : Spends (ProgramsAt p (16 * k) 0 4) first t
+  pub tidy : Spends (Programs p (IsBaseSpotBelow k) true) first t
   pub counts : Counts first t
   pub sound : OfContents first (λ x. first_below (page_fault_from x from) k ≡ None)
   pub spares : Spares p first t

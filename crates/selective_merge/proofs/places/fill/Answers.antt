@@ -9,6 +9,7 @@ use Rattle.ipl_base.specs.declared.fault.ChipFault.{ChipFault}
 use Rattle.merge_rules.specs.Faults.{IsTheFault}
 use Rattle.merge_rules.proofs.FaultLemmas.{fault_as, fault_stopped, pages_from_alike}
 use Rattle.unit_io.proofs.SparesLemmas.{spares_then}
+use Rattle.selective_merge.proofs.TidyLemmas.{tidy_less, tidy_paged, tidy_logged}
 use Rattle.selective_merge.proofs.places.fill.Goals as goal
 
 pub returns-in_err-begin_unit-clause-fills : goal.returns-in_err-begin_unit-clause-fills
@@ -198,3 +199,37 @@ returns-clause-spares g c =
     spares_then c.args.place old late new
     (spares_then c.args.place old mid late c.in_ok-begin_unit.ensures.spares
     c.in_ok-pieces.ensures.spares) c.in_ok-write_logs.ensures.spares
+
+pub returns-in_err-pieces-clause-tidy : goal.returns-in_err-pieces-clause-tidy
+returns-in_err-pieces-clause-tidy g c =
+    let old = g.C.Chip.told c.args.chip.now in
+    let mid = g.C.Chip.told c.begin_unit.new.chip in
+    let late = g.C.Chip.told c.move_pages.new.chip in
+    let p = c.args.place in
+    let e = err_from_is_err_and c.from_residual-in_err-pieces.result
+    c.from_residual-in_err-pieces.ensures.1 in
+    rw e.1 (tidy_less p 0 (length c.args.payloads.now) old late
+    (tidy_paged p false old mid late c.in_ok-begin_unit.ensures.tidy c.in_err-pieces.ensures.tidy))
+
+pub returns-in_err-write_logs-clause-tidy : goal.returns-in_err-write_logs-clause-tidy
+returns-in_err-write_logs-clause-tidy g c =
+    let old = g.C.Chip.told c.args.chip.now in
+    let mid = g.C.Chip.told c.begin_unit.new.chip in
+    let late = g.C.Chip.told c.move_pages.new.chip in
+    let p = c.args.place in
+    let e = err_from_is_err_and c.from_residual-in_err-write_logs.result
+    c.from_residual-in_err-write_logs.ensures.1 in
+    rw e.1 (tidy_logged p (length c.args.payloads.now) false old late
+    (g.C.Chip.told c.write_logs.new.chip)
+    (tidy_paged p true old mid late c.in_ok-begin_unit.ensures.tidy c.in_ok-pieces.ensures.tidy)
+    c.in_err-write_logs.ensures.tidy)
+
+pub returns-clause-tidy : goal.returns-clause-tidy
+returns-clause-tidy g c =
+    let old = g.C.Chip.told c.args.chip.now in
+    let mid = g.C.Chip.told c.begin_unit.new.chip in
+    let late = g.C.Chip.told c.move_pages.new.chip in
+    let p = c.args.place in
+    tidy_logged p (length c.args.payloads.now) true old late (g.C.Chip.told c.write_logs.new.chip)
+    (tidy_paged p true old mid late c.in_ok-begin_unit.ensures.tidy c.in_ok-pieces.ensures.tidy)
+    c.in_ok-write_logs.ensures.tidy

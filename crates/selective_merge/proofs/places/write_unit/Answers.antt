@@ -1,4 +1,4 @@
-use Rattle.std.proofs.Common.{ℕ, false, arith, subst}
+use Rattle.std.proofs.Common.{ℕ, false, length, arith, subst}
 use Rattle.std.proofs.lemmas.Result.{err_from_is_err_and}
 use Rattle.std.specs.Prelude.{is_ok}
 use Rattle.ipl_meaning.proofs.MirrorLemmas.{free_places_are_idle}
@@ -9,6 +9,7 @@ use Rattle.selective_merge.proofs.SealLemmas.{unit_written, written_told, fill_f
 use Rattle.merge_rules.specs.Faults.{pages_fault}
 use Rattle.merge_rules.proofs.FaultLemmas.{fault_as, tells_written}
 use Rattle.unit_io.proofs.SparesLemmas.{spares_behind}
+use Rattle.selective_merge.proofs.TidyLemmas.{tidy_sealed}
 use Rattle.selective_merge.proofs.places.write_unit.Goals as goal
 
 pub returns-in_err-pieces-clause-writes : goal.returns-in_err-pieces-clause-writes
@@ -80,3 +81,9 @@ returns-clause-spares g c =
     spares_behind c.args.place (g.C.Chip.told c.args.chip.now) (g.C.Chip.told c.fill.new.chip)
     (g.C.Chip.told c.seal_unit.new.chip) c.seal_unit.result c.in_ok-pieces.ensures.spares
     c.seal_unit.ensures.spares
+
+pub returns-clause-tidy : goal.returns-clause-tidy
+returns-clause-tidy g c =
+    tidy_sealed c.args.place (length c.args.payloads.now) (is_ok c.seal_unit.result)
+    (g.C.Chip.told c.args.chip.now) (g.C.Chip.told c.fill.new.chip)
+    (g.C.Chip.told c.seal_unit.new.chip) c.in_ok-pieces.ensures.tidy c.seal_unit.ensures.tidy

@@ -13,6 +13,8 @@ use Rattle.selective_merge.proofs.SpendLemmas.{erases_free_behind, frees_none, f
 use Rattle.selective_merge.proofs.WholeLemmas.{told_unread}
 use Rattle.merge_rules.proofs.FaultLemmas.{fault_unread}
 use Rattle.selective_merge.proofs.CompleteLemmas.{fails_behind, fails_complete}
+use Rattle.steps.proofs.TablesLemmas.{tables_read}
+use Rattle.selective_merge.proofs.TidyLemmas.{tidies_behind}
 use Rattle.selective_merge.proofs.placing.log_place.Goals as goal
 
 pub returns-in-Some-clause-steps : goal.returns-in-Some-clause-steps
@@ -210,3 +212,26 @@ returns-clause-complete g c =
     let old = g.C.Chip.told c.args.chip.now in
     fails_complete old.places (tables_of c.args.parts.now) c.args.unit c.elsewhere.result old
     (returns-clause-fault g c)
+
+pub returns-in_err-carried-clause-tidy : goal.returns-in_err-carried-clause-tidy
+returns-in_err-carried-clause-tidy g c =
+    tables_read (IsLogRead (slice_index c.args.parts.now.directory.current c.args.unit)
+    (spots_in c.args.parts.now.overflow c.args.unit)) (tables_of c.args.parts.now) _
+    (g.C.Chip.told c.args.chip.now) (g.C.Chip.told c.count_carried.new.chip)
+    c.in_err-carried.ensures.looks.reads
+
+pub returns-then-carried-le-THRESHOLD-clause-tidy : goal.returns-then-carried-le-THRESHOLD-clause-tidy
+returns-then-carried-le-THRESHOLD-clause-tidy g c =
+    tidies_behind (IsLogRead (slice_index c.args.parts.now.directory.current c.args.unit)
+    (spots_in c.args.parts.now.overflow c.args.unit)) (tables_of c.args.parts.now)
+    (tables_of c.merged_spot.new.parts) c.merged_spot.result (g.C.Chip.told c.args.chip.now)
+    (g.C.Chip.told c.count_carried.new.chip) (g.C.Chip.told c.merged_spot.new.chip)
+    c.in_ok-carried.ensures.looks.reads c.merged_spot.ensures.tidy
+
+pub returns-clause-tidy : goal.returns-clause-tidy
+returns-clause-tidy g c =
+    tidies_behind (IsLogRead (slice_index c.args.parts.now.directory.current c.args.unit)
+    (spots_in c.args.parts.now.overflow c.args.unit)) (tables_of c.args.parts.now)
+    (tables_of c.elsewhere.new.parts) c.elsewhere.result (g.C.Chip.told c.args.chip.now)
+    (g.C.Chip.told c.count_carried.new.chip) (g.C.Chip.told c.elsewhere.new.chip)
+    c.in_ok-carried.ensures.looks.reads c.elsewhere.ensures.tidy
