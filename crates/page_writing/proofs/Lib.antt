@@ -7,3 +7,4 @@ mod OutLemmas
 pub mod KeepLemmas
 mod CauseLemmas
 pub mod SpendLemmas
+mod TidyLemmas

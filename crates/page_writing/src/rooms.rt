@@ -8,6 +8,7 @@ ghost use Rattle.unit_io.specs.Costs.{Spends};
 ghost use Rattle.unit_io.specs.Kinds.{sector_named};
 ghost use Rattle.unit_io.specs.Reads.{OfContents};
 ghost use Rattle.unit_log.specs.Looks.{IsAt, LooksAt};
+ghost use Rattle.steps.specs.Steps.{Tidies};
 ghost use Rattle.merge_rules.specs.Known.{KnowsPlaces};
 ghost use Rattle.selective_merge.specs.Merging.{FailsAsMerge, CompletesMerge};
 ghost use Rattle.selective_merge.specs.Moving.{tables_of, Holds};
@@ -81,6 +82,8 @@ pub fn find_room<C: Chip>(chip: &mut C, parts: &mut Parts, unit: u32) -> Result<
     ensures draws { (parts.old.counter ≤ parts.new.counter)
         × (parts.new.counter ≤ parts.old.counter + 13) }
     ensures costs { Spends (ErasesFree parts.old.directory) (C.told chip.old) (C.told chip.new) }
+    ensures tidy { Tidies (tables_of parts.old) result (tables_of parts.new)
+        (C.told chip.old) (C.told chip.new) }
     ensures accounts { Accounts (WritingCause (tables_of parts.old) unit
         (slice_index parts.new.directory.current unit)) result (C.told chip.old) (C.told chip.new) }
 {

@@ -4,6 +4,7 @@ ghost use Rattle.unit_io.specs.Accounts.{Accounts};
 ghost use Rattle.unit_io.specs.Charts.{Charts};
 ghost use Rattle.unit_io.specs.Costs.{ProgramsAt, Spends};
 ghost use Rattle.unit_io.specs.Leads.{IsStopped};
+ghost use Rattle.steps.specs.Steps.{Tidies};
 ghost use Rattle.merge_rules.specs.Known.{KnowsPlaces};
 ghost use Rattle.selective_merge.specs.Merging.{FailsAsMerge, CompletesMerge};
 ghost use Rattle.selective_merge.specs.Moving.{tables_of, Holds};
@@ -79,6 +80,8 @@ fn write_log<C: Chip>(
     ensures places { parts.new.directory.current ≡ parts.old.directory.current }
     ensures drawn { parts.new.counter ≡ parts.old.counter + 1 }
     ensures costs { Spends (ProgramsAt at.spot.place 1 0 5) (C.told chip.old) (C.told chip.new) }
+    ensures tidy { Tidies (tables_of parts.old) result (tables_of parts.new)
+        (C.told chip.old) (C.told chip.new) }
     ensures accounts { Accounts IsStopped result (C.told chip.old) (C.told chip.new) }
 {
     parts.directory.facts();
@@ -135,6 +138,8 @@ pub fn write_out<C: Chip>(
     ensures draws { (parts.old.counter ≤ parts.new.counter)
         × (parts.new.counter ≤ parts.old.counter + 14) }
     ensures costs { Spends (ErasesAndLogs parts.old.directory) (C.told chip.old) (C.told chip.new) }
+    ensures tidy { Tidies (tables_of parts.old) result (tables_of parts.new)
+        (C.told chip.old) (C.told chip.new) }
     ensures accounts { Accounts (WritingCause (tables_of parts.old) unit
         (slice_index parts.new.directory.current unit)) result (C.told chip.old) (C.told chip.new) }
 {

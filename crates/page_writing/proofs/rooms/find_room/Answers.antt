@@ -1,4 +1,4 @@
-use Rattle.std.proofs.Common.{◌≡◌, ◌<◌, ◌-◌, ℕ, slice_index, Ok, Err, refl, sym, ◌∙◌, subst, arith}
+use Rattle.std.proofs.Common.{◌≡◌, ◌<◌, ◌-◌, ℕ, slice_index, Result, Ok, Err, refl, sym, ◌∙◌, subst, arith}
 use Rattle.std.proofs.lemmas.Result.{err_from_is_err_and}
 use Rattle.chip_trait.proofs.CountsLemmas.{counts_then}
 use Rattle.ipl_base.specs.declared.fault.ChipFault.TheVariants.{ReadFault}
@@ -19,6 +19,12 @@ use Rattle.page_writing.proofs.SpendLemmas.{frees_read, frees_behind, frees_then
 use Rattle.merge_rules.proofs.FaultLemmas.{fault_as, fault_unread}
 use Rattle.selective_merge.proofs.CompleteLemmas.{fails_behind, fails_complete}
 use Rattle.page_writing.proofs.RoomLemmas.{header_first}
+use Rattle.ipl_base.specs.declared.fault.ChipFault.{ChipFault}
+use Rattle.ipl_base.specs.declared.spot.Spot.{Spot}
+use Rattle.steps.proofs.TablesLemmas.{tables_read}
+use Rattle.selective_merge.proofs.TidyLemmas.{tidies_behind}
+use Rattle.page_writing.specs.declared.rooms.LogSpot.{LogSpot}
+use Rattle.page_writing.proofs.TidyLemmas.{tidies_before}
 use Rattle.page_writing.proofs.rooms.find_room.Goals as goal
 
 -- ---- the header wasn't read
@@ -395,3 +401,61 @@ returns-in_err-merged-clause-complete g c =
     let old = g.C.Chip.told c.args.chip.now in
     fails_complete old.places (tables_of c.args.parts.now) c.args.unit
     c.from_residual-in_err-merged.result old (returns-in_err-merged-clause-fault g c)
+
+-- ---- what was added, by the tables alone
+
+pub returns-in_err-generation-clause-tidy : goal.returns-in_err-generation-clause-tidy
+returns-in_err-generation-clause-tidy g c =
+    let e = err_from_is_err_and c.from_residual.result c.from_residual.ensures.1 in
+    rw e.1 (tables_read {T = LogSpot} _ (tables_of c.args.parts.now) (Err e.0)
+    (g.C.Chip.told c.args.chip.now) (g.C.Chip.told c.read_generation.new.chip)
+    c.in_err-generation.ensures.looks.reads)
+
+pub returns-in_err-spot-clause-tidy : goal.returns-in_err-spot-clause-tidy
+returns-in_err-spot-clause-tidy g c =
+    let e = err_from_is_err_and c.from_residual-in_err-spot.result
+    c.from_residual-in_err-spot.ensures.1 in
+    rw e.1 (tidies_behind {U = LogSpot} _ (tables_of c.args.parts.now)
+    (tables_of c.log_place.new.parts) (Err e.0) (g.C.Chip.told c.args.chip.now)
+    (g.C.Chip.told c.read_generation.new.chip) (g.C.Chip.told c.log_place.new.chip)
+    c.in_ok-generation.ensures.looks.reads c.in_err-spot.ensures.tidy)
+
+pub returns-then-place-home-clause-tidy : goal.returns-then-place-home-clause-tidy
+returns-then-place-home-clause-tidy g c =
+    let done : Result Spot ChipFault = Ok c.in_ok-spot.spot in
+    tidies_behind _ (tables_of c.args.parts.now) (tables_of c.log_place.new.parts) done
+    (g.C.Chip.told c.args.chip.now) (g.C.Chip.told c.read_generation.new.chip)
+    (g.C.Chip.told c.log_place.new.chip) c.in_ok-generation.ensures.looks.reads
+    c.in_ok-spot.ensures.tidy
+
+pub returns-in_err-merged-clause-tidy : goal.returns-in_err-merged-clause-tidy
+returns-in_err-merged-clause-tidy g c =
+    let e = err_from_is_err_and c.from_residual-in_err-merged.result
+    c.from_residual-in_err-merged.ensures.1 in
+    let old = g.C.Chip.told c.args.chip.now in
+    let mid = g.C.Chip.told c.read_generation.new.chip in
+    let new = g.C.Chip.told c.log_place.new.chip in
+    let last = g.C.Chip.told c.read_generation-2.new.chip in
+    let t = tables_of c.args.parts.now in
+    let after = tables_of c.log_place.new.parts in
+    let reads = c.in_ok-generation.ensures.looks.reads in
+    let done : Result Spot ChipFault = Ok c.in_ok-spot.spot in
+    rw e.1 (tidies_before {U = LogSpot} _ t after Spot c.in_ok-spot.spot (Err e.0) old new last
+    (counts_then old mid new reads.counts c.in_ok-spot.ensures.accounts.counts)
+    (tidies_behind _ t after done old mid new reads c.in_ok-spot.ensures.tidy)
+    c.in_err-merged.ensures.looks.reads)
+
+pub returns-clause-tidy : goal.returns-clause-tidy
+returns-clause-tidy g c =
+    let old = g.C.Chip.told c.args.chip.now in
+    let mid = g.C.Chip.told c.read_generation.new.chip in
+    let new = g.C.Chip.told c.log_place.new.chip in
+    let last = g.C.Chip.told c.read_generation-2.new.chip in
+    let t = tables_of c.args.parts.now in
+    let after = tables_of c.log_place.new.parts in
+    let reads = c.in_ok-generation.ensures.looks.reads in
+    let done : Result Spot ChipFault = Ok c.in_ok-spot.spot in
+    tidies_before _ t after Spot c.in_ok-spot.spot done old new last
+    (counts_then old mid new reads.counts c.in_ok-spot.ensures.accounts.counts)
+    (tidies_behind _ t after done old mid new reads c.in_ok-spot.ensures.tidy)
+    c.in_ok-merged.ensures.looks.reads

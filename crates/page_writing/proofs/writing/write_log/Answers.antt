@@ -6,6 +6,7 @@ use Rattle.selective_merge.specs.Moving.{tables_of}
 use Rattle.page_writing.specs.Writing.{IsAfterLog, IsLogOf}
 use Rattle.page_writing.proofs.LogLemmas.{log_told, log_steps}
 use Rattle.page_writing.proofs.SpotLemmas.{spot_within, spot_drawn, drawn_before, known_drawn, holds_drawn, log_holds}
+use Rattle.page_writing.proofs.TidyLemmas.{logs_tidily, fails_tidily}
 use Rattle.page_writing.proofs.writing.write_log.Goals as goal
 
 pub program_log-requires-clause-place : goal.program_log-requires-clause-place
@@ -138,3 +139,27 @@ returns-clause-holds g c =
     (drawn_before t after c.draw.new.self u at.spot.place at.spot.sector (t.next + 1)
     (subst (λ (n : ℕ). IsAfterLog (with_next t c.draw.new.self) after u at.spot.place
     at.spot.sector n) c.draw.ensures.next c.use_spot.ensures))
+
+pub returns-in_err-program_log-clause-tidy : goal.returns-in_err-program_log-clause-tidy
+returns-in_err-program_log-clause-tidy g c =
+    let e = err_from_is_err_and c.from_residual.result c.from_residual.ensures.1 in
+    let old = g.C.Chip.told c.args.chip.now in
+    let t = tables_of c.args.parts.now in
+    let spot = c.args.at.spot in
+    let says = c.in_err-program_log.ensures in
+    rw e.1 (fails_tidily old.places t t c.args.unit spot.place spot.sector c.draw.new.self
+    c.requires.known c.requires.unit (Unit {0}) e.0 old (g.C.Chip.told c.program_log.new.chip)
+    c.requires.spot says.accounts.cause.1 says.tidy)
+
+pub returns-clause-tidy : goal.returns-clause-tidy
+returns-clause-tidy g c =
+    let old = g.C.Chip.told c.args.chip.now in
+    let t = tables_of c.args.parts.now in
+    let after = tables_of c.use_spot.new.parts in
+    let u = c.args.unit in
+    let spot = c.args.at.spot in
+    let next = c.draw.new.self in
+    logs_tidily old.places t after u spot.place spot.sector next c.requires.known c.requires.unit
+    (Unit {0}) (Ok tt) old (g.C.Chip.told c.program_log.new.chip) c.facts.ensures.logs
+    (drawn_before t after next u spot.place spot.sector next c.use_spot.ensures)
+    c.in_ok-program_log.ensures.tidy

@@ -1,4 +1,4 @@
-use Rattle.std.proofs.Common.{ℕ, Ok, Err, ◌∙◌, subst}
+use Rattle.std.proofs.Common.{ℕ, Result, Ok, Err, ◌∙◌, subst}
 use Rattle.std.proofs.lemmas.Result.{err_from_is_err_and}
 use Rattle.chip_trait.proofs.CountsLemmas.{counts_then}
 use Rattle.unit_io.specs.Charts.{Charts}
@@ -10,6 +10,9 @@ use Rattle.page_writing.proofs.SpendLemmas.{frees_alone, frees_then_logs}
 use Rattle.page_writing.proofs.SpotLemmas.{holds_then}
 use Rattle.merge_rules.proofs.FaultLemmas.{fault_as, fault_stopped}
 use Rattle.selective_merge.proofs.CompleteLemmas.{fails_complete}
+use Rattle.ipl_base.specs.declared.fault.ChipFault.{ChipFault}
+use Rattle.steps.proofs.TablesLemmas.{tables_then}
+use Rattle.page_writing.specs.declared.rooms.LogSpot.{LogSpot}
 use Rattle.page_writing.proofs.writing.write_out.Goals as goal
 
 -- ---- no room was found
@@ -175,3 +178,26 @@ returns-in_err-write_log-clause-complete g c =
     let old = g.C.Chip.told c.args.chip.now in
     fails_complete old.places (tables_of c.args.parts.now) c.args.unit
     c.from_residual-in_err-write_log.result old (returns-in_err-write_log-clause-fault g c)
+
+-- ---- what was added, by the tables alone
+
+pub returns-in_err-write_log-clause-tidy : goal.returns-in_err-write_log-clause-tidy
+returns-in_err-write_log-clause-tidy g c =
+    let e = err_from_is_err_and c.from_residual-in_err-write_log.result
+    c.from_residual-in_err-write_log.ensures.1 in
+    let found = c.in_ok-at.ensures in
+    let failed : Result (Unit {0}) ChipFault = Err e.0 in
+    rw e.1 (tables_then LogSpot ChipFault (tables_of c.args.parts.now)
+    (tables_of c.find_room.new.parts) (tables_of c.write_log.new.parts) c.in_ok-at.at failed
+    (g.C.Chip.told c.args.chip.now) (g.C.Chip.told c.find_room.new.chip)
+    (g.C.Chip.told c.write_log.new.chip) found.accounts.counts found.tidy
+    c.in_err-write_log.ensures.tidy)
+
+pub returns-clause-tidy : goal.returns-clause-tidy
+returns-clause-tidy g c =
+    let found = c.in_ok-at.ensures in
+    let done : Result (Unit {0}) ChipFault = Ok tt in
+    tables_then LogSpot ChipFault (tables_of c.args.parts.now) (tables_of c.find_room.new.parts)
+    (tables_of c.write_log.new.parts) c.in_ok-at.at done (g.C.Chip.told c.args.chip.now)
+    (g.C.Chip.told c.find_room.new.chip) (g.C.Chip.told c.write_log.new.chip)
+    found.accounts.counts found.tidy c.in_ok-write_log.ensures.tidy
