@@ -17,3 +17,4 @@ pub mod OverflowLemmas
 pub mod KnownLemmas
 pub mod ReadingLemmas
 pub mod SpentLemmas
+pub mod CleanLemmas

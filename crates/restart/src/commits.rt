@@ -26,6 +26,7 @@ pub(crate) fn read_commits<C: Chip>(
     ensures status { OnOk result (OfContents (C.told chip.old) (λ x.
         status.new ≡ status_in (chart_of x) winner.now.place winner.now.head.generation)) }
     ensures placed { OnOk result (status.new.place ≡ winner.now.place) }
+    ensures unclean { OnOk result (status.new.first ≡ 256) }
     ensures number { IfOk result (λ n. OfContents (C.told chip.old) (λ x.
         n ≡ greatest_of_commits least (chart_of x) (Some winner.now) sectors)) }
     ensures fault { OfContents (C.told chip.old) (λ x.

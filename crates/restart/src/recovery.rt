@@ -19,7 +19,7 @@ ghost use Rattle.merge_rules.specs.Known.{KnowsPlaces};
 ghost use Rattle.opened_tables.specs.Opened.{AreOpened, tables_of};
 ghost use Rattle.restart.specs.Notes.{units_of, places_of, AreSized, IsNoted};
 ghost use Rattle.restart.specs.Shown.{ShowsHeaders, AreChosen, is_held, number_by, fault_by};
-ghost use Rattle.restart.specs.Opened.{HasFree};
+ghost use Rattle.restart.specs.Opened.{HasFree, NoneIsClean};
 
 use crate::choosing::choose;
 use crate::commits::read_commits;
@@ -92,6 +92,7 @@ fn read_rest<C: Chip>(
     ensures status { OnOk result (OfContents (C.told chip.old) (λ x.
         status.new ≡ status_in (chart_of x) winner.now.place winner.now.head.generation)) }
     ensures placed { OnOk result (status.new.place ≡ winner.now.place) }
+    ensures unclean { OnOk result (status.new.first ≡ 256) }
     ensures whole { OnOk result (OfContents (C.told chip.old) (λ x.
         IsRestWhole x geometry heads.now current.now winner.now)) }
     ensures spent { IfErr result (λ e. e ≡ Spent → OfContents (C.told chip.old) (λ x.
@@ -137,6 +138,8 @@ fn open<C: Chip>(
         (tables_of directory.new overflow.new status.new counter.new))) }
     ensures bytes { ReadsBytes geometry (C.told chip.old) result }
     ensures known { OnOk result (KnowsPlaces geometry
+        (tables_of directory.new overflow.new status.new counter.new)) }
+    ensures unclean { OnOk result (NoneIsClean
         (tables_of directory.new overflow.new status.new counter.new)) }
     ensures free { OnOk result (HasFree directory.new) }
     ensures left { OnOk result (counter.new ≤ 2 ^ 63) }
@@ -233,9 +236,11 @@ pub fn recover<C: Chip>(
     // What it read is bytes, also where it fails since the numbers are used up.
     ensures bytes { ReadsBytes (C.told chip.old).places (C.told chip.old) result }
 
-    // Whether the chip tells its contents or not, the tables know each of its places, a place is free,
-    // and numbers are left.
+    // Whether the chip tells its contents or not, the tables know each of its places and count no
+    // sector as clean, a place is free, and numbers are left.
     ensures known { OnOk result (KnowsPlaces (C.told chip.old).places
+        (tables_of directory.new overflow.new status.new counter.new)) }
+    ensures unclean { OnOk result (NoneIsClean
         (tables_of directory.new overflow.new status.new counter.new)) }
     ensures free { OnOk result (HasFree directory.new) }
     ensures left { OnOk result (counter.new ≤ 2 ^ 63) }

@@ -1,6 +1,6 @@
 use Rattle.std.proofs.Common.{◌∙◌, ◌+◌, refl, ap, arith, Ok, length}
 use Rattle.ipl_meaning.specs.Chart.{chart_of}
-use Rattle.opening_rules.specs.First.{count_below}
+use Rattle.opening_rules.specs.First.{at, count_below}
 use Rattle.opening_rules.proofs.TellsLemmas.{tells_again}
 use Rattle.opened_tables.proofs.OpenedLemmas.{opened_tables_mirror}
 use Rattle.restart.specs.Shown.{is_held}
@@ -10,6 +10,7 @@ use Rattle.restart.proofs.OpenLemmas.{all_tells, used_of, opened, has_free, read
 use Rattle.restart.proofs.SpentLemmas.{header_unspent, tells_unspent, headers_tell_first, failed_bytes}
 use Rattle.restart.proofs.OverflowLemmas.{opened_overflow}
 use Rattle.restart.proofs.KnownLemmas.{knows_places}
+use Rattle.restart.proofs.CleanLemmas.{none_is_clean}
 use Rattle.restart.proofs.recovery.open.Goals as goal
 
 pub returns-in_err-greatest-clause-looks : goal.returns-in_err-greatest-clause-looks
@@ -70,6 +71,12 @@ returns-clause-known g c =
     knows_places c.read_headers.new.heads c.read_headers.new.current c.in_ok-winner.winner c.in_ok-winner.ensures.chosen c.in_ok-winner.ensures.there c.args.geometry (omega arith)
     c.read_rest.new.noted c.fill.new.directory c.list_places.new.overflow c.read_rest.new.status _ _ (omega arith) (used_of (omega arith) c.fill.ensures.used) c.fill.ensures.adopted
     (ap length c.list_places.ensures.spots ∙ c.read_rest.ensures.sized.listed_units) c.list_places.ensures.in_use c.in_ok-greatest.ensures.two c.in_ok-greatest.ensures.placed
+
+pub returns-clause-unclean : goal.returns-clause-unclean
+returns-clause-unclean g c =
+    let heads = c.read_headers.new.heads in
+    none_is_clean (at c.read_headers.new.current) (length c.read_headers.new.current) c.fill.new.directory c.list_places.new.overflow c.read_rest.new.status c.at.result
+    (is_held heads c.read_rest.new.noted) (length heads) c.fill.ensures.adopted c.list_places.ensures.in_use c.in_ok-greatest.ensures.unclean
 
 pub returns-clause-free : goal.returns-clause-free
 returns-clause-free g c =
