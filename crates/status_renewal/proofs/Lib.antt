@@ -15,3 +15,4 @@ pub mod CostLemmas
 pub mod RecoverLemmas
 pub mod CompleteLemmas
 pub mod FaultLemmas
+pub mod TidyLemmas

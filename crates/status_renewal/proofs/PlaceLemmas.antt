@@ -117,7 +117,7 @@ module _ (takes : UsesTake) (gives_back : DisusesGiveBack) (places p : ℕ) (d :
     places_then t has =
         is.places_is ∙ ap (λ (e : Places). moved e p status.place) (sym has.places_is)
 
-    switched : (t : Tables) → HasTables t d status next
+    pub switched : (t : Tables) → HasTables t d status next
         → IsSwitched (taken t p) (with_tables t after new drawn) p next kept
     switched t has = record {
       renewed = record {

@@ -8,6 +8,7 @@ ghost use Rattle.ipl_meaning.specs.Tables.{Tables};
 ghost use Rattle.merge_rules.specs.Faults.{FailsByChipAlone};
 ghost use Rattle.merge_rules.specs.Known.{KnowsPlaces};
 ghost use Rattle.selective_merge.specs.Moving.{tables_of, Holds};
+ghost use Rattle.steps.specs.Steps.{Tidies};
 ghost use Rattle.unit_io.specs.Accounts.{Accounts};
 ghost use Rattle.unit_io.specs.Costs.{Spends};
 ghost use Rattle.status_renewal.specs.Passes.{HasPassed, PassEnds, GoesOnTelling, KeepsInSteps, SparesUnits, FailsAsPass, FailsAsRenewal, AreMergeable, CompletesRenewal, ErasesAtMost, RenewCause};
@@ -56,6 +57,8 @@ fn take_unit<C: Chip>(
     ensures draws { (parts.old.counter ≤ parts.new.counter)
         × (parts.new.counter ≤ parts.old.counter + 13) }
     ensures costs { Spends (ErasesAtMost 1) (C.told chip.old) (C.told chip.new) }
+    ensures tidy { Tidies (tables_of parts.old) result (tables_of parts.new)
+        (C.told chip.old) (C.told chip.new) }
     ensures accounts { Accounts RenewCause result (C.told chip.old) (C.told chip.new) }
 {
     let scratch = &mut parts.scratch;
@@ -100,6 +103,8 @@ pub fn pass<C: Chip>(
     ensures draws { (parts.old.counter ≤ parts.new.counter)
         × (parts.new.counter ≤ parts.old.counter + 13 * 1024) }
     ensures costs { Spends (ErasesAtMost ((C.told chip.old).places - 4))
+        (C.told chip.old) (C.told chip.new) }
+    ensures tidy { Tidies (tables_of parts.old) result (tables_of parts.new)
         (C.told chip.old) (C.told chip.new) }
     ensures accounts { Accounts RenewCause result (C.told chip.old) (C.told chip.new) }
 {

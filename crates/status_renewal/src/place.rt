@@ -3,6 +3,7 @@ ghost use Rattle.std.specs.Prelude.{◌≡◌, ◌≤◌, ◌<◌, ◌+◌, ◌^
 ghost use Rattle.ipl_meaning.specs.Tables.{IsFree, Tables};
 ghost use Rattle.merge_rules.specs.Known.{KnowsPlaces};
 ghost use Rattle.number_set.specs.Numbers.{AreRising};
+ghost use Rattle.steps.specs.Steps.{Tidies};
 ghost use Rattle.txn_status.specs.Status.{parts_of, room_of};
 ghost use Rattle.unit_directory.specs.Free.{first_free, free_count};
 ghost use Rattle.unit_io.specs.Accounts.{Accounts};
@@ -59,6 +60,10 @@ pub fn renew_place<C: Chip>(
     // One erase, of the place that is taken, then programs of it alone, and three barriers.
     ensures costs { (place : ℕ) × (first_free directory.old.in_use ≡ Some place)
         × Spends (ErasesOnce place 3 (is_ok result)) (C.told chip.old) (C.told chip.new) }
+    ensures tidy { (t : Tables) → HasTables t directory.old status.old counter.old
+        → KnowsPlaces (C.told chip.old).places t
+        → Tidies t result (with_tables t directory.new status.new counter.new)
+        (C.told chip.old) (C.told chip.new) }
     ensures accounts { Accounts IsStopped result (C.told chip.old) (C.told chip.new) }
 {
     directory_laws();

@@ -1,14 +1,16 @@
 //! The opening of a chip.
-ghost use Rattle.std.specs.Prelude.{◌≡◌, ◌≤◌, ◌<◌, ◌+◌, ◌-◌, ◌^◌, [], length, OnOk};
+ghost use Rattle.std.specs.Prelude.{◌≡◌, ◌≤◌, ◌<◌, ◌+◌, ◌-◌, ◌^◌, [], length, OnOk, is_ok, true};
 ghost use Rattle.ipl_meaning.specs.Chart.{chart_of};
+ghost use Rattle.ipl_meaning.specs.Tables.{IsCountedClean};
 ghost use Rattle.opening_rules.specs.Faults.{greatest_found};
 ghost use Rattle.restart.specs.Bytes.{ReadsBytes};
 ghost use Rattle.selective_merge.specs.Moving.{tables_of};
+ghost use Rattle.steps.specs.Steps.{TidyWork};
 ghost use Rattle.unit_io.specs.Accounts.{Accounts};
 ghost use Rattle.unit_io.specs.Costs.{Spends};
 ghost use Rattle.unit_io.specs.Reads.{OfContents};
 ghost use Rattle.status_renewal.specs.Passes.{ErasesAtMost};
-ghost use Rattle.status_renewal.specs.Recovers.{CompletesOpening, RecoversTold, LooksAtFaults, RecoversInSteps, HoldsOpened, OpeningCause};
+ghost use Rattle.status_renewal.specs.Recovers.{CompletesOpening, RecoversTold, LooksAtFaults, IsNowhere, RecoversInSteps, HoldsOpened, OpeningCause};
 
 use crate::kept::KeptNumbers;
 use crate::renewing::renew;
@@ -60,6 +62,11 @@ pub fn recover<C: Chip>(
         × (length parts.new.overflow.spots + 4 ≡ (C.told chip.old).places) }
     // At most one erase a unit, and one for the status place.
     ensures costs { Spends (ErasesAtMost ((C.told chip.old).places - 3))
+        (C.told chip.old) (C.told chip.new) }
+    // Whatever the chip holds, what it adds is lawful after any lawful events; and done, what the
+    // tables count as clean is clean.
+    ensures tidy { Spends
+        (TidyWork IsNowhere (IsCountedClean (tables_of parts.new)) (is_ok result ≡ true))
         (C.told chip.old) (C.told chip.new) }
     ensures accounts { Accounts OpeningCause result (C.told chip.old) (C.told chip.new) }
 {

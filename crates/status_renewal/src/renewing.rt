@@ -2,6 +2,7 @@
 ghost use Rattle.std.specs.Prelude.{◌≡◌, ◌<◌, ◌≤◌, ◌+◌, ◌-◌, ◌^◌};
 ghost use Rattle.merge_rules.specs.Known.{KnowsPlaces};
 ghost use Rattle.selective_merge.specs.Moving.{tables_of};
+ghost use Rattle.steps.specs.Steps.{Tidies};
 ghost use Rattle.unit_io.specs.Accounts.{Accounts};
 ghost use Rattle.unit_io.specs.Costs.{Spends};
 ghost use Rattle.status_renewal.specs.Passes.{RenewsTold, HoldsRenewed, KeepsInSteps, FailsAsRenewal, CompletesRenewal, ErasesAtMost, RenewCause};
@@ -50,6 +51,10 @@ pub fn renew<C: Chip>(
         × (parts.new.counter ≤ parts.old.counter + 2 ^ 14) }
     // At most one erase a unit, and one for the status place.
     ensures costs { Spends (ErasesAtMost ((C.told chip.old).places - 3))
+        (C.told chip.old) (C.told chip.new) }
+    // Whatever the chip holds, what it adds is lawful after any lawful events that leave clean what
+    // the tables count so; and where no write failed, what they count so then is clean.
+    ensures tidy { Tidies (tables_of parts.old) result (tables_of parts.new)
         (C.told chip.old) (C.told chip.new) }
     ensures accounts { Accounts RenewCause result (C.told chip.old) (C.told chip.new) }
 {

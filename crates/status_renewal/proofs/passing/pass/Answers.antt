@@ -10,6 +10,7 @@ use Rattle.status_renewal.proofs.PassLemmas.{passed_none}
 use Rattle.status_renewal.proofs.PreserveLemmas.{passed_then}
 use Rattle.status_renewal.proofs.TellingLemmas.{goes_on_same, goes_on_then}
 use Rattle.status_renewal.proofs.FaultLemmas.{spared_none}
+use Rattle.status_renewal.proofs.TidyLemmas.{tidies_none, tidies_then}
 use Rattle.status_renewal.proofs.passing.pass.Goals as goal
 
 pub loop-unit-init : goal.loop-unit-init
@@ -21,6 +22,7 @@ loop-unit-init g c =
       least = omega arith;
       most = omega arith;
       costs = erases_none told;
+      tidy = tidies_none t told;
       passes = λ places x it same is mirrors.
           subst (λ (kept : List ℕ). HasPassed places 0 (chart_of x) it t kept told t)
           (sym c.clear.ensures) (passed_none places (chart_of x) it t x told refl is mirrors);
@@ -82,6 +84,8 @@ loop-unit-preserved g c =
       least = omega (arith, so_far.least, c.take_unit.ensures.draws);
       most = omega (arith, so_far.most, c.take_unit.ensures.draws);
       costs = erases_then c.loop-unit.unit 1 old mid new so_far.costs c.take_unit.ensures.costs;
+      tidy = tidies_then t between after (Ok tt) old mid new so_far.counts
+          so_far.tidy c.in_ok-take_unit.ensures.tidy;
       passes = λ places x it same is mirrors. c.in_ok-take_unit.ensures.passes places (chart_of x)
           it t (so_far.counts.places ∙ same) (subst (λ n. Holds n t between) same so_far.holds)
           (so_far.passes places x it same is mirrors);
@@ -145,3 +149,13 @@ returns-in_err-take_unit-clause-fault g c = λ x told it mirrors.
     rw (e.1 ∙ ap Err e.2) (c.in_err-take_unit.ensures.fault places x it
     (tables_of c.args.parts.now) so_far.counts.places so_far.holds
     (so_far.passes places x it refl told mirrors) (so_far.spares places x it refl told mirrors))
+
+pub returns-in_err-take_unit-clause-tidy : goal.returns-in_err-take_unit-clause-tidy
+returns-in_err-take_unit-clause-tidy g c =
+    let so_far = c.loop-unit.invariant in
+    let e = err_from_is_err_and c.from_residual.result c.from_residual.ensures.1 in
+    rw (e.1 ∙ ap Err e.2) (tidies_then (tables_of c.args.parts.now)
+    (tables_of c.loop-unit.parts) (tables_of c.take_unit.new.parts)
+    (Err c.in_err-take_unit.field-0.0) (g.C.Chip.told c.args.chip.now)
+    (g.C.Chip.told c.loop-unit.chip) (g.C.Chip.told c.take_unit.new.chip) so_far.counts
+    so_far.tidy c.in_err-take_unit.ensures.tidy)

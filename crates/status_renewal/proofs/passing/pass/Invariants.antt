@@ -5,6 +5,8 @@ use Rattle.ipl_meaning.specs.Chart.{chart_of}
 use Rattle.ipl_meaning.specs.Layout.{Layout}
 use Rattle.ipl_meaning.specs.Mirrors.{Mirrors}
 use Rattle.selective_merge.specs.Moving.{tables_of, Holds}
+use Rattle.ipl_base.specs.declared.fault.ChipFault.{ChipFault}
+use Rattle.steps.specs.Steps.{Tidies}
 use Rattle.unit_io.specs.Costs.{Spends}
 use Rattle.status_renewal.specs.Passes.{HasPassed, GoesOnTelling, SparesUnits, KeepsInSteps, ErasesAtMost}
 use Rattle.status_renewal.proofs.passing.pass.Given as goal
@@ -16,6 +18,8 @@ invariant-loop-unit g l = record {
   least : l.fn.parts.counter ≤ l.parts.counter;
   most : l.parts.counter ≤ l.fn.parts.counter + 13 * l.unit;
   costs : Spends (ErasesAtMost l.unit) (g.C.Chip.told l.fn.chip) (g.C.Chip.told l.chip);
+  tidy : Tidies {T = Unit {0}} {E = ChipFault} (tables_of l.fn.parts) (Ok tt) (tables_of l.parts)
+      (g.C.Chip.told l.fn.chip) (g.C.Chip.told l.chip);
   passes : (places : ℕ) (x : Contents) (it : Layout) → (g.C.Chip.told l.fn.chip).places ≡ places
       → (g.C.Chip.told l.fn.chip).contents ≡ Some x
       → Mirrors places (chart_of x) it (tables_of l.fn.parts)

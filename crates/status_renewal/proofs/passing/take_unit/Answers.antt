@@ -23,6 +23,7 @@ use Rattle.status_renewal.proofs.TellingLemmas.{goes_on_same, goes_on_then, goes
 use Rattle.merge_rules.specs.Known.{KnowsPlaces}
 use Rattle.selective_merge.proofs.CompleteLemmas.{merge_fails_so}
 use Rattle.status_renewal.proofs.FaultLemmas.{spared_read, spared_merged, merge_fails}
+use Rattle.status_renewal.proofs.TidyLemmas.{tidies_read, tidies_read_then}
 use Rattle.status_renewal.proofs.passing.take_unit.Goals as goal
 
 pub returns-in_err-read_live-clause-passes : goal.returns-in_err-read_live-clause-passes
@@ -259,3 +260,21 @@ returns-clause-fault g c = λ places x it t same holds was spared.
     spared reads.contents low holds.active holds.status c.merge.result many
     (reads.counts.places ∙ same)
     (merge_fails_so mid.places (tables_of parts) unit c.merge.result mid c.merge.ensures.fault)
+
+pub returns-in_err-read_live-clause-tidy : goal.returns-in_err-read_live-clause-tidy
+returns-in_err-read_live-clause-tidy g c =
+    let e = err_from_is_err_and c.from_residual.result c.from_residual.ensures.1 in
+    rw (e.1 ∙ ap Err e.2) (tidies_read _ (tables_of c.args.parts.now)
+    (Err c.in_err-read_live.field-0.0) (g.C.Chip.told c.args.chip.now)
+    (g.C.Chip.told c.read_live.new.chip) c.read_live.ensures.looks.reads)
+
+pub returns-then-join-clause-tidy : goal.returns-then-join-clause-tidy
+returns-then-join-clause-tidy g c =
+    tidies_read _ (tables_of c.args.parts.now) (Ok tt) (g.C.Chip.told c.args.chip.now)
+    (g.C.Chip.told c.read_live.new.chip) c.read_live.ensures.looks.reads
+
+pub returns-clause-tidy : goal.returns-clause-tidy
+returns-clause-tidy g c =
+    tidies_read_then _ (tables_of c.args.parts.now) (tables_of c.merge.new.parts) c.merge.result
+    (g.C.Chip.told c.args.chip.now) (g.C.Chip.told c.read_live.new.chip)
+    (g.C.Chip.told c.merge.new.chip) c.read_live.ensures.looks.reads c.merge.ensures.tidy

@@ -1,4 +1,5 @@
-use Rattle.std.proofs.Common.{◌-◌, ◌∙◌, Ok, Err, ap, subst, arith}
+use Rattle.std.proofs.Common.{◌-◌, ◌∙◌, true, false, Ok, Err, ap, subst, arith}
+use Rattle.std.proofs.lemmas.Bool.{false≢true}
 use Rattle.std.proofs.lemmas.Result.{err_from_is_err_and}
 use Rattle.ipl_meaning.specs.Chart.{chart_of}
 use Rattle.opening_rules.specs.LaidOut.{layout_in}
@@ -11,6 +12,7 @@ use Rattle.status_renewal.proofs.RecoverLemmas.{of_parts, opened_parts, opens_to
 use Rattle.status_renewal.proofs.CompleteLemmas.{all_mergeable, call_failed, reading_failed}
 use Rattle.ipl_base.specs.declared.fault.ImageFault.TheVariants.{Chip}
 use Rattle.status_renewal.proofs.FaultLemmas.{opening_fault}
+use Rattle.status_renewal.proofs.TidyLemmas.{tidy_only_reads, tidy_opened}
 use Rattle.status_renewal.proofs.recovering.recover.Goals as goal
 
 pub returns-in_err-recover-clause-tells : goal.returns-in_err-recover-clause-tells
@@ -200,3 +202,31 @@ returns-in_err-renew-clause-bytes g c = λ x told.
 
 pub returns-clause-bytes : goal.returns-clause-bytes
 returns-clause-bytes g c = λ x told. c.in_ok-recover.ensures.bytes x told
+
+pub returns-in_err-recover-clause-tidy : goal.returns-in_err-recover-clause-tidy
+returns-in_err-recover-clause-tidy g c =
+    let e = err_from_is_err_and c.from_residual.result c.from_residual.ensures.1 in
+    rw (e.1 ∙ ap Err e.2) (tidy_only_reads Anywhere (of_parts c.recover.new.directory
+    c.recover.new.overflow c.recover.new.status c.recover.new.counter c.args.parts.now.active)
+    (g.C.Chip.told c.args.chip.now) (g.C.Chip.told c.recover.new.chip)
+    c.recover.ensures.looks.reads)
+
+pub returns-in_err-renew-clause-tidy : goal.returns-in_err-renew-clause-tidy
+returns-in_err-renew-clause-tidy g c =
+    let e = err_from_is_err_and c.from_residual-in_err-renew.result
+    c.from_residual-in_err-renew.ensures.1 in
+    rw (e.1 ∙ ap Err e.2) (tidy_opened Anywhere (of_parts c.recover.new.directory
+    c.recover.new.overflow c.recover.new.status c.recover.new.counter c.args.parts.now.active)
+    (tables_of c.renew.new.parts) (Err c.in_err-renew.field-0.0) false
+    (g.C.Chip.told c.args.chip.now) (g.C.Chip.told c.recover.new.chip)
+    (g.C.Chip.told c.renew.new.chip) c.in_ok-recover.ensures.unclean
+    (λ no. absurd (false≢true no)) c.recover.ensures.looks.reads c.in_err-renew.ensures.tidy)
+
+pub returns-clause-tidy : goal.returns-clause-tidy
+returns-clause-tidy g c =
+    tidy_opened Anywhere (of_parts c.recover.new.directory c.recover.new.overflow
+    c.recover.new.status c.recover.new.counter c.args.parts.now.active)
+    (tables_of c.renew.new.parts) (Ok tt) true (g.C.Chip.told c.args.chip.now)
+    (g.C.Chip.told c.recover.new.chip) (g.C.Chip.told c.renew.new.chip)
+    c.in_ok-recover.ensures.unclean (λ done. tt) c.recover.ensures.looks.reads
+    c.in_ok-renew.ensures.tidy

@@ -15,6 +15,7 @@ use Rattle.status_renewal.proofs.RenewLemmas.{may_renew, renew_ends, status_ends
 use Rattle.status_renewal.proofs.CompleteLemmas.{written_alone}
 use Rattle.status_renewal.proofs.TellingLemmas.{goes_on_then, goes_on_where, renews_told}
 use Rattle.status_renewal.proofs.FaultLemmas.{pass_written}
+use Rattle.status_renewal.proofs.TidyLemmas.{tidies_then}
 use Rattle.status_renewal.proofs.renewing.renew.Goals as goal
 
 pub returns-in_err-pass-clause-tells : goal.returns-in_err-pass-clause-tells
@@ -160,3 +161,21 @@ returns-clause-fault g c = λ x told it mirrors.
     pass_written (g.C.Chip.told c.args.chip.now).places x it (tables_of c.args.parts.now)
     (g.C.Chip.told c.pass.new.chip) (g.C.Chip.told c.renew_place.new.chip) c.renew_place.result
     c.renew_place.ensures.accounts.cause
+
+pub returns-in_err-pass-clause-tidy : goal.returns-in_err-pass-clause-tidy
+returns-in_err-pass-clause-tidy g c =
+    let e = err_from_is_err_and c.from_residual.result c.from_residual.ensures.1 in
+    rw (e.1 ∙ ap Err e.2) c.in_err-pass.ensures.tidy
+
+pub returns-clause-tidy : goal.returns-clause-tidy
+returns-clause-tidy g c =
+    let between = tables_of c.pass.new.parts in
+    tidies_then (tables_of c.args.parts.now) between
+    (with_tables between c.renew_place.new.directory c.renew_place.new.status
+    c.renew_place.new.counter) c.renew_place.result (g.C.Chip.told c.args.chip.now)
+    (g.C.Chip.told c.pass.new.chip) (g.C.Chip.told c.renew_place.new.chip)
+    c.pass.ensures.accounts.counts c.in_ok-pass.ensures.tidy
+    (c.renew_place.ensures.tidy between
+    (record { places_is = refl; status_is = refl; next_is = refl })
+    (subst (λ n. KnowsPlaces n between) (sym c.pass.ensures.accounts.counts.places)
+    c.in_ok-pass.ensures.holds.known))
