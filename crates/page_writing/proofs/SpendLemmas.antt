@@ -5,11 +5,11 @@ use Rattle.std.proofs.lemmas.Bool.{cases_Bool, false≢true}
 use Rattle.chip_trait.specs.declared.event.Event.TheVariants.{Read, Program, Erase, Barrier, Said}
 use Rattle.chip_trait.specs.Story.{Story}
 use Rattle.chip_trait.specs.Told.{Told}
-use Rattle.ipl_meaning.specs.Tables.{Places, IsFree}
+use Rattle.ipl_meaning.specs.Tables.{Places}
 use Rattle.unit_io.specs.Costs.{Costs, ProgramsAt, Spends, erases, is_erased}
 use Rattle.unit_io.specs.ReadsAt.{ReadsAt}
 use Rattle.unit_io.proofs.CostLemmas.{costs_at_most, costs_then, erased_joined, programs_at_cost, spends_reads, spends_then, spends_weaker}
-use Rattle.selective_merge.specs.Spending.{ErasesFree}
+use Rattle.selective_merge.specs.Spending.{IsLowestFree, ErasesFree}
 use Rattle.page_writing.specs.Spending.{ErasesAndLogs}
 
 -- ---- what is erased
@@ -23,16 +23,16 @@ none_erased p (Erase q ∷ older) none = absurd (omega (arith, none))
 none_erased p (Barrier ∷ older) none = none_erased p older none
 none_erased p (Said piece ∷ older) none = none_erased p older none
 
-pub nothing_free : (before : Places) (added : Story) → erases added ≤ 0 → (p : ℕ)
-    → is_erased added p ≡ true → IsFree before p
-nothing_free before added none p is =
+pub nothing_lowest : (before : Places) (added : Story) → erases added ≤ 0 → (p : ℕ)
+    → is_erased added p ≡ true → IsLowestFree before p
+nothing_lowest before added none p is =
     absurd (false≢true (sym (none_erased p added none) ∙ is))
 
-pub both_free : (before : Places) (later earlier : Story)
-    → ((p : ℕ) → is_erased later p ≡ true → IsFree before p)
-    → ((p : ℕ) → is_erased earlier p ≡ true → IsFree before p)
-    → (p : ℕ) → is_erased (later ++ earlier) p ≡ true → IsFree before p
-both_free before later earlier one two p is = elim (cases_Bool (is_erased later p)) [
+pub both_lowest : (before : Places) (later earlier : Story)
+    → ((p : ℕ) → is_erased later p ≡ true → IsLowestFree before p)
+    → ((p : ℕ) → is_erased earlier p ≡ true → IsLowestFree before p)
+    → (p : ℕ) → is_erased (later ++ earlier) p ≡ true → IsLowestFree before p
+both_lowest before later earlier one two p is = elim (cases_Bool (is_erased later p)) [
   | inl here ↦ one p here
   | inr none ↦ two p (ap (λ (b : Bool). b || is_erased earlier p) (sym none)
       ∙ (sym (erased_joined later earlier p) ∙ is))
@@ -47,7 +47,7 @@ frees_read At before old new did = spends_weaker (Costs 0 0 0 []) (ErasesFree be
     (λ added costs. record {
       costs = costs_at_most 0 1 0 0 0 3 [] [] added (omega arith) (omega arith) (omega arith)
           (λ kind has. has) costs;
-      free = nothing_free before added costs.erased;
+      lowest = nothing_lowest before added costs.erased;
     }) (spends_reads At [] old new did)
 
 -- reads first
@@ -56,7 +56,7 @@ pub frees_behind : (At : ℕ → ℕ → Type 0) (before : Places) (old mid new 
 frees_behind At before old mid new did = spends_then (Costs 0 0 0 []) (ErasesFree before)
     (ErasesFree before) old mid new (λ later earlier costs does. record {
       costs = costs_then 0 1 0 0 0 3 [] later earlier costs does.costs;
-      free = both_free before later earlier does.free (nothing_free before earlier costs.erased);
+      lowest = both_lowest before later earlier does.lowest (nothing_lowest before earlier costs.erased);
     }) (spends_reads At [] old mid did)
 
 -- reads last
@@ -65,7 +65,7 @@ pub frees_then_reads : (At : ℕ → ℕ → Type 0) (before : Places) (old mid 
 frees_then_reads At before old mid new spent did = spends_then (ErasesFree before)
     (Costs 0 0 0 []) (ErasesFree before) old mid new (λ later earlier does costs. record {
       costs = costs_then 1 0 0 0 3 0 [] later earlier does.costs costs;
-      free = both_free before later earlier (nothing_free before later costs.erased) does.free;
+      lowest = both_lowest before later earlier (nothing_lowest before later costs.erased) does.lowest;
     }) spent (spends_reads At [] mid new did)
 
 -- ---- the log sector
@@ -82,7 +82,7 @@ frees_alone before old new = spends_weaker (ErasesFree before) (ErasesAndLogs be
     (λ added does. record {
       costs = costs_at_most 1 1 0 1 3 3 [] (5 ∷ []) added (omega arith) (omega arith) (omega arith)
           no_kind does.costs;
-      free = does.free;
+      lowest = does.lowest;
     })
 
 -- it was written behind
@@ -95,5 +95,5 @@ frees_then_logs before place old mid new = spends_then (ErasesFree before) (Prog
       costs = costs_then 1 0 0 1 3 0 (5 ∷ []) later earlier
           (costs_at_most 1 1 0 0 3 3 [] (5 ∷ []) earlier (omega arith) (omega arith) (omega arith)
           no_kind does.costs) costs;
-      free = both_free before later earlier (nothing_free before later costs.erased) does.free;
+      lowest = both_lowest before later earlier (nothing_lowest before later costs.erased) does.lowest;
     })

@@ -7,11 +7,11 @@ use Rattle.chip_trait.specs.declared.event.Event.{Event}
 use Rattle.chip_trait.specs.declared.event.Event.TheVariants.{Read, Program, Erase, Barrier, Said}
 use Rattle.chip_trait.specs.Story.{Story}
 use Rattle.chip_trait.specs.Told.{Told}
-use Rattle.ipl_meaning.specs.Tables.{Places, IsFree}
+use Rattle.ipl_meaning.specs.Tables.{Places}
 use Rattle.unit_io.specs.Costs.{ErasesOnce, ProgramsAt, Spends, is_erased}
 use Rattle.unit_io.specs.ReadsAt.{IsReadAt, ReadsAt}
 use Rattle.unit_io.proofs.CostLemmas.{costs_at_most, costs_none, costs_reads, costs_then, erased_joined, nothing_at, spends_at_then, spends_none, spends_then, spends_weaker}
-use Rattle.selective_merge.specs.Spending.{ErasesFree, ErasesFor}
+use Rattle.selective_merge.specs.Spending.{IsLowestFree, ErasesFree, ErasesFor}
 
 -- ---- reads
 
@@ -74,7 +74,7 @@ free_behind : (At : ℕ → ℕ → Type 0) (before : Places) (later earlier : S
     → All (IsReadAt At) earlier → ErasesFree before later → ErasesFree before (later ++ earlier)
 free_behind At before later earlier reads does = record {
   costs = costs_then 0 1 0 0 0 3 [] later earlier (costs_reads At [] earlier reads) does.costs;
-  free = λ p is. does.free p (or_false (is_erased later p)
+  lowest = λ p is. does.lowest p (or_false (is_erased later p)
       (ap (λ (b : Bool). is_erased later p || b) (sym (reads_erase_none At p earlier reads))
       ∙ sym (erased_joined later earlier p) ∙ is));
 }
@@ -104,7 +104,7 @@ free_read : (At : ℕ → ℕ → Type 0) (before : Places) (added : Story) → 
 free_read At before added reads = record {
   costs = costs_at_most 0 1 0 0 0 3 [] [] added (omega arith) (omega arith) (omega arith)
       (λ kind has. has) (costs_reads At [] added reads);
-  free = λ p is. absurd (false≢true (sym (reads_erase_none At p added reads) ∙ is));
+  lowest = λ p is. absurd (false≢true (sym (reads_erase_none At p added reads) ∙ is));
 }
 
 -- reads alone
@@ -132,7 +132,7 @@ pub frees_none : (before : Places) (t : Told) → Spends (ErasesFree before) t t
 frees_none before t = spends_none (ErasesFree before) t (record {
   costs = costs_at_most 0 1 0 0 0 3 [] [] [] (omega arith) (omega arith) (omega arith)
       (λ kind has. has) (costs_none []);
-  free = λ p is. absurd (false≢true is);
+  lowest = λ p is. absurd (false≢true is);
 })
 
 pub for_none : (before : Places) (place : ℕ) (t : Told)
@@ -144,22 +144,22 @@ for_none before place t = record {
 }
 
 -- the place that was erased was free
-pub was_free : (before : Places) (place : ℕ) (done : Bool) (added : Story) → IsFree before place
+pub was_free : (before : Places) (place : ℕ) (done : Bool) (added : Story) → IsLowestFree before place
     → ErasesOnce place 3 done added → ErasesFree before added
 was_free before place done added free once = record {
   costs = once.costs;
-  free = λ p is. subst (IsFree before) (sym (once.alone p is)) free;
+  lowest = λ p is. subst (IsLowestFree before) (sym (once.alone p is)) free;
 }
 
 pub frees_once : (before : Places) (place : ℕ) (done : Bool) (old new : Told)
-    → IsFree before place → Spends (ErasesOnce place 3 done) old new
+    → IsLowestFree before place → Spends (ErasesOnce place 3 done) old new
     → Spends (ErasesFree before) old new
 frees_once before place done old new free =
     spends_weaker (ErasesOnce place 3 done) (ErasesFree before) old new
     (λ added. was_free before place done added free)
 
 -- done, it is where the unit stands
-pub for_unit : (before : Places) (place at : ℕ) (old new : Told) → IsFree before place
+pub for_unit : (before : Places) (place at : ℕ) (old new : Told) → IsLowestFree before place
     → at ≡ place → Spends (ErasesOnce place 3 true) old new
     → Spends (ErasesFor before at true) old new
 for_unit before place at old new free is =
@@ -170,7 +170,7 @@ for_unit before place at old new free is =
     })
 
 -- not done, it is nobody's
-pub for_nobody : (before : Places) (place at : ℕ) (old new : Told) → IsFree before place
+pub for_nobody : (before : Places) (place at : ℕ) (old new : Told) → IsLowestFree before place
     → Spends (ErasesOnce place 3 false) old new → Spends (ErasesFor before at false) old new
 for_nobody before place at old new free =
     spends_weaker (ErasesOnce place 3 false) (ErasesFor before at false) old new

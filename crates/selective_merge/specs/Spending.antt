@@ -3,13 +3,18 @@ use Rattle.std.specs.Prelude.{ℕ, ◌≡◌, Bool, true, [], Some}
 use Rattle.chip_trait.specs.Story.{Story, Contents}
 use Rattle.chip_trait.specs.Told.{Told}
 use Rattle.ipl_meaning.specs.Tables.{Places, IsFree}
+use Rattle.unit_directory.specs.Free.{first_free}
 use Rattle.unit_io.specs.Costs.{Costs, is_erased}
 
--- At most one place is erased, which was free; only what was erased before is programmed; and there
--- are at most three barriers.
+-- the lowest place that is free
+abbrev pub IsLowestFree : Places → ℕ → Type 0
+IsLowestFree before p = first_free before.in_use ≡ Some p
+
+-- At most one place is erased, which was the lowest free one; only what was erased before is
+-- programmed; and there are at most three barriers.
 pub record ErasesFree (before : Places) (added : Story) : Type 0 where
   pub costs : Costs 1 0 3 [] added
-  pub free : (p : ℕ) → is_erased added p ≡ true → IsFree before p
+  pub lowest : (p : ℕ) → is_erased added p ≡ true → IsLowestFree before p
 
 -- a chip that tells its contents goes on telling them, and each place that was in use has the
 -- bytes that it had
@@ -18,8 +23,8 @@ SparesUsed before old new = (x : Contents) → old.contents ≡ Some x
     → (y : Contents) × (new.contents ≡ Some y)
     × ((q s : ℕ) → ¬ IsFree before q → y q s ≡ x q s)
 
--- A place that was free is erased for what is written there, at most once, and no other one. Done,
--- this place was erased.
+-- The lowest place that was free is erased for what is written there, at most once, and no other one.
+-- Done, this place was erased.
 pub record ErasesFor (before : Places) (place : ℕ) (done : Bool) (added : Story) : Type 0 where
   pub erases : ErasesFree before added
   pub erased : done ≡ true → is_erased added place ≡ true

@@ -272,13 +272,13 @@ pub returns-in-Ok-clause-costs : goal.returns-in-Ok-clause-costs
 returns-in-Ok-clause-costs g c =
     for_unit (tables_of c.args.parts.now).places c.take_free-place.result _
     (g.C.Chip.told c.args.chip.now) (g.C.Chip.told c.write_unit.new.chip)
-    c.take_free-place.ensures.free c.move_unit.ensures.stands c.in-Ok.ensures.costs
+    c.take_free-place.ensures.lowest c.move_unit.ensures.stands c.in-Ok.ensures.costs
 
 pub returns-in-Err-clause-costs : goal.returns-in-Err-clause-costs
 returns-in-Err-clause-costs g c =
     for_nobody (tables_of c.args.parts.now).places c.take_free-place.result _
     (g.C.Chip.told c.args.chip.now) (g.C.Chip.told c.write_unit.new.chip)
-    c.take_free-place.ensures.free c.in-Err.ensures.costs
+    c.take_free-place.ensures.lowest c.in-Err.ensures.costs
 
 pub returns-in-Ok-clause-few : goal.returns-in-Ok-clause-few
 returns-in-Ok-clause-few g c =

@@ -101,13 +101,13 @@ pub returns-in-Ok-clause-costs : goal.returns-in-Ok-clause-costs
 returns-in-Ok-clause-costs g c =
     frees_once (tables_of c.args.parts.now).places c.take_free-place.result true
     (g.C.Chip.told c.args.chip.now) (g.C.Chip.told c.write_overflow.new.chip)
-    c.take_free-place.ensures.free c.in-Ok.ensures.costs
+    c.take_free-place.ensures.lowest c.in-Ok.ensures.costs
 
 pub returns-in-Err-clause-costs : goal.returns-in-Err-clause-costs
 returns-in-Err-clause-costs g c =
     frees_once (tables_of c.args.parts.now).places c.take_free-place.result false
     (g.C.Chip.told c.args.chip.now) (g.C.Chip.told c.write_overflow.new.chip)
-    c.take_free-place.ensures.free c.in-Err.ensures.costs
+    c.take_free-place.ensures.lowest c.in-Err.ensures.costs
 
 pub returns-in-Ok-clause-tidy : goal.returns-in-Ok-clause-tidy
 returns-in-Ok-clause-tidy g c =
