@@ -18,3 +18,4 @@ pub mod KnownLemmas
 pub mod ReadingLemmas
 pub mod SpentLemmas
 pub mod CleanLemmas
+pub mod OnceLemmas

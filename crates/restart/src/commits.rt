@@ -6,7 +6,8 @@ ghost use Rattle.ipl_base.specs.First.{first_below};
 ghost use Rattle.opening_rules.specs.Live.{sectors};
 ghost use Rattle.opening_rules.specs.Faults.{TellsImageFault, commit_fault, greatest_of_commits};
 ghost use Rattle.ipl_format.specs.Whole.{IsWhole};
-ghost use Rattle.txn_status.specs.ReadingIn.{status_in};
+ghost use Rattle.unit_io.specs.ReadsAt.{ReadsOnce};
+ghost use Rattle.txn_status.specs.ReadingIn.{status_in, IsCommitSpot};
 ghost use Rattle.restart.specs.Looks.{Looks, HasCause};
 
 use crate::kept::Winner;
@@ -34,6 +35,7 @@ pub(crate) fn read_commits<C: Chip>(
     ensures whole { OnOk result (OfContents (C.told chip.old) (λ x.
         (s : ℕ) → 1 ≤ s → s < 256 → IsWhole (x winner.now.place s))) }
     ensures looks { Looks HasCause result (C.told chip.old) (C.told chip.new) }
+    ensures once { ReadsOnce (IsCommitSpot winner.now.place) (C.told chip.old) (C.told chip.new) }
 {
     let greatest = status.read_under(chip, winner.place(), winner.header().generation())?;
     Ok(least.max(greatest))

@@ -10,7 +10,9 @@ ghost use Rattle.opening_rules.specs.First.{at, with_one};
 ghost use Rattle.opening_rules.specs.Live.{kept, Mark, mark_of, is_log, is_log_spot, is_overflow_place, is_live};
 ghost use Rattle.opening_rules.specs.Faults.{TellsImageFault, is_image, log_test, log_fault, log_number};
 ghost use Rattle.overflow.specs.Lists.{spots_in};
-ghost use Rattle.restart.specs.Looks.{Looks, HasCause};
+ghost use Rattle.unit_io.specs.ReadsAt.{ReadsOnce};
+ghost use Rattle.txn_status.specs.ReadingIn.{IsAt};
+ghost use Rattle.restart.specs.Looks.{Looks, HasCause, MayHoldLog};
 ghost use Rattle.restart.specs.Notes.{units_of, AreSized, overflow_count_of, listed, IsNoted, IsRoomy};
 ghost use Rattle.restart.specs.Scanned.{IsScanned};
 
@@ -188,6 +190,8 @@ fn scan_sector<C: Chip>(
         noted.new overflow.new) }
     ensures sized { AreSized (length current.now) (length heads.now) noted.new overflow.new }
     ensures looks { Looks HasCause result (C.told chip.old) (C.told chip.new) }
+    ensures once { ReadsOnce (λ p s. IsAt spot.place spot.sector p s
+        × MayHoldLog (at heads.now) (at current.now) p s) (C.told chip.old) (C.told chip.new) }
 {
     if !may_hold_log(heads, current, spot.place, spot.sector) {
         return Ok(greatest);
@@ -229,6 +233,8 @@ fn scan_place<C: Chip>(
         noted.new overflow.new) }
     ensures sized { AreSized (length current.now) (length heads.now) noted.new overflow.new }
     ensures looks { Looks HasCause result (C.told chip.old) (C.told chip.new) }
+    ensures once { ReadsOnce (λ p s. (p ≡ place) × MayHoldLog (at heads.now) (at current.now) p s)
+        (C.told chip.old) (C.told chip.new) }
 {
     let mut greatest = least;
     for sector in 0..256 {
@@ -261,6 +267,8 @@ pub(crate) fn scan<C: Chip>(
     ensures none { OnOk result (overflow.new.in_use ≡ []) }
     ensures sized { AreSized (length current.now) geometry noted.new overflow.new }
     ensures looks { Looks HasCause result (C.told chip.old) (C.told chip.new) }
+    ensures once { ReadsOnce (MayHoldLog (at heads.now) (at current.now))
+        (C.told chip.old) (C.told chip.new) }
 {
     noted.clear();
     overflow.reset();

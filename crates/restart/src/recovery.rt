@@ -13,7 +13,8 @@ ghost use Rattle.opening_rules.specs.Faults.{TellsImageFault, header_fault, firs
 ghost use Rattle.opening_rules.specs.LaidOut.{layout_in};
 ghost use Rattle.ipl_format.specs.Whole.{IsWhole};
 ghost use Rattle.restart.specs.Bytes.{IsRestWhole, ReadsBytes};
-ghost use Rattle.restart.specs.Looks.{Looks, HasCause};
+ghost use Rattle.unit_io.specs.ReadsAt.{Anywhere, ReadsOnce};
+ghost use Rattle.restart.specs.Looks.{Looks, HasCause, IsHeaderSpot, IsBehindHeader, MayHoldLog};
 ghost use Rattle.txn_status.specs.ReadingIn.{status_in};
 ghost use Rattle.merge_rules.specs.Known.{KnowsPlaces};
 ghost use Rattle.opened_tables.specs.Opened.{AreOpened, tables_of};
@@ -60,6 +61,7 @@ fn read_headers<C: Chip>(
         → at current.new u ≡ Some winner → winner.place < geometry) }
     ensures there { OnOk result ((u : ℕ) → u < length current.new → at current.new u ≢ None) }
     ensures looks { Looks HasCause result (C.told chip.old) (C.told chip.new) }
+    ensures once { ReadsOnce IsHeaderSpot (C.told chip.old) (C.told chip.new) }
 {
     read_heads(chip, geometry, heads)?;
     let status = choose(heads, current);
@@ -102,6 +104,8 @@ fn read_rest<C: Chip>(
     ensures none { OnOk result (overflow.new.in_use ≡ []) }
     ensures sized { AreSized (length current.now) geometry noted.new overflow.new }
     ensures looks { Looks HasCause result (C.told chip.old) (C.told chip.new) }
+    ensures once { ((s : ℕ) → ¬ MayHoldLog (at heads.now) (at current.now) winner.now.place s)
+        → ReadsOnce IsBehindHeader (C.told chip.old) (C.told chip.new) }
 {
     let least = greatest_in(heads);
     let least = read_commits(chip, winner, status, least)?;
@@ -146,6 +150,7 @@ fn open<C: Chip>(
     ensures size { length directory.new.in_use ≡ geometry }
     ensures sized { AreSized (length current.new) geometry noted.new overflow.new }
     ensures looks { Looks HasCause result (C.told chip.old) (C.told chip.new) }
+    ensures once { ReadsOnce Anywhere (C.told chip.old) (C.told chip.new) }
 {
     let winner = read_headers(chip, geometry, heads, current)?;
     let greatest = read_rest(
@@ -245,8 +250,10 @@ pub fn recover<C: Chip>(
     ensures free { OnOk result (HasFree directory.new) }
     ensures left { OnOk result (counter.new ≤ 2 ^ 63) }
 
-    // It only reads, and fails with no other cause than a fault of the contents or a failed read.
+    // It only reads, each sector at most once, and fails with no other cause than a fault of the contents
+    // or a failed read.
     ensures looks { Looks HasCause result (C.told chip.old) (C.told chip.new) }
+    ensures once { ReadsOnce Anywhere (C.told chip.old) (C.told chip.new) }
     ensures sized { (scratch.new ≡ scratch.old)
         × (length directory.new.in_use ≡ length directory.old.in_use)
         × (length overflow.new.spots ≡ length overflow.old.spots) }

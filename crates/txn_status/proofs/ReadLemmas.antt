@@ -12,7 +12,8 @@ use Rattle.ipl_meaning.specs.Chart.{Chart}
 use Rattle.unit_io.specs.Kinds.{of_kinds, commit_only, header_only, sector_named}
 use Rattle.sector_format.specs.declared.sector.Head.{Head}
 use Rattle.sector_format.specs.Decode.{sector_of}
-use Rattle.unit_io.specs.ReadsAt.{IsCauseAt}
+use Rattle.unit_io.specs.ReadsAt.{IsCauseAt, ReadsOnce}
+use Rattle.unit_io.proofs.OnceLemmas.{once_then, once_wider}
 use Rattle.opening_rules.specs.First.{greatest_of, joined_below}
 use Rattle.opening_rules.specs.Payloads.{numbers_within, is_commit_payload}
 use Rattle.opening_rules.specs.Live.{kept, is_commit_of, commit_at}
@@ -104,6 +105,26 @@ cause_wider At More (Malformed p s) old mid new more wider cause = wider p s cau
 pub in_place : (place sector : ℕ) → 1 ≤ sector → sector < 256 → (p s : ℕ) → IsAt place sector p s
     → IsCommitSpot place p s
 in_place place sector least most p s is = (is.0, omega (arith, is.1), omega (arith, is.1))
+
+-- the sectors of a place below one
+abbrev pub IsCommitBelow : ℕ → ℕ → ℕ → ℕ → Type 0
+IsCommitBelow place n p s = IsCommitSpot place p s × (s < n)
+
+-- one more was read, once
+pub once_more : (place sector : ℕ) (old mid new : Told) → 1 ≤ sector → sector < 256
+    → ReadsOnce (IsCommitBelow place sector) old mid → ReadsOnce (IsAt place sector) mid new
+    → ReadsOnce (IsCommitBelow place (sector + 1)) old new
+once_more place sector old mid new least most =
+    once_then (IsCommitBelow place sector) (IsAt place sector) (IsCommitBelow place (sector + 1)) old
+    mid new (λ p s below here. omega (arith, below.1, here.1))
+    (λ p s below. (below.0, omega (arith, below.1)))
+    (λ p s here. (in_place place sector least most p s here, omega (arith, here.1)))
+
+-- so they all were, at most
+pub once_in_place : (place n : ℕ) (old new : Told) → ReadsOnce (IsCommitBelow place n) old new
+    → ReadsOnce (IsCommitSpot place) old new
+once_in_place place n old new =
+    once_wider (IsCommitBelow place n) (IsCommitSpot place) old new (λ p s below. below.0)
 
 -- ---- the sectors of a place
 

@@ -5,7 +5,7 @@ ghost use Rattle.ipl_format.specs.Sector.{Sector};
 ghost use Rattle.sector_format.specs.Decode.{sector_of};
 ghost use Rattle.ipl_meaning.specs.Chart.{chart_of};
 ghost use Rattle.unit_io.specs.Reads.{OfContents};
-ghost use Rattle.unit_io.specs.ReadsAt.{ReadsAt, IsCauseAt};
+ghost use Rattle.unit_io.specs.ReadsAt.{ReadsAt, ReadsOnce, IsCauseAt};
 ghost use Rattle.unit_io.specs.Kinds.{sector_named};
 ghost use Rattle.ipl_base.specs.First.{first_below};
 ghost use Rattle.opening_rules.specs.Live.{sectors, kept, is_commit_of, commit_at};
@@ -137,6 +137,7 @@ fn read_spot<C: Chip>(
     ensures whole { OnOk result (OfContents (C.told chip.old) (λ x.
         IsWhole (x spot.place spot.sector))) }
     ensures reads { ReadsAt (IsAt spot.place spot.sector) (C.told chip.old) (C.told chip.new) }
+    ensures once { ReadsOnce (IsAt spot.place spot.sector) (C.told chip.old) (C.told chip.new) }
     ensures cause { IfErr result (λ e.
         IsCauseAt (IsAt spot.place spot.sector) e (C.told chip.old) (C.told chip.new)) }
 {
@@ -169,6 +170,7 @@ pub fn read_commits<C: Chip>(
     ensures whole { OnOk result (OfContents (C.told chip.old) (λ x.
         (s : ℕ) → 1 ≤ s → s < 256 → IsWhole (x place s))) }
     ensures reads { ReadsAt (IsCommitSpot place) (C.told chip.old) (C.told chip.new) }
+    ensures once { ReadsOnce (IsCommitSpot place) (C.told chip.old) (C.told chip.new) }
     ensures cause { IfErr result (λ e.
         IsCauseAt (IsCommitSpot place) e (C.told chip.old) (C.told chip.new)) }
 {

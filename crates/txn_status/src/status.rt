@@ -9,7 +9,7 @@ ghost use Rattle.unit_io.specs.Costs.{ProgramsAt, ErasesOnce, Spends};
 ghost use Rattle.unit_io.specs.Charts.{Charts};
 ghost use Rattle.unit_io.specs.Spots.{Programs, Rewrites, IsSpot};
 ghost use Rattle.unit_io.specs.Reads.{OfContents};
-ghost use Rattle.unit_io.specs.ReadsAt.{ReadsAt, IsCauseAt};
+ghost use Rattle.unit_io.specs.ReadsAt.{ReadsAt, ReadsOnce, IsCauseAt};
 ghost use Rattle.ipl_format.specs.Whole.{IsWhole};
 ghost use Rattle.number_set.specs.Numbers.{AreRising};
 ghost use Rattle.txn_status.specs.ReadingIn.{IsReadIn, IsCommitSpot, IsOfPlace, IsStatusAt};
@@ -141,6 +141,7 @@ impl Status {
 
         // What it does to the chip, and why it fails.
         ensures reads { ReadsAt (IsCommitSpot place) (C.told chip.old) (C.told chip.new) }
+        ensures once { ReadsOnce (IsCommitSpot place) (C.told chip.old) (C.told chip.new) }
         ensures cause { IfErr result (λ e.
             IsCauseAt (IsCommitSpot place) e (C.told chip.old) (C.told chip.new)) }
     {

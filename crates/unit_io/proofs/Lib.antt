@@ -14,3 +14,4 @@ pub mod ReadsAtLemmas
 pub mod CostLemmas
 pub mod SparesLemmas
 pub mod TidyLemmas
+pub mod OnceLemmas

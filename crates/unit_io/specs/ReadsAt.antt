@@ -1,5 +1,5 @@
 -- Calls that only read, and which sectors.
-use Rattle.std.specs.Prelude.{ℕ, ◌≡◌, All}
+use Rattle.std.specs.Prelude.{ℕ, suc, ◌≡◌, ◌≤◌, ◌==◌, ◌&&◌, All, [], ◌∷◌, if◌then◌else◌}
 use Rattle.std.specs.Option.{option_map}
 use Rattle.chip_trait.specs.declared.event.Event.{Event}
 use Rattle.chip_trait.specs.declared.event.Event.TheVariants.{Read, Program, Erase, Barrier, Said}
@@ -28,6 +28,22 @@ pub record ReadsAt (At : ℕ → ℕ → Type 0) (old new : Told) : Type 0 where
   pub each : All (IsReadAt At) added
   pub history : new.history ≡ option_map (adds_all added) old.history
   pub counts : Counts old new
+
+-- how often a sector is read among these events
+abbrev pub reads_of : Story → ℕ → ℕ → ℕ
+reads_of [] p s = 0
+reads_of (Read q t ∷ older) p s = if q == p && t == s then suc (reads_of older p s) else reads_of older p s
+reads_of (Program q t bytes ∷ older) p s = reads_of older p s
+reads_of (Erase q ∷ older) p s = reads_of older p s
+reads_of (Barrier ∷ older) p s = reads_of older p s
+reads_of (Said piece ∷ older) p s = reads_of older p s
+
+-- nothing but reads of these sectors was added, and of each at most one
+pub record ReadsOnce (At : ℕ → ℕ → Type 0) (old new : Told) : Type 0 where
+  pub added : Story
+  pub each : All (IsReadAt At) added
+  pub once : (p s : ℕ) → reads_of added p s ≤ 1
+  pub history : new.history ≡ option_map (adds_all added) old.history
 
 -- why sectors of these aren't read, whatever the chip tells: a read failed and its count rose; or one of these sectors isn't
 -- what it must be

@@ -26,3 +26,9 @@ returns-clause-fault g c = λ x told.
     let generation = c.generation.ensures ∙ ap (λ (h : KeptHeader). h.generation) c.header.ensures in
     fault_told (chart_of x) c.args.winner.now c.place.result c.generation.result c.place.ensures generation
     (Ok c.max.result) (c.in_ok-greatest.ensures.exact x told).fault
+
+pub returns-in_err-greatest-clause-once : goal.returns-in_err-greatest-clause-once
+returns-in_err-greatest-clause-once g c = rw c.place.ensures at c.read_under.ensures.once
+
+pub returns-clause-once : goal.returns-clause-once
+returns-clause-once g c = rw c.place.ensures at c.read_under.ensures.once

@@ -1,4 +1,4 @@
-use Rattle.std.proofs.Common.{◌≡◌, ◌∙◌, ◌*◌, ℕ, Some, length, subst, arith}
+use Rattle.std.proofs.Common.{◌≡◌, ◌∙◌, ◌*◌, ℕ, Some, length, subst, arith, ◌+◌}
 use Rattle.std.proofs.lemmas.Result.{err_from_is_err_and}
 use Rattle.ipl_meaning.specs.Chart.{chart_of}
 use Rattle.ipl_base.specs.First.{first_below}
@@ -7,6 +7,7 @@ use Rattle.opening_rules.specs.Faults.{log_fault}
 use Rattle.restart.specs.Notes.{AreSized}
 use Rattle.restart.proofs.LookLemmas.{reads_then, looks_then}
 use Rattle.restart.proofs.LogLemmas.{respelled}
+use Rattle.restart.proofs.OnceLemmas.{one_place_more, logs_once}
 use Rattle.restart.proofs.logs.scan.Goals as goal
 
 pub returns-in_err-greatest-clause-looks : goal.returns-in_err-greatest-clause-looks
@@ -16,6 +17,8 @@ pub loop-place-preserved : goal.loop-place-preserved
 loop-place-preserved g c =
     let same = c.loop-place.invariant.reads in record {
       reads = reads_then same c.scan_place.ensures.looks.reads;
+      once = one_place_more (at c.args.heads.now) (at c.args.current.now) c.loop-place.place (g.C.Chip.told c.args.chip.now) (g.C.Chip.told c.loop-place.chip) (g.C.Chip.told c.scan_place.new.chip)
+          c.loop-place.invariant.once c.scan_place.ensures.once;
       scanned = λ x told. c.in_ok-greatest.ensures.scanned x (same.contents ∙ told) c.args.least (c.loop-place.invariant.scanned x told);
       roomy = c.in_ok-greatest.ensures.roomy;
       sized = subst (λ (n : ℕ). AreSized (length c.args.current.now) n c.scan_place.new.noted c.scan_place.new.overflow) c.requires.heads c.scan_place.ensures.sized;
@@ -32,3 +35,17 @@ returns-in_err-greatest-clause-fault g c =
 
 pub returns-clause-scanned : goal.returns-clause-scanned
 returns-clause-scanned g c = λ x told. respelled (c.loop-place.invariant.scanned x told) (omega arith)
+
+pub returns-in_err-greatest-clause-once : goal.returns-in_err-greatest-clause-once
+returns-in_err-greatest-clause-once g c =
+    let heads = at c.args.heads.now in
+    let current = at c.args.current.now in
+    let old = g.C.Chip.told c.args.chip.now in
+    let new = g.C.Chip.told c.scan_place.new.chip in
+    logs_once heads current (c.loop-place.place + 1) old new (one_place_more heads current c.loop-place.place
+    old (g.C.Chip.told c.loop-place.chip) new c.loop-place.invariant.once c.scan_place.ensures.once)
+
+pub returns-clause-once : goal.returns-clause-once
+returns-clause-once g c =
+    logs_once (at c.args.heads.now) (at c.args.current.now) c.loop-place.place
+    (g.C.Chip.told c.args.chip.now) (g.C.Chip.told c.loop-place.chip) c.loop-place.invariant.once

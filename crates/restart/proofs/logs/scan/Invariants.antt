@@ -4,12 +4,15 @@ use Rattle.opening_rules.specs.First.{at}
 use Rattle.restart.specs.Looks.{OnlyReads}
 use Rattle.restart.specs.Notes.{AreSized, IsRoomy}
 use Rattle.restart.specs.Scanned.{IsScanned}
+use Rattle.unit_io.specs.ReadsAt.{ReadsOnce}
+use Rattle.restart.proofs.OnceLemmas.{InPlacesBelow}
 use Rattle.restart.proofs.logs.scan.Given as goal
 
 abbrev pub invariant-loop-place : goal.invariant-loop-place
 invariant-loop-place g l =
     let told = g.C.Chip.told in record {
       reads : OnlyReads (told l.fn.chip) (told l.chip);
+      once : ReadsOnce (InPlacesBelow (at l.heads) (at l.current) l.place) (told l.fn.chip) (told l.chip);
       scanned : OfContents (told l.fn.chip) (λ x. IsScanned x (at l.heads) (at l.current) l.least (l.place * 256) l.noted l.overflow l.greatest);
       roomy : IsRoomy (at l.current) (l.place * 256) l.noted l.overflow;
       sized : AreSized (length l.current) l.fn.geometry l.noted l.overflow;

@@ -3,6 +3,7 @@ use Rattle.opening_rules.specs.First.{at}
 use Rattle.restart.specs.Notes.{IsRoomy}
 use Rattle.restart.proofs.LookLemmas.{reads_then, looks_then}
 use Rattle.restart.proofs.LogLemmas.{respelled}
+use Rattle.restart.proofs.OnceLemmas.{one_sector_more, place_once}
 use Rattle.restart.proofs.logs.scan_place.Goals as goal
 
 pub returns-in_err-greatest-clause-looks : goal.returns-in_err-greatest-clause-looks
@@ -12,8 +13,25 @@ pub loop-sector-preserved : goal.loop-sector-preserved
 loop-sector-preserved g c =
     let same = c.loop-sector.invariant.reads in record {
       reads = reads_then same c.scan_sector.ensures.looks.reads;
+      once = one_sector_more (at c.args.heads.now) (at c.args.current.now) c.args.place c.loop-sector.sector (g.C.Chip.told c.args.chip.now) (g.C.Chip.told c.loop-sector.chip)
+          (g.C.Chip.told c.scan_sector.new.chip) c.loop-sector.invariant.once c.scan_sector.ensures.once;
       scanned = λ x told base start. respelled (c.in_ok-greatest.ensures.scanned x (same.contents ∙ told) base (c.loop-sector.invariant.scanned x told base start)) (omega arith);
       roomy = let one : c.args.place * 256 + c.loop-sector.sector + 1 ≡ c.args.place * 256 + (c.loop-sector.sector + 1) = omega arith in
           subst (λ (k : ℕ). IsRoomy (at c.args.current.now) k c.scan_sector.new.noted c.scan_sector.new.overflow) one c.in_ok-greatest.ensures.roomy;
       sized = c.scan_sector.ensures.sized;
     }
+
+pub returns-in_err-greatest-clause-once : goal.returns-in_err-greatest-clause-once
+returns-in_err-greatest-clause-once g c =
+    let heads = at c.args.heads.now in
+    let current = at c.args.current.now in
+    let old = g.C.Chip.told c.args.chip.now in
+    let new = g.C.Chip.told c.scan_sector.new.chip in
+    place_once heads current c.args.place (c.loop-sector.sector + 1) old new
+    (one_sector_more heads current c.args.place c.loop-sector.sector old (g.C.Chip.told c.loop-sector.chip)
+    new c.loop-sector.invariant.once c.scan_sector.ensures.once)
+
+pub returns-clause-once : goal.returns-clause-once
+returns-clause-once g c =
+    place_once (at c.args.heads.now) (at c.args.current.now) c.args.place c.loop-sector.sector
+    (g.C.Chip.told c.args.chip.now) (g.C.Chip.told c.loop-sector.chip) c.loop-sector.invariant.once

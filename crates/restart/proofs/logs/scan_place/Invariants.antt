@@ -4,12 +4,15 @@ use Rattle.opening_rules.specs.First.{at}
 use Rattle.restart.specs.Looks.{OnlyReads}
 use Rattle.restart.specs.Notes.{AreSized, IsRoomy}
 use Rattle.restart.specs.Scanned.{IsScanned}
+use Rattle.unit_io.specs.ReadsAt.{ReadsOnce}
+use Rattle.restart.proofs.OnceLemmas.{InPlaceBelow}
 use Rattle.restart.proofs.logs.scan_place.Given as goal
 
 abbrev pub invariant-loop-sector : goal.invariant-loop-sector
 invariant-loop-sector g l =
     let told = g.C.Chip.told in record {
       reads : OnlyReads (told l.fn.chip) (told l.chip);
+      once : ReadsOnce (InPlaceBelow (at l.heads) (at l.current) l.place l.sector) (told l.fn.chip) (told l.chip);
       scanned : OfContents (told l.fn.chip) (λ x. (base : ℕ) → IsScanned x (at l.heads) (at l.current) base (l.place * 256) l.fn.noted l.fn.overflow l.least
           → IsScanned x (at l.heads) (at l.current) base (l.place * 256 + l.sector) l.noted l.overflow l.greatest);
       roomy : IsRoomy (at l.current) (l.place * 256 + l.sector) l.noted l.overflow;

@@ -5,6 +5,8 @@ use Rattle.opening_rules.specs.Live.{kept, is_log}
 use Rattle.unit_io.specs.Kinds.{sector_named}
 use Rattle.restart.proofs.LookLemmas.{reads_none, asked_reads, looks_missed, looks_weaker, looks_found, looks_done}
 use Rattle.restart.proofs.LogLemmas.{scanned_more, fault_found, none_seen, read_seen}
+use Rattle.unit_io.proofs.OnceLemmas.{once_none, once_asked}
+use Rattle.restart.proofs.OnceLemmas.{InSector}
 use Rattle.restart.proofs.logs.scan_sector.Goals as goal
 
 pub returns-then-not-may_hold_log-clause-scanned : goal.returns-then-not-may_hold_log-clause-scanned
@@ -42,3 +44,29 @@ returns-clause-scanned g c = λ x told least so_far.
     (read_seen x (at c.args.heads.now) (at c.args.current.now) c.args.spot.place c.args.spot.sector _ spot (c.in_ok-found.ensures.exact x told))
     c.args.noted.now c.args.overflow.now c.args.greatest so_far c.take_found.new.noted c.take_found.new.overflow c.in_ok-greatest.greatest c.in_ok-greatest.ensures.fault c.in_ok-greatest.ensures.noted c.in_ok-greatest.ensures.number
     (λ spot_again. c.in_ok-found.ensures.whole x told)
+
+pub returns-then-not-may_hold_log-clause-once : goal.returns-then-not-may_hold_log-clause-once
+returns-then-not-may_hold_log-clause-once g c =
+    once_none (InSector (at c.args.heads.now) (at c.args.current.now) c.args.spot.place c.args.spot.sector)
+    (g.C.Chip.told c.args.chip.now)
+
+pub returns-in_err-found-clause-once : goal.returns-in_err-found-clause-once
+returns-in_err-found-clause-once g c =
+    once_asked (InSector (at c.args.heads.now) (at c.args.current.now) c.args.spot.place c.args.spot.sector)
+    c.args.spot.place c.args.spot.sector c.read_sector.result (g.C.Chip.told c.args.chip.now)
+    (g.C.Chip.told c.read_sector.new.chip)
+    ((refl, refl), sym c.may_hold_log.ensures ∙ c.if-not-may_hold_log.false) c.read_sector.ensures.asks
+
+pub returns-in_err-greatest-clause-once : goal.returns-in_err-greatest-clause-once
+returns-in_err-greatest-clause-once g c =
+    once_asked (InSector (at c.args.heads.now) (at c.args.current.now) c.args.spot.place c.args.spot.sector)
+    c.args.spot.place c.args.spot.sector c.read_sector.result (g.C.Chip.told c.args.chip.now)
+    (g.C.Chip.told c.read_sector.new.chip)
+    ((refl, refl), sym c.may_hold_log.ensures ∙ c.if-not-may_hold_log.false) c.read_sector.ensures.asks
+
+pub returns-clause-once : goal.returns-clause-once
+returns-clause-once g c =
+    once_asked (InSector (at c.args.heads.now) (at c.args.current.now) c.args.spot.place c.args.spot.sector)
+    c.args.spot.place c.args.spot.sector c.read_sector.result (g.C.Chip.told c.args.chip.now)
+    (g.C.Chip.told c.read_sector.new.chip)
+    ((refl, refl), sym c.may_hold_log.ensures ∙ c.if-not-may_hold_log.false) c.read_sector.ensures.asks

@@ -11,6 +11,7 @@ use Rattle.restart.proofs.SpentLemmas.{header_unspent, tells_unspent, headers_te
 use Rattle.restart.proofs.OverflowLemmas.{opened_overflow}
 use Rattle.restart.proofs.KnownLemmas.{knows_places}
 use Rattle.restart.proofs.CleanLemmas.{none_is_clean}
+use Rattle.restart.proofs.OnceLemmas.{headers_alone, all_once, status_unlogged}
 use Rattle.restart.proofs.recovery.open.Goals as goal
 
 pub returns-in_err-greatest-clause-looks : goal.returns-in_err-greatest-clause-looks
@@ -105,3 +106,24 @@ pub returns-clause-bytes : goal.returns-clause-bytes
 returns-clause-bytes g c = λ x told.
     read_bytes x c.args.geometry c.read_headers.new.heads c.read_headers.new.current c.in_ok-winner.winner (c.in_ok-winner.ensures.shown x told)
     (c.in_ok-winner.ensures.whole x told) (c.in_ok-greatest.ensures.whole x (c.read_headers.ensures.looks.reads.contents ∙ told))
+
+pub returns-in_err-winner-clause-once : goal.returns-in_err-winner-clause-once
+returns-in_err-winner-clause-once g c =
+    headers_alone (g.C.Chip.told c.args.chip.now) (g.C.Chip.told c.read_headers.new.chip)
+    c.read_headers.ensures.once
+
+pub returns-in_err-greatest-clause-once : goal.returns-in_err-greatest-clause-once
+returns-in_err-greatest-clause-once g c =
+    all_once (g.C.Chip.told c.args.chip.now) (g.C.Chip.told c.read_headers.new.chip)
+    (g.C.Chip.told c.read_rest.new.chip) c.read_headers.ensures.once
+    (c.read_rest.ensures.once (status_unlogged (at c.read_headers.new.heads)
+    (at c.read_headers.new.current) (length c.read_headers.new.heads) c.in_ok-winner.winner
+    c.in_ok-winner.ensures.chosen.status_is))
+
+pub returns-clause-once : goal.returns-clause-once
+returns-clause-once g c =
+    all_once (g.C.Chip.told c.args.chip.now) (g.C.Chip.told c.read_headers.new.chip)
+    (g.C.Chip.told c.read_rest.new.chip) c.read_headers.ensures.once
+    (c.read_rest.ensures.once (status_unlogged (at c.read_headers.new.heads)
+    (at c.read_headers.new.current) (length c.read_headers.new.heads) c.in_ok-winner.winner
+    c.in_ok-winner.ensures.chosen.status_is))

@@ -1,4 +1,4 @@
-use Rattle.std.proofs.Common.{◌≡◌, ◌∙◌, ◌≤◌, ◌<◌, ℕ, [], None, ap, subst, arith}
+use Rattle.std.proofs.Common.{◌≡◌, ◌∙◌, ◌≤◌, ◌<◌, ◌+◌, ℕ, [], None, ap, subst, arith}
 use Rattle.std.proofs.lemmas.Result.{err_from_is_err_and}
 use Rattle.ipl_meaning.specs.Chart.{chart_of}
 use Rattle.unit_io.proofs.ReadsAtLemmas.{at_then, at_wider}
@@ -11,7 +11,7 @@ use Rattle.ipl_base.proofs.FirstLemmas.{first_more, first_found}
 use Rattle.opening_rules.proofs.LiveLemmas.{sectors_are}
 use Rattle.number_set.specs.Numbers.{with_numbers}
 use Rattle.txn_status.specs.ReadingIn.{under, IsAt, IsCommitSpot}
-use Rattle.txn_status.proofs.ReadLemmas.{number_more, numbers_more, whole_more, cause_wider, in_place}
+use Rattle.txn_status.proofs.ReadLemmas.{number_more, numbers_more, whole_more, cause_wider, in_place, once_more, once_in_place}
 use Rattle.txn_status.proofs.reading.read_commits.Goals as goal
 
 pub loop-sector-preserved : goal.loop-sector-preserved
@@ -27,6 +27,8 @@ loop-sector-preserved g c =
           (g.C.Chip.told c.loop-sector.chip) (g.C.Chip.told c.read_spot.new.chip) so.reads
           (at_wider (IsAt place s) (IsCommitSpot place) (g.C.Chip.told c.loop-sector.chip)
           (g.C.Chip.told c.read_spot.new.chip) (in_place place s least most) r.reads);
+      once = once_more place s (g.C.Chip.told c.args.chip.now) (g.C.Chip.told c.loop-sector.chip)
+          (g.C.Chip.told c.read_spot.new.chip) least most so.once r.once;
       number = λ x told. number_more (chart_of x) place generation s c.loop-sector.greatest
           c.in_ok-greatest.greatest (so.number x told) (r.number x (so.reads.contents ∙ told));
       fine = λ x told. first_more (commit_fault (chart_of x) (under place generation)) s
@@ -90,3 +92,18 @@ returns-clause-numbers g c = λ x told.
     c.loop-sector.invariant.has x told ∙ ap (λ (n : ℕ).
     with_numbers (joined_below (λ s. numbers_of
     (commit_at (chart_of x) (under c.args.place c.args.generation) s)) n) []) all
+
+pub returns-in_err-greatest-clause-once : goal.returns-in_err-greatest-clause-once
+returns-in_err-greatest-clause-once g c =
+    let s = c.loop-sector.sector in
+    let most : s < 256 = omega (arith, c.loop-sector-test.true) in
+    let old = g.C.Chip.told c.args.chip.now in
+    let new = g.C.Chip.told c.read_spot.new.chip in
+    once_in_place c.args.place (s + 1) old new (once_more c.args.place s old
+    (g.C.Chip.told c.loop-sector.chip) new c.loop-sector.auto.sector most
+    c.loop-sector.invariant.once c.in_err-greatest.ensures.once)
+
+pub returns-clause-once : goal.returns-clause-once
+returns-clause-once g c =
+    once_in_place c.args.place c.loop-sector.sector (g.C.Chip.told c.args.chip.now)
+    (g.C.Chip.told c.loop-sector.chip) c.loop-sector.invariant.once

@@ -2,7 +2,7 @@ use Rattle.std.proofs.Common.{◌≡◌, ◌≤◌, ◌<◌, ◌+◌, ◌*◌, �
 use Rattle.chip_trait.specs.Told.{Told}
 use Rattle.ipl_meaning.specs.Chart.{chart_of}
 use Rattle.unit_io.specs.Reads.{OfContents}
-use Rattle.unit_io.specs.ReadsAt.{ReadsAt}
+use Rattle.unit_io.specs.ReadsAt.{ReadsAt, ReadsOnce}
 use Rattle.ipl_base.specs.First.{first_below}
 use Rattle.opening_rules.specs.First.{joined_below}
 use Rattle.opening_rules.specs.Live.{commit_at}
@@ -11,12 +11,14 @@ use Rattle.opening_rules.specs.Faults.{commit_fault, greatest_of_commits}
 use Rattle.ipl_format.specs.Whole.{IsWhole}
 use Rattle.number_set.specs.Numbers.{Numbers, with_numbers}
 use Rattle.txn_status.specs.ReadingIn.{under, IsCommitSpot}
+use Rattle.txn_status.proofs.ReadLemmas.{IsCommitBelow}
 use Rattle.txn_status.proofs.reading.read_commits.Given as goal
 
 -- what is so before a sector
 pub record AreRead (first t : Told) (place generation s greatest room : ℕ)
     (numbers : Numbers) : Type 0 where
   pub reads : ReadsAt (IsCommitSpot place) first t
+  pub once : ReadsOnce (IsCommitBelow place s) first t
   pub number : OfContents first (λ x.
       greatest ≡ greatest_of_commits 0 (chart_of x) (under place generation) s)
   pub fine : OfContents first (λ x. first_below

@@ -2,9 +2,6 @@ use Rattle.std.proofs.Common.{refl, arith}
 use Rattle.ipl_format.specs.Sector.{Sector}
 use Rattle.ipl_format.specs.Page.{piece_of}
 use Rattle.unit_io.proofs.SectorLemmas.{aside_renamed}
-use Rattle.std.specs.Prelude.{is_ok}
-use Rattle.chip_trait.specs.Story.{Story}
-use Rattle.unit_io.specs.Spots.{Programs, IsSpot}
 use Rattle.unit_io.proofs.pages.program_piece.Goals as goal
 
 pub returns-clause-aside : goal.returns-clause-aside
