@@ -17,6 +17,8 @@ use Rattle.unit_io.specs.Charts.{Charts}
 use Rattle.unit_io.specs.Reads.{OfContents}
 use Rattle.merge_rules.specs.Faults.{FailsByChipAlone}
 use Rattle.selective_merge.specs.Throughout.{ChartsThroughout}
+use Rattle.steps.specs.Steps.{Tidies}
+use Rattle.steps.proofs.TablesLemmas.{tables_none, tables_then, tables_answered, tables_fewer}
 use Rattle.store_steps.specs.Advances.{MemoryFits, TurnsMapOf, LeadsTo}
 use Rattle.store_steps.specs.Keeps.{ShowsState}
 use Rattle.store_steps.proofs.AdvanceLemmas.{answers_advance, calls_advance, failures_advance}
@@ -24,7 +26,7 @@ use Rattle.store_steps.proofs.KeeperLemmas.{nothing_keeps_states}
 use Rattle.store_steps.proofs.LeadLemmas.{keepers_lead_still}
 use Rattle.page_frames.specs.declared.pages.Pages.{Pages}
 use Rattle.page_frames.specs.Complete.{Completes}
-use Rattle.page_frames.specs.Pages.{IsFramed, KeepsFramed, PageCause, Upholds}
+use Rattle.page_frames.specs.Pages.{tables_in, IsFramed, KeepsFramed, PageCause, Upholds}
 use Rattle.transactions.specs.declared.transactions.Transactions.{Transactions}
 use Rattle.transactions.specs.Turns.{memory_in, IsInOrder, Turns, TurnsInMemory}
 use Rattle.ipl_store.specs.declared.store.Store.{Store}
@@ -42,6 +44,7 @@ calls_refused early next most store told result fault is answer sound = record {
       let one : fault ≡ first = cc same in (answer ∙ ap Err one, refl, refl);
   serves = λ none. let no : Some fault ≡ None = sym is ∙ none in absurd (cc no);
   sound = sound;
+  tidy = tables_none (tables_in store.transactions.pages) result told;
   counts = counts_none told;
 }
 
@@ -80,6 +83,7 @@ let_in store refusal none =
 pub record Moves (next : State → State) (most : ℕ) (old : Transactions) (before : Told)
     (done : Result (Unit {0}) ChipFault) (new : Transactions) (after : Told) : Type 0 where
   pub leads : LeadsTo next (memory_in old) before done (memory_in new) after
+  pub tidy : Tidies (tables_in old.pages) done (tables_in new.pages) before after
   pub order : IsInOrder before.places new
   pub limit : new.pages.pool.limit ≡ old.pages.pool.limit
   pub least : old.pages.parts.counter ≤ new.pages.parts.counter
@@ -92,6 +96,7 @@ pub turns_move : (next : State → State) (most : ℕ) (old new : Transactions) 
     → Completes old.pages done before → Moves next most old before done new after
 turns_move next most old new before after done did complete = record {
   leads = did.leads;
+  tidy = did.tidy;
   order = did.order;
   limit = did.pins.limit;
   least = did.least;
@@ -108,6 +113,8 @@ pub memory_moves : (next : State → State) (most : ℕ) (old new : Transactions
     → Moves next most old told (Ok tt) new told
 memory_moves next most old new told did order least drawn = record {
   leads = did.leads told;
+  tidy = tables_fewer {T = Unit {0}} {E = ChipFault} (tables_in old.pages) (tables_in old.pages) (tables_in new.pages) (Ok tt) told
+      told did.fewer (tables_none {T = Unit {0}} {E = ChipFault} (tables_in old.pages) (Ok tt) told);
   order = did.order told.places order;
   limit = did.pins.limit;
   least = least;
@@ -123,6 +130,7 @@ pub pages_move : (most : ℕ) (old : Transactions) (pages : Pages) (before after
     → Moves (λ state. state) most old before result (record old { pages = pages }) after
 pages_move most old pages before after result order did complete = record {
   leads = keepers_lead_still (memory_in old) _ _ result before after did.keeps;
+  tidy = did.tidy;
   order = record { ready = did.ready; active = did.active ∙ order.active };
   limit = did.pins.limit;
   least = did.least;
@@ -227,6 +235,11 @@ module _ (next : State → State) (most : ℕ) (old : Store) (t : Transactions) 
       made = made;
       order = λ still. subst (IsInOrder before.places) (sym moved) moves.order;
     };
+    tidy = tables_answered (tables_in old.transactions.pages) (tables_in new.transactions.pages) done
+        result before after (same_answer done old.down new.down result ends)
+        (subst (λ (it : Transactions).
+        Tidies (tables_in old.transactions.pages) done (tables_in it.pages) before after) (sym moved)
+        moves.tidy);
     counts = moves.accounts.counts;
   }
 
@@ -262,6 +275,7 @@ let_in_calls early next most old before result new after none calls = record {
   refuses = λ fault is. let no : None ≡ Some fault = sym none ∙ is in absurd (cc no);
   serves = λ let_in. calls.serves refl;
   sound = calls.sound;
+  tidy = calls.tidy;
   counts = calls.counts;
 }
 
@@ -277,6 +291,7 @@ idle_calls most store told early sound up none =
           (memory_in store.transactions).tables (memory_in store.transactions).frames (Ok tt) told
           told (nothing_keeps_states (memory_in store.transactions).tables
           (memory_in store.transactions).frames told);
+      tidy = tables_none {T = Unit {0}} {E = ChipFault} (tables_in store.transactions.pages) (Ok tt) told;
       order = sound.order up;
       limit = refl;
       least = omega arith;
@@ -354,6 +369,9 @@ calls_joined early next most old mid t before after none up first did drawn = re
   };
   sound = subst (λ (n : ℕ). IsSound n (record mid { transactions = t })) first.counts.places
       second.sound;
+  tidy = tables_then {U = Unit {0}} {F = StoreFault} (Unit {0}) StoreFault (tables_in old.transactions.pages)
+      (tables_in mid.transactions.pages) (tables_in t.pages) tt (Ok tt) before after after first.counts
+      first.tidy second.tidy;
   counts = first.counts;
 }
   where
@@ -381,6 +399,7 @@ failed_calls early next most old before fault new after none calls = record {
         complete = did.complete;
       };
   sound = calls.sound;
+  tidy = calls.tidy;
   counts = calls.counts;
 }
 

@@ -184,6 +184,7 @@ repooled_calls early next most old before mid new after none pool calls =
               active = was.active;
             };
       };
+      tidy = calls.tidy;
       counts = calls.counts;
     })
   where

@@ -95,6 +95,7 @@ looks_as early next n old before v new after did = record {
           complete = λ x told state shown. tt;
         };
     sound = did.calls.sound;
+    tidy = did.calls.tidy;
     counts = did.calls.counts;
   };
   holds = did.holds;
@@ -121,6 +122,7 @@ looks_fail {U} early next n old before fault new after did = record {
           complete = serves.complete;
         };
     sound = did.calls.sound;
+    tidy = did.calls.tidy;
     counts = did.calls.counts;
   };
   holds = did.holds;

@@ -18,7 +18,8 @@ use Rattle.buffer_pool.specs.Holding.{is_pinned, pinned_count, KeepsPins}
 use Rattle.store_trait.specs.Keeping.{LAST_NUMBER}
 use Rattle.store_steps.specs.Advances.{Memory, LeadsTo}
 use Rattle.store_steps.specs.Keeps.{View, ShowsState}
-use Rattle.page_frames.specs.Pages.{PageCause}
+use Rattle.steps.specs.Steps.{Tidies}
+use Rattle.page_frames.specs.Pages.{tables_in, PageCause}
 use Rattle.transactions.specs.Turns.{memory_in, IsInOrder}
 use Rattle.ipl_store.specs.declared.store.Store.{Store}
 
@@ -147,7 +148,8 @@ abbrev pub KeepsHolds : Store → Store → Type 0
 KeepsHolds old new = KeepsPins old.transactions.pages.pool new.transactions.pages.pool
 
 -- A call of a store: it ends early with this fault, and nothing was done; or it does what it is
--- for. The store is sound either way.
+-- for. The store is sound either way, and whatever the chip tells, its events are lawful by the
+-- tables.
 pub record Calls {T : Type 0} (early : Option StoreFault) (next : State → State) (most : ℕ)
     (old : Store) (before : Told) (result : Result T StoreFault) (new : Store) (after : Told)
     : Type 0 where
@@ -155,4 +157,6 @@ pub record Calls {T : Type 0} (early : Option StoreFault) (next : State → Stat
       → (result ≡ Err fault) × (new ≡ old) × (after ≡ before)
   pub serves : early ≡ None → Serves next most old before result new after
   pub sound : IsSound before.places new
+  pub tidy : Tidies (tables_in old.transactions.pages) result (tables_in new.transactions.pages)
+      before after
   pub counts : Counts before after

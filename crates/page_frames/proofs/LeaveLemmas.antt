@@ -10,6 +10,8 @@ use Rattle.buffer_pool.proofs.HoldingLemmas.{rest_stays}
 use Rattle.pending_writes.specs.Frames.{Frame, Frames, with_frame_at, with_frame_log}
 use Rattle.pending_writes.proofs.MemoryLemmas.{cases_page}
 use Rattle.pending_writes.proofs.SameLemmas.{frame_here, frame_other}
+use Rattle.steps.specs.Steps.{Tidies}
+use Rattle.steps.proofs.TablesLemmas.{tables_none}
 use Rattle.store_steps.specs.Advances.{KeepsState}
 use Rattle.merge_rules.specs.Known.{KnowsPlaces}
 use Rattle.selective_merge.specs.Moving.{tables_of}
@@ -49,6 +51,8 @@ gone_upholds u page f old new t ready same there empty is pins = record {
       (subst (λ (F : Frames). KeepsState {T = Unit {0}} {E = ChipFault} (tables_in old)
       (frames_in old) t (Ok tt) (tables_in old) F t) (sym is)
       (evictions_keep_states (tables_in old) (frames_in old) u page f t there empty));
+  tidy = subst (λ parts. Tidies {T = Unit {0}} {E = ChipFault} (tables_in old) (Ok tt) (tables_of parts) t t)
+      (sym same) (tables_none {T = Unit {0}} {E = ChipFault} (tables_in old) (Ok tt) t);
   ready = record {
     known = subst (λ parts. KnowsPlaces t.places (tables_of parts)) (sym same) ready.known;
     within = λ v q g found.

@@ -16,6 +16,8 @@ use Rattle.page_ops.specs.Frames.{FrameView, values_in, pending_in}
 use Rattle.page_rebuild.specs.Loaded.{IsLoaded, IsLoadCause}
 use Rattle.pending_writes.specs.Frames.{Frame, Frames, logs_of, with_frame_at, IsFrameOf, pending_of}
 use Rattle.status_renewal.specs.Passes.{RenewCause}
+use Rattle.steps.specs.Steps.{Tidies}
+use Rattle.steps.proofs.TablesLemmas.{tables_read}
 use Rattle.store_steps.specs.Advances.{KeepsState}
 use Rattle.store_steps.specs.Views.{frame_of}
 use Rattle.store_steps.proofs.KeeperLemmas.{loads_anywhere_keep_states, reads_anywhere_keep_states}
@@ -93,13 +95,16 @@ frames_uphold : (old new : Pages) (later : Frames) (result : Result (Unit {0}) C
     → frames_in new ≡ later
     → ((v q : ℕ) (g : Frame) → later v q ≡ Some g → v + 4 < before.places)
     → KeepsState (tables_in old) (frames_in old) before result (tables_in old) later after
+    → ReadsAt Anywhere before after
     → KeepsPins old.pool new.pool → Accounts PageCause result before after
     → Upholds 0 old before result new after
-frames_uphold old new later result before after ready tables is within keeps pins accounts = record {
+frames_uphold old new later result before after ready tables is within keeps reads pins accounts = record {
   keeps = subst (λ (t : Tables). KeepsState (tables_in old) (frames_in old) before result t
       (frames_in new) after) (sym tables)
       (subst (λ (F : Frames). KeepsState (tables_in old) (frames_in old) before result
       (tables_in old) F after) (sym is) keeps);
+  tidy = subst (λ (t : Tables). Tidies (tables_in old) result t before after) (sym tables)
+      (tables_read Anywhere (tables_in old) result before after reads);
   ready = record {
     known = subst (KnowsPlaces before.places) (sym tables) ready.known;
     within = λ v q g there. within v q g (ap (λ (F : Frames). F v q) (sym is) ∙ there);
@@ -125,7 +130,7 @@ load_upholds u page view old new before after ready low few none tables is reads
     frames_uphold old new (with_frame_at (frames_in old) u page (Some (frame_of view []))) (Ok tt)
     before after ready tables is within
     (load_keeps (tables_in old) (frames_in old) u page view before after low few none reads loaded)
-    pins (record { counts = reads.counts; cause = tt })
+    reads pins (record { counts = reads.counts; cause = tt })
   where
     within : (v q : ℕ) (g : Frame)
         → with_frame_at (frames_in old) u page (Some (frame_of view [])) v q ≡ Some g
@@ -143,5 +148,5 @@ pub fail_upholds : (old new : Pages) (e : ChipFault) (before after : Told) → I
     → Upholds {T = Unit {0}} 0 old before (Err e) new after
 fail_upholds old new e before after ready tables is reads pins cause =
     frames_uphold old new (frames_in old) (Err e) before after ready tables is ready.within
-    (reads_anywhere_keep_states (tables_in old) (frames_in old) (Err e) before after reads) pins
+    (reads_anywhere_keep_states (tables_in old) (frames_in old) (Err e) before after reads) reads pins
     (record { counts = reads.counts; cause = cause })

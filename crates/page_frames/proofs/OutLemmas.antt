@@ -13,6 +13,7 @@ use Rattle.status_renewal.specs.Passes.{RenewCause}
 use Rattle.buffer_pool.specs.Holding.{KeepsPins}
 use Rattle.buffer_pool.proofs.HoldingLemmas.{rest_stays}
 use Rattle.pending_writes.specs.Frames.{Frame, Frames, logs_of, with_frame_at, with_frame_log}
+use Rattle.steps.specs.Steps.{Tidies}
 use Rattle.store_steps.specs.Advances.{KeepsState}
 use Rattle.page_writing.specs.Causes.{WritingCause}
 use Rattle.page_writing.specs.Laws.{frames_out}
@@ -75,14 +76,15 @@ pub out_failed : (u page place : ℕ) (payload : List ℕ) (old new : Pages) (e 
     → WritesOut before.places u payload (tables_in old) (tables_in new) before (Err e) after
     → WritesOutInSteps before.places payload (tables_in old) (tables_in new) before (Err e) after
     → Holds before.places (tables_in old) (tables_in new)
+    → Tidies {T = Unit {0}} {E = ChipFault} (tables_in old) (Err e) (tables_in new) before after
     → (old.parts.counter ≤ new.parts.counter) × (new.parts.counter ≤ old.parts.counter + 14)
     → Accounts {T = Unit {0}} (WritingCause (tables_in old) u place) (Err e) before after
     → Upholds {T = Unit {0}} 14 old before (Err e) new after
 out_failed u page place payload old new e before after ready same there spelled tells steps holds
-    draws accounts =
+    tidy draws accounts =
     tables_uphold 14 old new (Err e) before after ready same holds.known holds.active
     (out_keeps (tables_in old) (tables_in new) (frames_in old) u page place payload before after
-    (Err e) there spelled tells steps accounts) draws
+    (Err e) there spelled tells steps accounts) tidy draws
     (out_accounts (tables_in old) u place (Err e) before after accounts)
 
 -- ---- done
@@ -100,16 +102,18 @@ pub out_done : (u page place : ℕ) (payload : List ℕ) (old new : Pages) (befo
     → WritesOut before.places u payload (tables_in old) (tables_in new) before (Ok tt) after
     → WritesOutInSteps before.places payload (tables_in old) (tables_in new) before (Ok tt) after
     → Holds before.places (tables_in old) (tables_in new)
+    → Tidies {T = Unit {0}} {E = ChipFault} (tables_in old) (Ok tt) (tables_in new) before after
     → (old.parts.counter ≤ new.parts.counter) × (new.parts.counter ≤ old.parts.counter + 14)
     → Accounts {T = Unit {0}} {E = ChipFault} (WritingCause (tables_in old) u place) (Ok tt) before after
     → Upholds {T = Unit {0}} 14 old before (Ok tt) new after
-out_done u page place payload old new before after ready spelled did pins tells steps holds draws
+out_done u page place payload old new before after ready spelled did pins tells steps holds tidy draws
     accounts =
     let is = cleared_frames (frames_in old) (frames_in new) u page did in record {
       keeps = subst (λ (later : Frames). KeepsState {T = Unit {0}} {E = ChipFault} (tables_in old)
           (frames_in old) before (Ok tt) (tables_in new) later after) (sym is)
           (out_keeps (tables_in old) (tables_in new) (frames_in old) u page place payload before after
           (Ok tt) (subst IsSome (sym did.there) refl) spelled tells steps accounts);
+      tidy = tidy;
       ready = record {
         known = holds.known;
         within = λ v q f there.

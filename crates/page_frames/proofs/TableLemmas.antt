@@ -8,7 +8,7 @@ use Rattle.ipl_meaning.specs.Rests.{now, EachStands, StoryRests}
 use Rattle.ipl_meaning.specs.Tables.{Tables}
 use Rattle.unit_io.specs.Accounts.{Accounts}
 use Rattle.unit_io.specs.Charts.{Charts}
-use Rattle.steps.specs.Steps.{Settled, RestsAgreeing}
+use Rattle.steps.specs.Steps.{Settled, RestsAgreeing, Tidies}
 use Rattle.selective_merge.specs.Homes.{MergeCause}
 use Rattle.selective_merge.specs.Merging.{Merges, StaysMirrored, MergesInSteps, RestsMerged}
 use Rattle.selective_merge.specs.Moving.{Holds}
@@ -85,11 +85,13 @@ pub tables_uphold : (most : ℕ) (old new : Pages) (result : Result (Unit {0}) C
     (before after : Told) → IsReady before.places old → new.pool ≡ old.pool
     → KnowsPlaces before.places (tables_in new) → new.parts.active ≡ old.parts.active
     → KeepsState (tables_in old) (frames_in old) before result (tables_in new) (frames_in old) after
+    → Tidies (tables_in old) result (tables_in new) before after
     → (old.parts.counter ≤ new.parts.counter) × (new.parts.counter ≤ old.parts.counter + most)
     → Accounts PageCause result before after → Upholds most old before result new after
-tables_uphold most old new result before after ready same known active keeps draws accounts = record {
+tables_uphold most old new result before after ready same known active keeps tidy draws accounts = record {
   keeps = subst (λ (f : Frames). KeepsState (tables_in old) (frames_in old) before result
       (tables_in new) f after) (ap frames_of (sym same)) keeps;
+  tidy = tidy;
   ready = record {
     known = known;
     within = λ u page f there.
@@ -110,13 +112,14 @@ pub merge_upholds : (u : ℕ) (old new : Pages) (result : Result (Unit {0}) Chip
     → ChartsThroughout (λ done. Merges before.places u (tables_in old) (tables_in new))
     (StaysMirrored before.places (tables_in old) (tables_in new)) result before after
     → MergesInSteps before.places u (tables_in old) (tables_in new) before result after
+    → Tidies (tables_in old) result (tables_in new) before after
     → (old.parts.counter ≤ new.parts.counter) × (new.parts.counter ≤ old.parts.counter + 13)
     → (place : ℕ) (spots : List (ℕ × ℕ)) → Accounts (MergeCause place spots) result before after
     → Upholds 13 old before result new after
-merge_upholds u old new result before after ready same holds tells steps draws place spots accounts =
+merge_upholds u old new result before after ready same holds tells steps tidy draws place spots accounts =
     tables_uphold 13 old new result before after ready same holds.known holds.active
     (merge_keeps u place spots (tables_in old) (tables_in new) (frames_in old) result before after
-    holds tells steps accounts) draws
+    holds tells steps accounts) tidy draws
     (merge_accounts place spots before after result accounts)
 
 -- a renewal
@@ -125,9 +128,10 @@ pub renew_upholds : (old new : Pages) (result : Result (Unit {0}) ChipFault) (be
     → HoldsRenewed before.places (tables_in old) result (tables_in new)
     → RenewsTold before.places (tables_in old) (tables_in new) before result after
     → KeepsInSteps before.places (tables_in old) (tables_in new) before result after
+    → Tidies (tables_in old) result (tables_in new) before after
     → (old.parts.counter ≤ new.parts.counter) × (new.parts.counter ≤ old.parts.counter + 2 ^ 14)
     → Accounts RenewCause result before after → Upholds (2 ^ 14) old before result new after
-renew_upholds old new result before after ready same holds tells steps draws accounts =
+renew_upholds old new result before after ready same holds tells steps tidy draws accounts =
     tables_uphold (2 ^ 14) old new result before after ready same holds.known holds.active
     (renew_keeps (tables_in old) (tables_in new) (frames_in old) result before after holds tells steps
-    accounts) draws accounts
+    accounts) tidy draws accounts

@@ -5,6 +5,7 @@ use Rattle.chip_trait.proofs.CountsLemmas.{counts_none}
 use Rattle.ipl_base.specs.declared.fault.ChipFault.{ChipFault}
 use Rattle.buffer_pool.proofs.HoldingLemmas.{nothing_keeps, both_keep}
 use Rattle.status_renewal.proofs.CauseLemmas.{accounts_then}
+use Rattle.steps.proofs.TablesLemmas.{tables_none, tables_then}
 use Rattle.store_steps.proofs.KeeperLemmas.{nothing_keeps_states, keepers_are_joined}
 use Rattle.page_frames.specs.declared.pages.Pages.{Pages}
 use Rattle.page_frames.specs.Pages.{tables_in, frames_in, IsReady, Upholds}
@@ -13,6 +14,7 @@ pub upholds_none : (most : ℕ) (pages : Pages) (t : Told) → IsReady t.places 
     → Upholds most pages t (Ok (tt {0})) pages t
 upholds_none most pages t ready = record {
   keeps = nothing_keeps_states (tables_in pages) (frames_in pages) t;
+  tidy = tables_none {T = Unit {0}} {E = ChipFault} (tables_in pages) (Ok tt) t;
   ready = ready;
   active = refl;
   pins = nothing_keeps pages.pool;
@@ -30,6 +32,8 @@ upholds_then n m first between last result old mid new one two = record {
   keeps = keepers_are_joined (tables_in first) (tables_in between) (tables_in last)
       (frames_in first) (frames_in between) (frames_in last) result old mid new
       one.accounts.counts one.keeps two.keeps;
+  tidy = tables_then (Unit {0}) ChipFault (tables_in first) (tables_in between) (tables_in last) tt
+      result old mid new one.accounts.counts one.tidy two.tidy;
   ready = subst (λ (k : ℕ). IsReady k last) one.accounts.counts.places two.ready;
   active = two.active ∙ one.active;
   pins = both_keep first.pool between.pool last.pool one.pins two.pins;
@@ -44,6 +48,7 @@ pub upholds_weaker : (n m : ℕ) (first last : Pages) (result : Result (Unit {0}
     → Upholds m first old result last new
 upholds_weaker n m first last result old new fewer did = record {
   keeps = did.keeps;
+  tidy = did.tidy;
   ready = did.ready;
   active = did.active;
   pins = did.pins;

@@ -15,6 +15,7 @@ use Rattle.merge_rules.specs.Known.{KnowsPlaces}
 use Rattle.selective_merge.specs.Moving.{tables_of}
 use Rattle.status_renewal.specs.Passes.{RenewCause}
 use Rattle.unit_io.specs.Accounts.{Accounts}
+use Rattle.steps.specs.Steps.{Tidies}
 use Rattle.store_steps.specs.Advances.{KeepsState}
 use Rattle.pending_writes.specs.Frames.{Frame, Frames, with_frame_at, with_frame_log}
 use Rattle.number_set.specs.Numbers.{among}
@@ -71,12 +72,13 @@ PageCause = RenewCause
 -- ---- what each call keeps
 
 -- A call that keeps each state for which tables and frames stand, however it ends. Whatever the chip
--- tells: the same sessions are open, the same pages are held, at most so many numbers were drawn, and
--- a fault has its cause.
+-- tells: its events are lawful by the tables, the same sessions are open, the same pages are held, at
+-- most so many numbers were drawn, and a fault has its cause.
 pub record Upholds {T : Type 0} (most : ℕ) (old : Pages) (before : Told) (result : Result T ChipFault)
     (new : Pages) (after : Told) : Type 0 where
   pub keeps : KeepsState (tables_in old) (frames_in old) before result
       (tables_in new) (frames_in new) after
+  pub tidy : Tidies (tables_in old) result (tables_in new) before after
   pub ready : IsReady before.places new
   pub active : new.parts.active ≡ old.parts.active
   pub pins : KeepsPins old.pool new.pool

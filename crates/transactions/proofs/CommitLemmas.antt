@@ -1,5 +1,5 @@
 -- What a commit makes of the memory of a store and of its chip.
-use Rattle.std.proofs.Common.{◌≡◌, ◌≢◌, ℕ, ◌<◌, ◌≤◌, ◌+◌, ◌*◌, ◌^◌, Bool, true, false, eqb, [], ◌∷◌, List, map, length, Some, None, Result, Ok, Err, refl, sym, ◌∙◌, ap, subst, arith}
+use Rattle.std.proofs.Common.{◌≡◌, ◌≢◌, ℕ, ◌<◌, ◌≤◌, ◌+◌, ◌*◌, ◌^◌, Bool, true, false, eqb, [], ◌∷◌, List, map, length, Some, None, Result, Ok, Err, inr, refl, sym, ◌∙◌, ap, subst, arith}
 use Rattle.std.specs.List.{All}
 use Rattle.std.proofs.lemmas.Bool.{eqb-true, eq-eqb}
 use Rattle.chip_trait.specs.Told.{Told}
@@ -9,11 +9,18 @@ use Rattle.ipl_base.specs.declared.name.Name.{Name}
 use Rattle.ipl_rules.specs.Operations.{after_commit}
 use Rattle.ipl_rules.specs.State.{State}
 use Rattle.record_locks.specs.Held.{number_of, numbers_in, written_of, after_end}
-use Rattle.ipl_meaning.specs.Tables.{Status}
+use Rattle.ipl_meaning.specs.Tables.{Status, Tables, IsCountedClean}
+use Rattle.ipl_meaning.specs.TableSteps.{after_commit as after_commit_of}
+use Rattle.merge_rules.specs.Known.{KnowsPlaces}
+use Rattle.merge_rules.proofs.KnownCleanLemmas.{commit_shrinks}
+use Rattle.unit_io.specs.Costs.{Spends}
+use Rattle.unit_io.specs.Spots.{Programs, IsSpot}
+use Rattle.steps.specs.Steps.{Settled, Tidies}
+use Rattle.steps.proofs.TablesLemmas.{tables_none, tables_fewer, tables_programmed}
 use Rattle.unit_io.specs.Accounts.{Accounts}
 use Rattle.unit_io.specs.Charts.{Charts}
 use Rattle.unit_io.specs.Leads.{IsStopped}
-use Rattle.txn_status.specs.Status.{after_add}
+use Rattle.txn_status.specs.Status.{after_add, room_of}
 use Rattle.status_renewal.proofs.CauseLemmas.{write_accounts}
 use Rattle.buffer_pool.specs.Holding.{KeepsPins}
 use Rattle.buffer_pool.specs.Pools.{PoolView}
@@ -35,6 +42,21 @@ use Rattle.transactions.proofs.OrderLemmas.{changed_had, same_had, still_ready, 
 use Rattle.transactions.proofs.SessionLemmas.{among_all}
 use Rattle.transactions.proofs.TurnLemmas.{upheld_then, upheld_no_more, turns_weaker}
 
+-- A commit sector was programmed, the first clean one of the status place: it isn't counted as clean
+-- then, and no other sector is that wasn't before.
+number_tidy : (places : ℕ) (t after : Tables) (done : Bool) (result : Result (Unit {0}) ChipFault)
+    (old new : Told) → KnowsPlaces places t → 0 < room_of t.status
+    → (Settled result old new → (q s : ℕ) → IsCountedClean after q s
+    → IsCountedClean (after_commit_of t [] 0 []) q s)
+    → Spends (Programs t.status.place (IsSpot t.status.first) done) old new
+    → Tidies t result after old new
+number_tidy places t after done result old new known room fewer =
+    tables_programmed t after t.status.place (IsSpot t.status.first) done result old new
+    (λ s at. (omega (arith, at, room), inr (inr (refl, omega (arith, at)))))
+    (λ end q s counted.
+    let was = commit_shrinks places t known [] [] 0 q s (fewer end q s counted) in
+    (was.0, λ here spot. was.1 here spot))
+
 -- the number of a session was added, and its changes are values
 pub number_added : (s tid : ℕ) (names : List Name) (old new : Transactions) (added : Pages)
     (before after : Told)
@@ -55,10 +77,12 @@ pub number_added : (s tid : ℕ) (names : List Name) (old new : Transactions) (a
     → IsSameButActive added new.pages
     → new.sessions ≡ after_end old.sessions s
     → new.pages.parts.active ≡ numbers_in new.sessions → LocksHold new.sessions
+    → 0 < room_of old.pages.parts.status
+    → Spends (Programs old.pages.parts.status.place (IsSpot old.pages.parts.status.first) true) before after
     → Accounts IsStopped (Ok (tt {0})) before after
     → Turns (λ state. after_commit state s) 1 old before (Ok (tt {0})) new after
 number_added s tid names old new added before after order low mine out adds steps directory
-    overflow status counter written settled pins rest slots active locks accounts =
+    overflow status counter written settled pins rest slots active locks room programs accounts =
     let ended = after_end old.sessions s in
     let locked : LocksHold ended = subst LocksHold slots locks in
     let R = IsCommittedFrame tid in
@@ -67,20 +91,24 @@ number_added s tid names old new added before after order low mine out adds step
     subst (λ (l : List ℕ). NamedFramesChange R l (frames_in old.pages) (frames_of added.pool))
     written settled in
     let t = added_to (tables_in old.pages) tid ended in
-    let pins_then = subst (KeepsPins old.pages.pool) (sym rest.pool) pins in record {
+    let pins_then = subst (KeepsPins old.pages.pool) (sym rest.pool) pins in
+    let same = memory_is t (frames_of added.pool) ended new (record {
+      places = rest.directory ∙ directory;
+      overflow = rest.overflow ∙ overflow;
+      status = rest.status ∙ status;
+      next = omega (arith, rest.counter, counter);
+      active = active ∙ ap numbers_in slots;
+      frames_are = ap frames_of rest.pool;
+      slots_are = slots;
+    }) in record {
       leads = subst (λ (m : Memory). LeadsTo {T = Unit {0}} {E = ChipFault}
-          (λ state. after_commit state s) (memory_in old) before (Ok tt) m after)
-          (memory_is t (frames_of added.pool) ended new (record {
-            places = rest.directory ∙ directory;
-            overflow = rest.overflow ∙ overflow;
-            status = rest.status ∙ status;
-            next = omega (arith, rest.counter, counter);
-            active = active ∙ ap numbers_in slots;
-            frames_are = ap frames_of rest.pool;
-            slots_are = slots;
-          }))
+          (λ state. after_commit state s) (memory_in old) before (Ok tt) m after) same
           (numbers_lead s tid (memory_in old) (frames_of added.pool) before after
           (among_all old.sessions s None locked low) mine out adds steps change locked);
+      tidy = number_tidy before.places (tables_in old.pages) (tables_in new.pages) true (Ok tt) before
+          after order.ready.known room
+          (λ end q n counted. subst (λ (m : Memory). IsCountedClean m.tables q n) (sym same) counted)
+          programs;
       order = record {
         ready = still_ready before.places old.pages new.pages (record {
           places = rest.directory ∙ directory;
@@ -111,13 +139,18 @@ pub number_not_added : (s tid : ℕ) (e : ChipFault) (old new : Transactions) (b
     → new.pages.parts.active ≡ old.pages.parts.active
     → (old.pages.parts.counter ≤ new.pages.parts.counter)
     × (new.pages.parts.counter ≤ old.pages.parts.counter + 1)
+    → 0 < room_of old.pages.parts.status
+    → Spends (Programs old.pages.parts.status.place (IsSpot old.pages.parts.status.first) false) before after
     → Accounts {T = Unit {0}} IsStopped (Err e) before after
     → Turns {T = Unit {0}} (λ state. after_commit state s) 1 old before (Err e) new after
 number_not_added s tid e old new before after order mine out steps sessions pool directory
-    overflow status active draws accounts =
+    overflow status active draws room programs accounts =
     let pins = subst (KeepsPins old.pages.pool) (sym pool) (nothing_keeps old.pages.pool) in record {
       leads = failed_numbers_lead s tid (memory_in old) (memory_in new) e e before after mine out
           steps accounts.cause;
+      tidy = number_tidy before.places (tables_in old.pages) (tables_in new.pages) false (Err e)
+          before after order.ready.known room
+          (λ unrisen. absurd (omega (arith, accounts.cause.1, unrisen))) programs;
       order = record {
         ready = still_ready before.places old.pages new.pages (record {
           places = directory;
@@ -131,6 +164,19 @@ number_not_added s tid e old new before after order mine out steps sessions pool
       drawn = draws.1;
       accounts = write_accounts before after (Err e) accounts;
     }
+
+-- other open sessions: the same sectors are counted as clean
+active_counted : (old new : Pages) → IsSameButActive old new → (p s : ℕ)
+    → IsCountedClean (tables_in new) p s → IsCountedClean (tables_in old) p s
+active_counted old new rest p s counted =
+    subst (λ (t : Tables). IsCountedClean t p s)
+    (λ i. record {
+      places = rest.directory i;
+      overflow = rest.overflow i;
+      status = rest.status i;
+      next = new.parts.counter;
+      active = new.parts.active;
+    }) counted
 
 -- ---- all of a commit
 
@@ -160,6 +206,9 @@ empty_committed s tid most old new told order low mine none rest slots active lo
           }))
           (empty_commits_lead s tid (memory_in old) told (among_all old.sessions s None locked low)
           mine none locked);
+      tidy = tables_fewer {T = Unit {0}} {E = ChipFault} (tables_in old.pages) (tables_in old.pages) (tables_in new.pages) (Ok tt)
+          told told (λ q n counted. active_counted old.pages new.pages rest q n counted)
+          (tables_none {T = Unit {0}} {E = ChipFault} (tables_in old.pages) (Ok tt) told);
       order = record {
         ready = still_ready told.places old.pages new.pages (record {
           places = rest.directory;

@@ -3,7 +3,7 @@ use Rattle.std.proofs.Common.{◌≡◌, ℕ, ◌<◌, Option, Some, None, Ok, C
 use Rattle.chip_trait.specs.Told.{Told}
 use Rattle.ipl_base.specs.declared.fault.ChipFault.{ChipFault}
 use Rattle.ipl_rules.specs.State.{State}
-use Rattle.ipl_meaning.specs.Tables.{Status, Tables, IsFree, overflow_places}
+use Rattle.ipl_meaning.specs.Tables.{Status, Tables, IsFree, overflow_places, IsCountedClean}
 use Rattle.record_locks.specs.Held.{Slots, numbers_in}
 use Rattle.merge_rules.specs.Known.{KnowsPlaces}
 use Rattle.buffer_pool.specs.Holding.{KeepsPins}
@@ -127,15 +127,19 @@ memory_is t frames slots it is = λ i. record {
 -- a call in memory that makes these of it
 pub turned_in_memory : (next : State → State) (old new : Transactions) (t : Tables)
     (frames : Frames) (slots : Slots) → IsMemory t frames slots new
-    → SamePlaces (tables_in old.pages) t → KeepsPins old.pages.pool new.pages.pool
+    → SamePlaces (tables_in old.pages) t
+    → ((p s : ℕ) → IsCountedClean t p s → IsCountedClean (tables_in old.pages) p s)
+    → KeepsPins old.pages.pool new.pages.pool
     → HadFrames old.pages new.pages
     → (old.pages.parts.active ≡ numbers_in old.sessions → t.active ≡ numbers_in slots)
     → ((told : Told) → LeadsTo {T = Unit {0}} {E = ChipFault} next (memory_in old) told (Ok tt)
     (memory_of t frames slots) told)
     → TurnsInMemory next old new
-turned_in_memory next old new t frames slots is same pins had active leads = record {
+turned_in_memory next old new t frames slots is same clean pins had active leads = record {
   leads = λ told. subst (λ (m : Memory). LeadsTo {T = Unit {0}} {E = ChipFault} next
       (memory_in old) told (Ok tt) m told) (memory_is t frames slots new is) (leads told);
+  fewer = λ p s counted. clean p s (subst (λ (m : Memory). IsCountedClean m.tables p s)
+      (sym (memory_is t frames slots new is)) counted);
   order = λ places order. record {
     ready = still_ready places old.pages new.pages (record {
       places = is.places ∙ same.places;

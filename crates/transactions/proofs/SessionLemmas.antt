@@ -95,7 +95,7 @@ begun s old new low closed slots locks directory overflow status counter active 
       frames_are = ap frames_of pool;
       slots_are = slots;
     })
-    (record { places = refl; overflow = refl; status = refl })
+    (record { places = refl; overflow = refl; status = refl }) (λ p s counted. counted)
     (subst (KeepsPins old.pages.pool) (sym pool) (nothing_keeps old.pages.pool))
     (same_had old.pages new.pages (ap frames_of pool)) (λ had. refl)
     (λ told. begins_lead s tid (memory_in old) told
@@ -122,7 +122,7 @@ shared s n old new low slots locks pages =
       frames_are = ap frames_in pages;
       slots_are = slots;
     })
-    (record { places = refl; overflow = refl; status = refl })
+    (record { places = refl; overflow = refl; status = refl }) (λ p s counted. counted)
     (subst (λ (p : Pages). KeepsPins old.pages.pool p.pool) (sym pages)
     (nothing_keeps old.pages.pool))
     (same_had old.pages new.pages (ap frames_in pages))
@@ -159,7 +159,7 @@ aborted s tid names old new pool low mine written dropped pins rest slots active
       frames_are = ap frames_of rest.pool;
       slots_are = slots;
     })
-    (record { places = refl; overflow = refl; status = refl })
+    (record { places = refl; overflow = refl; status = refl }) (λ p s counted. counted)
     (subst (KeepsPins old.pages.pool) (sym rest.pool) pins)
     (changed_had (IsSameOr (IsAbortedFrame tid)) old.pages new.pages
     (subst (λ (p : PoolView). EachFrameChanges (IsSameOr (IsAbortedFrame tid))

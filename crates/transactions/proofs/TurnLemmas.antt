@@ -6,6 +6,7 @@ use Rattle.ipl_rules.specs.State.{State}
 use Rattle.record_locks.specs.Held.{Slots, numbers_in}
 use Rattle.buffer_pool.proofs.HoldingLemmas.{both_keep}
 use Rattle.status_renewal.proofs.CauseLemmas.{accounts_then}
+use Rattle.steps.proofs.TablesLemmas.{tables_then}
 use Rattle.store_steps.specs.Advances.{memory_of, LeadsTo}
 use Rattle.store_steps.proofs.LeadLemmas.{keepers_then_lead, failed_keepers_lead}
 use Rattle.page_frames.specs.Pages.{tables_in, frames_in, Upholds}
@@ -43,6 +44,8 @@ upheld_then next n m old mid new result before between after did same turns =
           (subst (λ (slots : Slots). LeadsTo next
           (memory_of (tables_in mid.pages) (frames_in mid.pages) slots) between result
           (memory_in new) after) same turns.leads);
+      tidy = tables_then (Unit {0}) ChipFault (tables_in old.pages) (tables_in mid.pages)
+          (tables_in new.pages) tt result before between after counts did.tidy turns.tidy;
       order = subst (λ (places : ℕ). IsInOrder places new) counts.places turns.order;
       pins = both_keep old.pages.pool mid.pages.pool new.pages.pool did.pins turns.pins;
       least = omega (arith, did.least, turns.least);
@@ -61,6 +64,7 @@ upheld_no_more next n old new e before after order did same = record {
       (memory_of (tables_in new.pages) (frames_in new.pages) slots) after) (sym same)
       (failed_keepers_lead next (memory_in old) (tables_in new.pages) (frames_in new.pages) e e
       before after did.keeps);
+  tidy = did.tidy;
   order = upheld_order n old new (Err e) before after order did same;
   pins = did.pins;
   least = did.least;
@@ -74,6 +78,7 @@ pub turns_weaker : (next : State → State) (n m : ℕ) (old new : Transactions)
     → Turns next n old before result new after → Turns next m old before result new after
 turns_weaker next n m old new result before after fewer turns = record {
   leads = turns.leads;
+  tidy = turns.tidy;
   order = turns.order;
   pins = turns.pins;
   least = turns.least;

@@ -16,6 +16,8 @@ use Rattle.pending_writes.specs.Frames.{Frame, Frames, with_frame_at, IsWrittenF
 use Rattle.pending_writes.specs.Fits.{LocksHold}
 use Rattle.pending_writes.proofs.MemoryLemmas.{cases_page}
 use Rattle.pending_writes.proofs.SameLemmas.{frame_here, frame_other}
+use Rattle.steps.specs.Steps.{Tidies}
+use Rattle.steps.proofs.TablesLemmas.{tables_none}
 use Rattle.store_steps.specs.Advances.{Memory, memory_of, LeadsTo}
 use Rattle.store_steps.proofs.SessionLemmas.{writes_lead}
 use Rattle.frame_changes.specs.Changes.{FrameChanges}
@@ -77,6 +79,8 @@ was_put s n u r old new told order low mine of_unit valid home slots locks parts
       leads = subst (λ (m : Memory). LeadsTo {T = Unit {0}} {E = ChipFault} next (memory_in old)
           told (Ok tt) m told)
           (λ i. memory_of (tables_of (sym parts i)) (sym did.frames i) (sym slots i)) led;
+      tidy = subst (λ (p : Parts). Tidies {T = Unit {0}} {E = ChipFault} t (Ok tt) (tables_of p) told told)
+          (sym parts) (tables_none {T = Unit {0}} {E = ChipFault} t (Ok tt) told);
       order = record {
         ready = still_ready told.places old.pages new.pages (record {
           places = ap (λ (p : Parts). p.directory) parts;

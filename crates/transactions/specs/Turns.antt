@@ -4,7 +4,9 @@ use Rattle.chip_trait.specs.Told.{Told}
 use Rattle.ipl_base.specs.declared.fault.ChipFault.{ChipFault}
 use Rattle.ipl_rules.specs.State.{State}
 use Rattle.record_locks.specs.Held.{numbers_in}
+use Rattle.ipl_meaning.specs.Tables.{IsCountedClean}
 use Rattle.unit_io.specs.Accounts.{Accounts}
+use Rattle.steps.specs.Steps.{Tidies}
 use Rattle.buffer_pool.specs.Holding.{KeepsPins}
 use Rattle.store_steps.specs.Advances.{Memory, memory_of, LeadsTo}
 use Rattle.page_frames.specs.declared.pages.Pages.{Pages}
@@ -21,21 +23,23 @@ pub record IsInOrder (places : ℕ) (it : Transactions) : Type 0 where
   pub active : it.pages.parts.active ≡ numbers_in it.sessions
 
 -- A call that leads from each state that memory and chip stand for to the next one. Whatever the chip
--- tells: the memory is in order, the same pages are held, at most so many numbers were drawn, and a
--- fault has its cause.
+-- tells: its events are lawful by the tables, the memory is in order, the same pages are held, at most
+-- so many numbers were drawn, and a fault has its cause.
 pub record Turns {T : Type 0} (next : State → State) (most : ℕ) (old : Transactions) (before : Told)
     (result : Result T ChipFault) (new : Transactions) (after : Told) : Type 0 where
   pub leads : LeadsTo next (memory_in old) before result (memory_in new) after
+  pub tidy : Tidies (tables_in old.pages) result (tables_in new.pages) before after
   pub order : IsInOrder before.places new
   pub pins : KeepsPins old.pages.pool new.pages.pool
   pub least : old.pages.parts.counter ≤ new.pages.parts.counter
   pub drawn : new.pages.parts.counter ≤ old.pages.parts.counter + most
   pub accounts : Accounts PageCause result before after
 
--- A call in memory alone that does, over whatever chip.
+-- A call in memory alone that does, over whatever chip. No more sectors are counted as clean.
 pub record TurnsInMemory (next : State → State) (old new : Transactions) : Type 0 where
   pub leads : (told : Told) → LeadsTo {T = Unit {0}} {E = ChipFault} next (memory_in old) told (Ok tt)
       (memory_in new) told
+  pub fewer : (p s : ℕ) → IsCountedClean (tables_in new.pages) p s → IsCountedClean (tables_in old.pages) p s
   pub order : (places : ℕ) → IsInOrder places old → IsInOrder places new
   pub pins : KeepsPins old.pages.pool new.pages.pool
 

@@ -1,10 +1,10 @@
-use Rattle.std.proofs.Common.{◌≡◌, ◌∙◌, None, Ok, Err, sym, ap, subst, arith, IsSome}
+use Rattle.std.proofs.Common.{◌≡◌, ◌∙◌, None, Ok, Err, sym, ap, subst, arith, IsSome, Some, refl}
 use Rattle.std.proofs.lemmas.Bool.{false≢true}
 use Rattle.std.proofs.lemmas.Result.{err_from_is_err_and}
 use Rattle.buffer_pool.proofs.HoldingLemmas.{as_many}
 use Rattle.pending_writes.specs.Frames.{Frames}
 use Rattle.ipl_store.specs.Calls.{early_fault, entry_fault, refuses_hold}
-use Rattle.ipl_store.proofs.CallLemmas.{let_in, let_in_calls, idle_calls}
+use Rattle.ipl_store.proofs.CallLemmas.{calls_refused, let_in, let_in_calls, idle_calls}
 use Rattle.ipl_store.proofs.HoldLemmas.{holds_then, held_before, passed_hold, repooled_calls}
 use Rattle.ipl_store.proofs.store.Store.hold.Goals as goal
 
@@ -92,3 +92,16 @@ pub returns-clause-stays : goal.returns-clause-stays
 returns-clause-stays g c = λ there u page is.
     subst (λ (f : Frames). IsSome (f u page)) (sym c.keep.ensures.pool.frames)
     (c.in_ok-bring_page.ensures.stays there u page is)
+
+pub returns-in_err-admit-clause-calls : goal.returns-in_err-admit-clause-calls
+returns-in_err-admit-clause-calls g c =
+    let store = c.args.self.now in
+    let refusal = refuses_hold store.units store.transactions.pages.pool c.args.unit
+    c.args.page in
+    let early = early_fault (entry_fault store) refusal in
+    let fault = c.in_err-admit.field-0.0 in
+    let is : early ≡ Some fault =
+    ap (early_fault (entry_fault store)) (sym c.refuses_hold.ensures) ∙ sym c.in_err-admit.ensures in
+    let e = err_from_is_err_and c.from_residual.result c.from_residual.ensures.1 in
+    rw (e.1 ∙ ap Err e.2) (calls_refused early (λ state. state) 14 store
+    (g.C.Chip.told c.args.chip.now) (Err fault) fault is refl c.requires.sound)

@@ -1,4 +1,5 @@
-use Rattle.std.proofs.Common.{◌≡◌, ◌∙◌, List, ℕ, Some, None, sym, ap, subst}
+use Rattle.std.proofs.Common.{◌≡◌, ◌∙◌, List, ℕ, Some, None, sym, ap, subst, Err, refl}
+use Rattle.std.proofs.lemmas.Result.{err_from_is_err_and}
 use Rattle.ipl_base.specs.Places.{home_of}
 use Rattle.ipl_rules.specs.Operations.{after_write}
 use Rattle.ipl_rules.specs.Refusals.{refuses_put}
@@ -6,7 +7,7 @@ use Rattle.record_locks.specs.Standing.{state_of}
 use Rattle.store_steps.specs.Keeps.{limits_of}
 use Rattle.transactions.specs.Turns.{Turns}
 use Rattle.ipl_store.specs.Calls.{early_fault, entry_fault}
-use Rattle.ipl_store.proofs.CallLemmas.{let_in, turns_move, moved_calls, kept_holds, kept_framed, ended_framed}
+use Rattle.ipl_store.proofs.CallLemmas.{calls_refused, let_in, turns_move, moved_calls, kept_holds, kept_framed, ended_framed}
 use Rattle.ipl_store.proofs.store.Store.put.Goals as goal
 
 pub returns-clause-calls : goal.returns-clause-calls
@@ -47,3 +48,16 @@ returns-in_err-admit-clause-stays g c = λ room u page is. is
 pub returns-clause-stays : goal.returns-clause-stays
 returns-clause-stays g c = λ room. kept_framed c.args.self.now c.end.new.self c.write-done.new.self
     c.args.self.now.kept c.end.ensures.rest (c.write-done.ensures.stays room)
+
+pub returns-in_err-admit-clause-calls : goal.returns-in_err-admit-clause-calls
+returns-in_err-admit-clause-calls g c =
+    let store = c.args.self.now in
+    let refusal = refuses_put (limits_of store.units) (state_of store.transactions.sessions)
+    c.args.s c.args.n c.args.value.now in
+    let early = early_fault (entry_fault store) refusal in
+    let fault = c.in_err-admit.field-0.0 in
+    let is : early ≡ Some fault =
+    ap (early_fault (entry_fault store)) (sym c.refuses_put.ensures) ∙ sym c.in_err-admit.ensures in
+    let e = err_from_is_err_and c.from_residual.result c.from_residual.ensures.1 in
+    rw (e.1 ∙ ap Err e.2) (calls_refused early (λ state. after_write state c.args.s (c.args.n, Some c.args.value.now)) 14 store
+    (g.C.Chip.told c.args.chip.now) (Err fault) fault is refl c.requires.sound)

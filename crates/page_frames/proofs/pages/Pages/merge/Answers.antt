@@ -10,7 +10,7 @@ returns-clause-upholds g c =
     merge_upholds c.args.unit c.args.self.now
     (record { parts = c.merge.new.parts; pool = c.args.self.now.pool }) c.merge.result
     (g.C.Chip.told c.args.chip.now) (g.C.Chip.told c.merge.new.chip) c.requires.ready refl is.holds
-    is.tells is.steps is.draws (slice_index c.args.self.now.parts.directory.current c.args.unit)
+    is.tells is.steps is.tidy is.draws (slice_index c.args.self.now.parts.directory.current c.args.unit)
     (spots_in c.args.self.now.parts.overflow c.args.unit) is.accounts
 
 pub returns-clause-complete : goal.returns-clause-complete

@@ -28,7 +28,7 @@ returns-in_err-add_number-clause-turns g c =
       sessions = old.sessions;
     }) (g.C.Chip.told c.args.chip.now) (g.C.Chip.told c.add_number.new.chip) c.requires.order
     c.requires.number c.requires.out says.steps refl refl refl refl says.same refl says.draws
-    says.accounts)
+    c.requires.room says.tidy says.accounts)
 
 pub returns-clause-turns : goal.returns-clause-turns
 returns-clause-turns g c =
@@ -44,7 +44,8 @@ returns-clause-turns g c =
     }) (g.C.Chip.told c.args.chip.now) (g.C.Chip.told c.add_number.new.chip) c.requires.order
     c.requires.session c.requires.number c.requires.out says.adds says.steps refl refl says.added
     says.drawn c.written.ensures.names c.settle_names.ensures.settled c.settle_names.ensures.pins
-    c.end.ensures.rest c.end.ensures.sessions c.end.ensures.active c.end.ensures.locks says.accounts
+    c.end.ensures.rest c.end.ensures.sessions c.end.ensures.active c.end.ensures.locks c.requires.room
+    says.tidy says.accounts
 
 pub returns-in_err-add_number-clause-complete : goal.returns-in_err-add_number-clause-complete
 returns-in_err-add_number-clause-complete g c =
