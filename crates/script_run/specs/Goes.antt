@@ -1,5 +1,5 @@
 -- How a run goes on as the bytes of its script come.
-use Rattle.std.specs.Prelude.{◌≡◌, ℕ, ◌≤◌, ◌+◌, ◌-◌, ◌^◌, min, true, false, take, drop, length, List, [], ◌++◌, Option, Some, Result, Ok, Err, MatchResult, IfErr, OnOk, IsErrOf, map}
+use Rattle.std.specs.Prelude.{◌≡◌, ℕ, ◌≤◌, ◌+◌, ◌-◌, ◌^◌, min, true, false, take, drop, length, List, [], ◌++◌, Option, Some, Result, Ok, Err, MatchResult, IfErr, OnOk, IsErrOf, is_ok, map}
 use Rattle.ipl_rules.specs.State.{Map, State, Limits}
 use Rattle.ipl_rules.specs.Operations.{row_of, rows_from}
 use Rattle.ipl_model.specs.declared.command.Command.{Command}
@@ -11,7 +11,7 @@ use Rattle.chip_trait.specs.Told.{History, Told, adds_all, Rose, IsPrefix}
 use Rattle.script_run.specs.declared.fault.Stop.{Stop}
 use Rattle.script_run.specs.declared.fault.Stop.TheVariants as stop
 use Rattle.script_run.specs.Lines.{commands_from}
-use Rattle.store_trait.specs.Keeping.{Keeping, Stays, Draws, Excuses}
+use Rattle.store_trait.specs.Keeping.{Keeping, LeavesTidy, Stays, Draws, Excuses}
 use Rattle.store_trait.specs.declared.fault.Fault.{Fault}
 use Rattle.store_trait.specs.declared.fault.Fault.TheVariants.{Spent}
 use Rattle.script_run.specs.Run.{IsUnsaid, RunLeaves, SayingLeaves, SaysLines}
@@ -50,11 +50,13 @@ module _ {S : Type 0} (k : Keeping S) where
   StopCause old new stop.Output = Rose old.beside.say_faults new.beside.say_faults
   StopCause old new stop.TooLong = min (old.beside.script_bytes + 4294967295) (2 ^ 64 - 1) ≤ new.beside.script_bytes
 
-  -- What goes along with each part of a run, whatever it does: at most n numbers were drawn, the store suits as many places as
-  -- before where the part was done, beside the chip no more happened than R tells, and a stop has its cause. A part never finds
-  -- the script too long.
+  -- What goes along with each part of a run, whatever it does and whatever the chip tells: what is added is lawful by the
+  -- sectors that the store counts as clean, at most n numbers were drawn, the store suits as many places as before where the
+  -- part was done, beside the chip no more happened than R tells, and a stop has its cause. A part never finds the script too
+  -- long.
   pub record Along {T : Type 0} (R : Told → Told → Type 0) (n : ℕ) (before : S) (old : Told)
       (result : Result T Stop) (then : S) (new : Told) : Type 0 where
+    pub tidy : LeavesTidy k before then old new (is_ok result)
     pub draws : Draws k n before (IsErrOf result (stop.Store Spent)) then
     pub suited : OnOk result ((places : ℕ) → k.suits before places → k.suits then places)
     pub beside : R old new

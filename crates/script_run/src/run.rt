@@ -1,8 +1,8 @@
 //! A script to its end, in whatever pieces its bytes come.
-ghost use Rattle.std.specs.Prelude.{◌≡◌, ◌≤◌, ◌+◌, ◌-◌, ◌*◌, ◌^◌, ◌∷◌, ◌<◌, max, [], ℕ, List, length, IfOk, OnOk, IfErr, IsErrOf};
+ghost use Rattle.std.specs.Prelude.{◌≡◌, ◌≤◌, ◌+◌, ◌-◌, ◌*◌, ◌^◌, ◌∷◌, ◌<◌, max, [], ℕ, List, length, IfOk, OnOk, IfErr, IsErrOf, is_ok};
 ghost use Rattle.chip_trait.specs.Told.{Told, Grew};
 ghost use Rattle.store_trait.specs.Onward.{Onward, Further};
-ghost use Rattle.store_trait.specs.Keeping.{Draws, FOUND_NUMBER, COMMAND_DRAWS, SCRIPT_DRAWS};
+ghost use Rattle.store_trait.specs.Keeping.{Draws, LeavesTidy, FOUND_NUMBER, COMMAND_DRAWS, SCRIPT_DRAWS};
 ghost use Rattle.script_run.specs.Goes.{Along, CompletesOver, HasRead, ReadsAll, StopCause, TakesBytes, TakesNext, RunsScript};
 
 use crate::Stop;
@@ -101,6 +101,7 @@ fn take_next<S: Store, D: Desk>(
 pub fn run_script<S: Store, D: Desk>(store: &mut S, desk: &mut D) -> Result<(), Stop>
     requires { S.keeping.suits store.old (D.told desk.old).places }
     ensures run { RunsScript S.keeping store.old (D.told desk.old) result store.new (D.told desk.new) }
+    ensures tidy { LeavesTidy S.keeping store.old store.new (D.told desk.old) (D.told desk.new) (is_ok result) }
     ensures draws { Draws S.keeping SCRIPT_DRAWS store.old (IsErrOf result (Stop.Store Fault.Spent)) store.new }
     ensures completes { CompletesOver S.keeping SCRIPT_DRAWS store.old (D.told desk.old) result store.new
         (D.told desk.new) }

@@ -1,6 +1,7 @@
 -- How the store of a script keeps a state, from how the store of records does.
 use Rattle.std.proofs.Common.{ℕ, ◌≡◌, ◌≤◌, ◌<◌, ◌+◌, ◌^◌, max, arith, Bool, true, false, ◌∷◌, [], Option, List, Result, MatchResult, Ok, Err, OnOk, is_ok, if◌then◌else◌, sym, ap, subst}
 use Rattle.std.specs.FinMap.{get}
+use Rattle.std.proofs.lemmas.Bool.{true≢false, false≢true}
 use Rattle.std.proofs.lemmas.Result.{on_err_weaker}
 use Rattle.chip_trait.specs.Story.{Contents}
 use Rattle.chip_trait.specs.Told.{History, Told, adds_all}
@@ -8,7 +9,10 @@ use Rattle.ipl_model.specs.declared.command.Command.{Command}
 use Rattle.ipl_model.specs.declared.reply.Reply.{Reply}
 use Rattle.ipl_model.specs.Step.{step}
 use Rattle.store_trait.specs.declared.fault.Fault.{Fault}
-use Rattle.store_trait.specs.Keeping.{FOUND_NUMBER, LAST_NUMBER, WORK_DRAWS, LOOK_UP_DRAWS, Draws, WorkLeaves, Stays, Works, LooksUp}
+use Rattle.store_trait.specs.Keeping.{FOUND_NUMBER, LAST_NUMBER, WORK_DRAWS, LOOK_UP_DRAWS, Draws, WorkLeaves, Stays, Works, LooksUp, LeavesTidy}
+use Rattle.ipl_base.specs.declared.fault.StoreFault.{StoreFault}
+use Rattle.steps.specs.Steps.{Tidies}
+use Rattle.page_frames.specs.Pages.{tables_in}
 use Rattle.store_steps.specs.Keeps.{store_keeping}
 use Rattle.ipl_store.specs.Calls.{view_of, counter_of}
 use Rattle.script_store.specs.declared.store.ScriptStore.{ScriptStore}
@@ -67,6 +71,28 @@ suits_still a b places runs (Ok v) running = λ others also.
     let was = runs.sound.made.units in
     let is = also.sound.made.units in
     subst (λ (n : ℕ). IsRunning n b) (omega (arith, was, is)) running
+
+-- ---- what is added
+
+-- an answer of the store that is done where the call was
+pub tidy_so : {T U : Type 0} (a b : ScriptStore) (old new : Told) (result : Result T StoreFault)
+    (answer : Result U Fault) → is_ok result ≡ is_ok answer
+    → Tidies (tables_in a.store.transactions.pages) result (tables_in b.store.transactions.pages) old new
+    → LeavesTidy script_keeping a b old new (is_ok answer)
+tidy_so a b old new (Ok v) (Ok w) same did = record {
+  added = did.added;
+  history = did.history;
+  lawful = did.does.lawful;
+  clean = λ done. record { clean = λ base is clean. did.does.clean tt base clean };
+}
+tidy_so a b old new (Err e) (Err f) same did = record {
+  added = did.added;
+  history = did.history;
+  lawful = did.does.lawful;
+  clean = λ done. absurd (false≢true done);
+}
+tidy_so a b old new (Ok v) (Err f) same did = absurd (true≢false same)
+tidy_so a b old new (Err e) (Ok w) same did = absurd (false≢true same)
 
 -- ---- work, and looking up
 

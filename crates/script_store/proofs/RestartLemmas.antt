@@ -23,6 +23,7 @@ use Rattle.opening_rules.proofs.LaidLemmas.{laid_has_no_fault, laid_is_fine_or_s
 use Rattle.opening_rules.proofs.NoFaultLemmas.{no_fault_is_laid}
 use Rattle.opening_rules.proofs.NumberLemmas.{greatest_is_found}
 use Rattle.unit_io.specs.Leads.{IsSteady}
+use Rattle.page_frames.specs.Pages.{tables_in}
 use Rattle.steps.specs.Laws.{Preserves}
 use Rattle.status_renewal.specs.Recovers.{IsOpeningFault, FailsByCallAlone, OpeningCause}
 use Rattle.status_renewal.proofs.ReadyLemmas.{layouts_say}
@@ -187,9 +188,12 @@ few_found places c it next bytes laid above = elim (greatest_is_found c places i
 
 -- ---- an opening
 
-module _ (a b : ScriptStore) (before after : Told) (t : Tables)
-    (runs : IsRunning before.places a)
+module _ (a b : ScriptStore) (before after : Told) (runs : IsRunning before.places a)
     (sound : IsSound before.places b.store) where
+  -- the tables then
+  abbrev t : Tables
+  t = tables_in b.store.transactions.pages
+
   abbrev first : View
   first = view_of a.store
 
@@ -212,6 +216,18 @@ module _ (a b : ScriptStore) (before after : Told) (t : Tables)
         runs.up (answers_advance (TurnsMapOf (λ state. after_restart state))
         (λ state. after_restart state) first.memory last.memory (Ok tt) (Ok reply.Ok) before after
         refl leads) (λ h state keeps. refl) few tt);
+    tidy = record {
+      added = tries.tidy.added;
+      history = tries.tidy.history;
+      lawful = record {
+        lawful = λ base is clean.
+            tries.tidy.does.lawful.lawful base is (λ p s nowhere. absurd nowhere);
+      };
+      clean = λ done. record {
+        clean = λ base is clean.
+            tries.tidy.does.clean refl base (λ p s nowhere. absurd nowhere);
+      };
+    };
     draws = draws_found WORK_DRAWS _ a b found (λ spent. absurd (cc spent));
     running = record { sound = sound; up = opens.fresh.up };
     counts = tries.accounts.counts;
@@ -245,6 +261,15 @@ module _ (a b : ScriptStore) (before after : Told) (t : Tables)
         → Preserves {T = Reply} n state.map first.memory.tables (none_clean (counter_of a.store)) h
         (Err (Image e)) before after) (sym suits) (preserved state.map h steady) story.rests)
         (omega arith) excused);
+    tidy = record {
+      added = tries.tidy.added;
+      history = tries.tidy.history;
+      lawful = record {
+        lawful = λ base is clean.
+            tries.tidy.does.lawful.lawful base is (λ p s nowhere. absurd nowhere);
+      };
+      clean = λ done. absurd (cc done);
+    };
     draws = draws_found WORK_DRAWS _ a b
         (let none = none_drawn in omega (arith, none)) (λ spent. absurd (cc spent));
     running = tt;

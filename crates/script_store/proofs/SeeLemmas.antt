@@ -14,9 +14,11 @@ use Rattle.ipl_model.specs.declared.command.Command.TheVariants as command
 use Rattle.ipl_model.specs.declared.reply.Reply.TheVariants as reply
 use Rattle.ipl_model.specs.Step.{found_reply}
 use Rattle.unit_io.specs.Reads.{OfContents}
-use Rattle.page_frames.specs.Pages.{PageCause}
+use Rattle.steps.specs.Steps.{Tidies}
+use Rattle.page_frames.specs.Pages.{tables_in, PageCause}
 use Rattle.store_trait.specs.declared.fault.Fault.TheVariants.{Chip, Spent}
-use Rattle.store_trait.specs.Keeping.{LAST_NUMBER, LOOK_UP_DRAWS, WorkLeaves, Works, LooksUp}
+use Rattle.store_trait.specs.Keeping.{LAST_NUMBER, LOOK_UP_DRAWS, WorkLeaves, Works, LooksUp, LeavesTidy}
+use Rattle.store_trait.proofs.TidyLemmas.{tidy_same}
 use Rattle.store_steps.specs.Advances.{TurnsMapOf}
 use Rattle.store_steps.specs.Keeps.{View, limits_of, ShowsState, store_keeping}
 use Rattle.store_steps.proofs.AdvanceLemmas.{answers_advance}
@@ -26,8 +28,8 @@ use Rattle.ipl_store.specs.declared.store.Store.{Store}
 use Rattle.ipl_store.specs.Calls.{memory_of_store, view_of, counter_of, IsSound, early_fault, entry_fault, refuses_name, Serves, Calls}
 use Rattle.ipl_store.specs.Shown.{IsSeen, IsCommitted}
 use Rattle.script_store.specs.declared.store.ScriptStore.{ScriptStore}
-use Rattle.script_store.specs.Keeps.{IsRunning, not_found, looked_up, Finds}
-use Rattle.script_store.proofs.KeepLemmas.{looks_up_so, draws_few}
+use Rattle.script_store.specs.Keeps.{IsRunning, script_keeping, not_found, looked_up, Finds}
+use Rattle.script_store.proofs.KeepLemmas.{looks_up_so, draws_few, tidy_so}
 use Rattle.script_store.proofs.WorkLemmas.{chip_rose, chip_cause, IsEntry, up_entry}
 
 -- ---- a call that lends what it found, once that is copied
@@ -52,6 +54,7 @@ calls_copied copy early next most old before (Ok found) new after calls = record
         complete = λ x told state shown. tt;
       };
   sound = calls.sound;
+  tidy = calls.tidy;
   counts = calls.counts;
 }
 calls_copied {U = U} copy early next most old before (Err e) new after calls = record {
@@ -68,6 +71,7 @@ calls_copied {U = U} copy early next most old before (Err e) new after calls = r
         complete = did.complete;
       };
   sound = calls.sound;
+  tidy = calls.tidy;
   counts = calls.counts;
 }
   where
@@ -147,6 +151,7 @@ module _ (n : ℕ) (a b : ScriptStore) (before after : Told) (runs : IsRunning b
   spent_finds late = record {
     looks_up = looks_up_so a a before before runs.up refl n (Err Spent)
         (idle_faults_look_up n first before late);
+    tidy = tidy_same script_keeping a before before false refl;
     draws = draws_few LOOK_UP_DRAWS _ a a runs.up (omega arith) (λ is. late);
     running = tt;
     counts = counts_none before;
@@ -159,6 +164,7 @@ module _ (n : ℕ) (a b : ScriptStore) (before after : Told) (runs : IsRunning b
     looks_up = looks_up_so a a before before runs.up refl n (Ok None)
         (λ limits state h keeps low. absurd (low_is_free a.store.units n r is
         (subst (λ (l : Limits). n < l.names) keeps.limits_are low)));
+    tidy = tidy_same script_keeping a before before true refl;
     draws = draws_few LOOK_UP_DRAWS _ a a runs.up (omega arith) (λ spent. absurd (cc spent));
     running = runs;
     counts = counts_none before;
@@ -169,9 +175,11 @@ module _ (n : ℕ) (a b : ScriptStore) (before after : Told) (runs : IsRunning b
     done_finds : (found : Option (List ℕ))
         → Serves (λ state. state) 14 a.store before (Ok found) b.store after
         → IsCommitted n a.store before found → IsRunning before.places b
+        → LeavesTidy script_keeping a b before after true
         → (counts : Counts before after) → Finds n a before (Ok found) b after
-    done_finds found did committed running counts = record {
+    done_finds found did committed running tidy counts = record {
       looks_up = looks_up_so a b before after runs.up units n (Ok found) looks;
+      tidy = tidy;
       draws = draws_few LOOK_UP_DRAWS _ a b runs.up few (λ spent. absurd (cc spent));
       running = running;
       counts = counts;
@@ -203,10 +211,11 @@ module _ (n : ℕ) (a b : ScriptStore) (before after : Told) (runs : IsRunning b
     failed_finds : (e : ChipFault)
         → (did : Serves {T = Option (List ℕ)} (λ state. state) 14 a.store before
         (Err (store.Chip e)) b.store after)
-        → PageCause e before after → (counts : Counts before after)
-        → Finds n a before (Err (Chip e)) b after
-    failed_finds e did cause counts = record {
+        → PageCause e before after → LeavesTidy script_keeping a b before after false
+        → (counts : Counts before after) → Finds n a before (Err (Chip e)) b after
+    failed_finds e did cause tidy counts = record {
       looks_up = looks_up_so a b before after runs.up units n (Err (Chip e)) looks;
+      tidy = tidy;
       draws = draws_few LOOK_UP_DRAWS _ a b runs.up few (λ spent. absurd (cc spent));
       running = tt;
       counts = counts;
@@ -240,15 +249,18 @@ module _ (n : ℕ) (a b : ScriptStore) (before after : Told) (runs : IsRunning b
     served_finds : (result : Result (Option (List ℕ)) StoreFault)
         → Serves (λ state. state) 14 a.store before result b.store after
         → IfOk result (λ found. IsCommitted n a.store before found)
-        → IsSound before.places b.store → Counts before after
-        → Finds n a before (looked_up result) b after
-    served_finds (Ok found) did committed sound counts =
-        done_finds found did committed (record { sound = sound; up = did.ends }) counts
-    served_finds (Err fault) did committed sound counts =
+        → IsSound before.places b.store
+        → Tidies (tables_in a.store.transactions.pages) result (tables_in b.store.transactions.pages)
+        before after → Counts before after → Finds n a before (looked_up result) b after
+    served_finds (Ok found) did committed sound tidy counts =
+        done_finds found did committed (record { sound = sound; up = did.ends })
+        (tidy_so {U = Option (List ℕ)} a b before after (Ok found) (Ok found) refl tidy) counts
+    served_finds (Err fault) did committed sound tidy counts =
         let (e, is_chip, cause, stopped) = did.ends in
         subst (λ (f : StoreFault). Serves {T = Option (List ℕ)} (λ state. state) 14 a.store before
         (Err f) b.store after → Finds n a before (not_found f) b after) (sym is_chip)
-        (λ of_chip. failed_finds e of_chip cause counts) did
+        (λ of_chip. failed_finds e of_chip cause (tidy_so {T = Option (List ℕ)} {U = Option (List ℕ)}
+        a b before after (Err fault) (Err (Chip e)) refl tidy) counts) did
 
   -- ---- the call
 
@@ -272,7 +284,7 @@ module _ (n : ℕ) (a b : ScriptStore) (before after : Told) (runs : IsRunning b
         idle_finds (store.Refused r) (refused_finds r is) answer same still
     by_refusal None is calls =
         served_finds (omega (arith, calls.sound.made.units, runs.sound.made.units)) result
-        (calls.serves refl) committed calls.sound calls.counts
+        (calls.serves refl) committed calls.sound calls.tidy calls.counts
 
     by_entry : (entry : Option StoreFault) → IsEntry a entry
         → Calls (early_fault entry (refuses_name (limits_of a.store.units) n)) (λ state. state) 14

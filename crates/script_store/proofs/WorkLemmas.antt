@@ -16,10 +16,12 @@ use Rattle.ipl_model.specs.declared.reply.Reply.TheVariants as reply
 use Rattle.ipl_model.specs.Step.{Stepped, refusal_of, accepted, step}
 use Rattle.record_locks.specs.Standing.{state_of}
 use Rattle.unit_io.specs.Reads.{OfContents}
-use Rattle.page_frames.specs.Pages.{PageCause}
+use Rattle.steps.specs.Steps.{Tidies}
+use Rattle.page_frames.specs.Pages.{tables_in, PageCause}
 use Rattle.store_trait.specs.declared.fault.Fault.{Fault}
 use Rattle.store_trait.specs.declared.fault.Fault.TheVariants.{Chip, Spent}
-use Rattle.store_trait.specs.Keeping.{LAST_NUMBER, WORK_DRAWS, ChipRose}
+use Rattle.store_trait.specs.Keeping.{LAST_NUMBER, WORK_DRAWS, ChipRose, LeavesTidy}
+use Rattle.store_trait.proofs.TidyLemmas.{tidy_same}
 use Rattle.store_steps.specs.Advances.{TurnsMapOf, LeadsTo}
 use Rattle.store_steps.specs.Keeps.{View, limits_of, ShowsState, StoreCause}
 use Rattle.store_steps.proofs.AdvanceLemmas.{answers_advance}
@@ -30,8 +32,8 @@ use Rattle.store_steps.proofs.FaultLemmas.{idle_faults_are_work}
 use Rattle.ipl_store.specs.declared.store.Store.{Store}
 use Rattle.ipl_store.specs.Calls.{view_of, counter_of, IsSound, entry_fault, down_fault, early_fault, IsOfTheChip, Serves, Calls}
 use Rattle.script_store.specs.declared.store.ScriptStore.{ScriptStore}
-use Rattle.script_store.specs.Keeps.{IsRunning, ended, answer_of, Does}
-use Rattle.script_store.proofs.KeepLemmas.{works_so, draws_few}
+use Rattle.script_store.specs.Keeps.{IsRunning, script_keeping, ended, answer_of, Does}
+use Rattle.script_store.proofs.KeepLemmas.{works_so, draws_few, tidy_so}
 
 -- ---- faults of the chip
 
@@ -79,6 +81,7 @@ module _ (c : Command) (a : ScriptStore) (told : Told) (runs : IsRunning told.pl
   spent_does late = record {
     works = works_so a a told told runs.up refl c (Err Spent)
         (idle_faults_are_work c (view_of a.store) told late);
+    tidy = tidy_same script_keeping a told told false refl;
     draws = draws_few WORK_DRAWS _ a a runs.up (omega arith) (λ is. late);
     running = tt;
     counts = counts_none told;
@@ -97,6 +100,7 @@ module _ (c : Command) (a : ScriptStore) (told : Told) (runs : IsRunning told.pl
         (limits_of a.store.units) a.store.transactions.sessions state c r
         (keeps.up runs.up).sessions is))
         (λ h state keeps. omega arith) tt);
+    tidy = tidy_same script_keeping a told told true refl;
     draws = draws_few WORK_DRAWS _ a a runs.up (omega arith) (λ spent. absurd (cc spent));
     running = runs;
     counts = counts_none told;
@@ -119,6 +123,7 @@ module _ (a : ScriptStore) (told : Told) (runs : IsRunning told.places a) where
         (λ places c it state settled fits. fits) (λ places c it state fits. refl)
         (λ p s counted. counted)))
         (λ h state keeps. refl) (λ h state keeps. omega arith) tt);
+    tidy = tidy_same script_keeping a told told true refl;
     draws = draws_few WORK_DRAWS _ a a runs.up (omega arith) (λ spent. absurd (cc spent));
     running = runs;
     counts = counts_none told;
@@ -157,9 +162,9 @@ module _ {T : Type 0} (say : T → Reply) (c : Command) (next : State → State)
       → (accepted state c).1 ≡ say found ∷ [])
 
   done_does : (found : T) (did : Serves next most a.store before (Ok found) b.store after)
-      → Replies found → IsRunning before.places b
+      → Replies found → IsRunning before.places b → LeavesTidy script_keeping a b before after true
       → (counts : Counts before after) → Does c a before (Ok (say found)) b after
-  done_does found did replies running counts = record {
+  done_does found did replies running tidy counts = record {
     works = works_so a b before after runs.up units c (Ok (say found))
         (leads_are_work c first last (Ok (say found)) before after runs.sound.made.units
         units runs.up (leads_on (Ok (say found)) (answers_advance (TurnsMapOf next) next
@@ -169,6 +174,7 @@ module _ {T : Type 0} (say : T → Reply) (c : Command) (next : State → State)
         (keeps.up runs.up).sessions free)
         ∙ replies state _ keeps.steady.holds (keeps.up runs.up).shows)
         (λ h state keeps. few_drawn did.drawn) tt);
+    tidy = tidy;
     draws = draws_few WORK_DRAWS _ a b runs.up (few_drawn did.drawn) (λ spent. absurd (cc spent));
     running = running;
     counts = counts;
@@ -177,9 +183,9 @@ module _ {T : Type 0} (say : T → Reply) (c : Command) (next : State → State)
 
   failed_does : (e : ChipFault)
       (did : Serves {T = T} next most a.store before (Err (store.Chip e)) b.store after)
-      → PageCause e before after → (counts : Counts before after)
-      → Does c a before (Err (Chip e)) b after
-  failed_does e did cause counts = record {
+      → PageCause e before after → LeavesTidy script_keeping a b before after false
+      → (counts : Counts before after) → Does c a before (Err (Chip e)) b after
+  failed_does e did cause tidy counts = record {
     works = works_so a b before after runs.up units c (Err (Chip e))
         (leads_are_work c first last (Err (Chip e)) before after runs.sound.made.units
         units runs.up (leads_on (Err (Chip e)) (answers_advance (TurnsMapOf next) next first.memory
@@ -187,6 +193,7 @@ module _ {T : Type 0} (say : T → Reply) (c : Command) (next : State → State)
         (λ h state keeps. few_drawn did.drawn)
         (λ h state keeps low. chip_rose e before after
         (did.complete _ keeps.steady.holds state (keeps.up runs.up).shows) cause));
+    tidy = tidy;
     draws = draws_few WORK_DRAWS _ a b runs.up (few_drawn did.drawn) (λ spent. absurd (cc spent));
     running = tt;
     counts = counts;
@@ -195,15 +202,18 @@ module _ {T : Type 0} (say : T → Reply) (c : Command) (next : State → State)
 
   served_does : (result : Result T StoreFault)
       → Serves next most a.store before result b.store after → IfOk result Replies
-      → IsSound before.places b.store → Counts before after
-      → Does c a before (answer_of say result) b after
-  served_does (Ok found) did replies sound counts =
-      done_does found did replies (record { sound = sound; up = did.ends }) counts
-  served_does (Err fault) did replies sound counts =
+      → IsSound before.places b.store
+      → Tidies (tables_in a.store.transactions.pages) result (tables_in b.store.transactions.pages)
+      before after → Counts before after → Does c a before (answer_of say result) b after
+  served_does (Ok found) did replies sound tidy counts =
+      done_does found did replies (record { sound = sound; up = did.ends })
+      (tidy_so a b before after (Ok found) (Ok (say found)) refl tidy) counts
+  served_does (Err fault) did replies sound tidy counts =
       let (e, is_chip, cause, stopped) = did.ends in
       subst (λ (f : StoreFault). Serves {T = T} next most a.store before (Err f) b.store after
       → Does c a before (ended f) b after) (sym is_chip)
-      (λ of_chip. failed_does e of_chip cause counts) did
+      (λ of_chip. failed_does e of_chip cause
+      (tidy_so {T = T} {U = Reply} a b before after (Err fault) (Err (Chip e)) refl tidy) counts) did
 
 -- ---- a call
 
@@ -237,7 +247,7 @@ module _ {T : Type 0} (say : T → Reply) (c : Command) (refusal : Option Refusa
   by_refusal None is calls =
       served_does say c next most a b before after runs few (sym refuses ∙ is) nexts
       (omega (arith, calls.sound.made.units, runs.sound.made.units)) result (calls.serves refl)
-      replies calls.sound calls.counts
+      replies calls.sound calls.tidy calls.counts
 
   by_entry : (entry : Option StoreFault) → IsEntry a entry
       → Calls (early_fault entry refusal) next most a.store before result b.store after

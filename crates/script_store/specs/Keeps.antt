@@ -1,6 +1,6 @@
 -- How the store that a run of a script works with keeps a state, and what the work of each command
 -- leaves of it.
-use Rattle.std.specs.Prelude.{ℕ, ◌≡◌, ◌≤◌, ◌+◌, false, List, Option, None, Result, Ok, Err, IfErr, OnOk, IsErrOf, if◌then◌else◌}
+use Rattle.std.specs.Prelude.{ℕ, ◌≡◌, ◌≤◌, ◌+◌, false, List, Option, None, Result, Ok, Err, IfErr, OnOk, IsErrOf, is_ok, if◌then◌else◌}
 use Rattle.chip_trait.specs.Chart.{says}
 use Rattle.chip_trait.specs.Told.{History, Told, Counts, adds_all}
 use Rattle.ipl_base.specs.declared.fault.StoreFault.{StoreFault}
@@ -17,7 +17,7 @@ use Rattle.ipl_meaning.specs.Tables.{IsCountedClean}
 use Rattle.store_trait.specs.declared.fault.Fault.{Fault}
 use Rattle.store_trait.specs.declared.fault.Fault.TheVariants.{Chip, Spent}
 use Rattle.store_trait.specs.Onward.{Still, sayings}
-use Rattle.store_trait.specs.Keeping.{Keeping, WORK_DRAWS, LOOK_UP_DRAWS, Draws, Works, LooksUp}
+use Rattle.store_trait.specs.Keeping.{Keeping, WORK_DRAWS, LOOK_UP_DRAWS, Draws, Works, LooksUp, LeavesTidy}
 use Rattle.store_steps.specs.Keeps.{KeepsStore, StoreCause, keeps_each, keeps_still, cause_longer}
 use Rattle.ipl_store.specs.Calls.{view_of, counter_of, IsSound}
 use Rattle.script_store.specs.declared.store.ScriptStore.{ScriptStore}
@@ -99,6 +99,7 @@ looked_up (Err fault) = not_found fault
 pub record Does (c : Command) (old : ScriptStore) (before : Told) (result : Result Reply Fault)
     (new : ScriptStore) (after : Told) : Type 0 where
   pub works : Works script_keeping c old before result new after
+  pub tidy : LeavesTidy script_keeping old new before after (is_ok result)
   pub draws : Draws script_keeping WORK_DRAWS old (IsErrOf result Spent) new
   pub running : OnOk result (IsRunning before.places new)
   pub counts : Counts before after
@@ -108,6 +109,7 @@ pub record Does (c : Command) (old : ScriptStore) (before : Told) (result : Resu
 pub record Finds (n : ℕ) (old : ScriptStore) (before : Told)
     (result : Result (Option (List ℕ)) Fault) (new : ScriptStore) (after : Told) : Type 0 where
   pub looks_up : LooksUp script_keeping n old before result new after
+  pub tidy : LeavesTidy script_keeping old new before after (is_ok result)
   pub draws : Draws script_keeping LOOK_UP_DRAWS old (IsErrOf result Spent) new
   pub running : OnOk result (IsRunning before.places new)
   pub counts : Counts before after

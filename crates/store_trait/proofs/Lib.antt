@@ -1,2 +1,3 @@
 pub mod OnwardLemmas
 pub mod DrawLemmas
+pub mod TidyLemmas

@@ -103,6 +103,14 @@ module _ {S : Type 0} (k : Keeping S) where
     pub lawful : IsLawfulAfter (k.clean before) added
     pub clean : done ≡ true → LeavesClean (k.clean before) (k.clean then) added
 
+  -- What is added between one store and another, whatever the chip tells and whether a state is kept: it is lawful, after any
+  -- lawful events that leave the sectors clean which the first counts so; and done, all leave those clean that the other does.
+  pub record LeavesTidy (before then : S) (old new : Told) (done : Bool) : Type 0 where
+    pub added : Story
+    pub history : new.history ≡ option_map (adds_all added) old.history
+    pub lawful : IsLawfulAfter (k.clean before) added
+    pub clean : done ≡ true → LeavesClean (k.clean before) (k.clean then) added
+
   -- At most n numbers were drawn, from the counter before on or from what an opening found; and where this says that the
   -- numbers are used up, the counter would have come near its end.
   pub record Draws (n : ℕ) (before : S) (IsSpent : Type 0) (then : S) : Type 0 where

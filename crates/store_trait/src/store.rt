@@ -1,5 +1,5 @@
 //! What keeps records on a chip and does the work of commands.
-ghost use Rattle.std.specs.Prelude.{◌≡◌, ◌<◌, ◌≤◌, ℕ, IfErr, OnOk, IsErrOf};
+ghost use Rattle.std.specs.Prelude.{◌≡◌, ◌<◌, ◌≤◌, ℕ, IfErr, OnOk, IsErrOf, is_ok};
 ghost use Rattle.chip_trait.specs.Told.{History, Told, Counts};
 
 use crate::Fault;
@@ -10,7 +10,7 @@ use ipl_model::{Command, Reply};
 /// A store of records over a chip. It says nothing; a run says its replies.
 pub trait Store {
     ghost use Rattle.ipl_rules.specs.State.{State, Limits};
-    ghost use Rattle.store_trait.specs.Keeping.{Keeping, IsSingle, Works, LooksUp, Draws, WORK_DRAWS, LOOK_UP_DRAWS};
+    ghost use Rattle.store_trait.specs.Keeping.{Keeping, IsSingle, Works, LooksUp, LeavesTidy, Draws, WORK_DRAWS, LOOK_UP_DRAWS};
 
     /// How it keeps a state on a chip.
     ghost keeping: { Keeping Self };
@@ -27,6 +27,7 @@ pub trait Store {
         requires suits { keeping.suits self.old (C.told chip.old).places }
         ensures draws { Draws keeping WORK_DRAWS self.old (IsErrOf result Fault.Spent) self.new }
         ensures works { Works keeping command.now self.old (C.told chip.old) result self.new (C.told chip.new) }
+        ensures tidy { LeavesTidy keeping self.old self.new (C.told chip.old) (C.told chip.new) (is_ok result) }
         ensures suited { OnOk result ((places : ℕ) → keeping.suits self.old places → keeping.suits self.new places) }
         ensures counts { Counts (C.told chip.old) (C.told chip.new) }
         ensures cause { IfErr result (λ fault. keeping.cause fault (C.told chip.old) (C.told chip.new)) };
@@ -36,6 +37,7 @@ pub trait Store {
         requires { keeping.suits self.old (C.told chip.old).places }
         ensures draws { Draws keeping LOOK_UP_DRAWS self.old (IsErrOf result Fault.Spent) self.new }
         ensures looks_up { LooksUp keeping n self.old (C.told chip.old) result self.new (C.told chip.new) }
+        ensures tidy { LeavesTidy keeping self.old self.new (C.told chip.old) (C.told chip.new) (is_ok result) }
         ensures suited { OnOk result ((places : ℕ) → keeping.suits self.old places → keeping.suits self.new places) }
         ensures counts { Counts (C.told chip.old) (C.told chip.new) }
         ensures cause { IfErr result (λ fault. keeping.cause fault (C.told chip.old) (C.told chip.new)) };

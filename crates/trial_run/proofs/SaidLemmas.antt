@@ -1,5 +1,6 @@
 -- Pieces that are said, and nothing else.
-use Rattle.std.proofs.Common.{◌≡◌, ◌⊎◌, inl, inr, ℕ, ◌+◌, ◌<◌, Bool, List, [], ◌∷◌, ◌++◌, take, drop, length, get_or, reverse, refl, sym, ◌∙◌, ap, subst}
+use Rattle.std.specs.Prelude.{IfErr, OnErr}
+use Rattle.std.proofs.Common.{◌≡◌, ◌⊎◌, inl, inr, ℕ, ◌+◌, ◌<◌, ◌≤◌, true, false, Result, Ok, Err, Bool, List, [], ◌∷◌, ◌++◌, take, drop, length, get_or, reverse, refl, sym, ◌∙◌, ap, subst}
 use Rattle.std.specs.Option.{option_map}
 use Rattle.std.proofs.lemmas.List.{append-nil, reverse-append, reverse-reverse, take-append-drop, drop_more, take_more}
 use Rattle.ipl_rules.specs.State.{State, Limits}
@@ -8,15 +9,19 @@ use Rattle.chip_trait.specs.declared.event.Event.TheVariants.{Said}
 use Rattle.chip_trait.specs.Story.{Story, Contents, pieces}
 use Rattle.chip_trait.specs.Moment.{AtEachMoment, Leaves}
 use Rattle.chip_trait.specs.Lawful.{IsLawful, AreClean}
-use Rattle.chip_trait.specs.Told.{History, Told, IsPrefix, Appends, FailsToSay, adds, adds_all}
+use Rattle.chip_trait.specs.Told.{History, Told, IsPrefix, Appends, FailsToSay, Rose, adds, adds_all}
 use Rattle.chip_trait.proofs.HistoryLemmas.{same_history, history_then}
 use Rattle.chip_trait.proofs.MomentLemmas.{at_start, at_next, at_end}
-use Rattle.store_trait.specs.Onward.{Still, sayings}
-use Rattle.store_trait.specs.Keeping.{Keeping, AllOf}
+use Rattle.store_trait.specs.Onward.{Onward, Still, sayings}
+use Rattle.store_trait.specs.Keeping.{Keeping, AllOf, LeavesTidy}
 use Rattle.store_trait.proofs.OnwardLemmas.{still_said}
+use Rattle.script_run.specs.declared.fault.Stop.{Stop}
+use Rattle.script_run.specs.declared.fault.Stop.TheVariants as stop
+use Rattle.script_run.specs.Goes.{Along}
 use Rattle.script_run.specs.Run.{IsCut, IsUnsaid, IsSaidOr, SayingLeaves}
+use Rattle.script_run.proofs.AlongLemmas.{along_said, along_unsaid}
 use Rattle.script_run.proofs.RunLemmas.{said_image}
-use Rattle.trial_run.specs.Trial.{HasSaid}
+use Rattle.trial_run.specs.Trial.{HasSaid, SaysAll}
 
 -- ---- one piece after another
 
@@ -149,3 +154,26 @@ module _ {S : Type 0} (k : Keeping S) (limits : Limits) (state : State) (store :
         lawful = record { lawful = λ base lawful clean. lawful_sayings (reverse said) base lawful };
         clean = λ e. record { clean = λ base lawful clean. clean_sayings (k.clean store) (reverse said) base clean };
       } in (leaves, kept_still)
+
+-- ---- what goes along, whatever the chip tells
+
+said_tidy : {S : Type 0} (k : Keeping S) (store : S) (said : List (List ℕ)) (old new : Told) (done : Bool)
+    → HasSaid said old new → LeavesTidy k store store old new done
+said_tidy k store said old new done has = record {
+  added = sayings (reverse said);
+  history = has.history;
+  lawful = record { lawful = λ base lawful clean. lawful_sayings (reverse said) base lawful };
+  clean = λ e. record { clean = λ base lawful clean. clean_sayings (k.clean store) (reverse said) base clean };
+}
+
+-- the lines behind the look-ups, said or not
+pub along_lines : {S : Type 0} (k : Keeping S) (n m : ℕ) (before then : S) (lines : List (List ℕ)) (old mid new : Told)
+    (result : Result (Unit {0}) Stop) → Along k {T = Unit {0}} Onward n before old (Ok tt) then mid
+    → SaysAll lines mid result new → Onward mid new → IfErr result (λ s. s ≡ stop.Output)
+    → OnErr result (Rose mid.beside.say_faults new.beside.say_faults) → n ≤ m
+    → Along k Onward m before old result then new
+along_lines k n m before then lines old mid new (Ok u) first says on stop cause few =
+    along_said first on (said_tidy k then lines mid new true says) few
+along_lines k n m before then lines old mid new (Err s) first says on is cause few =
+    subst (λ (e : Stop). Along k {T = Unit {0}} Onward m before old (Err e) then new) (sym is)
+    (along_unsaid first on cause (said_tidy k then says.0 mid new false says.2) few)

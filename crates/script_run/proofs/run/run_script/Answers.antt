@@ -1,10 +1,11 @@
-use Rattle.std.proofs.Common.{◌≡◌, ℕ, List, sym, subst, arith}
+use Rattle.std.proofs.Common.{◌≡◌, ℕ, List, true, false, is_ok, refl, sym, subst, arith}
 use Rattle.std.proofs.lemmas.List.{length-take}
 use Rattle.std.proofs.lemmas.Result.{err_from_is_err_and}
 use Rattle.ipl_model.specs.Grammar.{line_of, commands_in}
 use Rattle.store_trait.specs.Keeping.{Stays}
 use Rattle.script_run.specs.declared.fault.Stop.{Stop}
 use Rattle.script_run.specs.Goes.{Answers, HasRead, StopCause}
+use Rattle.store_trait.proofs.TidyLemmas.{tidy_same, tidy_part, tidy_then}
 use Rattle.store_trait.proofs.OnwardLemmas.{further_none, further_then}
 use Rattle.script_run.proofs.ReadLemmas.{grew_none, grew_then, read_none, read_then, all_answered}
 use Rattle.script_run.proofs.CauseLemmas.{cause_earlier}
@@ -18,6 +19,7 @@ loop-total-init g c =
     let k = g.S.Store.keeping in record {
       running = λ limits state h holds source left.
           subst (λ (l : List ℕ). Running k limits state source c.args.store.now h c.args.store.now l t t) (sym c.new-line.ensures) (running_none k limits state source c.args.store.now h t holds left);
+      tidy = tidy_same k c.args.store.now t t true refl;
       suited = λ places suits. suits;
       further = further_none t;
       bytes = grew_none t.beside.script_bytes;
@@ -36,6 +38,7 @@ loop-total-preserved g c =
     let k = g.S.Store.keeping in record {
       running = λ limits state h holds source left.
           running_more k limits state source c.args.store.now c.loop-total.store t.new.store h c.loop-total.line t.new.line (at c.args.desk.now) (at c.loop-total.desk) (at t.new.desk) c.in_ok-count.count (was.running limits state h holds source left) (λ s g' now. o.takes limits s g' now);
+      tidy = tidy_then k c.args.store.now c.loop-total.store t.new.store (at c.args.desk.now) (at c.loop-total.desk) (at t.new.desk) true was.tidy o.along.tidy;
       suited = λ places suits. o.along.suited places (was.suited places suits);
       further = further_then (at c.args.desk.now) (at c.loop-total.desk) (at t.new.desk) was.further t.ensures.along.beside;
       bytes = grew_then (at c.args.desk.now).beside.script_bytes (at c.loop-total.desk).beside.script_bytes (at t.new.desk).beside.script_bytes c.loop-total.total c.in_ok-count.count was.bytes o.bytes;
@@ -105,3 +108,24 @@ returns-then-count-eq0-clause-completes g c = λ limits keeps.
     let a = c.in_ok-count.ensures in
     completes_more (completes_then (completes_then (c.loop-total.invariant.completes limits keeps) c.loop-total.invariant.further (λ now. completes_ok tt (a.completed limits now)))
     (further_then _ _ _ c.loop-total.invariant.further a.along.beside) (λ now. c.answer_line.ensures.completes limits now)) (omega (arith, c.loop-total-test.true, c.if-count-eq0.true))
+
+pub returns-clause-tidy : goal.returns-clause-tidy
+returns-clause-tidy g c =
+    tidy_part g.S.Store.keeping c.args.store.now c.loop-total.store (g.D.Chip.told c.args.desk.now) (g.D.Chip.told c.loop-total.desk) true c.loop-total.invariant.tidy
+
+pub returns-in_err-count-clause-tidy : goal.returns-in_err-count-clause-tidy
+returns-in_err-count-clause-tidy g c =
+    let at = g.D.Chip.told in
+    let stop = err_from_is_err_and c.from_residual.result c.from_residual.ensures.1 in
+    rw stop.1 (tidy_then g.S.Store.keeping c.args.store.now c.loop-total.store c.take_next.new.store (at c.args.desk.now) (at c.loop-total.desk) (at c.take_next.new.desk) false
+    c.loop-total.invariant.tidy c.in_err-count.ensures.along.tidy)
+
+pub returns-then-count-eq0-clause-tidy : goal.returns-then-count-eq0-clause-tidy
+returns-then-count-eq0-clause-tidy g c =
+    let at = g.D.Chip.told in
+    let k = g.S.Store.keeping in
+    let t = c.take_next.new in
+    let a = c.answer_line in
+    tidy_then k c.args.store.now t.store a.new.store (at c.args.desk.now) (at t.desk) (at a.new.desk) (is_ok a.result)
+    (tidy_then k c.args.store.now c.loop-total.store t.store (at c.args.desk.now) (at c.loop-total.desk) (at t.desk) true c.loop-total.invariant.tidy c.in_ok-count.ensures.along.tidy)
+    a.ensures.along.tidy

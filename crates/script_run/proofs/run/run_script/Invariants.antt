@@ -1,7 +1,7 @@
-use Rattle.std.proofs.Common.{◌≡◌, ◌≤◌, ◌-◌, ◌+◌, ◌*◌, max, List, ℕ, Some}
+use Rattle.std.proofs.Common.{◌≡◌, ◌≤◌, ◌-◌, ◌+◌, ◌*◌, max, List, ℕ, Some, true}
 use Rattle.ipl_rules.specs.State.{State, Limits}
 use Rattle.chip_trait.specs.Told.{History, Grew}
-use Rattle.store_trait.specs.Keeping.{FOUND_NUMBER, COMMAND_DRAWS}
+use Rattle.store_trait.specs.Keeping.{FOUND_NUMBER, COMMAND_DRAWS, LeavesTidy}
 use Rattle.store_trait.specs.Onward.{Further}
 use Rattle.script_run.specs.Goes.{KeepsSome, HasRead}
 use Rattle.script_run.proofs.GoesLemmas.{Running}
@@ -15,6 +15,7 @@ invariant-loop-total g l =
     record {
       running : (limits : Limits) (state : State) (h : History) → k.holds limits l.fn.store (told l.fn.desk) h state → (source : List ℕ) → (told l.fn.desk).beside.left ≡ Some source
           → Running k limits state source l.fn.store h l.store l.line (told l.fn.desk) (told l.desk);
+      tidy : LeavesTidy k l.fn.store l.store (told l.fn.desk) (told l.desk) true;
       suited : (places : ℕ) → k.suits l.fn.store places → k.suits l.store places;
       further : Further (told l.fn.desk) (told l.desk);
       bytes : Grew (told l.fn.desk).beside.script_bytes l.total (told l.desk).beside.script_bytes;

@@ -47,18 +47,18 @@ returns-in-Err-clause-takes g c = λ limits state h holds source left.
 pub returns-in_err-take_piece-in-Ok-clause-along : goal.returns-in_err-take_piece-in-Ok-clause-along
 returns-in_err-take_piece-in-Ok-clause-along g c =
     let r = c.in-Ok.ensures in
-    along_stop c.from_residual.result c.from_residual.ensures.1 (along_more (along_later (further_read (g.D.Chip.told c.args.desk.now) (g.D.Chip.told c.read_script.new.self) c.in-Ok.count r.chip r.bytes.0 r.bytes.1) c.in_err-take_piece-in-Ok.ensures.along) (omega (arith, length-take c.in-Ok.count c.read_script.new.buf)))
+    along_stop c.from_residual.result c.from_residual.ensures.1 (along_more (along_later (further_read (g.D.Chip.told c.args.desk.now) (g.D.Chip.told c.read_script.new.self) c.in-Ok.count r.chip r.bytes.0 r.bytes.1) r.chip.history c.in_err-take_piece-in-Ok.ensures.along) (omega (arith, length-take c.in-Ok.count c.read_script.new.buf)))
 
 pub returns-in_ok-take_piece-in-Ok-clause-along : goal.returns-in_ok-take_piece-in-Ok-clause-along
 returns-in_ok-take_piece-in-Ok-clause-along g c =
     let r = c.in-Ok.ensures in
-    along_ok c.in-Ok.count (along_more (along_later (further_read (g.D.Chip.told c.args.desk.now) (g.D.Chip.told c.read_script.new.self) c.in-Ok.count r.chip r.bytes.0 r.bytes.1) c.in_ok-take_piece-in-Ok.ensures.along) (omega (arith, length-take c.in-Ok.count c.read_script.new.buf)))
+    along_ok c.in-Ok.count (along_more (along_later (further_read (g.D.Chip.told c.args.desk.now) (g.D.Chip.told c.read_script.new.self) c.in-Ok.count r.chip r.bytes.0 r.bytes.1) r.chip.history c.in_ok-take_piece-in-Ok.ensures.along) (omega (arith, length-take c.in-Ok.count c.read_script.new.buf)))
 
 pub returns-in-Err-clause-along : goal.returns-in-Err-clause-along
 returns-in-Err-clause-along g c =
     let old = g.D.Chip.told c.args.desk.now in
     let new = g.D.Chip.told c.read_script.new.self in
-    along_unread _ c.args.store.now old new (further_failed old new c.in-Err.ensures.chip c.in-Err.ensures.bytes) c.in-Err.ensures.cause
+    along_unread _ c.args.store.now old new (further_failed old new c.in-Err.ensures.chip c.in-Err.ensures.bytes) c.in-Err.ensures.chip.history c.in-Err.ensures.cause
 
 pub returns-in_ok-take_piece-in-Ok-clause-read : goal.returns-in_ok-take_piece-in-Ok-clause-read
 returns-in_ok-take_piece-in-Ok-clause-read g c =

@@ -3,6 +3,8 @@ use Rattle.std.proofs.lemmas.Result.{err_from_is_err_and}
 use Rattle.chip_trait.specs.Told.{adds_all}
 use Rattle.ipl_model.specs.Run.{after_all}
 use Rattle.store_trait.proofs.OnwardLemmas.{further_onward}
+use Rattle.script_run.proofs.AlongLemmas.{along_more, along_then, along_stop}
+use Rattle.trial_run.proofs.SaidLemmas.{along_lines}
 use Rattle.script_run.proofs.CompleteLemmas.{completes_more, completes_then, completes_stop}
 use Rattle.trial_commands.specs.Source.{Source}
 use Rattle.trial_commands.specs.Words.{commands_from, trial_commands}
@@ -78,3 +80,16 @@ returns-clause-completes g c = λ limits keeps.
     completes_saying g.S.Store.keeping limits _ _ _ _ _ _ _ _ _
     (completes_then (c.in_ok-do_all.ensures.completes limits keeps) (further_onward _ _ c.in_ok-do_all.ensures.along.beside)
     (λ now. c.in_ok-take_all.ensures.completes limits now)) c.say_lines.ensures.says c.say_lines.ensures.stop (omega arith)
+
+pub returns-in_err-take_all-clause-along : goal.returns-in_err-take_all-clause-along
+returns-in_err-take_all-clause-along g c =
+    let residual = c.from_residual-in_err-take_all in
+    along_more (along_then c.in_ok-do_all.ensures.along
+    (along_stop residual.result residual.ensures.1 c.in_err-take_all.ensures.along)) (omega arith)
+
+pub returns-clause-along : goal.returns-clause-along
+returns-clause-along g c =
+    along_lines g.S.Store.keeping _ _ c.args.store.now c.take_all.new.store _ (g.D.Chip.told c.args.desk.now)
+    (g.D.Chip.told c.take_all.new.desk) (g.D.Chip.told c.say_lines.new.desk) c.say_lines.result
+    (along_then c.in_ok-do_all.ensures.along c.in_ok-take_all.ensures.along) c.say_lines.ensures.says
+    c.say_lines.ensures.onward c.say_lines.ensures.stop c.say_lines.ensures.cause (omega arith)

@@ -4,8 +4,8 @@ use Rattle.std.specs.FinMap.{get}
 use Rattle.chip_trait.specs.Told.{adds_all}
 use Rattle.store_trait.proofs.OnwardLemmas.{further_onward}
 use Rattle.script_run.specs.Goes.{row_lines}
-use Rattle.script_run.proofs.AlongLemmas.{along_none, along_more, along_then}
-use Rattle.script_run.proofs.CompleteLemmas.{completes_none, completes_more, completes_then}
+use Rattle.script_run.proofs.AlongLemmas.{along_none, along_more, along_then, along_stop}
+use Rattle.script_run.proofs.CompleteLemmas.{completes_none, completes_more, completes_then, completes_stop}
 use Rattle.trial_commands.specs.Summary.{record_lines}
 use Rattle.trial_run.specs.Trial.{IsTaken}
 use Rattle.trial_run.proofs.TakenLemmas.{lines_more, taken_none, taken_then, lost_then}
@@ -60,3 +60,15 @@ returns-clause-takes g c = λ limits named state h holds.
     (λ (n : ℕ). IsTaken g.S.Store.keeping limits state (record_lines state.map n) c.args.records.now c.args.store.now h
     c.loop-n.records c.loop-n.store (g.D.Chip.told c.args.desk.now) (g.D.Chip.told c.loop-n.desk)) all
     (c.loop-n.invariant.takes limits named state h holds)
+
+pub returns-in_err-take_one-clause-along : goal.returns-in_err-take_one-clause-along
+returns-in_err-take_one-clause-along g c =
+    along_more (along_then c.loop-n.invariant.along
+    (along_stop c.from_residual.result c.from_residual.ensures.1 c.in_err-take_one.ensures.along)) (omega arith)
+
+pub returns-in_err-take_one-clause-completes : goal.returns-in_err-take_one-clause-completes
+returns-in_err-take_one-clause-completes g c = λ limits named keeps.
+    completes_more (completes_then (c.loop-n.invariant.completes limits named keeps)
+    (further_onward _ _ c.loop-n.invariant.along.beside)
+    (λ now. completes_stop c.from_residual.result c.from_residual.ensures.1
+    (c.in_err-take_one.ensures.completes limits (omega arith) now))) (omega arith)

@@ -3,7 +3,7 @@ use Rattle.std.proofs.lemmas.Result.{err_from_is_err_and}
 use Rattle.ipl_model.specs.declared.command.Command.{Command}
 use Rattle.chip_trait.specs.Told.{adds_all}
 use Rattle.store_trait.proofs.OnwardLemmas.{further_onward}
-use Rattle.script_run.proofs.AlongLemmas.{along_none, along_more, along_then}
+use Rattle.script_run.proofs.AlongLemmas.{along_none, along_more, along_then, along_stop}
 use Rattle.script_run.proofs.CompleteLemmas.{completes_none, completes_more, completes_then, completes_stop}
 use Rattle.trial_commands.specs.Words.{commands_from}
 use Rattle.trial_commands.proofs.WordLemmas.{commands_none}
@@ -98,3 +98,8 @@ returns-clause-does g c = λ limits state h holds.
 
 pub returns-clause-completes : goal.returns-clause-completes
 returns-clause-completes g c = λ limits keeps. completes_more (c.loop-i.invariant.completes limits keeps) (omega arith)
+
+pub returns-in_err-do_one-clause-along : goal.returns-in_err-do_one-clause-along
+returns-in_err-do_one-clause-along g c =
+    along_more (along_then c.loop-i.invariant.along
+    (along_stop c.from_residual.result c.from_residual.ensures.1 c.in_err-do_one.ensures.along)) (omega arith)

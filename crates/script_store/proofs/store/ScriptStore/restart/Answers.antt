@@ -1,7 +1,6 @@
 use Rattle.std.proofs.Common.{Result, subst}
 use Rattle.ipl_base.specs.declared.fault.ImageFault.{ImageFault}
 use Rattle.ipl_model.specs.declared.command.Command.TheVariants as command
-use Rattle.page_frames.specs.Pages.{tables_in}
 use Rattle.script_store.specs.declared.store.ScriptStore.{ScriptStore}
 use Rattle.script_store.specs.Keeps.{Does}
 use Rattle.script_store.proofs.RestartLemmas.{restarted, restart_does}
@@ -14,7 +13,7 @@ returns-in-Ok g c =
     let b : ScriptStore = record { store = c.open_chip.new.self } in
     subst (λ (r : Result (Unit {0}) ImageFault). Does command.Restart c.args.self.now before
     (restarted r) b after) c.in-Ok.is
-    (restart_does c.args.self.now b before after (tables_in b.store.transactions.pages)
+    (restart_does c.args.self.now b before after
     c.requires.runs c.open_chip.ensures.sound
     c.open_chip.result c.open_chip.ensures.opens c.open_chip.ensures.tries
     c.open_chip.ensures.leads)
@@ -26,7 +25,7 @@ returns-in-Err g c =
     let b : ScriptStore = record { store = c.open_chip.new.self } in
     subst (λ (r : Result (Unit {0}) ImageFault). Does command.Restart c.args.self.now before
     (restarted r) b after) c.in-Err.is
-    (restart_does c.args.self.now b before after (tables_in b.store.transactions.pages)
+    (restart_does c.args.self.now b before after
     c.requires.runs c.open_chip.ensures.sound
     c.open_chip.result c.open_chip.ensures.opens c.open_chip.ensures.tries
     c.open_chip.ensures.leads)

@@ -17,3 +17,6 @@ returns-clause-counts g c = c.look.ensures.counts
 
 pub returns-clause-cause : goal.returns-clause-cause
 returns-clause-cause g c = c.look.ensures.cause
+
+pub returns-clause-tidy : goal.returns-clause-tidy
+returns-clause-tidy g c = c.look.ensures.tidy
