@@ -7,3 +7,4 @@ mod NoteLemmas
 mod TopLemmas
 mod SayLemmas
 mod ViewLemmas
+mod LawfulLemmas

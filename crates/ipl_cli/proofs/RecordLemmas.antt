@@ -1,5 +1,5 @@
 -- Chips that tell what they hold, and maybe no story.
-use Rattle.std.proofs.Common.{◌≡◌, ℕ, [], List, Some, Ok, refl, sym, ◌∙◌, ap, subst}
+use Rattle.std.proofs.Common.{◌≡◌, ℕ, [], List, Some, Ok, sym, subst}
 use Rattle.std.specs.FinMap.{empty}
 use Rattle.chip_trait.specs.Story.{Contents, held}
 use Rattle.chip_trait.specs.Told.{History, Told, IsConsistent, Unrisen, adds_all}

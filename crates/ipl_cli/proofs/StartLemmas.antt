@@ -1,6 +1,6 @@
 -- How the program starts a run, and why it doesn't.
-use Rattle.std.proofs.Common.{◌≡◌, ◌≢◌, ◌⊎◌, ◌≤◌, ◌<◌, ◌-◌, ◌+◌, ◌^◌, ℕ, Bool, true, false, Option, Some, None, Result, Ok, Err, inl, inr, refl, sym, ◌∙◌, ap, subst, arith}
-use Rattle.std.specs.Prelude.{◌&&◌, nat_le, OnOk, IfErr, IsErrOf}
+use Rattle.std.proofs.Common.{◌≡◌, ◌≢◌, ◌≤◌, ◌<◌, ◌-◌, ◌+◌, ◌^◌, ℕ, true, false, Some, None, Result, Ok, Err, inl, inr, refl, sym, ◌∙◌, ap, subst, arith}
+use Rattle.std.specs.Prelude.{◌&&◌, nat_le, OnOk, IfErr, IsErrOf, is_ok}
 use Rattle.std.proofs.lemmas.Bool.{cases_Bool, cases_eq, and_parts}
 use Rattle.std.proofs.lemmas.Bool.Decides.{nat_tests}
 use Rattle.std.specs.FinMap.{empty}
@@ -14,7 +14,6 @@ use Rattle.ipl_base.specs.declared.fault.FormatFault.TheVariants as format
 use Rattle.ipl_base.specs.declared.fault.ImageFault.{ImageFault}
 use Rattle.ipl_base.specs.declared.fault.ImageFault.TheVariants as image
 use Rattle.ipl_rules.specs.State.{Map, at_rest}
-use Rattle.ipl_format.specs.Sector.{Sector}
 use Rattle.ipl_meaning.specs.Chart.{Chart, chart_of}
 use Rattle.ipl_meaning.specs.Stands.{Says, Stands}
 use Rattle.ipl_meaning.specs.Rests.{now, StoryRests}
@@ -34,7 +33,7 @@ use Rattle.opening_rules.proofs.NumberLemmas.{greatest_is_found}
 use Rattle.restart.specs.Events.{format_events}
 use Rattle.restart.specs.Fresh.{IsFresh, Formats}
 use Rattle.restart.proofs.LookLemmas.{reads_none}
-use Rattle.store_trait.specs.Keeping.{ChipRose, Draws, SCRIPT_DRAWS, FOUND_NUMBER}
+use Rattle.store_trait.specs.Keeping.{ChipRose, Draws, LeavesTidy, SCRIPT_DRAWS, FOUND_NUMBER}
 use Rattle.store_trait.specs.Onward.{Further}
 use Rattle.store_trait.proofs.DrawLemmas.{numbers_last}
 use Rattle.store_trait.specs.declared.fault.Fault.{Fault}
@@ -54,10 +53,10 @@ use Rattle.script_store.specs.Keeps.{IsRunning, script_keeping, next_number}
 use Rattle.program_end.specs.declared.end.End.{End}
 use Rattle.program_end.specs.declared.end.End.TheVariants.{Words, Chip, OutOfMemory, Script, Output, TooLong}
 use Rattle.command_line.specs.declared.asked.Request.TheVariants.{Run}
-use Rattle.ipl_cli.specs.Ending.{Ending, IsUntouched, but_noted}
-use Rattle.ipl_cli.specs.Top.{HasFault, IsLaidWell, IsStray, RestsWithNumbersLeft, IsMetLater, LaidCause, StrayCause, OpenedCause, AnewCause, FormattedCause, IsTooLong, RequestCause, EndCause, RunsOpened, OnlyLooks, EndsAtFault, IsRefused, OpenedRuns, format_end, FormattedLeaves, OpenedLeaves}
+use Rattle.ipl_cli.specs.Ending.{Ending}
+use Rattle.ipl_cli.specs.Top.{IsLaidWell, RestsWithNumbersLeft, IsMetLater, LaidCause, StrayCause, OpenedCause, AnewCause, FormattedCause, IsTooLong, RequestCause, EndCause, RunsOpened, EndsAtFault, IsRefused, OpenedRuns, format_end, FormattedLeaves, OpenedLeaves}
 use Rattle.ipl_cli.specs.Runs.{ClosesFor, StartsOpened, IsNotOpened, WasFormatted, IsNotFormatted, StartsFormatted, IsNotStarted, RunsOver, end_of, ending_of}
-use Rattle.ipl_cli.proofs.EndLemmas.{left_counts, stopped_early, opened_keeps, opened_runs, unopened_runs, untouched_runs, untouched_stops, formatted_runs, fresh_story}
+use Rattle.ipl_cli.proofs.EndLemmas.{left_counts, stopped_early, opened_keeps, opened_runs, unopened_runs, untouched_stops, formatted_runs, fresh_story}
 
 -- ---- counts
 
@@ -644,6 +643,7 @@ module _ (before then : ScriptStore) (old new : Told) where
 
   pub runs_over : (result : Result (Unit {0}) Stop) → next_number before ≤ FOUND_NUMBER
       → RunsScript script_keeping before old result then new
+      → LeavesTidy script_keeping before then old new (is_ok result)
       → Draws script_keeping SCRIPT_DRAWS before (IsErrOf result (stop.Store fault.Spent)) then
       → CompletesOver script_keeping SCRIPT_DRAWS before old result then new → Further old new
       → IfErr result (λ e. StopCause script_keeping old new e)
@@ -651,10 +651,11 @@ module _ (before then : ScriptStore) (old new : Told) where
       new.beside.script_bytes) → (IsErrOf result stop.TooLong → HasRead 4294967295 old new)
       → OnOk result (ReadsAll old new)
       → RunsOver (ending_of result) before old then new
-  runs_over result low run draws completes further cause exact long read = record {
+  runs_over result low run tidy draws completes further cause exact long read = record {
     result = result;
     ending_is = refl;
     runs = run;
+    tidy = tidy;
     completes = completes;
     cause = cause;
     unspent = numbers_last draws low;
@@ -666,9 +667,10 @@ module _ (before then : ScriptStore) (old new : Told) where
   -- one that is done read all of the script
   pub ran_over : next_number before ≤ FOUND_NUMBER
       → RunsScript script_keeping before old (Ok tt) then new
+      → LeavesTidy script_keeping before then old new true
       → Draws script_keeping SCRIPT_DRAWS before (IsErrOf {T = Unit {0}} (Ok tt)
       (stop.Store fault.Spent)) then
       → CompletesOver script_keeping {T = Unit {0}} SCRIPT_DRAWS before old (Ok tt) then new
       → Further old new → ReadsAll old new → RunsOver (Ok tt) before old then new
-  ran_over low run draws completes further read =
-      runs_over (Ok tt) low run draws completes further tt (λ is. absurd cc) (λ is. absurd cc) read
+  ran_over low run tidy draws completes further read =
+      runs_over (Ok tt) low run tidy draws completes further tt (λ is. absurd cc) (λ is. absurd cc) read

@@ -1,5 +1,5 @@
 -- What a trial leaves, and why it ends.
-use Rattle.std.proofs.Common.{◌≡◌, ◌⊎◌, ◌≤◌, ◌-◌, ◌+◌, ℕ, true, [], ◌∷◌, List, ◌++◌, Some, Result, Ok, Err, inl, inr, refl, sym, ◌∙◌, ap, subst, arith, append_assoc}
+use Rattle.std.proofs.Common.{◌≡◌, ◌≤◌, ◌-◌, ◌+◌, ℕ, true, [], ◌∷◌, List, ◌++◌, Some, Result, Ok, Err, inl, inr, refl, sym, ◌∙◌, ap, subst, arith, append_assoc}
 use Rattle.std.specs.Prelude.{IfErr, IsErrOf}
 use Rattle.std.specs.FinMap.{empty}
 use Rattle.std.specs.Option.{option_map}
@@ -44,7 +44,7 @@ use Rattle.program_end.specs.declared.end.End.TheVariants.{Words, Chip, OutOfMem
 use Rattle.ipl_cli.specs.Ending.{Ending}
 use Rattle.ipl_cli.specs.Top.{IsTooLong, RequestCause, EndCause}
 use Rattle.ipl_cli.specs.Trials.{commands_on, state_after, summary, StandsBehind, EndsAlong, EndsTrial, Trials, TrialsFormatted, TrialLeaves}
-use Rattle.ipl_cli.specs.Runs.{ClosesFor, StartsOpened, IsNotOpened, WasFormatted, StartsFormatted, IsNotStarted, TriesOver, end_of, ending_of}
+use Rattle.ipl_cli.specs.Runs.{ClosesFor, StartsOpened, IsNotOpened, WasFormatted, StartsFormatted, IsNotStarted, TriesOver, ending_of}
 use Rattle.ipl_cli.proofs.EndLemmas.{Kept, kept, pieces_behind, history_behind, all_done, left_counts, opened_keeps, fresh_story, told_format, lawful_format}
 use Rattle.ipl_cli.proofs.StartLemmas.{cause_anew, over_cause, not_started_cause}
 
@@ -461,6 +461,7 @@ module _ (seed count units : ℕ) (before then : ScriptStore) (old new : Told) (
     ending_is = refl;
     trial = subst (λ (n : ℕ). RunsTrial script_keeping (trial_commands n seed count) before old
         result then new) units_are run;
+    tidy = goes.tidy;
     completes = completes;
     cause = goes.cause;
     unspent = numbers_last goes.draws low;

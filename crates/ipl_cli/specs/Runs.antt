@@ -1,5 +1,5 @@
 -- How the program starts and runs.
-use Rattle.std.specs.Prelude.{ℕ, ◌≡◌, ◌⊎◌, Result, Ok, Err, Some, OnOk, IfErr, IsErrOf}
+use Rattle.std.specs.Prelude.{ℕ, ◌≡◌, ◌⊎◌, Result, Ok, Err, OnOk, IfErr, IsErrOf, is_ok}
 use Rattle.chip_trait.specs.Told.{History, Told, Counts, Rose}
 use Rattle.ipl_base.specs.Places.{IsGeometry}
 use Rattle.ipl_base.specs.declared.fault.ChipFault.TheVariants.{Stopped}
@@ -9,7 +9,7 @@ use Rattle.ipl_base.specs.declared.fault.ImageFault.TheVariants as image
 use Rattle.ipl_meaning.specs.Tables.{Tables}
 use Rattle.restart.specs.Fresh.{Formats}
 use Rattle.store_trait.specs.Onward.{Onward, Further}
-use Rattle.store_trait.specs.Keeping.{SCRIPT_DRAWS}
+use Rattle.store_trait.specs.Keeping.{SCRIPT_DRAWS, LeavesTidy}
 use Rattle.store_trait.specs.declared.fault.Fault.TheVariants as fault
 use Rattle.script_run.specs.declared.fault.Stop.{Stop}
 use Rattle.script_run.specs.declared.fault.Stop.TheVariants as stop
@@ -113,6 +113,7 @@ pub record RunsOver (ending : Ending) (before : ScriptStore) (old : Told) (then 
   pub result : Result (Unit {0}) Stop
   pub ending_is : ending ≡ ending_of result
   pub runs : RunsScript script_keeping before old result then new
+  pub tidy : LeavesTidy script_keeping before then old new (is_ok result)
   pub completes : CompletesOver script_keeping SCRIPT_DRAWS before old result then new
   pub cause : IfErr result (λ s. StopCause script_keeping old new s)
   pub unspent : IsErrOf result (stop.Store fault.Spent) → ⊥
@@ -131,6 +132,7 @@ pub record TriesOver (seed count : ℕ) (ending : Ending) (before : ScriptStore)
   pub ending_is : ending ≡ ending_of result
   pub trial : RunsTrial script_keeping (commands_on old.places seed count) before old result then
       new
+  pub tidy : LeavesTidy script_keeping before then old new (is_ok result)
   pub completes : CompletesOver script_keeping SCRIPT_DRAWS before old result then new
   pub cause : IfErr result (λ s. StopCause script_keeping old new s)
   pub unspent : IsErrOf result (stop.Store fault.Spent) → ⊥

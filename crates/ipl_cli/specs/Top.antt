@@ -8,7 +8,7 @@ use Rattle.chip_trait.specs.Chart.{says}
 use Rattle.chip_trait.specs.Story.{Story, Contents, pieces, said}
 use Rattle.chip_trait.specs.Moment.{AtEachMoment, Leaves}
 use Rattle.chip_trait.specs.Lawful.{IsLawful}
-use Rattle.chip_trait.specs.Told.{History, Told, Counts, Grew, IsPrefix, Rose, adds_all, Unrisen}
+use Rattle.chip_trait.specs.Told.{History, Told, Grew, IsPrefix, Rose, adds_all, Unrisen}
 use Rattle.ipl_base.specs.Places.{IsGeometry}
 use Rattle.ipl_base.specs.declared.fault.ChipFault.TheVariants.{ReadFault, Stopped, Damaged, Malformed}
 use Rattle.ipl_base.specs.declared.fault.FormatFault.{FormatFault}
@@ -26,7 +26,6 @@ use Rattle.unit_io.specs.Leads.{IsSteady}
 use Rattle.unit_io.specs.Reads.{OfContents}
 use Rattle.opening_rules.specs.Faults.{first_fault, greatest_found}
 use Rattle.restart.specs.Events.{format_events}
-use Rattle.restart.specs.Fresh.{Formats}
 use Rattle.restart.specs.Looks.{OnlyReads}
 use Rattle.store_trait.specs.Keeping.{ChipRose}
 use Rattle.store_steps.specs.Keeps.{limits_of}

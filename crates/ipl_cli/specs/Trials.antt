@@ -1,6 +1,6 @@
 -- What a trial leaves, wherever it ends.
 use Rattle.std.specs.Option.{option_map}
-use Rattle.std.specs.Prelude.{◌≡◌, ◌⊎◌, ℕ, ◌-◌, List, [], ◌∷◌, ◌++◌, Some, Ok, Err}
+use Rattle.std.specs.Prelude.{◌≡◌, ◌⊎◌, ℕ, ◌-◌, List, [], ◌∷◌, ◌++◌, Ok, Err}
 use Rattle.std.specs.FinMap.{empty}
 use Rattle.chip_trait.specs.Chart.{says}
 use Rattle.chip_trait.specs.Lawful.{IsLawful}
@@ -8,10 +8,9 @@ use Rattle.chip_trait.specs.Moment.{AtEachMoment, Leaves}
 use Rattle.chip_trait.specs.Story.{Story, Contents, pieces, said}
 use Rattle.chip_trait.specs.Told.{History, Told, IsPrefix, adds_all, Unrisen}
 use Rattle.ipl_base.specs.Places.{IsGeometry}
-use Rattle.ipl_base.specs.declared.fault.ImageFault.{ImageFault}
 use Rattle.ipl_base.specs.declared.fault.ImageFault.TheVariants as image
 use Rattle.ipl_base.specs.declared.limits.TheConstants.{RESERVED_PLACES}
-use Rattle.ipl_rules.specs.State.{State, Map, at_rest}
+use Rattle.ipl_rules.specs.State.{State, at_rest}
 use Rattle.ipl_model.specs.declared.command.Command.{Command}
 use Rattle.ipl_model.specs.Run.{joined, after_all}
 use Rattle.ipl_format.specs.Sector.{sector_in}

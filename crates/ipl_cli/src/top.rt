@@ -12,6 +12,7 @@ ghost use Rattle.command_line.specs.Choice.{requested};
 ghost use Rattle.command_line.specs.declared.asked.Request.{Request};
 ghost use Rattle.command_line.specs.declared.asked.Request.TheVariants.{Format, Run, Serial, Trial};
 ghost use Rattle.ipl_cli.specs.Trials.{TrialLeaves};
+ghost use Rattle.ipl_cli.specs.Adds.{AddsLawful};
 ghost use Rattle.ipl_cli.specs.Ending.{AsksOpened, AsksFormatted, AsksAnew, AtStatus, status_at, note_at, but_noted, IsUntouched};
 ghost use Rattle.ipl_cli.specs.Views.{ViewsTold, OnlyViews, OnlyHears, SerialLeaves, view_end};
 ghost use Rattle.ipl_cli.specs.Top.{NoneFalls, format_end, EndCause, RequestCause, FormatLeaves, FormattedLeaves, OpenedLeaves, EndLeaves};
@@ -51,6 +52,7 @@ fn format_chip<D: Desk>(desk: &mut D) -> Result<(), End>
     ensures leaves { FormatLeaves result (D.told desk.old) (D.told desk.new) }
     ensures cause { EndCause (Some Format) result (D.told desk.old) (D.told desk.new) }
     ensures further { Further (D.told desk.old) (D.told desk.new) }
+    ensures lawful { AddsLawful (D.told desk.old) (D.told desk.new) }
 {
     match format(desk) {
         Ok(()) => match desk.say(OK_LINE) {
@@ -120,6 +122,7 @@ fn start_opened<D: Desk>(alloc: Global, frames: u32, desk: &mut D) -> Result<Scr
     ensures starts { IfOk result (λ store. StartsOpened (D.told desk.old) store (D.told desk.new)) }
     ensures leaves { IfErr result (λ end. OpenedLeaves (Err end) (D.told desk.old) (D.told desk.new)) }
     ensures cause { IfErr result (λ end. RequestCause (Run frames false) end (D.told desk.old) (D.told desk.new)) }
+    ensures lawful { IfErr result (λ end. AddsLawful (D.told desk.old) (D.told desk.new)) }
     ensures counts { Counts (D.told desk.old) (D.told desk.new) }
 {
     let store = closed(alloc, desk.units(), frames)?;
@@ -161,6 +164,7 @@ fn run_formatted<D: Desk>(alloc: Global, frames: u32, desk: &mut D) -> Result<()
     ensures leaves { FormattedLeaves result (D.told desk.old) (D.told desk.new) }
     ensures cause { EndCause (Some (Run frames true)) result (D.told desk.old) (D.told desk.new) }
     ensures further { Further (D.told desk.old) (D.told desk.new) }
+    ensures lawful { AddsLawful (D.told desk.old) (D.told desk.new) }
 {
     let mut store = start_formatted(alloc, frames, desk)?;
     run_over(&mut store, desk)?;
@@ -174,6 +178,7 @@ fn run_opened<D: Desk>(alloc: Global, frames: u32, desk: &mut D) -> Result<(), E
     ensures leaves { OpenedLeaves result (D.told desk.old) (D.told desk.new) }
     ensures cause { EndCause (Some (Run frames false)) result (D.told desk.old) (D.told desk.new) }
     ensures further { Further (D.told desk.old) (D.told desk.new) }
+    ensures lawful { AddsLawful (D.told desk.old) (D.told desk.new) }
 {
     let mut store = start_opened(alloc, frames, desk)?;
     run_over(&mut store, desk)?;
@@ -212,6 +217,7 @@ fn trial<D: Desk>(
     ensures leaves { TrialLeaves seed count result (D.told desk.old) (D.told desk.new) }
     ensures cause { EndCause (Some (Trial seed count frames)) result (D.told desk.old) (D.told desk.new) }
     ensures further { Further (D.told desk.old) (D.told desk.new) }
+    ensures lawful { AddsLawful (D.told desk.old) (D.told desk.new) }
 {
     let mut store = start_formatted(alloc, frames, desk)?;
     trial_over(&mut store, desk, seed, count)?;
@@ -235,6 +241,7 @@ fn say_view<D: Desk>(alloc: Global, desk: &mut D) -> Result<(), End>
     ensures leaves { SerialLeaves result (D.told desk.old) (D.told desk.new) }
     ensures cause { EndCause (Some Serial) result (D.told desk.old) (D.told desk.new) }
     ensures further { Further (D.told desk.old) (D.told desk.new) }
+    ensures lawful { AddsLawful (D.told desk.old) (D.told desk.new) }
 {
     let Some(geometry) = Geometry::of(desk.units()) else {
         return Err(End::Chip(ImageFault::Geometry));
@@ -250,6 +257,7 @@ fn run<D: Desk>(alloc: Global, words: &[String], desk: &mut D) -> Result<(), End
     ensures leaves { EndLeaves (requested (map string_bytes words.now)) result (D.told desk.old) (D.told desk.new) }
     ensures cause { EndCause (requested (map string_bytes words.now)) result (D.told desk.old) (D.told desk.new) }
     ensures further { Further (D.told desk.old) (D.told desk.new) }
+    ensures lawful { AddsLawful (D.told desk.old) (D.told desk.new) }
 {
     let Ok(request) = request(alloc, words) else {
         return Err(End::OutOfMemory);
@@ -304,6 +312,10 @@ pub fn top<D: Desk>(alloc: Global, words: &[String], desk: &mut D) -> u8
 
     // The chip has as many places as before, and no count falls.
     ensures counts { NoneFalls (D.told desk.old) (D.told desk.new) }
+
+    // Whatever is asked and whatever the chip tells or holds, also where that stands for no records: no
+    // sector is programmed twice between erases of its place.
+    ensures lawful { AddsLawful (D.told desk.old) (D.told desk.new) }
 
     // The headline, over a chip that is opened: wherever the program ends. At 0 the whole script was
     // run, at 7 a line of a reply couldn't be said, and else it ended between commands.

@@ -1,6 +1,9 @@
 use Rattle.store_trait.proofs.OnwardLemmas.{onward_counts, onward_said, further_onward, further_then}
 use Rattle.ipl_cli.proofs.EndLemmas.{said_ok, said_part}
 use Rattle.ipl_cli.proofs.TopLemmas.{failed_format}
+use Rattle.std.proofs.Common.{Ok, Err}
+use Rattle.ipl_base.specs.declared.fault.FormatFault.{FormatFault}
+use Rattle.ipl_cli.proofs.LawfulLemmas.{adds_format, adds_then, adds_said, adds_unsaid}
 use Rattle.ipl_cli.proofs.top.format_chip.Goals as goal
 
 pub returns-in-Err-clause-leaves : goal.returns-in-Err-clause-leaves
@@ -42,3 +45,25 @@ returns-in-Err-say-clause-further g c =
     let new = g.D.Chip.told c.say.new.self in
     further_then old mid new (further_onward old mid (onward_counts old mid c.format.ensures.counts))
     (further_onward mid new (onward_said mid new c.in-Err-say.ensures.err.places c.say.ensures.counts))
+
+pub returns-in-Err-clause-lawful : goal.returns-in-Err-clause-lawful
+returns-in-Err-clause-lawful g c =
+    let old = g.D.Chip.told c.args.desk.now in
+    adds_format {T = Unit {0}} {E = FormatFault} old.places old (Err c.in-Err.fault)
+    (g.D.Chip.told c.format.new.chip) c.in-Err.ensures.formats
+
+pub returns-in-Ok-say-clause-lawful : goal.returns-in-Ok-say-clause-lawful
+returns-in-Ok-say-clause-lawful g c =
+    let old = g.D.Chip.told c.args.desk.now in
+    let mid = g.D.Chip.told c.format.new.chip in
+    let new = g.D.Chip.told c.say.new.self in
+    adds_then old mid new (adds_format {T = Unit {0}} {E = FormatFault} old.places old (Ok tt) mid
+    c.in-Ok.ensures.formats) (adds_said _ mid new c.in-Ok-say.ensures.ok)
+
+pub returns-in-Err-say-clause-lawful : goal.returns-in-Err-say-clause-lawful
+returns-in-Err-say-clause-lawful g c =
+    let old = g.D.Chip.told c.args.desk.now in
+    let mid = g.D.Chip.told c.format.new.chip in
+    let new = g.D.Chip.told c.say.new.self in
+    adds_then old mid new (adds_format {T = Unit {0}} {E = FormatFault} old.places old (Ok tt) mid
+    c.in-Ok.ensures.formats) (adds_unsaid _ mid new c.in-Err-say.ensures.err)

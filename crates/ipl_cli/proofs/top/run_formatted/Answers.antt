@@ -2,6 +2,8 @@ use Rattle.std.proofs.Common.{Err, Ok}
 use Rattle.std.proofs.lemmas.Result.{err_from_is_err_and}
 use Rattle.store_trait.proofs.OnwardLemmas.{onward_counts, further_onward, further_then}
 use Rattle.ipl_cli.proofs.StartLemmas.{not_started_left, not_started_cause, formatted_left, formatted_cause, formatted_running, formatted_number}
+use Rattle.std.specs.Prelude.{is_ok}
+use Rattle.ipl_cli.proofs.LawfulLemmas.{formatted_adds, unstarted_adds}
 use Rattle.ipl_cli.proofs.top.run_formatted.Goals as goal
 
 pub run_over-requires-clause-running : goal.run_over-requires-clause-running
@@ -72,3 +74,22 @@ returns-clause-further g c =
     further_then old mid (g.D.Chip.told c.run_over.new.desk)
     (further_onward old mid (onward_counts old mid c.start_formatted.ensures.counts))
     c.in_ok-run_over.ensures.runs.further
+
+pub returns-in_err-run_over-clause-lawful : goal.returns-in_err-run_over-clause-lawful
+returns-in_err-run_over-clause-lawful g c =
+    formatted_adds (g.D.Chip.told c.args.desk.now) (g.D.Chip.told c.start_formatted.new.desk)
+    (g.D.Chip.told c.run_over.new.desk) c.in_ok-store.store c.run_over.new.store
+    (is_ok c.in_err-run_over.ensures.runs.result) c.in_ok-store.ensures.starts
+    c.in_err-run_over.ensures.runs.tidy
+
+pub returns-clause-lawful : goal.returns-clause-lawful
+returns-clause-lawful g c =
+    formatted_adds (g.D.Chip.told c.args.desk.now) (g.D.Chip.told c.start_formatted.new.desk)
+    (g.D.Chip.told c.run_over.new.desk) c.in_ok-store.store c.run_over.new.store
+    (is_ok c.in_ok-run_over.ensures.runs.result) c.in_ok-store.ensures.starts
+    c.in_ok-run_over.ensures.runs.tidy
+
+pub returns-in_err-store-clause-lawful : goal.returns-in_err-store-clause-lawful
+returns-in_err-store-clause-lawful g c =
+    unstarted_adds c.in_err-store.field-0.0 (g.D.Chip.told c.args.desk.now)
+    (g.D.Chip.told c.start_formatted.new.desk) c.in_err-store.ensures.stops

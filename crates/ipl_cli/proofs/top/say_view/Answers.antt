@@ -1,5 +1,7 @@
 use Rattle.std.proofs.Common.{◌∙◌}
 use Rattle.ipl_cli.proofs.ViewLemmas.{said_view, failed_view}
+use Rattle.std.proofs.Common.{refl}
+use Rattle.ipl_cli.proofs.LawfulLemmas.{adds_nothing, adds_sayings}
 use Rattle.ipl_cli.proofs.top.say_view.Goals as goal
 
 pub returns-in-Ok-clause-leaves : goal.returns-in-Ok-clause-leaves
@@ -20,3 +22,17 @@ returns-in-Ok-clause-further g c = c.say_serial_view.ensures.only.further
 
 pub returns-in-Err-clause-further : goal.returns-in-Err-clause-further
 returns-in-Err-clause-further g c = c.say_serial_view.ensures.only.further
+
+pub returns-in-Ok-clause-lawful : goal.returns-in-Ok-clause-lawful
+returns-in-Ok-clause-lawful g c =
+    adds_sayings (g.D.Chip.told c.args.desk.now) (g.D.Chip.told c.say_serial_view.new.desk)
+    c.say_serial_view.ensures.only.still
+
+pub returns-in-Err-clause-lawful : goal.returns-in-Err-clause-lawful
+returns-in-Err-clause-lawful g c =
+    adds_sayings (g.D.Chip.told c.args.desk.now) (g.D.Chip.told c.say_serial_view.new.desk)
+    c.say_serial_view.ensures.only.still
+
+pub returns-in_default-clause-lawful : goal.returns-in_default-clause-lawful
+returns-in_default-clause-lawful g c =
+    adds_nothing (g.D.Chip.told c.args.desk.now) (g.D.Chip.told c.args.desk.now) refl

@@ -2,6 +2,8 @@ use Rattle.std.proofs.Common.{ℕ, Err, subst}
 use Rattle.std.proofs.lemmas.Result.{err_from_is_err_and}
 use Rattle.ipl_cli.specs.Runs.{ClosesFor}
 use Rattle.ipl_cli.proofs.StartLemmas.{closed_left, closed_cause, unopened_left, unopened_ends}
+use Rattle.std.proofs.Common.{refl}
+use Rattle.ipl_cli.proofs.LawfulLemmas.{adds_nothing, unopened_adds}
 use Rattle.ipl_cli.proofs.top.start_opened.Goals as goal
 
 pub open_over-requires : goal.open_over-requires
@@ -46,3 +48,15 @@ returns-clause-starts g c = c.in_ok-started.ensures.opens
 
 pub returns-clause-counts : goal.returns-clause-counts
 returns-clause-counts g c = c.in_ok-started.ensures.opens.tries.accounts.counts
+
+pub returns-in_err-store-clause-lawful : goal.returns-in_err-store-clause-lawful
+returns-in_err-store-clause-lawful g c =
+    let e = err_from_is_err_and c.from_residual.result c.from_residual.ensures.1 in
+    rw e.1 (adds_nothing (g.D.Chip.told c.args.desk.now) (g.D.Chip.told c.args.desk.now) refl)
+
+pub returns-in_err-started-clause-lawful : goal.returns-in_err-started-clause-lawful
+returns-in_err-started-clause-lawful g c =
+    let e = err_from_is_err_and c.from_residual-in_err-started.result
+    c.from_residual-in_err-started.ensures.1 in
+    rw e.1 (unopened_adds c.in_err-started.field-0.0 (g.D.Chip.told c.args.desk.now)
+    (g.D.Chip.told c.open_over.new.desk) c.in_err-started.ensures.opens)

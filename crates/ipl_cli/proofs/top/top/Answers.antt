@@ -6,6 +6,7 @@ use Rattle.ipl_cli.proofs.TopLemmas.{end_opened, end_refuses, end_laid, end_read
 use Rattle.ipl_cli.specs.Ending.{AtStatus}
 use Rattle.ipl_cli.specs.Top.{RunsOpened}
 use Rattle.ipl_cli.proofs.RecordLemmas.{opened_records, formatted_records}
+use Rattle.ipl_cli.proofs.LawfulLemmas.{adds_noted}
 use Rattle.ipl_cli.proofs.top.top.Goals as goal
 
 pub returns-clause-ends : goal.returns-clause-ends
@@ -147,3 +148,8 @@ pub returns-clause-completes : goal.returns-clause-completes
 returns-clause-completes g c = end_completes (requested (map string_bytes c.args.words.now))
     (g.D.Chip.told c.args.desk.now) (g.D.Chip.told c.finish.new.desk) c.finish.result
     (returns-clause-ends g c) (g.met.D.Chip.consistent c.args.desk.now)
+
+pub returns-clause-lawful : goal.returns-clause-lawful
+returns-clause-lawful g c =
+    adds_noted (g.D.Chip.told c.args.desk.now) (g.D.Chip.told c.run-ending.new.desk)
+    (g.D.Chip.told c.finish.new.desk) c.run-ending.ensures.lawful c.finish.ensures.only

@@ -3,6 +3,8 @@ use Rattle.std.proofs.lemmas.Result.{err_from_is_err_and}
 use Rattle.store_trait.proofs.OnwardLemmas.{onward_counts, onward_then, further_onward}
 use Rattle.ipl_cli.proofs.StartLemmas.{formatted_running, formatted_number}
 use Rattle.ipl_cli.proofs.TrialLemmas.{trial_not_started, trial_not_started_cause, tried_left, tried_cause}
+use Rattle.std.specs.Prelude.{is_ok}
+use Rattle.ipl_cli.proofs.LawfulLemmas.{formatted_adds, unstarted_adds}
 use Rattle.ipl_cli.proofs.top.trial.Goals as goal
 
 pub trial_over-requires-clause-running : goal.trial_over-requires-clause-running
@@ -76,3 +78,22 @@ returns-clause-further g c =
     further_onward old new (onward_then old mid new
     (onward_counts old mid c.start_formatted.ensures.counts)
     c.in_ok-trial_over.ensures.tries.onward)
+
+pub returns-in_err-store-clause-lawful : goal.returns-in_err-store-clause-lawful
+returns-in_err-store-clause-lawful g c =
+    unstarted_adds c.in_err-store.field-0.0 (g.D.Chip.told c.args.desk.now)
+    (g.D.Chip.told c.start_formatted.new.desk) c.in_err-store.ensures.stops
+
+pub returns-in_err-trial_over-clause-lawful : goal.returns-in_err-trial_over-clause-lawful
+returns-in_err-trial_over-clause-lawful g c =
+    formatted_adds (g.D.Chip.told c.args.desk.now) (g.D.Chip.told c.start_formatted.new.desk)
+    (g.D.Chip.told c.trial_over.new.desk) c.in_ok-store.store c.trial_over.new.store
+    (is_ok c.in_err-trial_over.ensures.tries.result) c.in_ok-store.ensures.starts
+    c.in_err-trial_over.ensures.tries.tidy
+
+pub returns-clause-lawful : goal.returns-clause-lawful
+returns-clause-lawful g c =
+    formatted_adds (g.D.Chip.told c.args.desk.now) (g.D.Chip.told c.start_formatted.new.desk)
+    (g.D.Chip.told c.trial_over.new.desk) c.in_ok-store.store c.trial_over.new.store
+    (is_ok c.in_ok-trial_over.ensures.tries.result) c.in_ok-store.ensures.starts
+    c.in_ok-trial_over.ensures.tries.tidy
