@@ -1,112 +1,190 @@
--- Eight bytes at once leave the register as they do one by one.
+-- Words of four bytes leave the register as their bytes do one by one, and so do four words at once.
 use Rattle.std.proofs.Common.{◌≡◌, ℕ, zero, suc, ◌+◌, ◌*◌, ◌/◌, ◌%◌, ◌^◌, ◌<◌, List, [], ◌∷◌, length, get_or, take, drop, refl, sym, ap, ◌∙◌, arith}
 use Rattle.std.specs.Prelude.{bit_xor, fold}
 use Rattle.std.specs.Simd.{first_chunks}
+use Rattle.std.specs.Int.{w32, from_le_bytes}
 use Rattle.std.proofs.lemmas.List.{take-append-drop}
 use Rattle.std.proofs.lemmas.List.Sums.{fold-append}
 use Rattle.std.proofs.Math.Seq.{take-add}
 use Rattle.std.specs.Int.Bits.{xor_assoc, xor_zero_r}
-use Rattle.std.proofs.lemmas.Nat.{xor_comm}
-use Rattle.crc_sum.proofs.ShiftLemmas.{◌⊕◌, shifted_8_xor, first_byte, next_byte}
+use Rattle.std.proofs.lemmas.Nat.{xor_comm, xor_lt, le_bytes_4}
+use Rattle.crc_sum.proofs.ShiftLemmas.{◌⊕◌, shifted_8_xor, shifted_8_split, added}
 use Rattle.crc_sum.specs.Crc.{shifted_8, with_byte, register_after}
 use Rattle.crc_sum.specs.Tables.{shifted_bytes}
 
--- eight numbers, each shifted by a byte more than the next, together
-eight_shifted : ℕ → ℕ → ℕ → ℕ → ℕ → ℕ → ℕ → ℕ → ℕ
-eight_shifted a b c d e f g h =
-    shifted_bytes 8 a ⊕ shifted_bytes 7 b ⊕ shifted_bytes 6 c ⊕ shifted_bytes 5 d
-    ⊕ shifted_bytes 4 e ⊕ shifted_bytes 3 f ⊕ shifted_bytes 2 g ⊕ shifted_bytes 1 h
+-- a shift of an exclusive or is the exclusive or of the shifts
+shifted_bytes_xor : (k a b : ℕ) → shifted_bytes k (a ⊕ b) ≡ shifted_bytes k a ⊕ shifted_bytes k b
+unfolding shifted_bytes
+shifted_bytes_xor zero a b = refl
+shifted_bytes_xor (suc k) a b =
+    ap (shifted_bytes k) (shifted_8_xor a b) ∙ shifted_bytes_xor k (shifted_8 a) (shifted_8 b)
 
--- the same, from the last number on
-abbrev eight_from_last : ℕ → ℕ → ℕ → ℕ → ℕ → ℕ → ℕ → ℕ → ℕ
-eight_from_last a b c d e f g h =
-    shifted_bytes 1 h ⊕ shifted_bytes 2 g ⊕ shifted_bytes 3 f ⊕ shifted_bytes 4 e
-    ⊕ shifted_bytes 5 d ⊕ shifted_bytes 6 c ⊕ shifted_bytes 7 b ⊕ shifted_bytes 8 a
+-- the lowest byte is shifted for itself, and the rest by a byte less
+lowest_first : (k w : ℕ)
+    → shifted_bytes (suc k) w ≡ shifted_bytes (suc k) (w % 256) ⊕ shifted_bytes k (w / 256)
+unfolding shifted_bytes
+lowest_first k w =
+    ap (shifted_bytes k) (shifted_8_split w) ∙ shifted_bytes_xor k (shifted_8 (w % 256)) (w / 256)
 
--- the last part comes before the others
-pull : (t rest x : ℕ) → t ⊕ (rest ⊕ x) ≡ t ⊕ x ⊕ rest
-pull t rest x = ap (bit_xor t) (xor_comm rest x) ∙ sym (xor_assoc t x rest)
+-- the other way round
+turned : (a b c d : ℕ) → a ⊕ (b ⊕ (c ⊕ d)) ≡ ((d ⊕ c) ⊕ b) ⊕ a
+turned a b c d =
+    xor_comm a _ ∙ ap (λ (x : ℕ). x ⊕ a) (xor_comm b _ ∙ ap (λ (x : ℕ). x ⊕ b) (xor_comm c d))
 
--- the order makes no difference
-turned : (a b c d e f g h : ℕ) → eight_shifted a b c d e f g h ≡ eight_from_last a b c d e f g h
-unfolding eight_shifted
-turned a b c d e f g h =
-    xor_comm _ (shifted_bytes 1 h)
-    ∙ pull _ _ (shifted_bytes 2 g)
-    ∙ pull _ _ (shifted_bytes 3 f)
-    ∙ pull _ _ (shifted_bytes 4 e)
-    ∙ pull _ _ (shifted_bytes 5 d)
-    ∙ pull _ _ (shifted_bytes 6 c)
-    ∙ pull _ (shifted_bytes 8 a) (shifted_bytes 7 b)
-
--- one number more, after those before were shifted by a byte
-abbrev more : ℕ → ℕ → ℕ
-more a x = shifted_8 a ⊕ shifted_8 x
-
--- one after the other, they come to the same as each for itself
-spread : (a b c d e f g h : ℕ)
-    → eight_shifted a b c d e f g h
-    ≡ more (more (more (more (more (more (more (shifted_8 a) b) c) d) e) f) g) h
-unfolding eight_shifted shifted_bytes
-spread a b c d e f g h = simp (shifted_8_xor)
-
--- eight bytes, one by one: after four of them nothing is left of what the register held
-eight_steps : (r a b c d e f g h : ℕ) → r < 2 ^ 32
-    → a < 256 → b < 256 → c < 256 → d < 256 → e < 256 → f < 256 → g < 256 → h < 256
-    → register_after r (a ∷ b ∷ c ∷ d ∷ e ∷ f ∷ g ∷ h ∷ [])
-    ≡ eight_shifted ((r % 256) ⊕ a) ((r / 256 % 256) ⊕ b)
-    ((r / 65536 % 256) ⊕ c) ((r / 16777216 % 256) ⊕ d) e f g h
-eight_steps r a b c d e f g h low la lb lc ld le lf lg lh =
-    let third : r / 256 / 256 ≡ r / 65536 = omega arith in
-    let fourth : r / 65536 / 256 ≡ r / 16777216 = omega arith in
-    let none : r / 16777216 / 256 ≡ 0 = omega (arith, low) in
-    let after_a = first_byte r a la in
-    let after_b = next_byte _ _ _ b after_a lb ∙ ap (bit_xor _) third in
-    let after_c = next_byte _ _ _ c after_b lc ∙ ap (bit_xor _) fourth in
-    let after_d = next_byte _ _ _ d after_c ld ∙ ap (bit_xor _) none in
-    let after_e = next_byte _ _ 0 e after_d le in
-    let after_f = next_byte _ _ 0 f after_e lf in
-    let after_g = next_byte _ _ 0 g after_f lg in
-    next_byte _ _ 0 h after_g lh ∙ xor_zero_r _ ∙ sym (spread _ _ _ _ e f g h)
-
--- eight bytes, each looked up for itself
-pub eight_bytes : (r : ℕ) (bytes : List ℕ) → r < 2 ^ 32 → length bytes ≡ 8
-    → ((i : ℕ) → get_or bytes i 0 < 256)
-    → eight_from_last ((r % 256) ⊕ get_or bytes 0 0) ((r / 256 % 256) ⊕ get_or bytes 1 0)
-    ((r / 65536 % 256) ⊕ get_or bytes 2 0) ((r / 16777216 % 256) ⊕ get_or bytes 3 0)
-    (get_or bytes 4 0) (get_or bytes 5 0) (get_or bytes 6 0) (get_or bytes 7 0)
-    ≡ register_after r bytes
-eight_bytes r [] low long all = absurd (omega (arith, long))
-eight_bytes r (a ∷ []) low long all = absurd (omega (arith, long))
-eight_bytes r (a ∷ b ∷ []) low long all = absurd (omega (arith, long))
-eight_bytes r (a ∷ b ∷ c ∷ []) low long all = absurd (omega (arith, long))
-eight_bytes r (a ∷ b ∷ c ∷ d ∷ []) low long all = absurd (omega (arith, long))
-eight_bytes r (a ∷ b ∷ c ∷ d ∷ e ∷ []) low long all = absurd (omega (arith, long))
-eight_bytes r (a ∷ b ∷ c ∷ d ∷ e ∷ f ∷ []) low long all = absurd (omega (arith, long))
-eight_bytes r (a ∷ b ∷ c ∷ d ∷ e ∷ f ∷ g ∷ []) low long all = absurd (omega (arith, long))
-eight_bytes r (a ∷ b ∷ c ∷ d ∷ e ∷ f ∷ g ∷ h ∷ []) low long all =
+-- the four bytes of a word, each shifted for itself
+each_byte : (k w : ℕ) → w < 2 ^ 32
+    → ((shifted_bytes (suc k) (w / 16777216 % 256) ⊕ shifted_bytes (suc (suc k)) (w / 65536 % 256))
+    ⊕ shifted_bytes (suc (suc (suc k))) (w / 256 % 256))
+    ⊕ shifted_bytes (suc (suc (suc (suc k)))) (w % 256)
+    ≡ shifted_bytes (suc (suc (suc (suc k)))) w
+each_byte k w low =
+    let third : w / 256 / 256 ≡ w / 65536 = omega arith in
+    let fourth : w / 65536 / 256 ≡ w / 16777216 = omega arith in
+    let last : w / 16777216 ≡ w / 16777216 % 256 = omega (arith, low) in
+    let a = shifted_bytes (suc (suc (suc (suc k)))) (w % 256) in
+    let b = shifted_bytes (suc (suc (suc k))) (w / 256 % 256) in
+    let c = shifted_bytes (suc (suc k)) (w / 65536 % 256) in
+    let d = shifted_bytes (suc k) (w / 16777216 % 256) in
     sym (
-    eight_steps r a b c d e f g h low (all 0) (all 1) (all 2) (all 3) (all 4) (all 5) (all 6) (all 7)
-    ∙ turned _ _ _ _ e f g h
+    lowest_first (suc (suc (suc k))) w
+    ∙ ap (bit_xor a) (
+    lowest_first (suc (suc k)) (w / 256)
+    ∙ ap (bit_xor b) (
+    ap (shifted_bytes (suc (suc k))) third
+    ∙ lowest_first (suc k) (w / 65536)
+    ∙ ap (bit_xor c) (ap (shifted_bytes (suc k)) (fourth ∙ last))
     )
-eight_bytes r (a ∷ b ∷ c ∷ d ∷ e ∷ f ∷ g ∷ h ∷ i ∷ xs) low long all = absurd (omega (arith, long))
+    )
+    ∙ turned a b c d
+    )
 
--- the whole chunks of a list, each taken at once, leave the register as its bytes do
-chunks_taken : (n : ℕ) (r : ℕ) (bytes : List ℕ)
-    → fold register_after r (first_chunks 8 n bytes) ≡ register_after r (take (n * 8) bytes)
-chunks_taken zero r bytes = refl
-chunks_taken (suc n) r bytes =
-    let longer : 8 + n * 8 ≡ suc n * 8 = omega arith in
-    chunks_taken n (register_after r (take 8 bytes)) (drop 8 bytes)
-    ∙ sym (fold-append with_byte r (take 8 bytes) (take (n * 8) (drop 8 bytes)))
-    ∙ ap (λ (xs : List ℕ). register_after r xs)
-    (sym (take-add 8 (n * 8) bytes) ∙ ap (λ (k : ℕ). take k bytes) longer)
+-- the same, as the bytes are held and looked up
+each_looked_up : (k w k1 k2 k3 k4 : ℕ) (held : List ℕ)
+    → held ≡ w % 256 ∷ w / 256 % 256 ∷ w / 65536 % 256 ∷ w / 16777216 % 256 ∷ []
+    → w < 2 ^ 32
+    → k1 ≡ suc k → k2 ≡ suc (suc k) → k3 ≡ suc (suc (suc k)) → k4 ≡ suc (suc (suc (suc k)))
+    → ((shifted_bytes k1 (get_or held 3 0) ⊕ shifted_bytes k2 (get_or held 2 0))
+    ⊕ shifted_bytes k3 (get_or held 1 0)) ⊕ shifted_bytes k4 (get_or held 0 0)
+    ≡ shifted_bytes k (shifted_bytes 4 w)
+unfolding shifted_bytes
+each_looked_up k w k1 k2 k3 k4 held parts low one two three four =
+    rw (parts, one, two, three, four) (each_byte k w low)
 
--- all bytes, by chunks of eight and the rest one by one
-pub all_taken : (r n : ℕ) (bytes : List ℕ)
-    → fold with_byte (fold register_after r (first_chunks 8 n bytes)) (drop (n * 8) bytes)
-    ≡ register_after r bytes
-all_taken r n bytes =
-    ap (λ (x : ℕ). fold with_byte x (drop (n * 8) bytes)) (chunks_taken n r bytes)
-    ∙ sym (fold-append with_byte r (take (n * 8) bytes) (drop (n * 8) bytes))
-    ∙ ap (λ (xs : List ℕ). register_after r xs) (take-append-drop (n * 8) bytes)
+-- a word, byte by byte
+bytes_of_word : (r w : ℕ) → w < 2 ^ 32
+    → register_after r (w % 256 ∷ w / 256 % 256 ∷ w / 65536 % 256 ∷ w / 16777216 % 256 ∷ [])
+    ≡ shifted_bytes 4 (r ⊕ w)
+unfolding shifted_bytes
+bytes_of_word r w low =
+    let third : w / 256 / 256 ≡ w / 65536 = omega arith in
+    let fourth : w / 65536 / 256 ≡ w / 16777216 = omega arith in
+    let none : w / 16777216 / 256 ≡ 0 = omega (arith, low) in
+    let after_first = with_byte r (w % 256) in
+    let after_second = with_byte after_first (w / 256 % 256) in
+    let after_third = with_byte after_second (w / 65536 % 256) in
+    let after_fourth = with_byte after_third (w / 16777216 % 256) in
+    sym (
+    ap (λ (x : ℕ). shifted_8 (shifted_8 (shifted_8 x))) (added r w)
+    ∙ ap (λ (x : ℕ). shifted_8 (shifted_8 x))
+    (added after_first (w / 256) ∙ ap (bit_xor after_second) third)
+    ∙ ap shifted_8 (added after_second (w / 65536) ∙ ap (bit_xor after_third) fourth)
+    ∙ added after_third (w / 16777216) ∙ ap (bit_xor after_fourth) none ∙ xor_zero_r after_fourth
+    )
+
+-- a word is added at once, and then shifted
+pub word_looked_up : (k r w : ℕ) (word held : List ℕ)
+    → r < 2 ^ 32 → w < 2 ^ 32
+    → w ≡ from_le_bytes w32 word → length word ≡ 4 → ((i : ℕ) → get_or word i 0 < 256)
+    → held ≡ (r ⊕ w) % 256 ∷ (r ⊕ w) / 256 % 256 ∷ (r ⊕ w) / 65536 % 256 ∷ (r ⊕ w) / 16777216 % 256 ∷ []
+    → ((shifted_bytes (k + 1) (get_or held 3 0) ⊕ shifted_bytes (k + 1 + 1) (get_or held 2 0))
+    ⊕ shifted_bytes (k + 2 + 1) (get_or held 1 0)) ⊕ shifted_bytes (k + 3 + 1) (get_or held 0 0)
+    ≡ shifted_bytes k (register_after r word)
+word_looked_up k r w word held low_r low_w value long all parts =
+    each_looked_up k (r ⊕ w) _ _ _ _ held parts (xor_lt 32 r w low_r low_w)
+    (omega arith) (omega arith) (omega arith) (omega arith)
+    ∙ ap (shifted_bytes k) (
+    sym (bytes_of_word r w low_w)
+    ∙ ap (λ (xs : List ℕ). register_after r xs) (le_bytes_4 word w long all value)
+    )
+
+-- what the register held is shifted for itself
+apart : (r : ℕ) (bytes : List ℕ)
+    → register_after r bytes ≡ shifted_bytes (length bytes) r ⊕ register_after 0 bytes
+unfolding shifted_bytes with_byte
+apart r [] = sym (xor_zero_r r)
+apart r (x ∷ xs) =
+    apart (with_byte r x) xs
+    ∙ ap (λ (s : ℕ). s ⊕ register_after 0 xs) (
+    ap (shifted_bytes (length xs)) (shifted_8_xor r x)
+    ∙ shifted_bytes_xor (length xs) (shifted_8 r) (shifted_8 x)
+    )
+    ∙ xor_assoc (shifted_bytes (length xs) (shifted_8 r)) (shifted_bytes (length xs) (shifted_8 x)) (register_after 0 xs)
+    ∙ ap (bit_xor (shifted_bytes (length xs) (shifted_8 r))) (sym (apart (with_byte 0 x) xs))
+
+-- the same for a word
+word_apart : (r : ℕ) (word : List ℕ) → length word ≡ 4
+    → register_after r word ≡ shifted_bytes 4 r ⊕ register_after 0 word
+word_apart r word long =
+    apart r word ∙ ap (λ (n : ℕ). shifted_bytes n r ⊕ register_after 0 word) long
+
+-- each for itself, they come to the same as one word after the other
+each_for_itself : (a b c d : ℕ)
+    → shifted_bytes 4 (shifted_bytes 4 (shifted_bytes 4 a ⊕ b) ⊕ c) ⊕ d
+    ≡ shifted_bytes 12 a ⊕ (shifted_bytes 8 b ⊕ (shifted_bytes 4 c ⊕ d))
+unfolding shifted_bytes
+each_for_itself a b c d = simp (shifted_8_xor, xor_assoc)
+
+-- four words, each looked up for itself
+four_words : (r : ℕ) (a b c d : List ℕ)
+    → length b ≡ 4 → length c ≡ 4 → length d ≡ 4
+    → ((register_after 0 d ⊕ shifted_bytes 4 (register_after 0 c))
+    ⊕ shifted_bytes 8 (register_after 0 b)) ⊕ shifted_bytes 12 (register_after r a)
+    ≡ register_after (register_after (register_after (register_after r a) b) c) d
+four_words r a b c d long_b long_c long_d =
+    let after_a = register_after r a in
+    let after_b = register_after after_a b in
+    let after_c = register_after after_b c in
+    let of_b = register_after 0 b in
+    let of_c = register_after 0 c in
+    let of_d = register_after 0 d in
+    sym (
+    word_apart after_c d long_d
+    ∙ ap (λ (x : ℕ). shifted_bytes 4 x ⊕ of_d) (
+    word_apart after_b c long_c
+    ∙ ap (λ (x : ℕ). shifted_bytes 4 x ⊕ of_c) (word_apart after_a b long_b)
+    )
+    ∙ each_for_itself after_a of_b of_c of_d
+    ∙ turned (shifted_bytes 12 after_a) (shifted_bytes 8 of_b) (shifted_bytes 4 of_c) of_d
+    )
+
+-- the words of a chunk, each looked up for itself
+pub chunk_taken : (r : ℕ) (chunk : List (List ℕ)) → length chunk ≡ 4
+    → length (get_or chunk 1 []) ≡ 4 → length (get_or chunk 2 []) ≡ 4 → length (get_or chunk 3 []) ≡ 4
+    → ((register_after 0 (get_or chunk 3 []) ⊕ shifted_bytes 4 (register_after 0 (get_or chunk 2 [])))
+    ⊕ shifted_bytes 8 (register_after 0 (get_or chunk 1 [])))
+    ⊕ shifted_bytes 12 (register_after r (get_or chunk 0 []))
+    ≡ fold register_after r chunk
+chunk_taken r [] long = absurd (omega (arith, long))
+chunk_taken r (a ∷ []) long = absurd (omega (arith, long))
+chunk_taken r (a ∷ b ∷ []) long = absurd (omega (arith, long))
+chunk_taken r (a ∷ b ∷ c ∷ []) long = absurd (omega (arith, long))
+chunk_taken r (a ∷ b ∷ c ∷ d ∷ []) long = four_words r a b c d
+chunk_taken r (a ∷ b ∷ c ∷ d ∷ e ∷ xs) long = absurd (omega (arith, long))
+
+-- the whole chunks of a list, each taken at once, come to the same as its elements
+chunks_taken : {A : Type 0} (f : ℕ → A → ℕ) (n : ℕ) (r : ℕ) (xs : List A)
+    → fold (λ s chunk. fold f s chunk) r (first_chunks 4 n xs) ≡ fold f r (take (n * 4) xs)
+chunks_taken f zero r xs = refl
+chunks_taken f (suc n) r xs =
+    let longer : 4 + n * 4 ≡ suc n * 4 = omega arith in
+    chunks_taken f n (fold f r (take 4 xs)) (drop 4 xs)
+    ∙ sym (fold-append f r (take 4 xs) (take (n * 4) (drop 4 xs)))
+    ∙ ap (fold f r) (sym (take-add 4 (n * 4) xs) ∙ ap (λ (m : ℕ). take m xs) longer)
+
+-- all elements, by chunks and the rest one by one
+pub all_taken : {A : Type 0} (f : ℕ → A → ℕ) (r n : ℕ) (xs : List A)
+    → fold f (fold (λ s chunk. fold f s chunk) r (first_chunks 4 n xs)) (drop (n * 4) xs) ≡ fold f r xs
+all_taken f r n xs =
+    ap (λ (s : ℕ). fold f s (drop (n * 4) xs)) (chunks_taken f n r xs)
+    ∙ sym (fold-append f r (take (n * 4) xs) (drop (n * 4) xs))
+    ∙ ap (fold f r) (take-append-drop (n * 4) xs)

@@ -99,38 +99,31 @@ lowest_and_rest n =
     )
 
 -- of a shift by a byte, the lowest byte alone has to be looked up
-shifted_8_split : (n : ℕ) → shifted_8 n ≡ shifted_8 (n % 256) ⊕ (n / 256)
+pub shifted_8_split : (n : ℕ) → shifted_8 n ≡ shifted_8 (n % 256) ⊕ (n / 256)
 shifted_8_split n =
     ap shifted_8 (lowest_and_rest n)
     ∙ shifted_8_xor (n % 256) (n / 256 * 256)
     ∙ ap (bit_xor (shifted_8 (n % 256))) (shifted_8_high (n / 256))
 
--- the same where a byte was added first
-with_byte_split : (q b : ℕ) → b < 256 → shifted_8 (q ⊕ b) ≡ shifted_8 ((q % 256) ⊕ b) ⊕ (q / 256)
-with_byte_split q b h =
+-- a number is added at once, or its lowest byte and then the rest
+pub added : (r w : ℕ) → shifted_8 (r ⊕ w) ≡ with_byte r (w % 256) ⊕ (w / 256)
+unfolding with_byte
+added r w =
+    ap (λ (x : ℕ). shifted_8 (r ⊕ x)) (lowest_and_rest w)
+    ∙ ap shifted_8 (sym (xor_assoc r (w % 256) (w / 256 * 256)))
+    ∙ shifted_8_xor (r ⊕ (w % 256)) (w / 256 * 256)
+    ∙ ap (bit_xor (shifted_8 (r ⊕ (w % 256)))) (shifted_8_high (w / 256))
+
+-- a byte is added to the lowest byte alone
+first_byte : (r b : ℕ) → b < 256 → with_byte r b ≡ shifted_8 ((r % 256) ⊕ b) ⊕ (r / 256)
+unfolding with_byte
+first_byte r b h =
     let low : b % 256 ≡ b = omega (arith, h) in
     let none : b / 256 ≡ 0 = omega (arith, h) in
-    shifted_8_split (q ⊕ b)
-    ∙ ap (λ (x : ℕ). shifted_8 x ⊕ ((q ⊕ b) / 256)) (xor_mod q b 8 ∙ ap (bit_xor (q % 256)) low)
-    ∙ ap (bit_xor (shifted_8 ((q % 256) ⊕ b)))
-    (xor_shr q b 8 ∙ ap (bit_xor (q / 256)) none ∙ xor_zero_r (q / 256))
-
--- a byte more, where the register is what earlier bytes came to (a) and what is left of what it
--- held (q)
-pub next_byte : (r a q b : ℕ) → r ≡ a ⊕ q → b < 256
-    → with_byte r b ≡ shifted_8 a ⊕ shifted_8 ((q % 256) ⊕ b) ⊕ (q / 256)
-unfolding with_byte
-next_byte r a q b parts h =
-    ap (λ (x : ℕ). shifted_8 (x ⊕ b)) parts
-    ∙ ap shifted_8 (xor_assoc a q b)
-    ∙ shifted_8_xor a (q ⊕ b)
-    ∙ ap (bit_xor (shifted_8 a)) (with_byte_split q b h)
-    ∙ sym (xor_assoc (shifted_8 a) (shifted_8 ((q % 256) ⊕ b)) (q / 256))
-
--- the first byte: nothing came before it
-pub first_byte : (r b : ℕ) → b < 256 → with_byte r b ≡ shifted_8 ((r % 256) ⊕ b) ⊕ (r / 256)
-unfolding shifted_8 shifted
-first_byte r b h = next_byte r 0 r b refl h
+    shifted_8_split (r ⊕ b)
+    ∙ ap (λ (x : ℕ). shifted_8 x ⊕ ((r ⊕ b) / 256)) (xor_mod r b 8 ∙ ap (bit_xor (r % 256)) low)
+    ∙ ap (bit_xor (shifted_8 ((r % 256) ⊕ b)))
+    (xor_shr r b 8 ∙ ap (bit_xor (r / 256)) none ∙ xor_zero_r (r / 256))
 
 -- a byte, looked up by the register's lowest byte
 pub one_byte : (r b x : ℕ) (low : List ℕ)

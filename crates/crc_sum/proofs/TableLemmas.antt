@@ -13,7 +13,7 @@ tables_from zero xs = []
 tables_from (suc n) xs = map shifted_8 xs ∷ tables_from n (map shifted_8 xs)
 
 -- all entries, computed by the definition of the register
-computed : TABLES ≡ tables_from 8 (range_with_len 0 256)
+computed : TABLES ≡ tables_from 16 (range_with_len 0 256)
 unfolding tables_from shifted_8 shifted
 computed = refl
 
@@ -28,12 +28,12 @@ held (suc n) (suc k) i d xs none h l =
     ∙ ap (shifted_bytes (suc k)) (get_or-map shifted_8 xs i d d l)
 
 -- what is looked up
-pub looked_up : (k i d : ℕ) (none : List ℕ) → k < 8 → i < 256
+pub looked_up : (k i d : ℕ) (none : List ℕ) → k < 16 → i < 256
     → get_or (get_or TABLES k none) i d ≡ shifted_bytes (k + 1) i
 looked_up k i d none h l =
     let byte : get_or (range_with_len 0 256) i d ≡ i = omega (arith, get_or-range_with_len 0 256 i d l) in
     let count : suc k ≡ k + 1 = omega arith in
     ap (λ (tables : List (List ℕ)). get_or (get_or tables k none) i d) computed
-    ∙ held 8 k i d (range_with_len 0 256) none h l
+    ∙ held 16 k i d (range_with_len 0 256) none h l
     ∙ ap (shifted_bytes (suc k)) byte
     ∙ ap (λ (n : ℕ). shifted_bytes n i) count

@@ -1,6 +1,7 @@
 //! The register, and what it comes to over bytes.
-ghost use Rattle.std.specs.Prelude.{◌≡◌, ◌++◌, [], ℕ, List, fold};
+ghost use Rattle.std.specs.Prelude.{◌≡◌, ◌≤◌, ◌+◌, ◌++◌, [], ℕ, List, fold, length};
 ghost use Rattle.crc_sum.specs.Crc.{HasFed, crc, register_after, with_byte};
+ghost use Rattle.crc_sum.specs.Tables.{shifted_bytes};
 
 use crate::tables::entry;
 use std::marker::Model;
@@ -15,28 +16,49 @@ fn with_byte(register: u32, byte: u8) -> u32
     entry(0, held[0] ^ byte) ^ (register >> 8)
 }
 
-// Each byte is looked up for itself, since a shift of an exclusive or is the exclusive or of the
-// shifts. The bytes that don't wait for the register come first: terms are joined in this order.
-fn with_chunk(register: u32, chunk: &[u8; 8]) -> u32
-    ensures { result ≡ register_after register chunk.now }
+// What the register comes to after a word and so many bytes of zeros. Each byte is looked up for
+// itself, since a shift of an exclusive or is the exclusive or of the shifts.
+fn word_shifted(zeros: usize, register: u32, word: &[u8; 4]) -> u32
+    requires { zeros + 4 ≤ 16 }
+    ensures shifted { result ≡ shifted_bytes zeros (register_after register word.now) }
+    ensures size { length word.now ≡ 4 }
 {
-    let held = register.to_le_bytes();
-    entry(0, chunk[7])
-        ^ entry(1, chunk[6])
-        ^ entry(2, chunk[5])
-        ^ entry(3, chunk[4])
-        ^ entry(4, held[3] ^ chunk[3])
-        ^ entry(5, held[2] ^ chunk[2])
-        ^ entry(6, held[1] ^ chunk[1])
-        ^ entry(7, held[0] ^ chunk[0])
+    let held = (register ^ u32::from_le_bytes(*word)).to_le_bytes();
+    entry(zeros, held[3])
+        ^ entry(zeros + 1, held[2])
+        ^ entry(zeros + 2, held[1])
+        ^ entry(zeros + 3, held[0])
 }
 
-fn after_chunks(register: u32, chunks: &[[u8; 8]]) -> u32
-    ensures { result ≡ fold register_after register chunks.now }
+#[tactic(auto, unfolding(crate::specs::Tables::shifted_bytes))]
+fn with_word(register: u32, word: &[u8; 4]) -> u32
+    ensures { result ≡ register_after register word.now }
+{
+    word_shifted(0, register, word)
+}
+
+// The words that don't wait for the register come first: terms are joined in this order.
+fn with_chunk(register: u32, chunk: &[[u8; 4]; 4]) -> u32
+    ensures { result ≡ fold register_after register chunk.now }
+{
+    word_shifted(0, 0, &chunk[3])
+        ^ word_shifted(4, 0, &chunk[2])
+        ^ word_shifted(8, 0, &chunk[1])
+        ^ word_shifted(12, register, &chunk[0])
+}
+
+fn after_chunks(register: u32, chunks: &[[[u8; 4]; 4]]) -> u32
+    ensures { result ≡ fold (λ r chunk. fold register_after r chunk) register chunks.now }
 {
     chunks
         .iter()
         .fold(register, |r, chunk| with_chunk(r, chunk))
+}
+
+fn after_words(register: u32, words: &[[u8; 4]]) -> u32
+    ensures { result ≡ fold register_after register words.now }
+{
+    words.iter().fold(register, |r, word| with_word(r, word))
 }
 
 fn after_bytes(register: u32, bytes: &[u8]) -> u32
@@ -48,8 +70,10 @@ fn after_bytes(register: u32, bytes: &[u8]) -> u32
 fn register_after(register: u32, bytes: &[u8]) -> u32
     ensures { result ≡ register_after register bytes.now }
 {
-    let (chunks, rest) = bytes.as_chunks::<8>();
-    after_bytes(after_chunks(register, chunks), rest)
+    let (words, rest) = bytes.as_chunks::<4>();
+    let (chunks, others) = words.as_chunks::<4>();
+    let whole = after_words(after_chunks(register, chunks), others);
+    after_bytes(whole, rest)
 }
 
 /// The sum of the bytes.

@@ -1,16 +1,16 @@
-use Rattle.crc_sum.proofs.ChunkLemmas.{eight_bytes}
+use Rattle.crc_sum.proofs.ChunkLemmas.{chunk_taken}
+use Rattle.crc_sum.specs.Tables.{shifted_bytes}
 use Rattle.crc_sum.proofs.sum.with_chunk.Goals as goal
 
 pub returns : goal.returns
+unfolding shifted_bytes
 returns c =
     rw (
-      c.entry.ensures,
-      c.entry-2.ensures,
-      c.entry-3.ensures,
-      c.entry-4.ensures,
-      c.entry-5.ensures,
-      c.entry-6.ensures,
-      c.entry-7.ensures,
-      c.entry-8.ensures,
-      c.to_le_bytes-held.ensures,
-    ) (eight_bytes c.args.register c.args.chunk.now c.ranges.register.fits c.told-chunk c.fits-chunk)
+      c.word_shifted.ensures.shifted,
+      c.word_shifted-2.ensures.shifted,
+      c.word_shifted-3.ensures.shifted,
+      c.word_shifted-4.ensures.shifted,
+    ) (
+    chunk_taken c.args.register c.args.chunk.now c.told-chunk
+    c.word_shifted-3.ensures.size c.word_shifted-2.ensures.size c.word_shifted.ensures.size
+    )
