@@ -1,3 +1,4 @@
 pub mod ListLemmas
+pub mod JoinLemmas
 pub mod EncodeLemmas
 pub mod DecodeLemmas

@@ -1,5 +1,5 @@
 //! The parts of a sector, as its bytes have them.
-ghost use Rattle.std.specs.Prelude.{◌≡◌, ◌≤◌, ◌+◌, ◌↔◌, IsTrue, drop, length, replicate, take};
+ghost use Rattle.std.specs.Prelude.{◌≡◌, ◌≤◌, ◌+◌, ◌↔◌, IsTrue, bit_or, drop, fold, length, replicate, take};
 ghost use Rattle.std.specs.List.{list_all};
 ghost use Rattle.chip_trait.specs.Story.{blank};
 ghost use Rattle.ipl_format.specs.Sector.{computed_sum, is_formed, is_marked, is_zero, used_length};
@@ -50,10 +50,17 @@ pub(crate) fn used_length(bytes: &[u8; 512]) -> usize
     usize::from(half_at(bytes, 6))
 }
 
+// All bytes joined by an or: several are joined at once, where a test of each would end a step.
+fn joined(bytes: &[u8]) -> u8
+    ensures { result ≡ fold bit_or 0 bytes.now }
+{
+    bytes.iter().fold(0, |all, byte| all | *byte)
+}
+
 fn is_zero(bytes: &[u8]) -> bool
     ensures { result ≡ list_all is_zero bytes.now }
 {
-    bytes.iter().all(|byte| *byte == 0)
+    joined(bytes) == 0
 }
 
 fn is_zero_from(bytes: &[u8; 512], start: usize) -> bool
