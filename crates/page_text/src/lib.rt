@@ -3,6 +3,7 @@
 //! text as that list's one spelling.
 #![tactic(auto)]
 
+mod held;
 mod map;
 mod reading;
 mod writing;

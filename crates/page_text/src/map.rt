@@ -2,13 +2,13 @@
 ghost use Rattle.std.specs.Prelude.{◌≡◌, ◌≤◌, ◌<◌, ℕ, List, Option, Some, None, IfSome, length, option_map, slice_set};
 ghost use Rattle.ipl_format.specs.Page.{IsPage, empty_page, value_in};
 
-use ipl_base::Value;
+use crate::held::Held;
 use std::marker::Model;
 
 /// What each of the 64 slots of a page holds: nothing, or at most 108 bytes. A contract sees the list of the slots.
 #[derive(Drop)]
 pub struct PageMap {
-    values: [Option<Value>; 64],
+    values: [Option<Held>; 64],
 }
 
 impl Model for PageMap {
@@ -49,7 +49,9 @@ impl PageMap {
         ensures page { IsPage self.new }
         ensures set { self.new ≡ slice_set self.old slot (Some value.now) }
     {
-        self.values[slot as usize] = Value::of(value);
+        // The bytes are written where they stay: made elsewhere and moved, they would be read right after.
+        let held = self.values[slot as usize].insert(Held::empty());
+        held.fill(value);
     }
 
     /// Empties a slot (0 to 63); the others stay.
