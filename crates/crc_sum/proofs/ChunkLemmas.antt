@@ -6,6 +6,7 @@ use Rattle.std.specs.Int.{w32, from_le_bytes}
 use Rattle.std.proofs.lemmas.List.{take-append-drop}
 use Rattle.std.proofs.lemmas.List.Sums.{fold-append}
 use Rattle.std.proofs.Math.Seq.{take-add}
+use Rattle.std.proofs.Math.Nat.{suc-mul}
 use Rattle.std.specs.Int.Bits.{xor_assoc, xor_zero_r}
 use Rattle.std.proofs.lemmas.Nat.{xor_comm, xor_lt, le_bytes_4}
 use Rattle.crc_sum.proofs.ShiftLemmas.{◌⊕◌, shifted_8_xor, shifted_8_split, added}
@@ -32,7 +33,7 @@ turned a b c d =
     xor_comm a _ ∙ ap (λ (x : ℕ). x ⊕ a) (xor_comm b _ ∙ ap (λ (x : ℕ). x ⊕ b) (xor_comm c d))
 
 -- the four bytes of a word, each shifted for itself
-each_byte : (k w : ℕ) → w < 2 ^ 32
+pub each_byte : (k w : ℕ) → w < 2 ^ 32
     → ((shifted_bytes (suc k) (w / 16777216 % 256) ⊕ shifted_bytes (suc (suc k)) (w / 65536 % 256))
     ⊕ shifted_bytes (suc (suc (suc k))) (w / 256 % 256))
     ⊕ shifted_bytes (suc (suc (suc (suc k)))) (w % 256)
@@ -172,19 +173,21 @@ chunk_taken r (a ∷ b ∷ c ∷ d ∷ []) long = four_words r a b c d
 chunk_taken r (a ∷ b ∷ c ∷ d ∷ e ∷ xs) long = absurd (omega (arith, long))
 
 -- the whole chunks of a list, each taken at once, come to the same as its elements
-chunks_taken : {A : Type 0} (f : ℕ → A → ℕ) (n : ℕ) (r : ℕ) (xs : List A)
-    → fold (λ s chunk. fold f s chunk) r (first_chunks 4 n xs) ≡ fold f r (take (n * 4) xs)
-chunks_taken f zero r xs = refl
-chunks_taken f (suc n) r xs =
-    let longer : 4 + n * 4 ≡ suc n * 4 = omega arith in
-    chunks_taken f n (fold f r (take 4 xs)) (drop 4 xs)
-    ∙ sym (fold-append f r (take 4 xs) (take (n * 4) (drop 4 xs)))
-    ∙ ap (fold f r) (sym (take-add 4 (n * 4) xs) ∙ ap (λ (m : ℕ). take m xs) longer)
+chunks_taken : {A : Type 0} (f : ℕ → A → ℕ) (k n : ℕ) (r : ℕ) (xs : List A)
+    → fold (λ s chunk. fold f s chunk) r (first_chunks k n xs) ≡ fold f r (take (n * k) xs)
+chunks_taken f k zero r xs =
+    let none : 0 ≡ 0 * k = omega arith in
+    ap (λ (m : ℕ). fold f r (take m xs)) none
+chunks_taken f k (suc n) r xs =
+    let longer : k + n * k ≡ suc n * k = omega (arith, suc-mul n k) in
+    chunks_taken f k n (fold f r (take k xs)) (drop k xs)
+    ∙ sym (fold-append f r (take k xs) (take (n * k) (drop k xs)))
+    ∙ ap (fold f r) (sym (take-add k (n * k) xs) ∙ ap (λ (m : ℕ). take m xs) longer)
 
 -- all elements, by chunks and the rest one by one
-pub all_taken : {A : Type 0} (f : ℕ → A → ℕ) (r n : ℕ) (xs : List A)
-    → fold f (fold (λ s chunk. fold f s chunk) r (first_chunks 4 n xs)) (drop (n * 4) xs) ≡ fold f r xs
-all_taken f r n xs =
-    ap (λ (s : ℕ). fold f s (drop (n * 4) xs)) (chunks_taken f n r xs)
-    ∙ sym (fold-append f r (take (n * 4) xs) (drop (n * 4) xs))
-    ∙ ap (fold f r) (take-append-drop (n * 4) xs)
+pub all_taken : {A : Type 0} (f : ℕ → A → ℕ) (k r n : ℕ) (xs : List A)
+    → fold f (fold (λ s chunk. fold f s chunk) r (first_chunks k n xs)) (drop (n * k) xs) ≡ fold f r xs
+all_taken f k r n xs =
+    ap (λ (s : ℕ). fold f s (drop (n * k) xs)) (chunks_taken f k n r xs)
+    ∙ sym (fold-append f r (take (n * k) xs) (drop (n * k) xs))
+    ∙ ap (fold f r) (take-append-drop (n * k) xs)

@@ -3,3 +3,4 @@ pub mod ShiftLemmas
 pub mod SumLemmas
 pub mod TableLemmas
 pub mod Vectors
+pub mod ZeroLemmas

@@ -1,11 +1,12 @@
 -- Each entry of the tables is what its byte comes to, by computation.
-use Rattle.std.proofs.Common.{◌≡◌, ℕ, zero, suc, ◌+◌, ◌<◌, List, [], ◌∷◌, map, get_or, length, refl, ap, ◌∙◌, arith}
-use Rattle.std.proofs.lemmas.List.{get_or-map, length-map}
+use Rattle.std.proofs.Common.{◌≡◌, ℕ, zero, suc, ◌+◌, ◌<◌, List, [], ◌∷◌, map, drop, get_or, length, refl, ap, ◌∙◌, arith}
+use Rattle.std.proofs.lemmas.List.{get_or-drop, get_or-map, length-map}
 use Rattle.std.proofs.lemmas.List.FromFn.{get_or-range_with_len}
 use Rattle.std.specs.List.{range_with_len}
 use Rattle.crc_sum.specs.Crc.{shifted, shifted_8}
 use Rattle.crc_sum.specs.Tables.{shifted_bytes}
 use Rattle.crc_sum.specs.declared.tables.TheConstants.{TABLES}
+use Rattle.crc_sum.specs.declared.zero_tables.TheConstants.{ZERO_TABLES}
 
 -- so many tables, each of them the numbers before it, shifted by a byte
 tables_from : ℕ → List ℕ → List (List ℕ)
@@ -36,4 +37,21 @@ looked_up k i d none h l =
     ap (λ (tables : List (List ℕ)). get_or (get_or tables k none) i d) computed
     ∙ held 16 k i d (range_with_len 0 256) none h l
     ∙ ap (shifted_bytes (suc k)) byte
+    ∙ ap (λ (n : ℕ). shifted_bytes n i) count
+
+-- the entries for blocks of zeros, computed by the definition of the register
+computed_zeros : ZERO_TABLES ≡ drop 60 (tables_from 64 (range_with_len 0 256))
+unfolding tables_from shifted_8 shifted
+computed_zeros = refl
+
+-- what is looked up there
+pub zeros_looked_up : (k i d : ℕ) (none : List ℕ) → k < 4 → i < 256
+    → get_or (get_or ZERO_TABLES k none) i d ≡ shifted_bytes (k + 61) i
+zeros_looked_up k i d none h l =
+    let byte : get_or (range_with_len 0 256) i d ≡ i = omega (arith, get_or-range_with_len 0 256 i d l) in
+    let count : suc (60 + k) ≡ k + 61 = omega arith in
+    ap (λ (tables : List (List ℕ)). get_or (get_or tables k none) i d) computed_zeros
+    ∙ ap (λ (table : List ℕ). get_or table i d) (get_or-drop 60 (tables_from 64 (range_with_len 0 256)) k none)
+    ∙ held 64 (60 + k) i d (range_with_len 0 256) none (omega (arith, h)) l
+    ∙ ap (shifted_bytes (suc (60 + k))) byte
     ∙ ap (λ (n : ℕ). shifted_bytes n i) count

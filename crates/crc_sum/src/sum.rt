@@ -1,9 +1,10 @@
 //! The register, and what it comes to over bytes.
-ghost use Rattle.std.specs.Prelude.{◌≡◌, ◌≤◌, ◌+◌, ◌++◌, [], ℕ, List, fold, length};
+ghost use Rattle.std.specs.Prelude.{◌≡◌, ◌≤◌, ◌+◌, ◌++◌, [], ℕ, List, bit_or, fold, length, replicate};
 ghost use Rattle.crc_sum.specs.Crc.{HasFed, crc, register_after, with_byte};
 ghost use Rattle.crc_sum.specs.Tables.{shifted_bytes};
 
 use crate::tables::entry;
+use crate::zero_tables::zero_entry;
 use std::marker::Model;
 
 // What the register holds before the first byte, and what turns it into the sum after the last.
@@ -67,13 +68,57 @@ fn after_bytes(register: u32, bytes: &[u8]) -> u32
     bytes.iter().fold(register, |r, byte| with_byte(r, *byte))
 }
 
-fn register_after(register: u32, bytes: &[u8]) -> u32
+fn after_part(register: u32, bytes: &[u8]) -> u32
     ensures { result ≡ register_after register bytes.now }
 {
     let (words, rest) = bytes.as_chunks::<4>();
     let (chunks, others) = words.as_chunks::<4>();
     let whole = after_words(after_chunks(register, chunks), others);
     after_bytes(whole, rest)
+}
+
+// All bytes joined by an or: several are joined at once, where a test of each would end a step.
+fn joined(bytes: &[u8]) -> u8
+    ensures { result ≡ fold bit_or 0 bytes.now }
+{
+    bytes.iter().fold(0, |all, byte| all | *byte)
+}
+
+// What the register comes to after 64 zeros.
+fn after_zeros(register: u32) -> u32
+    ensures { result ≡ register_after register (replicate 64 0) }
+{
+    let held = register.to_le_bytes();
+    zero_entry(0, held[3])
+        ^ zero_entry(1, held[2])
+        ^ zero_entry(2, held[1])
+        ^ zero_entry(3, held[0])
+}
+
+// Most of what is summed ends in zeros.
+fn with_block(register: u32, block: &[u8; 64]) -> u32
+    ensures { result ≡ register_after register block.now }
+{
+    if joined(block) == 0 {
+        after_zeros(register)
+    } else {
+        after_part(register, block)
+    }
+}
+
+fn after_blocks(register: u32, blocks: &[[u8; 64]]) -> u32
+    ensures { result ≡ fold register_after register blocks.now }
+{
+    blocks
+        .iter()
+        .fold(register, |r, block| with_block(r, block))
+}
+
+fn register_after(register: u32, bytes: &[u8]) -> u32
+    ensures { result ≡ register_after register bytes.now }
+{
+    let (blocks, rest) = bytes.as_chunks::<64>();
+    after_part(after_blocks(register, blocks), rest)
 }
 
 /// The sum of the bytes.

@@ -1,17 +1,9 @@
 use Rattle.std.proofs.Common.{length, ◌/◌}
-use Rattle.crc_sum.specs.Crc.{register_after, with_byte}
+use Rattle.crc_sum.specs.Crc.{with_byte}
 use Rattle.crc_sum.proofs.ChunkLemmas.{all_taken}
 use Rattle.crc_sum.proofs.sum.register_after.Goals as goal
 
 pub returns : goal.returns
 returns c =
-    rw (
-      c.after_bytes.ensures,
-      c.after_words-whole.ensures,
-      c.after_chunks.ensures,
-      c.as_chunks-2.ensures.front,
-      c.as_chunks-2.ensures.back,
-      all_taken register_after c.args.register (length c.as_chunks.result.0.now / 4) c.as_chunks.result.0.now,
-      c.as_chunks.ensures.front,
-      c.as_chunks.ensures.back,
-    ) (all_taken with_byte c.args.register (length c.args.bytes.now / 4) c.args.bytes.now)
+    rw (c.after_part.ensures, c.after_blocks.ensures, c.as_chunks.ensures.front, c.as_chunks.ensures.back)
+    (all_taken with_byte 64 c.args.register (length c.args.bytes.now / 64) c.args.bytes.now)
