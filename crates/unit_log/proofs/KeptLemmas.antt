@@ -1,5 +1,5 @@
 -- Log sectors, put in by their serials.
-use Rattle.std.proofs.Common.{◌≡◌, ◌≢◌, ◌⊎◌, ℕ, zero, suc, ◌<◌, ◌≤◌, ◌+◌, ◌==◌, true, false, nat_lt, List, [], ◌∷◌, length, Result, Ok, Err, OnErr, is_ok, if◌then◌else◌, inl, inr, refl, sym, ◌∙◌, ap, ap₂, subst, arith}
+use Rattle.std.proofs.Common.{◌≡◌, ◌≢◌, ◌⊎◌, ℕ, zero, suc, ◌<◌, ◌≤◌, ◌+◌, ◌==◌, true, false, nat_lt, List, [], ◌∷◌, length, inl, inr, refl, sym, ◌∙◌, ap, ap₂, subst, arith}
 use Rattle.std.specs.List.{Contains, All, insert}
 use Rattle.std.proofs.lemmas.Bool.{cases_Bool, or_parts, eq-eqb, ltb-true, ltb-false}
 use Rattle.std.proofs.lemmas.List.Elements.{All-cons, All-nil, All-weaker, All-contains, All-contains_itself}
@@ -113,15 +113,11 @@ rising_with_kept x (y ∷ l) none rise = elim (cases_Bool (nat_lt y.serial x.ser
     after : (x y z : LogSector) → x.serial < y.serial → y.serial < z.serial → x.serial < z.serial
     after x y z low more = omega arith
 
--- ---- the new items, which had room
+-- ---- the new items
 
-pub items_then : {E : Type 0} (r : Result (Unit {0}) E) (l items : List LogSector) (x : LogSector)
-    (at cap len : ℕ) → items ≡ (if is_ok r then insert l at x else l) → OnErr r (cap ≤ len)
-    → len < cap
-    → at ≡ rank_of x.serial l → items ≡ with_kept x l
-items_then (Ok v) l items x at cap len is full room same = is ∙ ap (λ (k : ℕ). insert l k x) same
-    ∙ inserted_is x l
-items_then (Err e) l items x at cap len is full room same = absurd (omega (arith, full, room))
+pub items_then : (l items : List LogSector) (x : LogSector) (at : ℕ)
+    → items ≡ insert l at x → at ≡ rank_of x.serial l → items ≡ with_kept x l
+items_then l items x at is same = is ∙ ap (λ (k : ℕ). insert l k x) same ∙ inserted_is x l
 
 -- ---- two rising lists of the same
 

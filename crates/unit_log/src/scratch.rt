@@ -1,5 +1,6 @@
 //! Log sectors, kept in memory.
-ghost use Rattle.std.specs.Prelude.{◌≡◌, ◌≤◌, ◌<◌, ◌+◌, [], ◌∷◌, not, length, IfOk, Bool};
+ghost use Rattle.std.specs.Prelude.{◌≡◌, ◌≤◌, ◌<◌, ◌+◌, [], ◌∷◌, not, length, vec_capacity, vec_len, IfOk, Bool};
+ghost use Rattle.std.specs.List.{insert};
 ghost use Rattle.std.specs.Bool.{OnTrue, OnFalse};
 ghost use Rattle.unit_log.specs.Kept.{has_serial, with_kept, rank_of, AreRising};
 
@@ -66,6 +67,21 @@ fn rank_of(sectors: &[LogSector], serial: u64) -> usize
     rank
 }
 
+/// Puts a log sector at a place among these, which have room. Most come behind the others, where it
+/// isn't moved again.
+fn put(sectors: &mut Vec<LogSector>, at: usize, sector: LogSector)
+    requires within { at ≤ vec_len sectors.old }
+    requires room { vec_len sectors.old < vec_capacity sectors.old }
+    ensures items { sectors.new.items ≡ insert sectors.old.items at sector }
+    ensures capacity { vec_capacity sectors.old ≤ vec_capacity sectors.new }
+{
+    if at == sectors.len() {
+        sectors.push_reserved(sector);
+    } else {
+        let _ = sectors.insert(at, sector);
+    }
+}
+
 impl Scratch {
     /// No log sectors, and room for 31.
     pub fn new(alloc: Global) -> Result<Scratch, OutOfMemory>
@@ -112,7 +128,7 @@ impl Scratch {
             return false;
         }
         let at = rank_of(&self.sectors, serial);
-        let _ = self.sectors.insert(at, LogSector { serial, payload });
+        put(&mut self.sectors, at, LogSector { serial, payload });
         true
     }
 }

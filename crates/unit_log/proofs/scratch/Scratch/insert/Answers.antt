@@ -1,4 +1,4 @@
-use Rattle.std.proofs.Common.{◌≡◌, ◌<◌, false, length, vec_len, vec_capacity, sym, ◌∙◌, ap, subst, arith}
+use Rattle.std.proofs.Common.{◌≡◌, ◌<◌, false, length, sym, ◌∙◌, ap, subst, arith}
 use Rattle.unit_log.specs.declared.scratch.LogSector.{LogSector}
 use Rattle.unit_log.specs.Kept.{has_serial, with_kept, rank_of, AreRising}
 use Rattle.unit_log.proofs.KeptLemmas.{items_then, length_with_kept, rising_with_kept}
@@ -9,24 +9,14 @@ invariant_of-self c =
     let l = c.self.inside.sectors.items in
     let x : LogSector = record { serial = c.args.serial; payload = c.args.payload } in
     let short : length l < 31 = omega (arith, c.requires, ap length c.self.view_is) in
-    let room : vec_len c.self.inside.sectors < vec_capacity c.self.inside.sectors =
-    omega (
-      arith,
-      short,
-      c.self.invariant.1,
-      c.deref-2.ensures.len,
-      ap length
-          c.deref-2.ensures.value,
-    ) in
-    let same : c.insert.new.self.items ≡ with_kept x l =
-    items_then c.insert.result l c.insert.new.self.items x c.rank_of-at.result _ _
-    c.insert.ensures.items c.insert.ensures.full room
+    let same : c.put.new.sectors.items ≡ with_kept x l =
+    items_then l c.put.new.sectors.items x c.rank_of-at.result c.put.ensures.items
     (c.rank_of-at.ensures.rank ∙ ap (rank_of c.args.serial) c.deref-2.ensures.value) in
     let none : has_serial c.args.serial l ≡ false =
     ap (has_serial c.args.serial) (sym c.deref.ensures.value) ∙ sym c.has_serial.ensures
     ∙ c.if-has_serial.false in (
       omega (arith, ap length same, length_with_kept x l, short),
-      omega (arith, c.insert.ensures.capacity, c.self.invariant.1),
+      omega (arith, c.put.ensures.capacity, c.self.invariant.1),
       subst AreRising (sym same) (rising_with_kept x l none c.self.invariant.2),
     )
 
@@ -34,17 +24,6 @@ pub returns-clause-done : goal.returns-clause-done
 returns-clause-done c =
     let l = c.self.inside.sectors.items in
     let x : LogSector = record { serial = c.args.serial; payload = c.args.payload } in
-    let short : length l < 31 = omega (arith, c.requires, ap length c.self.view_is) in
-    let room : vec_len c.self.inside.sectors < vec_capacity c.self.inside.sectors =
-    omega (
-      arith,
-      short,
-      c.self.invariant.1,
-      c.deref-2.ensures.len,
-      ap length
-          c.deref-2.ensures.value,
-    ) in
-    items_then c.insert.result l c.insert.new.self.items x c.rank_of-at.result _ _
-    c.insert.ensures.items c.insert.ensures.full room
+    items_then l c.put.new.sectors.items x c.rank_of-at.result c.put.ensures.items
     (c.rank_of-at.ensures.rank ∙ ap (rank_of c.args.serial) c.deref-2.ensures.value)
     ∙ ap (with_kept x) c.self.view_is
