@@ -3,6 +3,7 @@ pub mod SessionLemmas
 pub mod AloneLemmas
 pub mod StepLemmas
 pub mod SessionStepLemmas
+pub mod NameLemmas
 pub mod LockLemmas
 pub mod SinceLemmas
 pub mod TurnLemmas

@@ -1,23 +1,27 @@
 -- The table holds the serial view of the commands so far.
-use Rattle.std.proofs.Common.{◌≡◌, ◌⊎◌, inl, inr, ℕ, zero, suc, ◌+◌, ◌-◌, ◌<◌, ◌≤◌, Bool, true, false, cond, ◌&&◌, List, [], ◌∷◌, ◌++◌, length, map, replicate, Option, None, refl, sym, ◌∙◌, ap, subst, arith, add-one, get_or-set_other, get_or-set_same}
+use Rattle.std.proofs.Common.{◌≡◌, ◌⊎◌, inl, inr, ℕ, zero, suc, ◌+◌, ◌-◌, ◌<◌, ◌≤◌, Bool, true, false, cond, not, ◌&&◌, List, [], ◌∷◌, ◌++◌, length, map, replicate, Option, None, refl, sym, ◌∙◌, ap, subst, arith, add-one, get_or-set_other, get_or-set_same}
 use Rattle.std.specs.Prelude.{filter, is_some, slice_index, slice_index_or, slice_set, if◌then◌else◌}
 use Rattle.std.specs.List.{range_with_len, list_any}
 use Rattle.std.specs.FinMap.{empty}
-use Rattle.std.proofs.lemmas.Bool.{cases_eq, eq-eqb, ne_eqb, and_left, not-true, not-false}
+use Rattle.std.proofs.lemmas.Bool.{cases_eq, eq-eqb, ne_eqb, and_left}
 use Rattle.std.proofs.lemmas.List.{length-set, get_or-replicate}
 use Rattle.std.proofs.lemmas.List.FromFn.{get_or-map-range_with_len, map-range_with_len_more, length-map-range_with_len}
-use Rattle.ipl_rules.specs.State.{State, Limits, at_rest}
+use Rattle.ipl_base.specs.declared.fault.Refusal.{Refusal}
+use Rattle.ipl_rules.specs.State.{Limits, at_rest}
 use Rattle.ipl_model.specs.declared.command.Command.{Command}
 use Rattle.ipl_model.specs.declared.command.Command.TheVariants as command
-use Rattle.ipl_model.specs.Step.{step, refusal_of}
 use Rattle.ipl_model.specs.Run.{after_all}
-use Rattle.ipl_model.specs.declared.plain_model.PlainModel.{PlainModel}
-use Rattle.ipl_model.specs.Plain.{state_of}
+use Rattle.record_locks.specs.Held.{Slots}
+use Rattle.record_locks.specs.Names.{SameNames}
+use Rattle.record_locks.specs.Standing.{state_of}
+use Rattle.serial_view.specs.declared.locks.Locks.{Locks}
 use Rattle.serial_view.specs.declared.turn_table.TurnTable.{TurnTable}
 use Rattle.serial_view.specs.Serial.{command_at, met_at, is_accepted, session_of, committer, is_begin, is_turn, turns, committed_at, serial}
 use Rattle.serial_view.specs.Laws.{IsSerialView, picked, replies, reply_at, is_unlocked}
+use Rattle.serial_view.specs.Locks.{limits_of, accepts, slots_then}
 use Rattle.serial_view.specs.Turns.{KeptTurns, is_turn_of, turns_from, begun_after, order_after, after_refused, after_accepted, HasSlot, kept_of, RunsCommand}
 use Rattle.serial_view.proofs.SessionStepLemmas.{own, has_slot}
+use Rattle.serial_view.proofs.NameLemmas.{refuses_alike, names_go_on, slots_kept, no_names}
 use Rattle.serial_view.proofs.TurnLemmas.{turn_is, turns_on, serial_until, serial_more, serial_same, commits_turns}
 use Rattle.serial_view.proofs.MetLemmas.{met_more, passes}
 use Rattle.serial_view.proofs.SerialLemmas.{leaves_the_same, replies_the_same}
@@ -90,19 +94,21 @@ module _ (limits : Limits) (commands : List Command) where
       ap (is_turn_of s) (get_or-map-range_with_len turn_at 0 (suc k) j j None (omega arith) (omega arith))
       ∙ turn_alike s j)
 
-  -- ---- the table holds the commands before position k
+  -- ---- the sessions and the table hold the commands before position k
 
-  pub record Holds (k : ℕ) (state : State) (table : KeptTurns) : Type 0 where
-    pub runs : state ≡ met_at limits empty commands k
+  pub record Holds (k : ℕ) (sessions : Slots) (table : KeptTurns) : Type 0 where
+    pub names : SameNames (state_of sessions) (met_at limits empty commands k)
+    pub all : length sessions ≡ 32
     pub noted : table.turns ≡ turns_until k
     pub view : table.order ≡ serial_until limits commands k
     pub slots : length table.begun ≡ 32
     pub since : (s : ℕ) → s < 32 → Since s k (slice_index table.begun s)
 
-  pub holds_none : (state : State) (table : KeptTurns) → state ≡ at_rest empty → table.turns ≡ [] → table.order ≡ []
-      → table.begun ≡ replicate 32 0 → Holds zero state table
-  holds_none state table a b c d = record {
-    runs = a;
+  pub holds_none : (sessions : Slots) (table : KeptTurns) → sessions ≡ replicate 32 None → table.turns ≡ []
+      → table.order ≡ [] → table.begun ≡ replicate 32 0 → Holds zero sessions table
+  holds_none sessions table a b c d = record {
+    names = subst (λ (l : Slots). SameNames (state_of l) (at_rest empty)) (sym a) no_names;
+    all = ap length a;
     noted = b;
     view = c;
     slots = ap length d;
@@ -112,22 +118,29 @@ module _ (limits : Limits) (commands : List Command) where
         subst (λ (from : ℕ). Since s zero from) (sym first) (record { within = omega arith; turns_are = refl });
   }
 
-  module _ (k : ℕ) (state next : State) (old new : KeptTurns) (whole : limits.sessions ≡ 32)
-      (holds : Holds k state old) where
+  module _ (k : ℕ) (sessions next : Slots) (old new : KeptTurns) (whole : limits.sessions ≡ 32)
+      (holds : Holds k sessions old) where
     abbrev c : Command
     c = command_at commands k
 
-    runs_on : next ≡ (step limits state c).0 → next ≡ met_at limits empty commands (suc k)
-    runs_on runs =
-        runs ∙ ap (λ (st : State). (step limits st c).0) holds.runs ∙ sym (met_more limits empty commands k)
+    abbrev Goes : Type 0
+    Goes = next ≡ slots_then limits sessions (length old.turns) c
+
+    names_on : Goes → SameNames (state_of next) (met_at limits empty commands (suc k))
+    names_on goes =
+        rw (goes, met_more limits empty commands k)
+        (names_go_on limits sessions (met_at limits empty commands k) holds.names whole holds.all (length old.turns) c)
+
+    all_on : Goes → length next ≡ 32
+    all_on goes = ap length goes ∙ slots_kept limits sessions (length old.turns) c holds.all
 
     at_k : length old.turns ≡ k
     at_k = ap length holds.noted ∙ length-map-range_with_len turn_at 0 k
 
-    refused_then : is_accepted limits commands k ≡ false → next ≡ (step limits state c).0 → new ≡ after_refused old
-        → Holds (suc k) next new
-    refused_then not_ok runs is = record {
-      runs = runs_on runs;
+    refused_then : is_accepted limits commands k ≡ false → Goes → new ≡ after_refused old → Holds (suc k) next new
+    refused_then not_ok goes is = record {
+      names = names_on goes;
+      all = all_on goes;
       noted = ap (λ (t : KeptTurns). t.turns) is ∙ noted_as k old.turns false holds.noted not_ok;
       view = ap (λ (t : KeptTurns). t.order) is ∙ holds.view ∙ sym (serial_same limits commands k (inl not_ok));
       slots = ap (λ (t : KeptTurns). length t.begun) is ∙ holds.slots;
@@ -221,51 +234,58 @@ module _ (limits : Limits) (commands : List Command) where
               ∙ sym (serial_same limits commands k (inr calm.calm))
           go (inr end) = ap (order_after old.order turns_now old.begun) end.1 ∙ view_commit end.0 end.1
 
-      accepted_then : next ≡ (step limits state c).0 → new ≡ after_accepted old c → Holds (suc k) next new
+      accepted_then : Goes → new ≡ after_accepted old c → Holds (suc k) next new
       unfolding begun_now turns_now
-      accepted_then runs is = record {
-        runs = runs_on runs;
+      accepted_then goes is = record {
+        names = names_on goes;
+        all = all_on goes;
         noted = ap (λ (t : KeptTurns). t.turns) is ∙ noted_now;
         view = ap (λ (t : KeptTurns). t.order) is ∙ view_now;
         slots = ap (λ (t : KeptTurns). length t.begun) is ∙ slots_now;
         since = λ s l. subst (λ (t : KeptTurns). Since s (suc k) (slice_index t.begun s)) (sym is) (since_now s l);
       }
 
-    pub holds_more : RunsCommand limits state old c next new → Holds (suc k) next new
-    holds_more notes = go (is_accepted limits commands k) refl
+    pub holds_more : Goes → new ≡ cond (accepts limits sessions c) (after_accepted old c) (after_refused old)
+        → Holds (suc k) next new
+    holds_more goes is = go (is_accepted limits commands k) refl
       where
-        same_refusal : refusal_of limits state c ≡ refusal_of limits (met_at limits empty commands k) c
-        same_refusal = ap (λ (st : State). refusal_of limits st c) holds.runs
+        same_test : accepts limits sessions c ≡ is_accepted limits commands k
+        same_test =
+            ap (λ (o : Option Refusal). not (is_some o))
+            (refuses_alike limits sessions (met_at limits empty commands k) holds.names c)
 
-        after : (b : Bool) → is_some (refusal_of limits (met_at limits empty commands k) c) ≡ b
-            → new ≡ cond b (after_refused old) (after_accepted old c)
-        after b e =
-            notes.table
-            ∙ ap (λ (b : Bool). cond b (after_refused old) (after_accepted old c)) (ap is_some same_refusal ∙ e)
+        after : (b : Bool) → is_accepted limits commands k ≡ b
+            → new ≡ cond b (after_accepted old c) (after_refused old)
+        after b e = is ∙ ap (λ (b : Bool). cond b (after_accepted old c) (after_refused old)) (same_test ∙ e)
 
         go : (b : Bool) → is_accepted limits commands k ≡ b → Holds (suc k) next new
-        go true ok = accepted_then ok notes.runs (after false (not-true _ ok))
-        go false not_ok = refused_then not_ok notes.runs (after true (not-false _ not_ok))
+        go true ok = accepted_then ok goes (after true ok)
+        go false not_ok = refused_then not_ok goes (after false not_ok)
 
-  -- the model and the table hold them, and so they do one command on
-  abbrev pub AreAt : ℕ → PlainModel → TurnTable → Type 0
-  AreAt k model table = Holds k (state_of model) (kept_of table)
+  -- the locks and the table hold them, and so they do one command on
+  abbrev pub AreAt : ℕ → Locks → TurnTable → Type 0
+  AreAt k locks table = Holds k locks.sessions (kept_of table)
 
-  pub one_on : (here : Limits) (k : ℕ) (c : Command) (model next : PlainModel) (table new : TurnTable)
-      → limits.sessions ≡ 32 → here ≡ limits → c ≡ command_at commands k → AreAt k model table
-      → RunsCommand here (state_of model) (kept_of table) c (state_of next) (kept_of new) → AreAt (k + 1) next new
-  one_on here k c model next table new whole same is holds runs =
-      let here_runs = subst
-      (λ (l : Limits). RunsCommand l (state_of model) (kept_of table) c (state_of next) (kept_of new)) same runs in
+  pub one_on : (k : ℕ) (c : Command) (locks next : Locks) (table new : TurnTable)
+      → limits.sessions ≡ 32 → limits_of locks ≡ limits → c ≡ command_at commands k → AreAt k locks table
+      → RunsCommand locks (kept_of table) c next (kept_of new) → AreAt (k + 1) next new
+  one_on k c locks next table new whole same is holds runs =
+      let at = command_at commands k in
+      let goes : next.sessions ≡ slots_then limits locks.sessions (length (kept_of table).turns) at =
+      runs.locks.sessions
+      ∙ (λ i. slots_then (same i) locks.sessions (length (kept_of table).turns) (is i)) in
+      let noted : kept_of new ≡ cond (accepts limits locks.sessions at) (after_accepted (kept_of table) at)
+      (after_refused (kept_of table)) =
+      runs.table
+      ∙ (λ i. cond (accepts (same i) locks.sessions (is i)) (after_accepted (kept_of table) (is i))
+      (after_refused (kept_of table))) in
       subst (λ (n : ℕ). AreAt n next new) (sym (add-one k))
-      (holds_more k (state_of model) (state_of next) (kept_of table) (kept_of new) whole holds
-      (subst (λ (d : Command). RunsCommand limits (state_of model) (kept_of table) d (state_of next) (kept_of new))
-      is here_runs))
+      (holds_more k locks.sessions next.sessions (kept_of table) (kept_of new) whole holds goes noted)
 
   -- at the end the table has the view
-  pub view_of : (k : ℕ) (model : PlainModel) (table : TurnTable) (positions : List ℕ) → k ≡ length commands
-      → AreAt k model table → positions ≡ (kept_of table).order → IsSerialView limits commands positions
-  view_of k model table positions end holds is =
+  pub view_of : (k : ℕ) (locks : Locks) (table : TurnTable) (positions : List ℕ) → k ≡ length commands
+      → AreAt k locks table → positions ≡ (kept_of table).order → IsSerialView limits commands positions
+  view_of k locks table positions end holds is =
       let order : positions ≡ serial limits commands = is ∙ holds.view ∙ ap (serial_until limits commands) end in
       record {
         order = order;

@@ -1,22 +1,14 @@
 -- What is kept while the view is made: whose turn each command was, where each session last began, and the view so far.
-use Rattle.std.specs.Prelude.{◌≡◌, ℕ, ◌-◌, ◌<◌, ◌==◌, Bool, true, false, List, [], ◌∷◌, ◌++◌, length, filter, slice_index, slice_index_or, slice_set, Option, None, is_some, if◌then◌else◌}
+use Rattle.std.specs.Prelude.{◌≡◌, ℕ, ◌-◌, ◌<◌, ◌==◌, Bool, false, List, [], ◌∷◌, ◌++◌, length, filter, slice_index, slice_index_or, slice_set, Option, None, if◌then◌else◌}
 use Rattle.std.specs.List.{range_with_len}
 use Rattle.std.specs.Option.{option_map_or, IfSome}
 use Rattle.ipl_base.specs.declared.limits.TheConstants.{SESSIONS}
-use Rattle.ipl_rules.specs.State.{State, Limits}
-use Rattle.ipl_model.specs.Step.{step, refusal_of}
 use Rattle.ipl_model.specs.declared.command.Command.{Command}
 use Rattle.ipl_model.specs.declared.command.Command.TheVariants as command
-use Rattle.ipl_model.specs.declared.reply.Reply.{Reply}
-use Rattle.ipl_model.specs.declared.reply.Reply.TheVariants as reply
+use Rattle.serial_view.specs.declared.locks.Locks.{Locks}
 use Rattle.serial_view.specs.declared.turn_table.TurnTable.{TurnTable}
 use Rattle.serial_view.specs.Serial.{session_of}
-
--- a command with these replies was refused
-abbrev pub is_refusal : List Reply → Bool
-is_refusal [] = false
-is_refusal (reply.Refused refusal ∷ rest) = true
-is_refusal (other ∷ rest) = false
+use Rattle.serial_view.specs.Locks.{limits_of, accepts, TakesCommand}
 
 -- the turn is that of session s
 abbrev pub is_turn_of : ℕ → Option ℕ → Bool
@@ -63,8 +55,7 @@ HasSlot c = IfSome (session_of c) (λ s. s < SESSIONS)
 abbrev pub kept_of : TurnTable → KeptTurns
 kept_of t = record { turns = t.turns.items; begun = t.begun; order = t.order.items }
 
--- one command's run, and its turn
-pub record RunsCommand (limits : Limits) (state : State) (old : KeptTurns) (c : Command) (next : State)
-    (new : KeptTurns) : Type 0 where
-  pub runs : next ≡ (step limits state c).0
-  pub table : new ≡ (if is_some (refusal_of limits state c) then after_refused old else after_accepted old c)
+-- one command's run, and its turn; a session that it begins has its position as its number
+pub record RunsCommand (old : Locks) (before : KeptTurns) (c : Command) (new : Locks) (after : KeptTurns) : Type 0 where
+  pub locks : TakesCommand old (length before.turns) c new (accepts (limits_of old) old.sessions c)
+  pub table : after ≡ (if accepts (limits_of old) old.sessions c then after_accepted before c else after_refused before)

@@ -1,39 +1,29 @@
 //! The serial view of a list of commands.
-ghost use Rattle.std.specs.Prelude.{◌≡◌, ◌-◌, ◌∷◌, [], IfOk, OnOk};
-ghost use Rattle.ipl_model.specs.Plain.{state_of, limits_of, limits_for};
-ghost use Rattle.serial_view.specs.Turns.{RunsCommand, is_refusal, kept_of};
+ghost use Rattle.std.specs.Prelude.{◌≡◌, ◌-◌, IfOk, OnOk};
+ghost use Rattle.ipl_model.specs.Plain.{limits_for};
+ghost use Rattle.serial_view.specs.Turns.{RunsCommand, kept_of};
 ghost use Rattle.serial_view.specs.Laws.{IsSerialView};
 
+use crate::locks::Locks;
 use crate::turn_table::TurnTable;
 use ipl_base::{Geometry, OutOfMemory};
-use ipl_model::{Command, PlainModel, Reply};
+use ipl_model::Command;
 use std::alloc::Global;
 
-/// These are the replies to a command that was refused.
-fn is_refusal(replies: &[Reply]) -> bool
-    ensures { result ≡ is_refusal replies.now }
-{
-    match replies {
-        [Reply::Refused(_), ..] => true,
-        _ => false,
-    }
-}
-
-/// Runs one command, and keeps whose turn it was.
+/// Runs one command as far as locks go, and keeps whose turn it was. A session that it begins has its
+/// position as its number.
 fn run_command(
-    model: &mut PlainModel,
+    locks: &mut Locks,
     table: &mut TurnTable,
     command: &Command,
 ) -> Result<(), OutOfMemory>
-    ensures runs { OnOk result (RunsCommand (limits_of model.old) (state_of model.old)
-        (kept_of table.old) command.now (state_of model.new) (kept_of table.new)) }
-    ensures limits { limits_of model.new ≡ limits_of model.old }
+    ensures { OnOk result (RunsCommand locks.old (kept_of table.old) command.now
+        locks.new (kept_of table.new)) }
 {
-    let replies = model.step(command)?;
-    if is_refusal(&replies) {
-        table.skip()?;
-    } else {
+    if locks.take(command, table.len() as u64) {
         table.take(command)?;
+    } else {
+        table.skip()?;
     }
     Ok(())
 }
@@ -50,10 +40,10 @@ pub fn serial_order(
 ) -> Result<Vec<usize>, OutOfMemory>
     ensures { IfOk result (λ order. IsSerialView (limits_for (geometry - 4)) commands.now order.items) }
 {
-    let mut model = PlainModel::new(alloc, geometry)?;
+    let mut locks = Locks::new(alloc, geometry)?;
     let mut table = TurnTable::new(alloc);
     for command in commands {
-        run_command(&mut model, &mut table, command)?;
+        run_command(&mut locks, &mut table, command)?;
     }
     Ok(table.into_order())
 }

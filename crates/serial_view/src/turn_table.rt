@@ -75,6 +75,13 @@ impl TurnTable {
         }
     }
 
+    /// How many commands there were, which is the position of the next.
+    pub fn len(&self) -> usize
+        ensures { result ≡ length (kept_of self.now).turns }
+    {
+        self.turns.len()
+    }
+
     /// Keeps that a command was refused.
     pub fn skip(&mut self) -> Result<(), AllocError>
         ensures { OnOk result (kept_of self.new ≡ after_refused (kept_of self.old)) }
