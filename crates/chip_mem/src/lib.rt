@@ -1,6 +1,9 @@
 //! Chips in memory, over the trait of `chip_trait`. `MemChip` tells its story, fails where it is
 //! told to and makes images of a power cut; `PlainChip` just holds what was written, and tells
 //! that. A contract sees exactly which calls fail, and that each image is one that a cut may leave.
+//!
+//! Proved, by `MemChip`, `PlainChip`: a chip that keeps its story fails exactly where it is told
+//! to; its images are those that a cut may leave, and nothing in them checks by chance.
 #![tactic(auto)]
 
 mod image;
@@ -10,8 +13,6 @@ mod plain_chip;
 mod replay;
 mod schedule;
 mod sectors;
-#[cfg(test)]
-mod tests;
 
 pub use mem_chip::MemChip;
 pub use pick::{Choice, Pick};

@@ -2,6 +2,10 @@
 //! valid is clap's own definition, over the command that stands in specs/Ipl.antt, and the grammar
 //! of CHIP in specs/Chip.antt. The number in CHIP is read by `plain_text`, the number at an option
 //! by `str::parse`. A contract sees words as lists of bytes.
+//!
+//! Proved, by `request`, `chip_choice`, its two laws: what the words ask, and the chip that they
+//! choose, exactly, by the definitions of `clap`; numbers are within their bounds; each chip has
+//! one spelling.
 #![tactic(auto)]
 
 mod asked;
@@ -9,8 +13,6 @@ mod chip_word;
 mod choice;
 mod command;
 mod laws;
-#[cfg(test)]
-mod tests;
 
 pub use asked::Request;
 pub use choice::{Choice, PathText, chip_choice, request};

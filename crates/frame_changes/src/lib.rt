@@ -3,12 +3,14 @@
 //! becomes values or is dropped; and what a slot holds is lent. It stands on the frames and their
 //! records (`page_ops`, `mem_log_sector`) in their pool (`buffer_pool`). A contract sees the pool's
 //! frames by unit and page, as the condition of a store does (`Frames` of `pending_writes`).
+//!
+//! Proved, by its calls, `buffer_laws`: a put changes the frame of its page by its record and no
+//! other; the end of a session makes its changes values, or drops them and its records, in the
+//! frames of the names' pages; a slot's value is that of the frame; all pins and holds are kept.
 #![tactic(auto)]
 
 mod ends;
 mod laws;
-#[cfg(test)]
-mod tests;
 mod values;
 mod writes;
 

@@ -2,6 +2,8 @@
 //! live, values, the counter of numbers, and the faults. It stands on no crate here. A contract
 //! sees a `Geometry` as its number of places, a `Name` and a `Counter` as their numbers, and a
 //! `Value` as its bytes.
+//!
+//! Proved, by its calls: values, names and their homes, geometry, counters.
 #![tactic(auto)]
 
 mod counter;

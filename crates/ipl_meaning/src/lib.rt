@@ -3,6 +3,11 @@
 //! stories (`chip_trait`), the formats (`ipl_format`), the model's map (`ipl_rules`) and the limits
 //! (`ipl_base`). There is no code here but the laws: bodies that do nothing, with a contract that
 //! is the law.
+//!
+//! Proved, by its fifteen laws: when the sectors of a chip stand for records, and for which: at
+//! most one map; which writes keep it and which change it to what; what a chip rests on, wherever
+//! it is cut; what is rebuilt from which sectors; found numbers; the tables of an open store
+//! mirror the chip; a new chip stands for no records.
 #![tactic(auto)]
 
 mod laws;

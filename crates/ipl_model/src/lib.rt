@@ -2,6 +2,13 @@
 //! over a script says and leaves, and the model as a program. It stands on the rules of
 //! `ipl_rules`. A contract sees commands and replies as they are, and a script as the list of its
 //! commands.
+//!
+//! Proved, by `run_laws`, `session_laws`: runs of the model over scripts: the number of commands
+//! answered is the greatest whose replies were said; a refused command changes nothing; only a
+//! commit that isn't refused changes the records; a restart closes all sessions and keeps them.
+//!
+//! Proved, by `PlainModel::step`: the model as a program: each step is the definition's, state and
+//! replies.
 #![tactic(auto)]
 
 mod command;
@@ -10,8 +17,6 @@ mod laws_of_sessions;
 mod line;
 mod plain_model;
 mod reply;
-#[cfg(test)]
-mod tests;
 
 pub use command::{Command, PutBytes};
 pub use laws::run_laws;

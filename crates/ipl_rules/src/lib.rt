@@ -1,6 +1,10 @@
 //! The rules of the store by operation: the state that it stands for, when each operation is
 //! refused, and what it does. No page, place, log sector, merge or status occurs in them.
 //! Definitions and laws alone, over the words of `ipl_base`.
+//!
+//! Proved, by `laws`: the model of all commands for 32 sessions: refusals don't look at the
+//! records and change nothing; only commits change the records; a session sees its own last write,
+//! or else the record.
 #![tactic(auto)]
 
 ghost use Rattle.ipl_rules.specs.Laws.{RefusalsLookAtSessions, SeesItsOwnWrites, CommitsWhatIsSeen};

@@ -1,6 +1,9 @@
 //! Log records as bytes, the payload of a log sector of at most 480 bytes. It stands on the formats
 //! of `ipl_format`, and knows no sector. A contract sees a `Payload` as its bytes, which spell a
 //! list of records.
+//!
+//! Proved, by `Payload`, `put`, `records`, `is_list`: records put into a payload exactly where
+//! they fit, listed in order.
 #![tactic(auto)]
 
 mod iterator;
@@ -12,6 +15,3 @@ pub use iterator::Records;
 pub use payload::{Payload, put, records};
 pub use reading::is_list;
 pub use record::{Change, Record};
-
-#[cfg(test)]
-mod tests;

@@ -2,6 +2,10 @@
 //! laid out. All of it is functions that compute, of a chart or of tables that have as much of it;
 //! they are compared with what `ipl_meaning` states in relations. There is no code here but the
 //! laws: bodies that do nothing, with a contract that is the law.
+//!
+//! Proved, by its seven laws: in which order an opening finds fault, as a function of a chart; no
+//! fault is exactly a chart that is laid out rightly, with numbers not used up; used up numbers
+//! are the one fault that such a chart may have; each fault has its cause.
 #![tactic(auto)]
 
 mod laws;

@@ -1,6 +1,9 @@
 //! Pages of 64 slots, and their text, as docs/FORMAT.md has it. It stands on the formats of
 //! `ipl_format`, and knows no sector. A contract sees a `PageMap` as the list of its slots, and a
 //! text as that list's one spelling.
+//!
+//! Proved, by `PageMap`, `write`, `read`: pages of 64 slots; text written and read exactly within
+//! the grammar.
 #![tactic(auto)]
 
 mod held;
@@ -11,6 +14,3 @@ mod writing;
 pub use map::PageMap;
 pub use reading::read;
 pub use writing::write;
-
-#[cfg(test)]
-mod tests;

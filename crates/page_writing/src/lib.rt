@@ -3,6 +3,14 @@
 //! may take a merge or a new overflow place (`selective_merge`), and writes the sector. The code
 //! never sees a page or a frame: a unit, and the records as a payload. A contract sees the tables as
 //! one record (`tables_of`); a law says what a store with frames keeps so (`store_steps`).
+//!
+//! Proved, by `write_out`, `writing_laws`: a page's records written out: done, the unit's log has
+//! one entry more, with exactly these records, behind nothing, a new overflow place or a merge, by
+//! the rules; where it failed and no write did, the state is kept. At each moment a power cut
+//! leaves the same map. At most one place is erased, the lowest free one, and at most one sector
+//! programmed elsewhere, a log sector. Over what the chip holds it fails with what is wrong with
+//! the unit that it had to merge, or where a call of the chip failed; with that alone where the
+//! unit's pages read well and few log sectors would be carried.
 #![tactic(auto)]
 
 mod laws;

@@ -3,6 +3,11 @@
 //! for each step of a store. It stands on what a chart means (`ipl_meaning`), on pending changes
 //! (`page_ops`) and on the names of sessions (`record_locks`). There is no code here but the laws:
 //! bodies that do nothing, with a contract that is the law.
+//!
+//! Proved, by its five laws: after each step of a store the records on the chip and in memory say
+//! what its open sessions wrote, each frame tells what each session sees, and memory and chip
+//! stand for the state; a commit makes of the map what its session's writes do; at most 48 names
+//! of a unit have records of open sessions.
 #![tactic(auto)]
 
 mod laws;

@@ -2,6 +2,11 @@
 //! before the next is begun. It stands on what a store is (`store_trait`) and on the lines of a script
 //! (`script_text`). One theorem says of every moment of the run what was said and what a power cut
 //! leaves.
+//!
+//! Proved, by `run_script`: the loop over any store, with chip events between the replies: said,
+//! each moment of a cut, lawful events, what the store keeps at every end and which commands are
+//! done then, each end's cause, that a fault of the store comes of the chip, how many numbers a
+//! script draws.
 #![tactic(auto)]
 
 mod answer;

@@ -2,6 +2,13 @@
 //! answer the command's reply; a restart opens the chip again. It stands on `ipl_store`, and it is a
 //! store as the trait of `store_trait` has it. A contract sees how it keeps a state
 //! (`script_keeping`), which is how the store does.
+//!
+//! Proved, by `ScriptStore`'s methods, and its `store_trait::Store`: a begin, a get, a share, a
+//! put, a delete, a commit, an abort, a merge and a restart of the store as a run of a script uses
+//! it are the work of their commands, as the store's trait has it: wherever the power is cut, the
+//! chip stands for the records before the command or after it; done, the store keeps the model's
+//! next state, and the reply is the model's; few numbers are drawn, and a fault has its excuse and
+//! its cause. So is looking a committed record up.
 #![tactic(auto)]
 
 mod changing;

@@ -2,6 +2,9 @@
 //! the formats of `ipl_format`, and takes the sum from `crc_sum`. A contract sees the bytes of a
 //! sector as the spelling of what it says, and any 512 bytes as what they say, or why they say
 //! nothing.
+//!
+//! Proved, by `encode`, `decode`: encoding spells the sector; decoding says what the bytes say,
+//! and why not.
 #![tactic(auto)]
 
 mod decoding;
@@ -15,6 +18,3 @@ pub use encoding::encode;
 pub use laws::decode_laws;
 pub use reading::payload_in;
 pub use sector::{Decoded, Head};
-
-#[cfg(test)]
-mod tests;

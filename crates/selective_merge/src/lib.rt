@@ -3,6 +3,21 @@
 //! It stands on the tables (`unit_directory`, `overflow`, `txn_status`), on the unit's log as it is
 //! read (`unit_log`), and on the laws of `merge_rules`. A contract sees the tables as one record
 //! (`tables_of`), and what a call leaves as `Steps` has it.
+//!
+//! Proved, by `merge`: done, the unit stands at a place that was free, its pages show the same,
+//! and its log is the pack of what is carried; at each moment a power cut leaves the old map;
+//! where no write failed, the tables agree; one erase at most, of the lowest free place, and no
+//! program elsewhere; places in use keep their bytes; it draws a generation and a serial for each
+//! log sector.
+//!
+//! Proved, by `merge`, `log_place`: over what the chip holds it tells exactly what is wrong with
+//! the unit: too many log sectors to carry, or the first page that doesn't read well
+//! (`merge_fault`). So where the unit's pages read well and at most 12 log sectors would be
+//! carried, it fails only where a call of the chip failed, and the same goes for the place of a
+//! log sector.
+//!
+//! Proved, by `log_place`, `carried`: the next log sector goes where the first rule that applies
+//! says, exactly by what would be carried; how many sectors that is.
 #![tactic(auto)]
 
 mod active;
@@ -27,6 +42,3 @@ pub use parts::Parts;
 pub use placing::log_place;
 pub use scratch::MergeScratch;
 pub use spots::carried;
-
-#[cfg(test)]
-mod tests;

@@ -4,6 +4,20 @@
 //! don't fit, on `txn_status` for the new place itself, and on `restart` for what an opening reads. A
 //! contract sees the numbers that are kept as a list in rising order, and what a call leaves as
 //! `Steps` has it.
+//!
+//! Proved, by `renew`: a renewal keeps the map at every moment. Done, exactly those numbers are
+//! committed that were so and that a live record has, and a unit was merged only where its numbers
+//! would have made more than 3,840. Not done, and no write failed, all pages show what they showed
+//! and the same numbers are committed. Over what the chip holds it fails with exactly what was
+//! wrong with a unit whose numbers don't fit, or where a call of the chip failed; with that alone
+//! where all units' pages read well and few log sectors of each would be carried.
+//!
+//! Proved, by `recover`: an opening that ends with a renewal: the first fault, exactly, and a chip
+//! that has one was only read; or where there is none that of the first page of a unit that had to
+//! be merged and doesn't read well; where the pages say a map, only a failed call of the chip. Or
+//! tables that mirror what the chip holds then, in which all pages show what they showed; the
+//! counter is above every number found, and by how much at most. At each moment of it a power cut
+//! leaves the same map, and it is lawful after any lawful events.
 #![tactic(auto)]
 
 mod joining;
@@ -13,8 +27,6 @@ mod passing;
 mod place;
 mod recovering;
 mod renewing;
-#[cfg(test)]
-mod tests;
 
 pub use kept::KeptNumbers;
 pub use laws::{chaining_laws, keeping_laws, ready_laws, renewal_laws};

@@ -3,6 +3,11 @@
 //! leave, and hand it to a run over a script; others say what the sessions refuse. It stands on
 //! the condition of a store (`pending_writes`) and on what calls leave (`steps`). The one call here
 //! adds the number of a session that is committed.
+//!
+//! Proved, by its five laws, `add_number`: a call that keeps each state, and one that leads to the
+//! next: over told contents the memory fits then, and over a story a power cut leaves the map
+//! before or the next one. Such calls are joined, and are the work of a command. A session's
+//! number is added between two barriers.
 #![tactic(auto)]
 
 mod laws;

@@ -1,6 +1,10 @@
 //! What keeps records on a chip and does the work of commands. It stands on the model of commands and
 //! on the chip alone, and knows no text. A contract sees how a store keeps a state (`Keeping`): what a
 //! power cut leaves at each moment of its work, and what goes on beside the chip (`Onward`).
+//!
+//! Proved, by `Store`, `Keeping`: what a store promises: at each moment of a command's work a cut
+//! leaves the records before it or after it; done, the reply and the records are the model's; how
+//! many numbers it draws, and when each fault comes.
 #![tactic(auto)]
 
 mod fault;

@@ -3,6 +3,12 @@
 //! a new place with those that are kept. It stands on `unit_io`, which writes and reads the sectors,
 //! on `number_set` for the numbers in memory, and on `opening_rules` for which commit sectors count.
 //! A contract sees the `Status` of `ipl_meaning`, the committed numbers as a list in rising order.
+//!
+//! Proved, by `Status`, `status_laws`: the committed numbers: a commit sector that is added leaves
+//! at each moment the records before it or after it, where nothing was open; a new status place
+//! keeps the records where of the numbers in live log sectors exactly the committed ones are kept;
+//! what is read in is exactly what the chip holds, with the first fault; how many numbers are
+//! drawn.
 #![tactic(auto)]
 
 mod commits;
@@ -11,8 +17,6 @@ mod parts;
 mod payloads;
 mod reading;
 mod status;
-#[cfg(test)]
-mod tests;
 
 pub use laws::status_laws;
 pub use status::Status;

@@ -2,12 +2,14 @@
 //! how many log sectors of each unit's place count as written. It asks nothing of a chip. A
 //! contract sees it as three lists, `Places` of `ipl_meaning`, and each call as one equation on
 //! them.
+//!
+//! Proved, by `Directory`, `directory_laws`: which place each unit has, which places are in use,
+//! which log sectors are clean: each call is one equation on lists; the lowest free place is
+//! taken.
 #![tactic(auto)]
 
 mod directory;
 mod laws;
-#[cfg(test)]
-mod tests;
 
 pub use directory::Directory;
 pub use laws::directory_laws;

@@ -3,6 +3,16 @@
 //! is so here, but for a format, which `restart` writes by itself. A contract of a call that writes
 //! says what a power cut leaves at every moment of it; one of a call that reads, what it answers by
 //! what the chip holds.
+//!
+//! Proved, by `begin_unit`, `program_page`, `program_log`, `seal`: a place taken, filled and
+//! sealed: at each moment of a call a cut leaves the records before it, in a seal those before or
+//! those with the header; what the chart holds then; lawful events, and which sectors they
+//! program, whatever the chip tells (`tidy`); pages and headers are no log sectors and no commit
+//! sectors; and all other places have the bytes that they had (`Spares`).
+//!
+//! Proved, by `read_head`, `read_log`, `read_commit`, `read_page`, `page_laws`: headers, log
+//! sectors, commit sectors and pages are read exactly as the chip holds them; the first fault of a
+//! page in order; which reads were asked.
 #![tactic(auto)]
 
 mod calls;
@@ -22,6 +32,3 @@ pub use pages::program_page;
 pub use places::{begin_unit, seal};
 pub use reading::{read_commit, read_head, read_log, read_sector};
 pub use sectors::program_log;
-
-#[cfg(test)]
-mod tests;

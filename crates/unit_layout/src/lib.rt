@@ -1,6 +1,9 @@
 //! Where sectors stand in the place of a unit, and the payloads of the three kinds of header. It
 //! stands on the formats of `ipl_format`. A contract sees each number and payload as the definition
 //! there has it; a payload is read exactly where it is in its grammar.
+//!
+//! Proved, by `base_sector`, `log_sector`, the header calls: places of sectors; the three headers
+//! written and read.
 #![tactic(auto)]
 
 mod header;
@@ -14,6 +17,3 @@ pub use place::{base_sector, log_sector};
 pub use units::{
     read_overflow_header, read_status_header, write_overflow_header, write_status_header,
 };
-
-#[cfg(test)]
-mod tests;

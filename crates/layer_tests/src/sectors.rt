@@ -1,0 +1,34 @@
+//! Sectors of chips in memory, put there no matter what stood in their place.
+ghost use Rattle.std.specs.Prelude.{◌≡◌};
+
+use chip_mem::MemChip;
+use chip_trait::Chip;
+use ipl_base::Spot;
+use sector_format::{Head, encode};
+use std::process::Abort;
+
+/// A sector of a chip, and what it says.
+pub(crate) type Put<'a> = (Spot, Head, &'a [u8]);
+
+pub(crate) fn at(place: u32, sector: u32) -> Spot
+    ensures { (result.place ≡ place) × (result.sector ≡ sector) }
+{
+    Spot { place, sector }
+}
+
+/// Puts a sector.
+fn put(rt: &impl Abort, chip: &mut MemChip, put: &Put<'_>) {
+    let (spot, head, payload) = put;
+    let mut bytes = [0; 512];
+    assert!(rt; 1 <= head.kind && head.kind <= 6 && payload.len() <= 480);
+    encode(head, payload, &mut bytes);
+    assert!(rt; spot.place < chip.units() && spot.sector < 256);
+    chip.alter(spot.place, spot.sector, &bytes);
+}
+
+/// Puts sectors, one after another.
+pub(crate) fn put_all(rt: &impl Abort, chip: &mut MemChip, sectors: &[Put<'_>]) {
+    for sector in sectors {
+        put(rt, chip, sector);
+    }
+}

@@ -1,0 +1,49 @@
+//! Log records: `records BYTES`, each record, and whether they are put again as the same bytes.
+use crate::words::{bytes_of, hex_of, join, text_of};
+use anyhow::{Result, ensure};
+use log_records::{Change, Payload, Record, is_list, put, records};
+use std::alloc::Global;
+
+pub fn records_row(alloc: Global, rest: &str) -> Result<String> {
+    let bytes = bytes_of(alloc, rest)?;
+    ensure!(bytes.len() <= 480, "no payload");
+    if !is_list(&bytes) {
+        return text_of(alloc, "refused");
+    }
+    let payload = Payload::of(&bytes);
+    let mut text = String::new(alloc);
+    for record in records(&payload) {
+        join(&mut text, record_text(alloc, &record)?.as_str())?;
+    }
+    let is_same = put_again(&payload).bytes() == payload.bytes();
+    join(&mut text, if is_same { "same" } else { "other" })?;
+    Ok(text)
+}
+
+/// A record's page, slot, number and value.
+fn record_text(alloc: Global, record: &Record) -> Result<String> {
+    let Record {
+        page,
+        slot,
+        tid,
+        change,
+    } = record;
+    match change {
+        Change::Put(value) => {
+            let value = hex_of(alloc, value.bytes())?;
+            Ok(format!(in alloc; "put {page} {slot} {tid} {value}")?)
+        }
+        Change::Delete => Ok(format!(in alloc; "delete {page} {slot} {tid}")?),
+    }
+}
+
+/// The records of a payload, put into an empty one.
+fn put_again(payload: &Payload) -> Payload {
+    let mut again = Payload::empty();
+    for record in records(payload) {
+        if record.page < 15 && record.slot < 64 {
+            let _ = put(&mut again, &record);
+        }
+    }
+    again
+}

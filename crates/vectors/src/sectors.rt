@@ -1,0 +1,75 @@
+//! Sectors: `decode BYTES`, of the bytes with zeros behind them up to 512; `seal BYTES`, of the same
+//! with their sum put in; `encode KIND UNIT GENERATION SERIAL BYTES`, the head and the payload.
+use crate::words::{bytes_of, hex_of, number, text_of, words_of};
+use anyhow::{Result, bail, ensure};
+use crc_sum::crc32_parts;
+use sector_format::{Decoded, Head, decode, encode};
+use std::alloc::Global;
+
+pub fn decode_row(alloc: Global, rest: &str) -> Result<String> {
+    let sector = sector_of(&bytes_of(alloc, rest)?)?;
+    said(alloc, &sector)
+}
+
+pub fn seal_row(alloc: Global, rest: &str) -> Result<String> {
+    let mut sector = sector_of(&bytes_of(alloc, rest)?)?;
+    let sum = crc32_parts(&sector[..28], &sector[32..]).to_be_bytes();
+    sector[28..32].copy_from_slice(&sum);
+    said(alloc, &sector)
+}
+
+/// The bytes, with zeros behind them.
+fn sector_of(bytes: &[u8]) -> Result<[u8; 512]> {
+    let mut sector = [0; 512];
+    ensure!(bytes.len() <= 512, "no sector");
+    sector[..bytes.len()].copy_from_slice(bytes);
+    Ok(sector)
+}
+
+/// What a sector says.
+fn said(alloc: Global, sector: &[u8; 512]) -> Result<String> {
+    match decode(sector) {
+        Decoded::Erased => text_of(alloc, "erased"),
+        Decoded::Bad { stored, computed } => {
+            Ok(format!(in alloc; "bad, stored {stored:08x} computed {computed:08x}")?)
+        }
+        Decoded::Strange => text_of(alloc, "strange"),
+        Decoded::Sector(head, used) => {
+            let Head {
+                kind,
+                unit,
+                generation,
+                serial,
+            } = head;
+            Ok(format!(in alloc;
+                "kind {kind} unit {unit} generation {generation} serial {serial} used {used}"
+            )?)
+        }
+    }
+}
+
+pub fn encode_row(alloc: Global, rest: &str) -> Result<String> {
+    let words = words_of(alloc, rest)?;
+    let [kind, unit, generation, serial, bytes] = words.as_slice() else {
+        bail!("no head");
+    };
+    let head = Head {
+        kind: kind.parse::<u8>()?,
+        unit: number(*unit)?,
+        generation: generation.parse::<u64>()?,
+        serial: serial.parse::<u64>()?,
+    };
+    let payload = bytes_of(alloc, *bytes)?;
+    encoded(alloc, &head, &payload)
+}
+
+/// The bytes of a head and a payload.
+fn encoded(alloc: Global, head: &Head, payload: &[u8]) -> Result<String> {
+    ensure!(
+        1 <= head.kind && head.kind <= 6 && payload.len() <= 480,
+        "no sector"
+    );
+    let mut out = [0xaa; 512];
+    encode(head, payload, &mut out);
+    hex_of(alloc, &out[..32 + payload.len()])
+}

@@ -1,0 +1,53 @@
+//! Words of a command line: `words WORDS`, what they ask, and over which chip.
+use crate::words::{text_of, words_of};
+use anyhow::Result;
+use command_line::{Choice, Request, chip_choice, request};
+use std::alloc::Global;
+
+pub fn words_row(alloc: Global, rest: &str) -> Result<String> {
+    let words = owned(alloc, rest)?;
+    let asked = asked_text(alloc, request(alloc, &words)?)?;
+    let chip = chip_text(alloc, &chip_choice(alloc, &words)?)?;
+    Ok(format!(in alloc; "{asked} over {chip}")?)
+}
+
+/// The words of a row, each on its own.
+fn owned(alloc: Global, rest: &str) -> Result<Vec<String>> {
+    let mut words = Vec::new(alloc);
+    for word in words_of(alloc, rest)? {
+        words.push(String::from_str(alloc, word)?)?;
+    }
+    Ok(words)
+}
+
+/// What is asked.
+fn asked_text(alloc: Global, asked: Option<Request>) -> Result<String> {
+    match asked {
+        None => text_of(alloc, "nothing"),
+        Some(Request::Format) => text_of(alloc, "format"),
+        Some(Request::Serial) => text_of(alloc, "serial"),
+        Some(Request::Run { frames, format }) => {
+            let how = if format { " format" } else { "" };
+            Ok(format!(in alloc; "run frames {frames}{how}")?)
+        }
+        Some(
+            Request::Trial {
+                seed,
+                count,
+                frames,
+            },
+        ) => { Ok(format!(in alloc; "trial seed {seed} count {count} frames {frames}")?) }
+    }
+}
+
+/// A chip.
+fn chip_text(alloc: Global, chip: &Choice) -> Result<String> {
+    match chip {
+        Choice::Nothing => text_of(alloc, "nothing"),
+        Choice::Ram(places) => Ok(format!(in alloc; "ram {places}")?),
+        Choice::File(places, path) => {
+            let path = path.as_str();
+            Ok(format!(in alloc; "file {places} {path}")?)
+        }
+    }
+}
