@@ -9,7 +9,7 @@ use Rattle.chip_trait.specs.Chart.{says}
 use Rattle.chip_trait.specs.Image.{IsNoChanceImage}
 use Rattle.chip_trait.specs.Moment.{AtEachMoment, Leaves}
 use Rattle.chip_trait.specs.Lawful.{IsLawful, AreClean}
-use Rattle.chip_trait.specs.Told.{History, Told, Beside, Counts, SayCounts, Appends, FailsToSay, IsPrefix, adds_all, Unrisen}
+use Rattle.chip_trait.specs.Told.{History, Told, Beside, Counts, SayCounts, Appends, FailsToSay, IsPrefix, adds_all, Unrisen, Rose}
 use Rattle.chip_trait.proofs.HistoryLemmas.{same_history, history_then}
 use Rattle.chip_trait.proofs.MomentLemmas.{at_start, at_both, at_weaker}
 use Rattle.chip_trait.proofs.SaidLemmas.{pieces-append, said-append, silent-part}
@@ -55,13 +55,15 @@ left_counts old new counts = ap (λ (b : Beside). b.left) counts.beside
 -- ---- a format
 
 pub stopped_early : (fault : FormatFault) (old new : Told) → Counts old new
+    → Rose old.write_faults new.write_faults
     → ((h : History) → Formats {A = Unit {0}} old.places h old (Err fault) new)
     → IsStopped old new
-stopped_early fault old new counts formats = λ h. record {
+stopped_early fault old new counts rose formats = λ h. record {
   stopped = new;
   fault = fault;
   formats = formats h;
   counts = counts;
+  rose = rose;
   noted = refl;
 }
 
@@ -157,7 +159,7 @@ history_behind first added h = ap (λ (s : Story). record { start = h.start; sto
 -- ---- events that say nothing, before a run
 
 -- before anything is said, nothing was answered
-near_silent : (Q : State → Type 0) (limits : Limits) (state : State) (commands : List Command)
+pub near_silent : (Q : State → Type 0) (limits : Limits) (state : State) (commands : List Command)
     → Q state → IsNear Q limits state commands []
 near_silent Q limits state [] holds = inl holds
 near_silent Q limits state (c ∷ commands) holds = rw (reply_shows limits state c) (inl holds)

@@ -2,8 +2,10 @@ mod EndLemmas
 mod StartLemmas
 mod TrialLemmas
 mod RecordLemmas
+mod SurviveLemmas
 pub mod StatusLemmas
 mod NoteLemmas
+mod FrameLemmas
 mod TopLemmas
 mod SayLemmas
 mod ViewLemmas

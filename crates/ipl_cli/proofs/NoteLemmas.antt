@@ -14,23 +14,12 @@ use Rattle.program_end.specs.declared.end.End.{End}
 use Rattle.program_end.specs.declared.end.End.TheVariants.{Words, Chip, OutOfMemory, Script, Output, TooLong}
 use Rattle.ipl_cli.specs.Ending.{AskedFor, Ending, StopsEarly, IsStopped, IsUntouched, but_noted, note_at, status_at}
 use Rattle.ipl_cli.specs.Trials.{Trials, TrialsFormatted, TrialsOrStops, TrialLeaves}
-use Rattle.ipl_cli.specs.Top.{IsMetLater, LaidCause, StrayCause, OpenedCause, FormatCause, FormattedCause, RequestCause, EndCause, Runs, RunsOpened, RunsFormatted, RunsOrStops, IsLaidOut, LaysOut, OnlyLooks, IsRefused, OpenedRuns, FormatLeaves, FormattedLeaves, OpenedLeaves, EndLeaves, Ends, NoneFalls, StrayCause}
+use Rattle.ipl_cli.specs.Top.{OpenedCause, FormatCause, FormattedCause, RequestCause, EndCause, Runs, RunsOpened, RunsFormatted, RunsOrStops, IsLaidOut, LaysOut, OnlyLooks, IsRefused, OpenedRuns, FormatLeaves, FormattedLeaves, OpenedLeaves, EndLeaves, Ends, NoneFalls}
 use Rattle.ipl_cli.proofs.ViewLemmas.{serial_left}
 
 module _ (old mid : Told) (noted : Option (List ℕ)) where
   abbrev then : Told
   then = but_noted mid noted
-
-  met_noted : IsMetLater old mid → IsMetLater old then
-  met_noted met = record { laid = met.laid; excuse = met.excuse }
-
-  laid_noted : (e : ImageFault) → LaidCause e old mid → LaidCause e old then
-  laid_noted e (inl first) = inl first
-  laid_noted e (inr met) = inr (met_noted met)
-
-  sector_noted : StrayCause old mid → StrayCause old then
-  sector_noted (inl stray) = inl stray
-  sector_noted (inr met) = inr (met_noted met)
 
   format_cause : (e : ImageFault) → FormatCause e old mid → FormatCause e old then
   format_cause image.Geometry c = c
@@ -55,15 +44,15 @@ module _ (old mid : Told) (noted : Option (List ℕ)) where
   formatted_cause (image.NoSpare n) c = c
 
   opened_cause : (e : ImageFault) → OpenedCause e old mid → OpenedCause e old then
-  opened_cause image.Geometry c = laid_noted image.Geometry c
-  opened_cause image.NotFormatted c = laid_noted image.NotFormatted c
-  opened_cause (image.Missing u) c = laid_noted (image.Missing u) c
+  opened_cause image.Geometry c = c
+  opened_cause image.NotFormatted c = c
+  opened_cause (image.Missing u) c = c
   opened_cause (image.Chip ReadFault) c = c
   opened_cause (image.Chip Stopped) c = c
-  opened_cause (image.Chip (Damaged p s stored computed)) c = (c.0, sector_noted c.1)
-  opened_cause (image.Chip (Malformed p s)) c = sector_noted c
-  opened_cause image.Spent c = laid_noted image.Spent c
-  opened_cause (image.NoSpare n) c = laid_noted (image.NoSpare n) c
+  opened_cause (image.Chip (Damaged p s stored computed)) c = c
+  opened_cause (image.Chip (Malformed p s)) c = c
+  opened_cause image.Spent c = c
+  opened_cause (image.NoSpare n) c = c
 
   request_cause : (request : Request) (end : End) → RequestCause request end old mid
       → RequestCause request end old then
@@ -120,8 +109,8 @@ module _ (old mid : Told) (noted : Option (List ℕ)) where
     stopped = s.stopped;
     fault = s.fault;
     formats = s.formats;
-    counts =
-        s.counts;
+    counts = s.counts;
+    rose = s.rose;
     noted = ap (λ (t : Told). but_noted t noted) s.noted;
   }
 

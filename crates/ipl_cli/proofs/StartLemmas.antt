@@ -33,7 +33,7 @@ use Rattle.opening_rules.proofs.NumberLemmas.{greatest_is_found}
 use Rattle.restart.specs.Events.{format_events}
 use Rattle.restart.specs.Fresh.{IsFresh, Formats}
 use Rattle.restart.proofs.LookLemmas.{reads_none}
-use Rattle.store_trait.specs.Keeping.{ChipRose, Draws, LeavesTidy, SCRIPT_DRAWS, FOUND_NUMBER}
+use Rattle.store_trait.specs.Keeping.{ChipRose, IsFailedCall, SaysFailedCall, Draws, LeavesTidy, SCRIPT_DRAWS, FOUND_NUMBER}
 use Rattle.store_trait.specs.Onward.{Further}
 use Rattle.store_trait.proofs.DrawLemmas.{numbers_last}
 use Rattle.store_trait.specs.declared.fault.Fault.{Fault}
@@ -139,25 +139,25 @@ module _ (t : Told) (sound : RestsWithNumbersLeft t) where
   sound_fine = stands_fine t.places (now sound.history) sound.map sound_stands
       (omega (arith, sound.left))
 
-  -- so a fault comes only where a call of the chip failed
-  pub laid_excused : (e : ImageFault) (new : Told) → LaidCause e t new → ChipRose t new
-  laid_excused e new (inl at_fault) = absurd (none_is_some (sym sound_fine ∙ at_fault _ sound_told))
-  laid_excused e new (inr later) = later.excuse sound
+  -- so no other fault comes than that of a call of the chip
+  pub laid_never : (e : ImageFault) → ¬ LaidCause e t
+  laid_never e (inl at_fault) = none_is_some (sym sound_fine ∙ at_fault _ sound_told)
+  laid_never e (inr later) = later.unsound sound
 
-  pub sector_excused : (new : Told) → StrayCause t new → ChipRose t new
-  sector_excused new (inl stray) = absurd (stray _ sound_told sound.map sound_stands)
-  sector_excused new (inr later) = later.excuse sound
+  pub sector_never : ¬ StrayCause t
+  sector_never (inl stray) = stray _ sound_told sound.map sound_stands
+  sector_never (inr later) = later.unsound sound
 
   pub opened_excused : (e : ImageFault) (new : Told) → OpenedCause e t new → ChipRose t new
-  opened_excused image.Geometry new c = laid_excused image.Geometry new c
-  opened_excused image.NotFormatted new c = laid_excused image.NotFormatted new c
-  opened_excused (image.Missing u) new c = laid_excused (image.Missing u) new c
+  opened_excused image.Geometry new c = absurd (laid_never image.Geometry c)
+  opened_excused image.NotFormatted new c = absurd (laid_never image.NotFormatted c)
+  opened_excused (image.Missing u) new c = absurd (laid_never (image.Missing u) c)
   opened_excused (image.Chip ReadFault) new c = inl c
   opened_excused (image.Chip Stopped) new c = inr c
-  opened_excused (image.Chip (Damaged p s stored computed)) new c = sector_excused new c.1
-  opened_excused (image.Chip (Malformed p s)) new c = sector_excused new c
-  opened_excused image.Spent new c = laid_excused image.Spent new c
-  opened_excused (image.NoSpare n) new c = laid_excused (image.NoSpare n) new c
+  opened_excused (image.Chip (Damaged p s stored computed)) new c = absurd (sector_never c.1)
+  opened_excused (image.Chip (Malformed p s)) new c = absurd (sector_never c)
+  opened_excused image.Spent new c = absurd (laid_never image.Spent c)
+  opened_excused (image.NoSpare n) new c = absurd (laid_never (image.NoSpare n) c)
 
 -- ---- a chip that isn't opened
 
@@ -202,7 +202,7 @@ module _ (old new : Told) (end : End) (n : IsNotOpened end old new) where
 
   -- a fault of how the chip is laid out is its first fault
   laid_cause : (f : ImageFault) → ((c : ChipFault) → f ≡ image.Chip c → ⊥) → n.fault ≡ f
-      → LaidCause f old new
+      → LaidCause f old
   laid_cause f apart is = inl (λ x told. elim (n.tries.tells x told (λ failed. apart ReadFault
       (sym is ∙ failed)) (λ failed. apart Stopped (sym is ∙ failed))) [
         | inl first ↦ first ∙ ap Some is
@@ -211,7 +211,7 @@ module _ (old new : Told) (end : End) (n : IsNotOpened end old new) where
 
   -- contents with a fault of a sector stand for no map
   sector_cause : (c : ChipFault) → c ≢ ReadFault → c ≢ Stopped → n.fault ≡ image.Chip c
-      → StrayCause old new
+      → StrayCause old
   sector_cause c read stopped is = inl (λ x told m stands. elim (n.tries.tells x told
       (λ failed. read (chip_one (sym is ∙ failed))) (λ failed. stopped
       (chip_one (sym is ∙ failed)))) [
@@ -281,8 +281,8 @@ module _ (old mid : Told) (store : ScriptStore) (s : StartsOpened old store mid)
     Completes e = CompletesOver script_keeping {T = Unit {0}} SCRIPT_DRAWS store mid (Err e) then
         new
 
-    -- the store of a sound chip fails only where a call of the chip failed
-    excused : (f : Fault) → Completes (stop.Store f) → RestsWithNumbersLeft old → ChipRose old new
+    -- the store of a sound chip fails only where a call of the chip failed, and says so
+    excused : (f : Fault) → Completes (stop.Store f) → RestsWithNumbersLeft old → SaysFailedCall f
     excused f completes sound =
         let did = s.tries.steps sound.map sound.history sound.steady sound.rests in
         let held = opened_keeps old mid store s sound.map sound.history sound.steady sound.rests in
@@ -294,27 +294,29 @@ module _ (old mid : Told) (store : ScriptStore) (s : StartsOpened old store mid)
         let number : counter_of store.store ≤ greatest_found (now sound.history) old.places + 1 + 2 ^ 14 =
         s.opens.number _ sound.steady.holds in
         let next : next_number store ≡ counter_of store.store = rw s.running.up refl in
-        chip_earlier old mid new s.tries.accounts.counts (done.excuse f refl
-        (omega (arith, number, next, sound.left)))
+        (done.excuse f refl (omega (arith, number, next, sound.left))).1
 
-    later : (f : Fault) → Completes (stop.Store f) → IsMetLater old new
-    later f completes = record { laid = opened_laid; excuse = excused f completes }
+    later : (f : Fault) → Completes (stop.Store f) → ¬ SaysFailedCall f → IsMetLater old
+    later f completes other = record {
+      laid = opened_laid;
+      unsound = λ sound. other (excused f completes sound);
+    }
 
-    chip_met : (c : ChipFault) → IsMetLater old new → script_keeping.cause (fault.Chip c) mid new
-        → OpenedCause (image.Chip c) old new
+    chip_met : (c : ChipFault) → (¬ IsFailedCall c → IsMetLater old)
+        → script_keeping.cause (fault.Chip c) mid new → OpenedCause (image.Chip c) old new
     chip_met ReadFault met cause = reads_earlier old mid new s.tries.accounts.counts cause
     chip_met Stopped met cause = writes_earlier old mid new s.tries.accounts.counts cause
-    chip_met (Damaged p q stored computed) met cause = (cause, inr met)
-    chip_met (Malformed p q) met cause = inr met
+    chip_met (Damaged p q stored computed) met cause = (cause, inr (met (λ none. none)))
+    chip_met (Malformed p q) met cause = inr (met (λ none. none))
 
-    image_met : (e : ImageFault) → IsMetLater old new → script_keeping.cause (fault.Image e) mid new
-        → OpenedCause e old new
-    image_met image.Geometry met cause = inr met
-    image_met image.NotFormatted met cause = inr met
-    image_met (image.Missing u) met cause = inr met
+    image_met : (e : ImageFault) → (¬ SaysFailedCall (fault.Image e) → IsMetLater old)
+        → script_keeping.cause (fault.Image e) mid new → OpenedCause e old new
+    image_met image.Geometry met cause = inr (met (λ none. none))
+    image_met image.NotFormatted met cause = inr (met (λ none. none))
+    image_met (image.Missing u) met cause = inr (met (λ none. none))
     image_met (image.Chip c) met cause = chip_met c met cause
-    image_met image.Spent met cause = inr met
-    image_met (image.NoSpare k) met cause = inr met
+    image_met image.Spent met cause = inr (met (λ none. none))
+    image_met (image.NoSpare k) met cause = inr (met (λ none. none))
 
     -- why the run stops
     stop_cause : (frames : ℕ) (e : Stop) → Completes e → StopCause script_keeping mid new e
@@ -472,21 +474,23 @@ module _ (old mid : Told) (f : WasFormatted old mid) where
       }
 
   module _ (new : Told) where
-    anew : (e : ImageFault) → OpenedCause e mid new → AnewCause old new
-    anew e cause h steady = chip_earlier old mid new f.counts (opened_excused mid
-        (fresh_sound h steady) e new cause)
+    laid_anew : (e : ImageFault) → LaidCause e mid → AnewCause old
+    laid_anew e cause h steady = laid_never mid (fresh_sound h steady) e cause
+
+    sector_anew : StrayCause mid → AnewCause old
+    sector_anew cause h steady = sector_never mid (fresh_sound h steady) cause
 
     anew_by : (e : ImageFault) → OpenedCause e mid new → FormattedCause e old new
-    anew_by image.Geometry c = inr (anew image.Geometry c)
-    anew_by image.NotFormatted c = anew image.NotFormatted c
-    anew_by (image.Missing u) c = anew (image.Missing u) c
+    anew_by image.Geometry c = inr (laid_anew image.Geometry c)
+    anew_by image.NotFormatted c = laid_anew image.NotFormatted c
+    anew_by (image.Missing u) c = laid_anew (image.Missing u) c
     anew_by (image.Chip ReadFault) c = reads_earlier old mid new f.counts c
     anew_by (image.Chip Stopped) c = writes_earlier old mid new f.counts c
     anew_by (image.Chip (Damaged p s stored computed)) c =
-        (c.0, anew (image.Chip (Damaged p s stored computed)) c)
-    anew_by (image.Chip (Malformed p s)) c = anew (image.Chip (Malformed p s)) c
-    anew_by image.Spent c = anew image.Spent c
-    anew_by (image.NoSpare k) c = anew (image.NoSpare k) c
+        (c.0, sector_anew c.1)
+    anew_by (image.Chip (Malformed p s)) c = sector_anew c
+    anew_by image.Spent c = laid_anew image.Spent c
+    anew_by (image.NoSpare k) c = laid_anew (image.NoSpare k) c
 
     -- why a run over it ends
     ends_anew : (frames : ℕ) (end : End) → RequestCause (Run frames false) end mid new
@@ -615,7 +619,7 @@ module _ (old new : Told) (fits : IsGeometry old.places) (counts : Counts old ne
     fits = fits;
     counts = counts;
     rose = rose refl;
-    stops = stopped_early format.Stopped old new counts formats;
+    stops = stopped_early format.Stopped old new counts (rose refl) formats;
   }
 
 -- a chip of which a store was opened

@@ -1,5 +1,6 @@
 -- What the end of the program says.
-use Rattle.std.proofs.Common.{◌≡◌, ◌≢◌, ◌⊎◌, ◌==◌, ℕ, true, false, Some, None, Result, Ok, Err, inl, inr, refl, sym, ◌∙◌, ap, subst, arith}
+use Rattle.std.proofs.Common.{◌≡◌, ◌≢◌, ◌⊎◌, ◌==◌, ◌^◌, ℕ, true, false, Some, None, Result, Ok, Err, inl, inr, refl, sym, ◌∙◌, ap, subst, arith}
+use Rattle.std.proofs.lemmas.Bool.{cases_lt}
 use Rattle.chip_trait.specs.Told.{History, Told, Counts, Rose, Grew, IsConsistent}
 use Rattle.ipl_base.specs.Places.{IsGeometry}
 use Rattle.ipl_base.specs.declared.fault.ChipFault.TheVariants.{ReadFault, Stopped, Damaged, Malformed}
@@ -8,10 +9,12 @@ use Rattle.ipl_base.specs.declared.fault.ImageFault.TheVariants as image
 use Rattle.ipl_base.specs.declared.fault.FormatFault.{FormatFault}
 use Rattle.ipl_base.specs.declared.fault.FormatFault.TheVariants as format
 use Rattle.ipl_meaning.specs.Chart.{chart_of}
+use Rattle.opening_rules.specs.Faults.{greatest_found}
 use Rattle.opening_rules.proofs.CauseLemmas.{faults_are_caused}
 use Rattle.restart.specs.Fresh.{Formats}
 use Rattle.restart.proofs.LookLemmas.{reads_none}
 use Rattle.status_renewal.specs.Chains.{starts_at}
+use Rattle.status_renewal.proofs.ChainLemmas.{images_rest}
 use Rattle.store_trait.specs.Keeping.{ChipRose}
 use Rattle.script_run.specs.Goes.{ReadsAll}
 use Rattle.command_line.specs.declared.asked.Request.{Request}
@@ -21,7 +24,7 @@ use Rattle.program_end.specs.declared.end.End.TheVariants.{Words, Chip, OutOfMem
 use Rattle.ipl_cli.specs.Ending.{AskedFor, AsksOpened, AsksFormatted, AsksAnew, AtStatus, Ending, IsUntouched, but_noted, status_at}
 use Rattle.ipl_cli.specs.Trials.{TrialLeaves}
 use Rattle.ipl_cli.specs.Views.{ViewsTold, OnlyViews, OnlyHears, SerialLeaves}
-use Rattle.ipl_cli.specs.Top.{HasFault, IsLaidWell, LaidCause, StrayCause, OpenedCause, FormatCause, AnewCause, FormattedCause, ChipCause, IsTooLong, EndCause, RunsOpened, RunsFormatted, LaysOut, OnlyLooks, EndsAtFault, format_end, FormatLeaves, FormattedLeaves, OpenedLeaves, EndLeaves, Ends, RefusesFaults, StrayCause, SpentCause, UntouchedOrRuns, IsCalm, IsTold, Suffices, EndsInTime}
+use Rattle.ipl_cli.specs.Top.{HasFault, IsLaidWell, LaidCause, StrayCause, OpenedCause, FormatCause, AnewCause, FormattedCause, ChipCause, IsTooLong, EndCause, RunsOpened, RunsFormatted, LaysOut, OnlyLooks, EndsAtFault, format_end, FormatLeaves, FormattedLeaves, OpenedLeaves, EndLeaves, Ends, RefusesFaults, StrayCause, SpentCause, IsMetLater, IsUnfit, IsSilent, EndsUnfit, UntouchedOrRuns, IsCalm, IsTold, Suffices, EndsInTime}
 use Rattle.ipl_cli.proofs.EndLemmas.{stopped_early, untouched_runs}
 use Rattle.ipl_cli.proofs.StartLemmas.{opened_excused, stands_well}
 use Rattle.ipl_cli.proofs.ViewLemmas.{untouched_hears, hears_views, hears_only}
@@ -47,11 +50,12 @@ failed fault = Err fault
 
 pub failed_format : (old new : Told) → Counts old new → (fault : FormatFault)
     → (failed fault ≡ failed format.Geometry → new ≡ old)
+    → (failed fault ≡ failed format.Stopped → Rose old.write_faults new.write_faults)
     → ((h : History) → Formats {A = Unit {0}} old.places h old (Err fault) new)
     → FormatLeaves (Err (format_end fault)) old new
-failed_format old new counts format.Geometry same formats = untouched old new (same refl)
-failed_format old new counts format.Stopped same formats = stopped_early format.Stopped old new
-    counts formats
+failed_format old new counts format.Geometry same rose formats = untouched old new (same refl)
+failed_format old new counts format.Stopped same rose formats = stopped_early format.Stopped old new
+    counts (rose refl) formats
 
 -- ---- by the status
 
@@ -174,14 +178,14 @@ module _ (old new : Told) where
   only_views_by (Err TooLong) l = l.1
 
   -- contents that have a fault, but that their numbers are used up, stand for no map
-  laid_image : (e : ImageFault) → fault_status e ≡ 4 → LaidCause e old new → StrayCause old new
+  laid_image : (e : ImageFault) → fault_status e ≡ 4 → LaidCause e old → StrayCause old
   laid_image e is (inl first) = inl (λ x told m stands.
       let spent = stands_well old.places (chart_of x) m stands e (first x told) in
       omega (arith, is, ap fault_status spent))
   laid_image e is (inr met) = inr met
 
   -- a status of a fault of the chip is that of an image, or a count rose, or numbers are used up
-  opened_image : (e : ImageFault) → OpenedCause e old new → fault_status e ≡ 4 → StrayCause old new
+  opened_image : (e : ImageFault) → OpenedCause e old new → fault_status e ≡ 4 → StrayCause old
   opened_image image.Geometry c is = laid_image image.Geometry is c
   opened_image image.NotFormatted c is = laid_image image.NotFormatted is c
   opened_image (image.Missing u) c is = laid_image (image.Missing u) is c
@@ -203,12 +207,12 @@ module _ (old new : Told) where
   opened_chip image.Spent c is = absurd (omega (arith, is))
   opened_chip (image.NoSpare n) c is = absurd (omega (arith, is))
 
-  spent_first : LaidCause image.Spent old new → SpentCause old new
+  spent_first : LaidCause image.Spent old → SpentCause old
   spent_first (inl first) = inl (λ x told. faults_are_caused (chart_of x) old.places image.Spent
       (first x told))
   spent_first (inr met) = inr met
 
-  opened_spent : (e : ImageFault) → OpenedCause e old new → fault_status e ≡ 9 → SpentCause old new
+  opened_spent : (e : ImageFault) → OpenedCause e old new → fault_status e ≡ 9 → SpentCause old
   opened_spent image.Geometry c is = absurd (omega (arith, is))
   opened_spent image.NotFormatted c is = absurd (omega (arith, is))
   opened_spent (image.Missing u) c is = absurd (omega (arith, is))
@@ -245,7 +249,7 @@ module _ (old new : Told) where
 
   -- a run over a chip that was formatted meets one only where it isn't told, or a call failed
   formatted_image : (e : ImageFault) → FormattedCause e old new → fault_status e ≡ 4
-      → (¬ IsGeometry old.places) ⊎ AnewCause old new
+      → (¬ IsGeometry old.places) ⊎ AnewCause old
   formatted_image image.Geometry c is = c
   formatted_image image.NotFormatted c is = inr c
   formatted_image (image.Missing u) c is = inr c
@@ -269,7 +273,7 @@ module _ (old new : Told) where
   formatted_chip (image.NoSpare n) c is = absurd (omega (arith, is))
 
   formatted_spent : (e : ImageFault) → FormattedCause e old new → fault_status e ≡ 9
-      → AnewCause old new
+      → AnewCause old
   formatted_spent image.Geometry c is = absurd (omega (arith, is))
   formatted_spent image.NotFormatted c is = absurd (omega (arith, is))
   formatted_spent (image.Missing u) c is = absurd (omega (arith, is))
@@ -455,8 +459,8 @@ module _ (old new : Told) where
   chip_by Serial e c is = absurd (omega (arith, is, ap fault_status c.0))
 
   abbrev Imaged : AskedFor → Type 0
-  Imaged asked = (¬ IsGeometry old.places) ⊎ (AsksOpened asked × StrayCause old new) ⊎
-      (AsksAnew asked × AnewCause old new)
+  Imaged asked = (¬ IsGeometry old.places) ⊎ (AsksOpened asked × StrayCause old) ⊎
+      (AsksAnew asked × AnewCause old)
 
   image_by : (request : Request) (e : ImageFault) → ChipCause request e old new → fault_status e ≡ 4
       → Imaged (Some request)
@@ -473,7 +477,7 @@ module _ (old new : Told) where
   image_by Serial e c is = inl c.1
 
   abbrev Spends : AskedFor → Type 0
-  Spends asked = (AsksOpened asked × SpentCause old new) ⊎ (AsksAnew asked × AnewCause old new)
+  Spends asked = (AsksOpened asked × SpentCause old) ⊎ (AsksAnew asked × AnewCause old)
 
   spent_by : (request : Request) (e : ImageFault) → ChipCause request e old new → fault_status e ≡ 9
       → Spends (Some request)
@@ -540,6 +544,32 @@ module _ (old new : Told) where
   long_by (Some Serial) (Err TooLong) c is = c
   long_by (Some (Trial seed count frames)) (Err TooLong) c is = absurd c
 
+-- ---- what a chip held at which a run ended with 4 or 9
+
+module _ (old : Told) (consistent : IsConsistent old) where
+  met_unfit : IsMetLater old → IsUnfit old
+  met_unfit met x told m stands = elim (cases_lt (greatest_found (chart_of x) old.places) (2 ^ 62)) [
+    | inl low ↦ absurd (met.unsound (record {
+      map = m;
+      history = starts_at x;
+      steady = steady_start x old consistent told;
+      rests = images_rest old.places m x stands;
+      left = low;
+    }))
+    | inr high ↦ high
+  ]
+
+  stray_unfit : StrayCause old → IsUnfit old
+  stray_unfit (inl stray) = λ x told m stands. absurd (stray x told m stands)
+  stray_unfit (inr met) = met_unfit met
+
+  spent_unfit : SpentCause old → IsUnfit old
+  spent_unfit (inl spent) = λ x told m stands. let high = spent x told in omega (arith, high)
+  spent_unfit (inr met) = met_unfit met
+
+  anew_silent : AnewCause old → IsSilent old
+  anew_silent anew x told = anew (starts_at x) (steady_start x old consistent told)
+
 -- ---- completeness
 
 module _ (old new : Told) (consistent : IsConsistent old) (calm : IsCalm old new) where
@@ -558,11 +588,11 @@ module _ (old new : Told) (consistent : IsConsistent old) (calm : IsCalm old new
   format_never fits image.Spent c = c
   format_never fits (image.NoSpare n) c = c
 
-  anew_never : IsTold old → ¬ AnewCause old new
-  anew_never told anew = never_rose (anew (starts_at told.contents)
-      (steady_start told.contents old consistent told.told))
+  anew_never : IsTold old → ¬ AnewCause old
+  anew_never told anew = anew (starts_at told.contents)
+      (steady_start told.contents old consistent told.told)
 
-  geometry_never : IsTold old → ¬ ((¬ IsGeometry old.places) ⊎ AnewCause old new)
+  geometry_never : IsTold old → ¬ ((¬ IsGeometry old.places) ⊎ AnewCause old)
   geometry_never told (inl other) = other told.fits
   geometry_never told (inr anew) = anew_never told anew
 
@@ -626,23 +656,38 @@ module _ (asked : AskedFor) (old new : Told) (status : ℕ) (e : Ends asked old 
       (sym e.status_is ∙ at) in
       chip_by old new request fault cause at_3
 
-  pub end_image : status ≡ 4 → (¬ IsGeometry old.places) ⊎ (AsksOpened asked × StrayCause old new) ⊎
-      (AsksAnew asked × AnewCause old new)
+  pub end_image : status ≡ 4 → (¬ IsGeometry old.places) ⊎ (AsksOpened asked × StrayCause old) ⊎
+      (AsksAnew asked × AnewCause old)
   end_image at =
       let (request, fault, is, at_4, cause) = fault_by old new 4 (omega arith) (omega arith)
       (omega arith) (omega arith) (omega arith) (omega arith) asked e.ending e.cause
       (sym e.status_is ∙ at) in
-      subst (λ (a : AskedFor). (¬ IsGeometry old.places) ⊎ (AsksOpened a × StrayCause old new) ⊎
-      (AsksAnew a × AnewCause old new)) (sym is) (image_by old new request fault cause at_4)
+      subst (λ (a : AskedFor). (¬ IsGeometry old.places) ⊎ (AsksOpened a × StrayCause old) ⊎
+      (AsksAnew a × AnewCause old)) (sym is) (image_by old new request fault cause at_4)
 
-  pub end_spent : status ≡ 9 → (AsksOpened asked × SpentCause old new) ⊎ (AsksAnew asked × AnewCause
-      old new)
+  pub end_spent : status ≡ 9 → (AsksOpened asked × SpentCause old) ⊎ (AsksAnew asked × AnewCause old)
   end_spent at =
       let (request, fault, is, at_9, cause) = fault_by old new 9 (omega arith) (omega arith)
       (omega arith) (omega arith) (omega arith) (omega arith) asked e.ending e.cause
       (sym e.status_is ∙ at) in
-      subst (λ (a : AskedFor). (AsksOpened a × SpentCause old new) ⊎ (AsksAnew a × AnewCause old
-      new)) (sym is) (spent_by old new request fault cause at_9)
+      subst (λ (a : AskedFor). (AsksOpened a × SpentCause old) ⊎ (AsksAnew a × AnewCause old)) (sym is) (spent_by old new request fault cause at_9)
+
+  -- at 4 and 9 what the chip held was at fault
+  unfit_at_4 : IsConsistent old → (¬ IsGeometry old.places) ⊎ (AsksOpened asked × StrayCause old)
+      ⊎ (AsksAnew asked × AnewCause old) → IsGeometry old.places → EndsUnfit asked old
+  unfit_at_4 consistent (inl other) fits = absurd (other fits)
+  unfit_at_4 consistent (inr (inl (asks, stray))) fits = inl (asks, stray_unfit old consistent stray)
+  unfit_at_4 consistent (inr (inr (asks, anew))) fits = inr (asks, anew_silent old consistent anew)
+
+  unfit_at_9 : IsConsistent old → (AsksOpened asked × SpentCause old)
+      ⊎ (AsksAnew asked × AnewCause old) → EndsUnfit asked old
+  unfit_at_9 consistent (inl (asks, spent)) = inl (asks, spent_unfit old consistent spent)
+  unfit_at_9 consistent (inr (asks, anew)) = inr (asks, anew_silent old consistent anew)
+
+  pub end_unfit : IsConsistent old → (status ≡ 4) ⊎ (status ≡ 9) → IsGeometry old.places
+      → EndsUnfit asked old
+  end_unfit consistent (inl at) fits = unfit_at_4 consistent (end_image at) fits
+  end_unfit consistent (inr at) fits = unfit_at_9 consistent (end_spent at)
 
   pub end_script : status ≡ 6 → Rose old.beside.script_faults new.beside.script_faults
   end_script at = script_by old new asked e.ending e.cause (sym e.status_is ∙ at)

@@ -1,6 +1,6 @@
 -- How the program ends, and what is noted of it.
 use Rattle.std.specs.Prelude.{◌≡◌, ◌⊎◌, ℕ, true, false, List, [], Option, Some, Result, Ok, Err}
-use Rattle.chip_trait.specs.Told.{History, Told, Counts}
+use Rattle.chip_trait.specs.Told.{History, Told, Counts, Rose}
 use Rattle.ipl_base.specs.declared.fault.FormatFault.{FormatFault}
 use Rattle.restart.specs.Fresh.{Formats}
 use Rattle.command_line.specs.declared.asked.Request.{Request}
@@ -53,14 +53,14 @@ AtStatus P status = (ending : Ending) × (status ≡ status_at ending) × P endi
 
 -- ---- a format that was stopped
 
--- What a format leaves that was stopped: an earlier part of its events, or all. Nothing was said,
--- and
--- nothing read of the script.
+-- What a format leaves that was stopped, since a write failed: an earlier part of its events, or all.
+-- Nothing was said, and nothing read of the script.
 pub record StopsEarly (places : ℕ) (h : History) (old new : Told) : Type 0 where
   pub stopped : Told
   pub fault : FormatFault
   pub formats : Formats {A = Unit {0}} places h old (Err fault) stopped
   pub counts : Counts old stopped
+  pub rose : Rose old.write_faults stopped.write_faults
   pub noted : new ≡ but_noted stopped new.beside.noted
 
 -- a format was stopped, whatever history is looked at

@@ -3,7 +3,9 @@ pub mod Ending
 pub mod Views
 pub mod Trials
 pub mod Top
+pub mod Survives
 pub mod Runs
+pub mod Frames
 pub mod Failing
 pub mod MemDesk
 pub mod RealDesk

@@ -27,7 +27,6 @@ use Rattle.unit_io.specs.Reads.{OfContents}
 use Rattle.opening_rules.specs.Faults.{first_fault, greatest_found}
 use Rattle.restart.specs.Events.{format_events}
 use Rattle.restart.specs.Looks.{OnlyReads}
-use Rattle.store_trait.specs.Keeping.{ChipRose}
 use Rattle.store_steps.specs.Keeps.{limits_of}
 use Rattle.script_run.specs.Run.{SaysLines, EndsBetween, EndsUnsaid}
 use Rattle.script_run.specs.Goes.{ReadsAll}
@@ -36,7 +35,7 @@ use Rattle.command_line.specs.declared.asked.Request.TheVariants.{Format, Run, S
 use Rattle.program_end.specs.declared.end.End.{End}
 use Rattle.program_end.specs.declared.end.End.TheVariants.{Words, Chip, OutOfMemory, Script, Output, TooLong}
 use Rattle.program_end.specs.Ends.{fault_status}
-use Rattle.ipl_cli.specs.Ending.{AskedFor, Ending, StopsEarly, IsStopped, IsUntouched, but_noted, note_at, status_at}
+use Rattle.ipl_cli.specs.Ending.{AskedFor, AsksOpened, AsksAnew, Ending, StopsEarly, IsStopped, IsUntouched, but_noted, note_at, status_at}
 use Rattle.ipl_cli.specs.Trials.{TrialLeaves}
 use Rattle.ipl_cli.specs.Views.{ViewedCause, SerialLeaves}
 
@@ -64,6 +63,19 @@ pub record HasFault (old : Told) (e : ImageFault) : Type 0 where
   pub told : old.contents ≡ Some contents
   pub fault : first_fault (chart_of contents) old.places ≡ Some e
 
+-- where the chip tells what it holds, that stands for no map, or a number of 2^62 or more is among it
+abbrev pub IsUnfit : Told → Type 0
+IsUnfit old = OfContents old (λ x. (m : Map) → Stands old.places (chart_of x) m
+    → 2 ^ 62 ≤ greatest_found (chart_of x) old.places)
+
+-- the chip doesn't tell what it holds
+abbrev pub IsSilent : Told → Type 0
+IsSilent old = OfContents old (λ x. ⊥)
+
+-- what a chip of 5 to 1,028 places held that a run ended at with 4 or 9
+abbrev pub EndsUnfit : AskedFor → Told → Type 0
+EndsUnfit asked old = (AsksOpened asked × IsUnfit old) ⊎ (AsksAnew asked × IsSilent old)
+
 -- No write has failed; a history that leaves what the chip holds rests on records; and no number
 -- that is found is 2^62 or more.
 pub record RestsWithNumbersLeft (t : Told) : Type 0 where
@@ -76,31 +88,31 @@ pub record RestsWithNumbersLeft (t : Told) : Type 0 where
 -- ---- causes
 
 -- The run met the fault once the chip was open: what the chip held had no fault as it was laid out,
--- and where a history of it rested on records, a call of the chip failed.
-pub record IsMetLater (old new : Told) : Type 0 where
+-- but no history of it rested on records with numbers left.
+pub record IsMetLater (old : Told) : Type 0 where
   pub laid : IsLaidWell old
-  pub excuse : RestsWithNumbersLeft old → ChipRose old new
+  pub unsound : ¬ RestsWithNumbersLeft old
 
 -- a fault of how the chip is laid out was found when it was opened, or met later
-abbrev pub LaidCause : ImageFault → Told → Told → Type 0
-LaidCause e old new = IsAtFault old e ⊎ IsMetLater old new
+abbrev pub LaidCause : ImageFault → Told → Type 0
+LaidCause e old = IsAtFault old e ⊎ IsMetLater old
 
 -- what the chip held stands for no map, or the fault was met later
-abbrev pub StrayCause : Told → Told → Type 0
-StrayCause old new = IsStray old ⊎ IsMetLater old new
+abbrev pub StrayCause : Told → Type 0
+StrayCause old = IsStray old ⊎ IsMetLater old
 
 -- when a fault of the chip ends a run that opens it
 abbrev pub OpenedCause : ImageFault → Told → Told → Type 0
-OpenedCause image.Geometry old new = LaidCause image.Geometry old new
-OpenedCause image.NotFormatted old new = LaidCause image.NotFormatted old new
-OpenedCause (image.Missing u) old new = LaidCause (image.Missing u) old new
+OpenedCause image.Geometry old new = LaidCause image.Geometry old
+OpenedCause image.NotFormatted old new = LaidCause image.NotFormatted old
+OpenedCause (image.Missing u) old new = LaidCause (image.Missing u) old
 OpenedCause (image.Chip ReadFault) old new = Rose old.read_faults new.read_faults
 OpenedCause (image.Chip Stopped) old new = Rose old.write_faults new.write_faults
 OpenedCause (image.Chip (Damaged p s stored computed)) old new =
-    (stored ≢ computed) × StrayCause old new
-OpenedCause (image.Chip (Malformed p s)) old new = StrayCause old new
-OpenedCause image.Spent old new = LaidCause image.Spent old new
-OpenedCause (image.NoSpare n) old new = LaidCause (image.NoSpare n) old new
+    (stored ≢ computed) × StrayCause old
+OpenedCause (image.Chip (Malformed p s)) old new = StrayCause old
+OpenedCause image.Spent old new = LaidCause image.Spent old
+OpenedCause (image.NoSpare n) old new = LaidCause (image.NoSpare n) old
 
 -- when a fault of the chip ends a format
 abbrev pub FormatCause : ImageFault → Told → Told → Type 0
@@ -114,23 +126,23 @@ FormatCause (image.Chip (Malformed p s)) old new = ⊥
 FormatCause image.Spent old new = ⊥
 FormatCause (image.NoSpare n) old new = ⊥
 
--- What was just formatted is at fault: where the chip tells what it holds and no write had failed, a
--- call of it failed.
-abbrev pub AnewCause : Told → Told → Type 0
-AnewCause old new = (h : History) → IsSteady h old → ChipRose old new
+-- What was just formatted is at fault: the chip doesn't tell what it holds, or a write had failed
+-- before.
+abbrev pub AnewCause : Told → Type 0
+AnewCause old = (h : History) → ¬ IsSteady h old
 
 -- when a fault of the chip ends a run that formats it first, or a trial
 abbrev pub FormattedCause : ImageFault → Told → Told → Type 0
-FormattedCause image.Geometry old new = (¬ IsGeometry old.places) ⊎ AnewCause old new
-FormattedCause image.NotFormatted old new = AnewCause old new
-FormattedCause (image.Missing u) old new = AnewCause old new
+FormattedCause image.Geometry old new = (¬ IsGeometry old.places) ⊎ AnewCause old
+FormattedCause image.NotFormatted old new = AnewCause old
+FormattedCause (image.Missing u) old new = AnewCause old
 FormattedCause (image.Chip ReadFault) old new = Rose old.read_faults new.read_faults
 FormattedCause (image.Chip Stopped) old new = Rose old.write_faults new.write_faults
 FormattedCause (image.Chip (Damaged p s stored computed)) old new =
-    (stored ≢ computed) × AnewCause old new
-FormattedCause (image.Chip (Malformed p s)) old new = AnewCause old new
-FormattedCause image.Spent old new = AnewCause old new
-FormattedCause (image.NoSpare n) old new = AnewCause old new
+    (stored ≢ computed) × AnewCause old
+FormattedCause (image.Chip (Malformed p s)) old new = AnewCause old
+FormattedCause image.Spent old new = AnewCause old
+FormattedCause (image.NoSpare n) old new = AnewCause old
 
 -- when a fault of the chip ends what was asked
 abbrev pub ChipCause : Request → ImageFault → Told → Told → Type 0
@@ -421,8 +433,8 @@ RefusesFaults old new status = (e : ImageFault) → HasFault old e
     → OnlyLooks old new × ((status ≡ fault_status e) ⊎ (status ≡ 3) ⊎ (status ≡ 5))
 
 -- when a run over a chip that is opened ends with 9
-abbrev pub SpentCause : Told → Told → Type 0
-SpentCause old new = IsSpent old ⊎ IsMetLater old new
+abbrev pub SpentCause : Told → Type 0
+SpentCause old = IsSpent old ⊎ IsMetLater old
 
 -- nothing was done to a chip of another number of places, or it was formatted and the script run,
 -- or

@@ -1,5 +1,5 @@
 //! The program, over a desk.
-ghost use Rattle.std.specs.Prelude.{◌≡◌, ◌≢◌, ◌<◌, ◌≤◌, ◌⊎◌, ◌+◌, ◌++◌, ◌==◌, true, false, map, List, ℕ, Some, None, Ok, IfOk, IfErr};
+ghost use Rattle.std.specs.Prelude.{◌≡◌, ◌≢◌, ◌<◌, ◌≤◌, ◌⊎◌, ◌+◌, ◌++◌, ◌==◌, true, false, map, List, ℕ, Some, None, Ok, IfOk, IfErr, OnOk};
 ghost use Rattle.std.specs.String.{string_bytes};
 ghost use Rattle.chip_trait.specs.Told.{Counts, Grew, Rose};
 ghost use Rattle.ipl_base.specs.Places.{IsGeometry};
@@ -18,7 +18,9 @@ ghost use Rattle.ipl_cli.specs.Views.{ViewsTold, OnlyViews, OnlyHears, SerialLea
 ghost use Rattle.ipl_cli.specs.Top.{NoneFalls, format_end, EndCause, RequestCause, FormatLeaves, FormattedLeaves, OpenedLeaves, EndLeaves};
 ghost use Rattle.ipl_cli.specs.Top.{RunsOpened, RunsFormatted, UntouchedOrRuns, RefusesFaults, IsLaidWell, LaysOut};
 ghost use Rattle.ipl_cli.specs.Top.{EndsWithRecords, FromItsRecords, FromNoRecords};
-ghost use Rattle.ipl_cli.specs.Top.{StrayCause, SpentCause, AnewCause, IsCalm, Suffices, EndsInTime, Ends};
+ghost use Rattle.ipl_cli.specs.Top.{StrayCause, SpentCause, AnewCause, EndsUnfit, IsCalm, Suffices, EndsInTime, Ends};
+ghost use Rattle.ipl_cli.specs.Survives.{Survives, SurvivesAnew};
+ghost use Rattle.ipl_cli.specs.Frames.{DoesWith, DoesAsAsked};
 ghost use Rattle.ipl_cli.specs.Runs.{StartsFormatted, StartsOpened, ClosesFor, FormatsFirst, OpensOver, IsNotStarted, RunsOver, TriesOver, end_of};
 
 use chip_trait::Desk;
@@ -68,6 +70,7 @@ fn closed(alloc: Global, places: u32, frames: u32) -> Result<Store, End>
     requires two { 2 ≤ frames }
     requires few { frames ≤ 64 }
     ensures closes { ClosesFor places result }
+    ensures frames { IfOk result (λ store. store.frames ≡ frames) }
 {
     let Some(geometry) = Geometry::of(places) else {
         return Err(End::Chip(ImageFault::Geometry));
@@ -93,6 +96,7 @@ fn format_first<D: Desk>(desk: &mut D) -> Result<(), End>
 fn open_over<D: Desk>(mut store: Store, desk: &mut D) -> Result<ScriptStore, End>
     requires sound { IsSound (D.told desk.old).places store }
     ensures opens { OpensOver result (D.told desk.old) (D.told desk.new) }
+    ensures frames { IfOk result (λ started. started.store.frames ≡ store.frames) }
 {
     match store.open_chip(desk) {
         Ok(()) => Ok(ScriptStore::over(store)),
@@ -106,6 +110,7 @@ fn start_formatted<D: Desk>(alloc: Global, frames: u32, desk: &mut D) -> Result<
     requires two { 2 ≤ frames }
     requires few { frames ≤ 64 }
     ensures starts { IfOk result (λ store. StartsFormatted (D.told desk.old) store (D.told desk.new)) }
+    ensures frames { IfOk result (λ store. store.store.frames ≡ frames) }
     ensures stops { IfErr result (λ end. IsNotStarted end (D.told desk.old) (D.told desk.new)) }
     ensures counts { Counts (D.told desk.old) (D.told desk.new) }
 {
@@ -120,6 +125,7 @@ fn start_opened<D: Desk>(alloc: Global, frames: u32, desk: &mut D) -> Result<Scr
     requires two { 2 ≤ frames }
     requires few { frames ≤ 64 }
     ensures starts { IfOk result (λ store. StartsOpened (D.told desk.old) store (D.told desk.new)) }
+    ensures frames { IfOk result (λ store. store.store.frames ≡ frames) }
     ensures leaves { IfErr result (λ end. OpenedLeaves (Err end) (D.told desk.old) (D.told desk.new)) }
     ensures cause { IfErr result (λ end. RequestCause (Run frames false) end (D.told desk.old) (D.told desk.new)) }
     ensures lawful { IfErr result (λ end. AddsLawful (D.told desk.old) (D.told desk.new)) }
@@ -162,6 +168,8 @@ fn run_formatted<D: Desk>(alloc: Global, frames: u32, desk: &mut D) -> Result<()
     requires two { 2 ≤ frames }
     requires few { frames ≤ 64 }
     ensures leaves { FormattedLeaves result (D.told desk.old) (D.told desk.new) }
+    ensures framed { OnOk result (DoesWith StartsFormatted (RunsOver (Ok tt)) frames
+        (D.told desk.old) (D.told desk.new)) }
     ensures cause { EndCause (Some (Run frames true)) result (D.told desk.old) (D.told desk.new) }
     ensures further { Further (D.told desk.old) (D.told desk.new) }
     ensures lawful { AddsLawful (D.told desk.old) (D.told desk.new) }
@@ -176,6 +184,8 @@ fn run_opened<D: Desk>(alloc: Global, frames: u32, desk: &mut D) -> Result<(), E
     requires two { 2 ≤ frames }
     requires few { frames ≤ 64 }
     ensures leaves { OpenedLeaves result (D.told desk.old) (D.told desk.new) }
+    ensures framed { OnOk result (DoesWith StartsOpened (RunsOver (Ok tt)) frames
+        (D.told desk.old) (D.told desk.new)) }
     ensures cause { EndCause (Some (Run frames false)) result (D.told desk.old) (D.told desk.new) }
     ensures further { Further (D.told desk.old) (D.told desk.new) }
     ensures lawful { AddsLawful (D.told desk.old) (D.told desk.new) }
@@ -215,6 +225,8 @@ fn trial<D: Desk>(
     requires two { 2 ≤ frames }
     requires few { frames ≤ 64 }
     ensures leaves { TrialLeaves seed count result (D.told desk.old) (D.told desk.new) }
+    ensures framed { OnOk result (DoesWith StartsFormatted (TriesOver seed count (Ok tt)) frames
+        (D.told desk.old) (D.told desk.new)) }
     ensures cause { EndCause (Some (Trial seed count frames)) result (D.told desk.old) (D.told desk.new) }
     ensures further { Further (D.told desk.old) (D.told desk.new) }
     ensures lawful { AddsLawful (D.told desk.old) (D.told desk.new) }
@@ -255,6 +267,7 @@ fn say_view<D: Desk>(alloc: Global, desk: &mut D) -> Result<(), End>
 /// Does what the words ask for.
 fn run<D: Desk>(alloc: Global, words: &[String], desk: &mut D) -> Result<(), End>
     ensures leaves { EndLeaves (requested (map string_bytes words.now)) result (D.told desk.old) (D.told desk.new) }
+    ensures framed { OnOk result (DoesAsAsked (requested (map string_bytes words.now)) (D.told desk.old) (D.told desk.new)) }
     ensures cause { EndCause (requested (map string_bytes words.now)) result (D.told desk.old) (D.told desk.new) }
     ensures further { Further (D.told desk.old) (D.told desk.new) }
     ensures lawful { AddsLawful (D.told desk.old) (D.told desk.new) }
@@ -322,6 +335,14 @@ pub fn top<D: Desk>(alloc: Global, words: &[String], desk: &mut D) -> u8
     ensures opened { AsksOpened (requested (map string_bytes words.now))
         → AtStatus (RunsOpened (D.told desk.old) (D.told desk.new)) result }
 
+    // In short, over a chip that tells what it holds: wherever the power is cut, what is left stands for
+    // the records after the commands whose replies were said, or after one more. From its own records on;
+    // or from none, from the format's last barrier on, where it was formatted first.
+    ensures survives { AsksOpened (requested (map string_bytes words.now))
+        → Survives (D.told desk.old) (D.told desk.new) }
+    ensures survives_anew { AsksFormatted (requested (map string_bytes words.now))
+        → SurvivesAnew (D.told desk.old) (D.told desk.new) }
+
     // What is told of a chip that has a fault as it is laid out: it was only read, and the program
     // ended with that fault. At 0, 6, 7 and 8 it had none.
     ensures refuses { AsksOpened (requested (map string_bytes words.now))
@@ -329,6 +350,10 @@ pub fn top<D: Desk>(alloc: Global, words: &[String], desk: &mut D) -> u8
     ensures laid { AsksOpened (requested (map string_bytes words.now))
         → (result ≡ 0) ⊎ (result ≡ 6) ⊎ (result ≡ 7) ⊎ (result ≡ 8)
         → IsLaidWell (D.told desk.old) × IsGeometry (D.told desk.old).places }
+
+    // At 0 it was done by a store of as many page frames as the words ask for.
+    ensures framed { result ≡ 0
+        → DoesAsAsked (requested (map string_bytes words.now)) (D.told desk.old) (D.told desk.new) }
 
     // At 0 the script was read to its end, whatever the chip tells.
     ensures read { AsksOpened (requested (map string_bytes words.now)) ⊎ AsksFormatted (requested (map string_bytes words.now))
@@ -383,15 +408,19 @@ pub fn top<D: Desk>(alloc: Global, words: &[String], desk: &mut D) -> u8
         ⊎ Rose (D.told desk.old).write_faults (D.told desk.new).write_faults }
     ensures image { result ≡ 4
         → ¬ IsGeometry (D.told desk.old).places
-        ⊎ (AsksOpened (requested (map string_bytes words.now)) × StrayCause (D.told desk.old) (D.told desk.new))
-        ⊎ (AsksAnew (requested (map string_bytes words.now)) × AnewCause (D.told desk.old) (D.told desk.new)) }
+        ⊎ (AsksOpened (requested (map string_bytes words.now)) × StrayCause (D.told desk.old))
+        ⊎ (AsksAnew (requested (map string_bytes words.now)) × AnewCause (D.told desk.old)) }
+    // So over a chip of 5 to 1,028 places that tells what it holds: at 4 and 9 that stood for no records, or
+    // a number of 2^62 or more was among it; and never where it was formatted first.
+    ensures unfit { (result ≡ 4) ⊎ (result ≡ 9) → IsGeometry (D.told desk.old).places
+        → EndsUnfit (requested (map string_bytes words.now)) (D.told desk.old) }
     ensures script { result ≡ 6 → Rose (D.told desk.old).beside.script_faults (D.told desk.new).beside.script_faults }
     ensures output { result ≡ 7 → Rose (D.told desk.old).beside.say_faults (D.told desk.new).beside.say_faults }
     ensures too_long { result ≡ 8
         → Grew (D.told desk.old).beside.script_bytes 4294967295 (D.told desk.new).beside.script_bytes }
     ensures spent { result ≡ 9
-        → (AsksOpened (requested (map string_bytes words.now)) × SpentCause (D.told desk.old) (D.told desk.new))
-        ⊎ (AsksAnew (requested (map string_bytes words.now)) × AnewCause (D.told desk.old) (D.told desk.new)) }
+        → (AsksOpened (requested (map string_bytes words.now)) × SpentCause (D.told desk.old))
+        ⊎ (AsksAnew (requested (map string_bytes words.now)) × AnewCause (D.told desk.old)) }
 
     // Words that aren't valid give 2, or 5. Where they are, the chip is such as they ask for, no count
     // rises and the script ends in time, the answer is 0, or 5.

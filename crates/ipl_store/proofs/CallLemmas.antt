@@ -10,8 +10,11 @@ use Rattle.ipl_base.specs.declared.fault.StoreFault.TheVariants.{Down, Spent, Ch
 use Rattle.ipl_rules.specs.State.{State}
 use Rattle.buffer_pool.specs.Holding.{KeepsPins}
 use Rattle.store_trait.specs.Keeping.{LAST_NUMBER}
+use Rattle.chip_trait.specs.Story.{Contents}
 use Rattle.ipl_meaning.specs.Chart.{Chart, chart_of}
+use Rattle.ipl_meaning.specs.Layout.{Layout}
 use Rattle.ipl_meaning.specs.Stands.{Says}
+use Rattle.ipl_meaning.specs.Tables.{Tables}
 use Rattle.unit_io.specs.Accounts.{Accounts}
 use Rattle.unit_io.specs.Charts.{Charts}
 use Rattle.unit_io.specs.Reads.{OfContents}
@@ -26,6 +29,7 @@ use Rattle.store_steps.proofs.KeeperLemmas.{nothing_keeps_states}
 use Rattle.store_steps.proofs.LeadLemmas.{keepers_lead_still}
 use Rattle.page_frames.specs.declared.pages.Pages.{Pages}
 use Rattle.page_frames.specs.Complete.{Completes}
+use Rattle.page_frames.specs.Faulty.{FailsByPage, TellsFaults}
 use Rattle.page_frames.specs.Pages.{tables_in, IsFramed, KeepsFramed, PageCause, Upholds}
 use Rattle.transactions.specs.declared.transactions.Transactions.{Transactions}
 use Rattle.transactions.specs.Turns.{memory_in, IsInOrder, Turns, TurnsInMemory}
@@ -90,11 +94,13 @@ pub record Moves (next : State → State) (most : ℕ) (old : Transactions) (bef
   pub drawn : new.pages.parts.counter ≤ old.pages.parts.counter + most
   pub accounts : Accounts PageCause done before after
   pub complete : Completes old.pages done before
+  pub faults : TellsFaults old.pages done before new.pages
 
 pub turns_move : (next : State → State) (most : ℕ) (old new : Transactions) (before after : Told)
     (done : Result (Unit {0}) ChipFault) → Turns next most old before done new after
-    → Completes old.pages done before → Moves next most old before done new after
-turns_move next most old new before after done did complete = record {
+    → Completes old.pages done before → TellsFaults old.pages done before new.pages
+    → Moves next most old before done new after
+turns_move next most old new before after done did complete faults = record {
   leads = did.leads;
   tidy = did.tidy;
   order = did.order;
@@ -103,6 +109,7 @@ turns_move next most old new before after done did complete = record {
   drawn = did.drawn;
   accounts = did.accounts;
   complete = complete;
+  faults = faults;
 }
 
 -- one in memory alone
@@ -121,14 +128,16 @@ memory_moves next most old new told did order least drawn = record {
   drawn = drawn;
   accounts = record { counts = counts_none told; cause = tt };
   complete = λ x there slots it state fits says. tt;
+  faults = λ x there slots it state fits. tt;
 }
 
 -- one that knows the pages alone
 pub pages_move : (most : ℕ) (old : Transactions) (pages : Pages) (before after : Told)
     (result : Result (Unit {0}) ChipFault) → IsInOrder before.places old
     → Upholds most old.pages before result pages after → Completes old.pages result before
+    → TellsFaults old.pages result before pages
     → Moves (λ state. state) most old before result (record old { pages = pages }) after
-pages_move most old pages before after result order did complete = record {
+pages_move most old pages before after result order did complete faults = record {
   leads = keepers_lead_still (memory_in old) _ _ result before after did.keeps;
   tidy = did.tidy;
   order = record { ready = did.ready; active = did.active ∙ order.active };
@@ -137,6 +146,7 @@ pages_move most old pages before after result order did complete = record {
   drawn = did.drawn;
   accounts = did.accounts;
   complete = complete;
+  faults = faults;
 }
 
 -- ---- the end of a call
@@ -176,6 +186,19 @@ failed_so (Err e) was is result ends alone =
       | inl read ↦ inl (ap Chip read)
       | inr stopped ↦ inr (ap Chip stopped)
     ])
+
+-- or that of a page
+blamed_so : (places : ℕ) (x : Contents) (it : Layout) (done : Result (Unit {0}) ChipFault)
+    (was is : Bool) (result : Result (Unit {0}) StoreFault) → EndsAs done was result is
+    → (a b : Tables) → a ≡ b → IfErr done (FailsByPage places x it a)
+    → IfErr result (λ fault. (e : ChipFault) × (fault ≡ Chip e) × FailsByPage places x it b e)
+blamed_so places x it (Ok v) was is result ends a b same blamed =
+    subst (λ (r : Result (Unit {0}) StoreFault). IfErr r (λ fault. (e : ChipFault)
+    × (fault ≡ Chip e) × FailsByPage places x it b e)) (sym ends.0) tt
+blamed_so places x it (Err e) was is result ends a b same blamed =
+    subst (λ (r : Result (Unit {0}) StoreFault). IfErr r (λ fault. (e : ChipFault)
+    × (fault ≡ Chip e) × FailsByPage places x it b e)) (sym ends.0)
+    (e, refl, subst (λ (t : Tables). FailsByPage places x it t e) same blamed)
 
 -- work that is complete, where store and contents show a state
 shown_complete : (store : Store) (before : Told) (done : Result (Unit {0}) ChipFault)
@@ -230,6 +253,10 @@ module _ (next : State → State) (most : ℕ) (old : Store) (t : Transactions) 
           (sym moved) moves.drawn;
       complete = λ x told state shown. failed_so done old.down new.down result ends
           (shown_complete old before done sound.made.units moves.complete x told state shown);
+      faults = λ x told it state fits. blamed_so before.places x it done old.down new.down result
+          ends (tables_in t.pages) (tables_in new.transactions.pages)
+          (ap (λ (it : Transactions). tables_in it.pages) (sym moved))
+          (moves.faults x told old.transactions.sessions it state fits);
     };
     sound = record {
       made = made;
@@ -298,6 +325,7 @@ idle_calls most store told early sound up none =
       drawn = omega arith;
       accounts = record { counts = counts_none told; cause = tt };
       complete = λ x there slots it state fits says. tt;
+      faults = λ x there slots it state fits. tt;
     }) refl (refl, refl) early none
 
 -- what holds where the work was done holds where the call was
@@ -366,6 +394,7 @@ calls_joined early next most old mid t before after none up first did drawn = re
     least = omega (arith, (first.serves refl).least, drawn);
     drawn = omega (arith, (first.serves refl).drawn, drawn);
     complete = λ x told state shown. tt;
+    faults = λ x told it state fits. tt;
   };
   sound = subst (λ (n : ℕ). IsSound n (record mid { transactions = t })) first.counts.places
       second.sound;
@@ -397,6 +426,7 @@ failed_calls early next most old before fault new after none calls = record {
         least = did.least;
         drawn = did.drawn;
         complete = did.complete;
+        faults = did.faults;
       };
   sound = calls.sound;
   tidy = calls.tidy;

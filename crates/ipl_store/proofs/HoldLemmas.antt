@@ -162,6 +162,7 @@ repooled_calls early next most old before mid new after none pool calls =
             least = did.least;
             drawn = did.drawn;
             complete = did.complete;
+            faults = λ x told it state fits. tt;
           };
       sound = record {
         made = record {

@@ -1,11 +1,13 @@
 -- What a store's frames tell of a name, after a call that kept each state.
 use Rattle.std.proofs.Common.{◌≡◌, ◌+◌, ℕ, List, Option, Some, None, Result, Ok, Err, IsSome, OnOk, refl, sym, ◌∙◌, ap, subst, arith}
 use Rattle.std.specs.FinMap.{get}
+use Rattle.chip_trait.specs.Story.{Contents}
 use Rattle.chip_trait.specs.Told.{Told}
 use Rattle.ipl_base.specs.declared.fault.ChipFault.{ChipFault}
 use Rattle.ipl_base.specs.declared.fault.StoreFault.{StoreFault}
 use Rattle.ipl_base.specs.Places.{home_of}
 use Rattle.ipl_rules.specs.State.{State, see}
+use Rattle.ipl_format.specs.Record.{Change}
 use Rattle.ipl_meaning.specs.Chart.{chart_of}
 use Rattle.ipl_meaning.specs.Tables.{Tables}
 use Rattle.unit_io.specs.Reads.{OfContents}
@@ -20,32 +22,43 @@ use Rattle.page_ops.specs.Pending.{seen_by}
 use Rattle.buffer_pool.proofs.HoldingLemmas.{nothing_keeps, both_keep}
 use Rattle.page_frames.specs.declared.pages.Pages.{Pages}
 use Rattle.page_frames.specs.Pages.{tables_in, frames_in, IsFramed, KeepsFramed}
+use Rattle.page_frames.proofs.AskLemmas.{one_of_none}
 use Rattle.page_frames.proofs.SpendLemmas.{nothing_spent, logs_of_reads}
 use Rattle.transactions.specs.declared.transactions.Transactions.{Transactions}
+use Rattle.transactions.specs.Costs.{AsksToWrite}
 use Rattle.transactions.specs.Turns.{TurnsInMemory}
 use Rattle.ipl_store.specs.declared.store.Store.{Store}
 use Rattle.ipl_store.specs.Calls.{memory_of_store, view_of, IsSound}
 use Rattle.ipl_store.proofs.CallLemmas.{calls_refused, let_in_calls, failed_calls, calls_joined}
-use Rattle.ipl_store.specs.Shown.{FramesName, IsSeen, IsCommitted, Fetches, answered, AsksFor, Looks}
+use Rattle.ipl_store.specs.Shown.{ShowsName, FramesName, IsSeen, IsCommitted, Fetches, answered, AsksForPage, Looks}
 
 name_of_home : (n : ℕ) → name_at (home_of n).unit (home_of n).page (home_of n).slot ≡ n
 name_of_home n = omega arith
+
+-- where all pages show the state, that of the name does
+pub name_shown : (store : View) (state : State) (n : ℕ) (x : Contents) → ShowsState store state x
+    → ShowsName store state n x
+name_shown store state n x shown = record {
+  layout = shown.layout;
+  fits = shown.fits;
+  shows = λ low. shown.says.pages (home_of n).unit (home_of n).page (omega (arith, low)) (omega arith);
+}
 
 pub shown_frames_tell : {T E : Type 0} (v : T) (n : ℕ) (store : View) (t : Tables)
     (later : Frames) (f : Frame) (old new : Told) → store.units + 4 ≡ old.places
     → KeepsState {T = T} {E = E} store.memory.tables store.memory.frames old (Ok v) t later new
     → later (home_of n).unit (home_of n).page ≡ Some f
-    → (state : State) → OfContents old (λ x. ShowsState store state x
+    → (state : State) → OfContents old (λ x. ShowsName store state n x
     → TellsName store.memory.slots state n f)
 shown_frames_tell v n store t later f old new suits keeper there state x told shown =
     let places = store.units + 4 in
     let home = home_of n in
     let (y, told_then, had) = (keeper store.memory.slots).fits places (sym suits) tt x told in
     let on = had shown.layout state shown.fits in
-    let (low, few) = on.fits.framed.within home.unit home.page f there in
+    let low = (on.fits.framed.within home.unit home.page f there).0 in
     let tells = frames_tell_state places (chart_of x) (chart_of y) shown.layout state.map
     (record { tables = t; frames = later; slots = store.memory.slots }) state home.unit home.page
-    home.slot f on (shown.says.pages home.unit home.page low few) there (omega arith) in
+    home.slot f on (shown.shows (omega (arith, low))) there (omega arith) in
     let same = name_of_home n in record {
       committed = tells.committed ∙ ap (get state.map) same;
       seen = λ s tid mine. tells.seen s tid mine ∙ ap (see state s) same;
@@ -93,6 +106,7 @@ looks_as early next n old before v new after did = record {
           least = serves.least;
           drawn = serves.drawn;
           complete = λ x told state shown. tt;
+          faults = λ x told it state fits. tt;
         };
     sound = did.calls.sound;
     tidy = did.calls.tidy;
@@ -120,6 +134,7 @@ looks_fail {U} early next n old before fault new after did = record {
           least = serves.least;
           drawn = serves.drawn;
           complete = serves.complete;
+          faults = serves.faults;
         };
     sound = did.calls.sound;
     tidy = did.calls.tidy;
@@ -163,11 +178,21 @@ refused_fetches early next n store told fault is sound = record {
 }
 
 -- which asks nothing
-pub asks_nothing : (n : ℕ) (store : Store) (told : Told) → AsksFor n store told told
-asks_nothing n store told = record {
+pub asks_nothing : (u page : ℕ) (store : Store) (told : Told) → AsksForPage u page store told told
+asks_nothing u page store told = record {
   idle = λ framed. refl;
   free = λ room. nothing_spent told;
   costs = logs_of_reads store.transactions.pages.parts.directory told told (nothing_spent told);
+}
+
+-- and so does a write
+pub write_asks_nothing : (n : ℕ) (change : Change) (pages : Pages) (told : Told)
+    → AsksToWrite n change pages told told
+write_asks_nothing n change pages told = record {
+  idle = λ room. refl;
+  free = λ absent room. nothing_spent told;
+  home = λ framed clean. one_of_none told;
+  costs = logs_of_reads pages.parts.directory told told (nothing_spent told);
 }
 
 -- what the frame tells is what the session sees

@@ -11,14 +11,17 @@ use Rattle.ipl_base.specs.declared.fault.StoreFault.{StoreFault}
 use Rattle.ipl_base.specs.declared.fault.StoreFault.TheVariants.{Down, Spent, Refused, Chip}
 use Rattle.ipl_rules.specs.State.{State, Limits}
 use Rattle.ipl_rules.specs.Refusals.{Test, first_of, bad_session, bad_name}
+use Rattle.ipl_meaning.specs.Chart.{chart_of}
+use Rattle.ipl_meaning.specs.Layout.{Layout}
 use Rattle.unit_io.specs.Reads.{OfContents}
 use Rattle.buffer_pool.specs.Pools.{PoolView}
 use Rattle.buffer_pool.specs.Laws.{buffer_of}
 use Rattle.buffer_pool.specs.Holding.{is_pinned, pinned_count, KeepsPins}
 use Rattle.store_trait.specs.Keeping.{LAST_NUMBER}
-use Rattle.store_steps.specs.Advances.{Memory, LeadsTo}
+use Rattle.store_steps.specs.Advances.{Memory, MemoryFits, LeadsTo}
 use Rattle.store_steps.specs.Keeps.{View, ShowsState}
 use Rattle.steps.specs.Steps.{Tidies}
+use Rattle.page_frames.specs.Faulty.{FailsByPage}
 use Rattle.page_frames.specs.Pages.{tables_in, PageCause}
 use Rattle.transactions.specs.Turns.{memory_in, IsInOrder}
 use Rattle.ipl_store.specs.declared.store.Store.{Store}
@@ -131,9 +134,17 @@ EndsFor before result new after = MatchResult result (λ v. new.down ≡ false)
     (λ fault. (e : ChipFault) × (fault ≡ Chip e) × PageCause e before after
     × (new.down ≡ is_stopped e))
 
+-- Over contents that the memory fits, whatever their pages say, the fault is of a page that didn't
+-- read well, at the place where its unit is then; or a call of the chip failed.
+abbrev pub BlamesPages : {T : Type 0} → Store → Told → Result T StoreFault → Store → Type 0
+BlamesPages old before result new = OfContents before (λ x. (it : Layout) (state : State)
+    → MemoryFits before.places (chart_of x) it (memory_of_store old) state
+    → IfErr result (λ fault. (e : ChipFault) × (fault ≡ Chip e)
+    × FailsByPage before.places x it (tables_in new.transactions.pages) e))
+
 -- A call that is let in. It leads from each state that memory and chip stand for to the next one,
 -- and at most so many numbers were drawn. Over contents that the memory shows a state of, it fails
--- only where a call of the chip failed.
+-- only where a call of the chip failed; and else by a page that doesn't read well.
 pub record Serves {T : Type 0} (next : State → State) (most : ℕ) (old : Store) (before : Told)
     (result : Result T StoreFault) (new : Store) (after : Told) : Type 0 where
   pub leads : LeadsTo next (memory_of_store old) before result (memory_of_store new) after
@@ -142,6 +153,7 @@ pub record Serves {T : Type 0} (next : State → State) (most : ℕ) (old : Stor
   pub drawn : counter_of new ≤ counter_of old + most
   pub complete : OfContents before (λ x. (state : State) → ShowsState (view_of old) state x
       → IfErr result IsOfTheChip)
+  pub faults : BlamesPages old before result new
 
 -- the same pages are held
 abbrev pub KeepsHolds : Store → Store → Type 0

@@ -1,5 +1,5 @@
 -- What an opening of a chip leaves of a store.
-use Rattle.std.specs.Prelude.{ℕ, ◌≡◌, ◌⊎◌, ◌≤◌, ◌+◌, ◌-◌, ◌^◌, false, true, [], replicate, None, Result, Ok, Err, MatchResult, is_ok}
+use Rattle.std.specs.Prelude.{ℕ, ◌≡◌, ◌⊎◌, ◌≤◌, ◌+◌, ◌-◌, ◌^◌, false, true, [], replicate, None, Result, Ok, Err, MatchResult, OnOk, is_ok}
 use Rattle.chip_trait.specs.Told.{History, Told}
 use Rattle.ipl_base.specs.declared.fault.ChipFault.{ChipFault}
 use Rattle.ipl_base.specs.declared.fault.ImageFault.{ImageFault}
@@ -21,7 +21,7 @@ use Rattle.unit_io.specs.Accounts.{Accounts}
 use Rattle.unit_io.specs.Costs.{Spends}
 use Rattle.unit_io.specs.Leads.{IsSteady}
 use Rattle.unit_io.specs.Reads.{OfContents}
-use Rattle.status_renewal.specs.Passes.{ErasesAtMost}
+use Rattle.status_renewal.specs.Passes.{ErasesAtMost, HasErased}
 use Rattle.steps.specs.Steps.{TidyWork}
 use Rattle.status_renewal.specs.Recovers.{CompletesOpening, RecoversTold, LooksAtFaults, RecoversInSteps, IsNowhere, OpeningCause}
 use Rattle.store_steps.specs.Advances.{Memory, LeadsTo}
@@ -59,7 +59,7 @@ Restarts before old after new = LeadsTo {T = Unit {0}} {E = ChipFault}
 -- What an opening does to the chip, which fails so or leaves these tables: what it tells, what a
 -- power cut leaves, that a faulty chip is only read, when it may fail, that what it read is bytes,
 -- that its events are lawful after any lawful ones, and done, leave clean what the tables count so;
--- how many erases it makes, and why it fails.
+-- how many erases it makes, done, one of the place that the status has then; and why it fails.
 pub record Tries (places : ℕ) (old : Told) (result : Result (Unit {0}) ImageFault) (t : Tables)
     (new : Told) : Type 0 where
   pub tells : RecoversTold places old result t new
@@ -69,6 +69,7 @@ pub record Tries (places : ℕ) (old : Told) (result : Result (Unit {0}) ImageFa
   pub bytes : ReadsBytes places old result
   pub tidy : Spends (TidyWork IsNowhere (IsCountedClean t) (is_ok result ≡ true)) old new
   pub costs : Spends (ErasesAtMost (places - 3)) old new
+  pub renewed : OnOk result (Spends (HasErased t.status.place) old new)
   pub accounts : Accounts OpeningCause result old new
 
 -- a chip was opened again, or wasn't, and the store is down then

@@ -1,16 +1,22 @@
 -- What a store's frames tell of a name, and which pages are held.
-use Rattle.std.specs.Prelude.{ℕ, ◌≡◌, ◌⊎◌, ◌↔◌, Option, Some, List, [], Result, Ok, Err, OnOk}
+use Rattle.std.specs.Prelude.{ℕ, ◌≡◌, ◌<◌, ◌+◌, ◌⊎◌, ◌↔◌, Option, Some, List, [], Result, Ok, Err, OnOk}
 use Rattle.std.specs.FinMap.{get}
+use Rattle.chip_trait.specs.Story.{Contents}
 use Rattle.chip_trait.specs.Told.{Told}
+use Rattle.ipl_base.specs.declared.limits.TheConstants.{RESERVED_PLACES}
 use Rattle.ipl_base.specs.declared.fault.StoreFault.{StoreFault}
 use Rattle.ipl_base.specs.Places.{home_of}
 use Rattle.ipl_rules.specs.State.{State, see}
+use Rattle.ipl_meaning.specs.Chart.{chart_of}
+use Rattle.ipl_meaning.specs.Layout.{Layout}
+use Rattle.ipl_meaning.specs.Stands.{Shows, page_in}
 use Rattle.unit_io.specs.Costs.{Costs, Spends}
 use Rattle.unit_io.specs.Reads.{OfContents}
 use Rattle.pending_writes.specs.Frames.{Frame}
 use Rattle.buffer_pool.specs.Pools.{PoolView}
 use Rattle.buffer_pool.specs.Holding.{IsHeld, IsPage, IsAtRest}
-use Rattle.store_steps.specs.Keeps.{ShowsState, TellsName}
+use Rattle.store_steps.specs.Advances.{MemoryFits}
+use Rattle.store_steps.specs.Keeps.{View, TellsName}
 use Rattle.page_writing.specs.Spending.{ErasesAndLogs}
 use Rattle.page_frames.specs.Pages.{frames_in, IsFramed, KeepsFramedFor, HasFreeFrame}
 use Rattle.ipl_store.specs.declared.store.Store.{Store}
@@ -18,23 +24,33 @@ use Rattle.ipl_store.specs.Calls.{view_of, KeepsHolds, Calls}
 
 -- ---- names
 
+-- The memory fits what the chip holds, and the page of the name shows what the state has there. Of
+-- other pages nothing is asked: they may not read well.
+pub record ShowsName (store : View) (state : State) (n : ℕ) (x : Contents) : Type 0 where
+  pub layout : Layout
+  pub fits : MemoryFits (store.units + RESERVED_PLACES) (chart_of x) layout store.memory state
+  pub shows : (home_of n).unit < store.units → Shows (chart_of x) layout.committed (home_of n).unit
+      (layout.units (home_of n).unit) (home_of n).page
+      (page_in state.map (home_of n).unit (home_of n).page)
+
 -- The page of the name is in a frame. That tells the name as each state has it that the store
--- before and the chip's contents showed.
+-- before and the page in the chip's contents showed.
 pub record FramesName (n : ℕ) (old : Store) (before : Told) (new : Store) : Type 0 where
   pub frame : Frame
   pub there : frames_in new.transactions.pages (home_of n).unit (home_of n).page ≡ Some frame
-  pub tells : (state : State) → OfContents before (λ x. ShowsState (view_of old) state x
+  pub tells : (state : State) → OfContents before (λ x. ShowsName (view_of old) state n x
       → TellsName old.transactions.sessions state n frame)
 
--- what a session sees of a name in each state that the store and the chip's contents show
+-- what a session sees of a name in each state that the store and the name's page in the chip's
+-- contents show
 abbrev pub IsSeen : ℕ → ℕ → Store → Told → Option (List ℕ) → Type 0
 IsSeen s n store told found = (state : State)
-    → OfContents told (λ x. ShowsState (view_of store) state x → found ≡ see state s n)
+    → OfContents told (λ x. ShowsName (view_of store) state n x → found ≡ see state s n)
 
--- the record of a name
+-- the record of a name, likewise
 abbrev pub IsCommitted : ℕ → Store → Told → Option (List ℕ) → Type 0
 IsCommitted n store told found = (state : State)
-    → OfContents told (λ x. ShowsState (view_of store) state x → found ≡ get state.map n)
+    → OfContents told (λ x. ShowsName (view_of store) state n x → found ≡ get state.map n)
 
 -- ---- pages
 
@@ -76,12 +92,16 @@ pub record Fetches (early : Option StoreFault) (next : State → State) (n : ℕ
   pub stays : KeepsFramedFor (home_of n).unit (home_of n).page old.transactions.pages
       new.transactions.pages
 
--- What is asked of the chip for it: nothing where the page is in a frame, only reads where a frame
--- is free, and else what writes the records of one page out.
-pub record AsksFor (n : ℕ) (store : Store) (before after : Told) : Type 0 where
-  pub idle : IsFramed store.transactions.pages (home_of n).unit (home_of n).page → after ≡ before
+-- What is asked of the chip for a page: nothing where it is in a frame, only reads where a frame is
+-- free, and else what writes the records of one page out.
+pub record AsksForPage (u page : ℕ) (store : Store) (before after : Told) : Type 0 where
+  pub idle : IsFramed store.transactions.pages u page → after ≡ before
   pub free : HasFreeFrame store.transactions.pages → Spends (Costs 0 0 0 []) before after
   pub costs : Spends (ErasesAndLogs store.transactions.pages.parts.directory) before after
+
+-- for that of a name
+abbrev pub AsksFor : ℕ → Store → Told → Told → Type 0
+AsksFor n store before after = AsksForPage (home_of n).unit (home_of n).page store before after
 
 -- its answer, where one that lends what it found does all else
 abbrev pub answered : {U : Type 0} → Result (Unit {0}) StoreFault → U → Result U StoreFault

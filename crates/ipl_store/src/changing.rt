@@ -1,16 +1,12 @@
 //! Sessions change names, and are committed.
-ghost use Rattle.std.specs.Prelude.{◌≡◌, ◌<◌, ◌^◌, [], Some, None, OnOk};
-ghost use Rattle.unit_io.specs.Costs.{Spends};
-ghost use Rattle.txn_status.specs.Status.{room_of};
+ghost use Rattle.std.specs.Prelude.{◌^◌, Some, None, OnOk};
 ghost use Rattle.ipl_base.specs.Places.{home_of};
 ghost use Rattle.ipl_rules.specs.Operations.{after_write, after_commit};
 ghost use Rattle.ipl_rules.specs.Refusals.{refuses_put, refuses_del, refuses_end};
-ghost use Rattle.record_locks.specs.Held.{written_of};
 ghost use Rattle.record_locks.specs.Standing.{state_of};
 ghost use Rattle.store_steps.specs.Keeps.{limits_of};
-ghost use Rattle.page_writing.specs.Spending.{ErasesAndLogs};
 ghost use Rattle.page_frames.specs.Pages.{IsFramed, KeepsFramed, KeepsFramedFor};
-ghost use Rattle.transactions.specs.Costs.{pages_to_write, CommitCosts};
+ghost use Rattle.transactions.specs.Costs.{AsksToWrite, CommitAsks};
 ghost use Rattle.ipl_store.specs.Calls.{IsSound, KeepsHolds, Calls, early_fault, entry_fault};
 
 use crate::Store;
@@ -39,7 +35,7 @@ impl Store {
             (IsFramed self.new.transactions.pages (home_of n).unit (home_of n).page) }
         ensures stays { KeepsFramedFor (home_of n).unit (home_of n).page
             self.old.transactions.pages self.new.transactions.pages }
-        ensures costs { Spends (ErasesAndLogs self.old.transactions.pages.parts.directory)
+        ensures asks { AsksToWrite n (Some value.now) self.old.transactions.pages
             (C.told chip.old) (C.told chip.new) }
     {
         self.admit(self.refuses_put(s, n, value))?;
@@ -65,8 +61,8 @@ impl Store {
             (IsFramed self.new.transactions.pages (home_of n).unit (home_of n).page) }
         ensures stays { KeepsFramedFor (home_of n).unit (home_of n).page
             self.old.transactions.pages self.new.transactions.pages }
-        ensures costs { Spends (ErasesAndLogs self.old.transactions.pages.parts.directory)
-            (C.told chip.old) (C.told chip.new) }
+        ensures asks { AsksToWrite n None self.old.transactions.pages (C.told chip.old)
+            (C.told chip.new) }
     {
         self.admit(self.refuses_del(s, n))?;
         passing_laws();
@@ -84,12 +80,7 @@ impl Store {
             self.old (C.told chip.old) result self.new (C.told chip.new) }
         ensures holds { KeepsHolds self.old self.new }
         ensures framed { KeepsFramed self.old.transactions.pages self.new.transactions.pages }
-        ensures idle { written_of self.old.transactions.sessions s ≡ []
-            → C.told chip.new ≡ C.told chip.old }
-        // Where the status place has a clean sector.
-        ensures costs { 0 < room_of self.old.transactions.pages.parts.status
-            → Spends (CommitCosts (pages_to_write self.old.transactions s))
-            (C.told chip.old) (C.told chip.new) }
+        ensures asks { CommitAsks self.old.transactions s (C.told chip.old) (C.told chip.new) }
     {
         self.admit(self.refuses_end(s))?;
         passing_laws();

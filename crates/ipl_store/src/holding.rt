@@ -1,10 +1,8 @@
 //! Pages that stay in their frames.
-ghost use Rattle.std.specs.Prelude.{◌≡◌, ◌<◌, ◌≤◌, ◌+◌, [], true, false, None, OnOk, OnErr};
-ghost use Rattle.unit_io.specs.Costs.{Costs, Spends};
+ghost use Rattle.std.specs.Prelude.{◌≡◌, ◌<◌, ◌≤◌, ◌+◌, true, false, None, OnOk, OnErr};
 ghost use Rattle.buffer_pool.specs.Holding.{pinned_count, IsHeld, IsAtRest};
 ghost use Rattle.store_trait.specs.Keeping.{LAST_NUMBER};
-ghost use Rattle.page_writing.specs.Spending.{ErasesAndLogs};
-ghost use Rattle.page_frames.specs.Pages.{IsFramed, KeepsFramed, KeepsFramedFor, HasFreeFrame};
+ghost use Rattle.page_frames.specs.Pages.{IsFramed, KeepsFramed, KeepsFramedFor};
 ghost use Rattle.ipl_store.specs.Calls.{
   counter_of,
   IsSound,
@@ -17,7 +15,7 @@ ghost use Rattle.ipl_store.specs.Calls.{
   refuses_hold,
   refuses_release,
 };
-ghost use Rattle.ipl_store.specs.Shown.{HoldsAlso, HoldsBut, IsRepooled};
+ghost use Rattle.ipl_store.specs.Shown.{HoldsAlso, HoldsBut, IsRepooled, AsksForPage};
 
 use crate::Store;
 use crate::refusals::is_held;
@@ -41,10 +39,8 @@ impl Store {
         ensures same { OnErr result (KeepsHolds self.old self.new) }
         ensures again { is_held self.old.transactions.pages.pool unit page ≡ true
             → (self.new ≡ self.old) × (C.told chip.new ≡ C.told chip.old) }
-        ensures free { HasFreeFrame self.old.transactions.pages
-            → Spends (Costs 0 0 0 []) (C.told chip.old) (C.told chip.new) }
-        ensures costs { Spends (ErasesAndLogs self.old.transactions.pages.parts.directory)
-            (C.told chip.old) (C.told chip.new) }
+        // Nothing where the page is in a frame, and only reads where a frame is free.
+        ensures asks { AsksForPage unit page self.old (C.told chip.old) (C.told chip.new) }
     {
         self.admit(self.refuses_hold(unit, page))?;
         if is_held(&self.transactions.pages.pool, unit, page) {
@@ -89,10 +85,8 @@ impl Store {
         ensures framed { OnOk result (IsFramed self.new.transactions.pages unit page) }
         ensures stays { KeepsFramedFor unit page self.old.transactions.pages
             self.new.transactions.pages }
-        ensures free { HasFreeFrame self.old.transactions.pages
-            → Spends (Costs 0 0 0 []) (C.told chip.old) (C.told chip.new) }
-        ensures costs { Spends (ErasesAndLogs self.old.transactions.pages.parts.directory)
-            (C.told chip.old) (C.told chip.new) }
+        // Nothing where the page is in a frame, and only reads where a frame is free.
+        ensures asks { AsksForPage unit page self.old (C.told chip.old) (C.told chip.new) }
     {
         let done = self.transactions.pages.bring(chip, unit, page);
         self.end(done)

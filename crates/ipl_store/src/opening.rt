@@ -23,6 +23,7 @@ impl Store {
         requires few { frames ≤ 64 }
         ensures sound { IfOk result (λ store. IsSound geometry store) }
         ensures down { IfOk result (λ store. store.down ≡ true) }
+        ensures frames { IfOk result (λ store. store.frames ≡ frames) }
     {
         let pages = Pages::new(alloc, geometry, frames)?;
         let sessions = Sessions::new(alloc)?;
@@ -42,6 +43,7 @@ impl Store {
         ensures empty { self.new.transactions.pages.pool.buffers.slots ≡ [] }
         ensures active { self.new.transactions.pages.parts.active ≡ [] }
         ensures down { self.new.down ≡ true }
+        ensures frames { self.new.frames ≡ self.old.frames }
         ensures made { (places : ℕ) → IsMade places self.old → IsMade places self.new }
     {
         self.down = true;
@@ -55,6 +57,7 @@ impl Store {
     pub fn open_chip<C: Chip>(&mut self, chip: &mut C) -> Result<(), ImageFault>
         requires sound { IsSound (C.told chip.old).places self.old }
         ensures sound { IsSound (C.told chip.old).places self.new }
+        ensures frames { self.new.frames ≡ self.old.frames }
         ensures opens { Reopens (C.told chip.old).places (C.told chip.old) result self.new
             (C.told chip.new) }
         ensures tries { Tries (C.told chip.old).places (C.told chip.old) result
@@ -82,6 +85,7 @@ impl Store {
         requires few { frames ≤ 64 }
         ensures opens { OpensAs (C.told chip.old).places (C.told chip.old) result
             (C.told chip.new) }
+        ensures frames { IfOk result (λ store. store.frames ≡ frames) }
     {
         let Some(geometry) = Geometry::of(chip.units()) else {
             return Err(OpenFault::Image(ImageFault::Geometry));
@@ -98,6 +102,7 @@ impl Store {
     pub fn reopen<C: Chip>(mut self, chip: &mut C) -> (Store, Result<(), ImageFault>)
         requires sound { IsSound (C.told chip.old).places self }
         ensures sound { IsSound (C.told chip.old).places result.0 }
+        ensures frames { result.0.frames ≡ self.frames }
         ensures opens { Reopens (C.told chip.old).places (C.told chip.old) result.1 result.0
             (C.told chip.new) }
         ensures tries { Tries (C.told chip.old).places (C.told chip.old) result.1

@@ -42,7 +42,7 @@ spends_all n names order frames before after =
 -- ---- one page more
 
 -- whether this one is changed
-changed_at : (names : List ℕ) (frames : Frames) (u page number : ℕ) → page < 15
+pub changed_at : (names : List ℕ) (frames : Frames) (u page number : ℕ) → page < 15
     → page_number u page ≡ number
     → is_changed frames names number
     ≡ (has_some (logs_of frames u page) && is_on_page names u page)
@@ -52,7 +52,7 @@ changed_at names frames u page number few is =
     λ i. has_some (logs_of frames (unit_is i) (page_is i))
     && is_on_page names (unit_is i) (page_is i)
 
-and_off : (a b : Bool) → b ≡ false → (a && b) ≡ false
+pub and_off : (a b : Bool) → b ≡ false → (a && b) ≡ false
 and_off true b off = off
 and_off false b off = refl
 

@@ -53,7 +53,7 @@ renew_completes pages result told complete x there slots it state fits says =
 -- ---- loads
 
 -- a page that shows something has no fault
-no_base_fault : (x : Contents) (it : Layout) (u page : ℕ) (now : Values)
+pub no_base_fault : (x : Contents) (it : Layout) (u page : ℕ) (now : Values)
     → Shows (chart_of x) it.committed u (it.units u) page now → base_fault x it u page ≡ None
 no_base_fault x it u page now shows =
     (sound_pages_are_held x (it.units u).home u (it.units u).head.generation page _).1

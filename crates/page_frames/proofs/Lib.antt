@@ -10,5 +10,10 @@ pub mod LeaveLemmas
 pub mod LoadLemmas
 pub mod BringLemmas
 pub mod ChangedLemmas
+pub mod AskLemmas
+pub mod HomesLemmas
 pub mod OutAllLemmas
 pub mod CompleteLemmas
+pub mod SlotMapLemmas
+pub mod FaultyLemmas
+pub mod TellLemmas

@@ -6,14 +6,12 @@ use Rattle.std.proofs.lemmas.Bool.{cases_eq, eq-eqb, false≢true}
 use Rattle.chip_trait.specs.Told.{Told}
 use Rattle.ipl_base.specs.Places.{home_of}
 use Rattle.ipl_base.specs.declared.fault.ChipFault.{ChipFault}
-use Rattle.unit_io.specs.Costs.{Spends}
 use Rattle.buffer_pool.specs.Pools.{PoolView, IsThere, AreOnce}
 use Rattle.buffer_pool.specs.Index.{page_number}
 use Rattle.pending_writes.specs.Frames.{Frame, Frames, logs_of}
 use Rattle.pending_writes.proofs.MemoryLemmas.{cases_page}
 use Rattle.pending_writes.proofs.SameLemmas.{frame_other}
 use Rattle.store_steps.specs.Numbers.{IsOut}
-use Rattle.page_writing.specs.Spending.{ErasesAndLogs}
 use Rattle.buffer_pool.specs.declared.pool.Buffer.{Buffer}
 use Rattle.buffer_pool.specs.Laws.{buffer_of}
 use Rattle.buffer_pool.proofs.BufferLemmas.{buffers_are_told}
@@ -22,7 +20,9 @@ use Rattle.frame_changes.proofs.FrameLemmas.{frame_found}
 use Rattle.page_frames.proofs.HeldLemmas.{none_some}
 use Rattle.page_frames.specs.declared.pages.Pages.{Pages}
 use Rattle.page_frames.specs.Pages.{frames_in, KeepsFramed, IsReady, Upholds, emptied}
-use Rattle.page_frames.specs.Changed.{is_home, is_on_page, changed_pages}
+use Rattle.page_frames.specs.Asks.{AsksToWriteOut}
+use Rattle.page_frames.specs.Changed.{is_home, is_on_page, changed_pages, HasHomesFor}
+use Rattle.page_frames.proofs.HomesLemmas.{SpendsHome, WroteAtHome, none_at_home, home_all, passed_at_home, written_at_home}
 use Rattle.page_frames.proofs.ChangedLemmas.{changed_below, SpendsOn, none_below, spends_passed, spends_more, spends_all}
 use Rattle.page_frames.proofs.FrameLemmas.{emptied_out}
 use Rattle.page_frames.proofs.FramedLemmas.{out_framed}
@@ -45,6 +45,7 @@ pub record IsOutBelow (n : ℕ) (names : List ℕ) (first : Pages) (before : Tol
   pub still : (u page : ℕ) → logs_of (frames_in first) u page ≡ []
       → logs_of (frames_in now) u page ≡ []
   pub spends : SpendsOn (changed_below n names (frames_in first) first.pool.order) before after
+  pub homes : HasHomesFor first names → WroteAtHome n names first before now after
 
 pub none_out : (names : List ℕ) (first : Pages) (before : Told) → IsReady before.places first
     → IsOutBelow 0 names first before first before
@@ -56,6 +57,7 @@ none_out names first before ready = record {
   framed = λ u page is. is;
   still = λ u page none. none;
   spends = none_below names first.pool.order (frames_in first) before;
+  homes = λ has. none_at_home names first before;
 }
 
 -- ---- one page more
@@ -119,22 +121,24 @@ passed_out n u page names first before now after less few at off so_far = record
   still = so_far.still;
   spends = spends_passed n u page names first.pool.order (frames_in first) before after less few
       (at ∙ ap (λ (l : List ℕ). slice_index_or l n 0) so_far.order) off so_far.spends;
+  homes = λ has. passed_at_home n u page names first before now after less few
+      (at ∙ ap (λ (l : List ℕ). slice_index_or l n 0) so_far.order) off (so_far.homes has);
 }
 
 -- or it is written out
 pub written_out : (n u page : ℕ) (names : List ℕ) (first : Pages) (before : Told) (mid : Pages)
     (between : Told) (now : Pages) (after : Told)
     → n < length first.pool.order → is_on_page names u page ≡ true
-    → (logs_of (frames_in mid) u page ≡ [] → after ≡ between) → page < 15
+    → u < length first.parts.directory.current → page < 15
     → page_number u page ≡ slice_index_or mid.pool.order n 0
     → IsOutBelow n names first before mid between
     → Upholds {T = Unit {0}} 14 mid between (Ok tt) now after
     → frames_in now ≡ emptied (frames_in mid) u page → now.pool.order ≡ mid.pool.order
     → now.parts.status ≡ mid.parts.status
-    → Spends (ErasesAndLogs mid.parts.directory) between after
+    → AsksToWriteOut u page (Ok tt) mid now between after
     → IsOutBelow (n + 1) names first before now after
-written_out n u page names first before mid between now after less on idle few at so_far did is order
-    status costs = record {
+written_out n u page names first before mid between now after less on low few at so_far did is order
+    status asks = record {
       upholds = upholds_weaker (14 * n + 14) (14 * (n + 1)) first now (Ok tt) before after
           (omega arith)
           (upholds_then (14 * n) 14 first mid now (Ok tt) before between after so_far.upholds did);
@@ -151,8 +155,11 @@ written_out n u page names first before mid between now after less on idle few a
           ∙ still_out (frames_in mid) u page v q (so_far.still v q none);
       spends = spends_more n u page names first.pool.order (frames_in first) (frames_in mid) before
           between after mid.parts.directory less few
-          (at ∙ ap (λ (l : List ℕ). slice_index_or l n 0) so_far.order) on (so_far.still u page) idle
-          costs so_far.spends;
+          (at ∙ ap (λ (l : List ℕ). slice_index_or l n 0) so_far.order) on (so_far.still u page)
+          (λ none. (asks.idle none).1) asks.costs so_far.spends;
+      homes = λ has. written_at_home n u page names (Ok tt) first before mid between now after less
+          few (at ∙ ap (λ (l : List ℕ). slice_index_or l n 0) so_far.order) on low
+          (so_far.still u page) asks has (so_far.homes has);
     }
 
 -- not done
@@ -164,19 +171,27 @@ unwritten_upholds n count names first before mid between now after e less few so
     upholds_weaker (14 * n + 14) (14 * 64) first now (Err e) before after (omega (arith, less, few))
     (upholds_then (14 * n) 14 first mid now (Err e) before between after so_far.upholds did)
 
-pub unwritten_costs : (n u page : ℕ) (names : List ℕ) (first : Pages) (before : Told)
-    (mid : Pages) (between after : Told) → n < length first.pool.order
-    → is_on_page names u page ≡ true → (logs_of (frames_in mid) u page ≡ [] → after ≡ between)
-    → page < 15 → page_number u page ≡ slice_index_or mid.pool.order n 0
-    → IsOutBelow n names first before mid between
-    → Spends (ErasesAndLogs mid.parts.directory) between after
-    → SpendsOn (changed_pages first names) before after
-unwritten_costs n u page names first before mid between after less on idle few at so_far costs =
-    spends_all (n + 1) names first.pool.order (frames_in first) before after
-    (spends_more n u page names first.pool.order (frames_in first) (frames_in mid) before between
-    after mid.parts.directory less few
-    (at ∙ ap (λ (l : List ℕ). slice_index_or l n 0) so_far.order) on (so_far.still u page) idle costs
-    so_far.spends)
+module _ (n u page : ℕ) (names : List ℕ) (e : ChipFault) (first : Pages) (before : Told) (mid : Pages)
+    (between : Told) (now : Pages) (after : Told) (less : n < length first.pool.order)
+    (on : is_on_page names u page ≡ true) (few : page < 15)
+    (at : page_number u page ≡ slice_index_or mid.pool.order n 0)
+    (so_far : IsOutBelow n names first before mid between)
+    (asks : AsksToWriteOut u page (Err e) mid now between after) where
+  pub unwritten_costs : SpendsOn (changed_pages first names) before after
+  unwritten_costs =
+      spends_all (n + 1) names first.pool.order (frames_in first) before after
+      (spends_more n u page names first.pool.order (frames_in first) (frames_in mid) before between
+      after mid.parts.directory less few
+      (at ∙ ap (λ (l : List ℕ). slice_index_or l n 0) so_far.order) on (so_far.still u page)
+      (λ none. (asks.idle none).1) asks.costs so_far.spends)
+
+  pub unwritten_homes : u < length first.parts.directory.current → HasHomesFor first names
+      → SpendsHome (changed_pages first names) before after
+  unwritten_homes low has =
+      home_all (n + 1) names first.pool.order (frames_in first) before after
+      (written_at_home n u page names (Err e) first before mid between now after less few
+      (at ∙ ap (λ (l : List ℕ). slice_index_or l n 0) so_far.order) on low (so_far.still u page) asks
+      has (so_far.homes has)).spends
 
 -- ---- pages in frames
 
@@ -198,6 +213,16 @@ framed_unit most first now before after u page did once there =
     subst (λ (n : ℕ). u + 4 < n) (sym did.accounts.counts.places)
     (did.ready.within u page (frame_in there.has.buffer)
     (frame_found now.pool u page there.key once there.has))
+
+-- so it is of one of the tables' units
+pub framed_low : (most : ℕ) (first now : Pages) (before after : Told) (u page : ℕ)
+    → Upholds {T = Unit {0}} most first before (Ok tt) now after → AreOnce now.pool.buffers
+    → IsThere now.pool.buffers u page → IsReady before.places first
+    → u < length first.parts.directory.current
+framed_low most first now before after u page did once there ready =
+    let low = framed_unit most first now before after u page did once there in
+    let same = did.accounts.counts.places in
+    let units = ready.known.suits.units in omega (arith, low, same, units)
 
 -- one that has a frame is in a buffer
 framed_there : (p : PoolView) (u page : ℕ) (f : Frame) → AreOnce p.buffers

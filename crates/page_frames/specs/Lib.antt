@@ -2,3 +2,5 @@ pub mod Frames
 pub mod Pages
 pub mod Changed
 pub mod Complete
+pub mod Faulty
+pub mod Asks

@@ -1,5 +1,5 @@
 //! A page is brought into a frame.
-ghost use Rattle.std.specs.Prelude.{◌≡◌, ◌<◌, ◌≤◌, ◌+◌, ◌^◌, [], ℕ, None, OnOk};
+ghost use Rattle.std.specs.Prelude.{◌≡◌, ◌<◌, ◌≤◌, ◌+◌, ◌^◌, ◌⊎◌, [], ℕ, None, IsOk, OnOk};
 ghost use Rattle.unit_io.specs.Accounts.{Accounts};
 ghost use Rattle.unit_io.specs.Costs.{Costs, Spends};
 ghost use Rattle.unit_io.specs.ReadsAt.{Anywhere, ReadsAt};
@@ -9,8 +9,10 @@ ghost use Rattle.pending_writes.specs.Frames.{logs_of};
 ghost use Rattle.log_records.specs.View.{record_of};
 ghost use Rattle.page_writing.specs.Spending.{ErasesAndLogs};
 ghost use Rattle.frame_changes.specs.Changes.{MayPut};
+ghost use Rattle.page_frames.specs.Asks.{AsksToPrepare};
 ghost use Rattle.page_frames.specs.Frames.{IsUnheld};
 ghost use Rattle.page_frames.specs.Complete.{Completes, CompletesLoad};
+ghost use Rattle.page_frames.specs.Faulty.{FailsAsPage, TellsFaults};
 ghost use Rattle.page_frames.specs.Pages.{
   tables_in,
   frames_in,
@@ -44,6 +46,7 @@ impl Pages {
         requires left { self.old.parts.counter + 14 < 2 ^ 64 }
         ensures upholds { Upholds 14 self.old (C.told chip.old) result self.new (C.told chip.new) }
         ensures complete { Completes self.old result (C.told chip.old) }
+        ensures faults { TellsFaults self.old result (C.told chip.old) self.new }
         ensures room { OnOk result (HasFreeFrame self.new) }
         ensures absent { (u q : ℕ) → frames_in self.old u q ≡ None → frames_in self.new u q ≡ None }
         ensures status { self.new.parts.status ≡ self.old.parts.status }
@@ -64,10 +67,12 @@ impl Pages {
         requires left { self.old.parts.counter + 14 < 2 ^ 64 }
         ensures upholds { Upholds 14 self.old (C.told chip.old) result self.new (C.told chip.new) }
         ensures complete { Completes self.old result (C.told chip.old) }
+        ensures faults { TellsFaults self.old result (C.told chip.old) self.new }
         ensures room { OnOk result (HasFreeFrame self.new) }
         ensures absent { (u q : ℕ) → frames_in self.old u q ≡ None → frames_in self.new u q ≡ None }
         ensures idle { HasFreeFrame self.old
             → (self.new ≡ self.old) × (C.told chip.new ≡ C.told chip.old) }
+        ensures done { HasFreeFrame self.old → IsOk result }
         ensures status { self.new.parts.status ≡ self.old.parts.status }
         ensures costs { Spends (ErasesAndLogs self.old.parts.directory)
             (C.told chip.old) (C.told chip.new) }
@@ -91,6 +96,7 @@ impl Pages {
             (frames_in self.old) (frames_in self.new) }
         ensures complete { CompletesLoad (tables_in self.old) unit page result
             (C.told chip.old) }
+        ensures exact { FailsAsPage (tables_in self.old) unit page result (C.told chip.old) }
         ensures tables { tables_in self.new ≡ tables_in self.old }
         ensures unheld { IsUnheld self.new.pool unit page }
         ensures pins { KeepsPins self.old.pool self.new.pool }
@@ -124,6 +130,8 @@ impl Pages {
         requires free { HasFreeFrame self.old }
         ensures upholds { Upholds 0 self.old (C.told chip.old) result self.new (C.told chip.new) }
         ensures complete { Completes self.old result (C.told chip.old) }
+        ensures faults { TellsFaults self.old result (C.told chip.old) self.new }
+        ensures exact { FailsAsPage (tables_in self.old) unit page result (C.told chip.old) }
         ensures brings { BringsPage result unit page (frames_in self.old) (frames_in self.new) }
         ensures tables { tables_in self.new ≡ tables_in self.old }
         ensures status { self.new.parts.status ≡ self.old.parts.status }
@@ -148,6 +156,9 @@ impl Pages {
         requires left { self.old.parts.counter + 14 < 2 ^ 64 }
         ensures upholds { Upholds 14 self.old (C.told chip.old) result self.new (C.told chip.new) }
         ensures complete { Completes self.old result (C.told chip.old) }
+        ensures faults { TellsFaults self.old result (C.told chip.old) self.new }
+        ensures exact { HasFreeFrame self.old
+            → FailsAsPage (tables_in self.old) unit page result (C.told chip.old) }
         ensures fresh { OnOk result (IsFresh self.new unit page) }
         ensures framed { HasFreeFrame self.old → KeepsFramed self.old self.new }
         ensures idle { HasFreeFrame self.old
@@ -168,6 +179,9 @@ impl Pages {
         requires left { self.old.parts.counter + 14 < 2 ^ 64 }
         ensures upholds { Upholds 14 self.old (C.told chip.old) result self.new (C.told chip.new) }
         ensures complete { Completes self.old result (C.told chip.old) }
+        ensures faults { TellsFaults self.old result (C.told chip.old) self.new }
+        ensures exact { (IsFramed self.old unit page ⊎ HasFreeFrame self.old)
+            → FailsAsPage (tables_in self.old) unit page result (C.told chip.old) }
         ensures there { OnOk result (IsFramed self.new unit page) }
         ensures framed { KeepsFramedFor unit page self.old self.new }
         ensures idle { IsFramed self.old unit page
@@ -185,7 +199,7 @@ impl Pages {
     }
 
     /// Brings the page of a record into a frame, where the record fits behind the page's records in
-    /// memory then.
+    /// memory then. Where the page is in a frame with no room for it, these are written out first.
     pub fn prepare<C: Chip>(
         &mut self,
         chip: &mut C,
@@ -198,14 +212,13 @@ impl Pages {
         requires left { self.old.parts.counter + 14 < 2 ^ 64 }
         ensures upholds { Upholds 14 self.old (C.told chip.old) result self.new (C.told chip.new) }
         ensures complete { Completes self.old result (C.told chip.old) }
+        ensures faults { TellsFaults self.old result (C.told chip.old) self.new }
+        ensures exact { frames_in self.old unit logged.now.page ≡ None → HasFreeFrame self.old
+            → FailsAsPage (tables_in self.old) unit logged.now.page result (C.told chip.old) }
         ensures room { OnOk result (MayPut (frames_in self.new) unit (record_of logged.now)) }
         ensures framed { KeepsFramedFor unit logged.now.page self.old self.new }
-        ensures idle { MayPut (frames_in self.old) unit (record_of logged.now)
-            → C.told chip.new ≡ C.told chip.old }
-        ensures free { frames_in self.old unit logged.now.page ≡ None → HasFreeFrame self.old
-            → Spends (Costs 0 0 0 []) (C.told chip.old) (C.told chip.new) }
         ensures status { self.new.parts.status ≡ self.old.parts.status }
-        ensures costs { Spends (ErasesAndLogs self.old.parts.directory)
+        ensures asks { AsksToPrepare unit (record_of logged.now) self.old
             (C.told chip.old) (C.told chip.new) }
     {
         short(logged);

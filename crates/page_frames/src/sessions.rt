@@ -3,8 +3,14 @@ ghost use Rattle.std.specs.Prelude.{◌≡◌, ◌<◌, ◌+◌, ◌*◌, ◌^�
 ghost use Rattle.unit_io.specs.Costs.{Costs, Spends};
 ghost use Rattle.store_steps.specs.Numbers.{IsOut};
 ghost use Rattle.page_frames.specs.Complete.{Completes};
+ghost use Rattle.page_frames.specs.Faulty.{TellsFaults};
 ghost use Rattle.page_frames.specs.Pages.{frames_in, KeepsFramed, IsReady, Upholds};
-ghost use Rattle.page_frames.specs.Changed.{is_home, is_on_page, changed_pages};
+ghost use Rattle.page_frames.specs.Changed.{
+  is_home,
+  is_on_page,
+  changed_pages,
+  HasHomesFor,
+};
 
 use crate::Pages;
 use chip_trait::Chip;
@@ -43,6 +49,7 @@ impl Pages {
         ensures upholds { Upholds (14 * 64) self.old (C.told chip.old)
             result self.new (C.told chip.new) }
         ensures complete { Completes self.old result (C.told chip.old) }
+        ensures faults { TellsFaults self.old result (C.told chip.old) self.new }
         ensures out { OnOk result (All (IsOut (frames_in self.new)) (map (λ n. n.0) names.now)) }
         ensures framed { KeepsFramed self.old self.new }
         ensures status { self.new.parts.status ≡ self.old.parts.status }
@@ -51,6 +58,10 @@ impl Pages {
         ensures costs { Spends (Costs (changed_pages self.old (map (λ n. n.0) names.now))
             (changed_pages self.old (map (λ n. n.0) names.now))
             (3 * changed_pages self.old (map (λ n. n.0) names.now)) (5 ∷ []))
+            (C.told chip.old) (C.told chip.new) }
+        // And no erase where each unit has log sectors clean at home for its pages.
+        ensures homes { HasHomesFor self.old (map (λ n. n.0) names.now)
+            → Spends (Costs 0 (changed_pages self.old (map (λ n. n.0) names.now)) 0 (5 ∷ []))
             (C.told chip.old) (C.told chip.new) }
     {
         for i in 0..self.pool.len() {

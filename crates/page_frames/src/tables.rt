@@ -3,11 +3,12 @@
 ghost use Rattle.std.specs.Prelude.{◌≡◌, ◌<◌, ◌≤◌, ◌+◌, ◌-◌, ◌^◌, slice_index, is_ok, OnOk};
 ghost use Rattle.unit_io.specs.Costs.{Spends};
 ghost use Rattle.txn_status.specs.Status.{room_of};
-ghost use Rattle.selective_merge.specs.Merging.{Merges, StaysMirrored};
+ghost use Rattle.selective_merge.specs.Merging.{Merges, StaysMirrored, FailsAsMerge};
 ghost use Rattle.selective_merge.specs.Spending.{ErasesFor};
 ghost use Rattle.selective_merge.specs.Throughout.{ChartsThroughout};
 ghost use Rattle.status_renewal.specs.Passes.{ErasesAtMost};
 ghost use Rattle.page_frames.specs.Complete.{Completes};
+ghost use Rattle.page_frames.specs.Faulty.{TellsFaults};
 ghost use Rattle.page_frames.specs.Pages.{tables_in, KeepsFramed, IsReady, Upholds};
 
 use crate::Pages;
@@ -28,6 +29,7 @@ impl Pages {
         ensures upholds { Upholds (2 ^ 14) self.old (C.told chip.old)
             result self.new (C.told chip.new) }
         ensures complete { Completes self.old result (C.told chip.old) }
+        ensures faults { TellsFaults self.old result (C.told chip.old) self.new }
         ensures room { OnOk result (0 < room_of self.new.parts.status) }
         ensures frames { self.new.pool ≡ self.old.pool }
         ensures framed { KeepsFramed self.old self.new }
@@ -49,6 +51,9 @@ impl Pages {
         requires left { self.old.parts.counter + 13 < 2 ^ 64 }
         ensures upholds { Upholds 13 self.old (C.told chip.old) result self.new (C.told chip.new) }
         ensures complete { Completes self.old result (C.told chip.old) }
+        ensures faults { TellsFaults self.old result (C.told chip.old) self.new }
+        ensures exact { FailsAsMerge (C.told chip.old).places (tables_in self.old) unit result
+            (C.told chip.old) }
         ensures tells { ChartsThroughout
             (λ done. Merges (C.told chip.old).places unit (tables_in self.old) (tables_in self.new))
             (StaysMirrored (C.told chip.old).places (tables_in self.old) (tables_in self.new))

@@ -1,10 +1,10 @@
 //! The records of a page, written out from its frame.
-ghost use Rattle.std.specs.Prelude.{◌≡◌, ◌<◌, ◌≤◌, ◌+◌, ◌^◌, []};
-ghost use Rattle.unit_io.specs.Costs.{Spends};
-ghost use Rattle.pending_writes.specs.Frames.{logs_of};
-ghost use Rattle.page_writing.specs.Spending.{ErasesAndLogs};
+ghost use Rattle.std.specs.Prelude.{◌≡◌, ◌<◌, ◌≤◌, ◌+◌, ◌^◌};
+ghost use Rattle.selective_merge.specs.Merging.{FailsAsMerge};
+ghost use Rattle.page_frames.specs.Asks.{AsksToWriteOut};
 ghost use Rattle.page_frames.specs.Complete.{Completes};
-ghost use Rattle.page_frames.specs.Pages.{frames_in, KeepsFramed, IsReady, Upholds, frames_after};
+ghost use Rattle.page_frames.specs.Faulty.{TellsFaults};
+ghost use Rattle.page_frames.specs.Pages.{tables_in, frames_in, KeepsFramed, IsReady, Upholds, frames_after};
 
 use crate::Pages;
 use crate::frames::has_records;
@@ -15,7 +15,8 @@ use page_writing::write_out;
 
 impl Pages {
     /// Writes the records out that a page has in memory, where it is in a frame and has some. It stays
-    /// in its frame. Where it fails the frames are as they were.
+    /// in its frame. Where it fails the frames are as they were. Where a log sector is clean at the
+    /// unit's home, one program does.
     pub fn write_out<C: Chip>(
         &mut self,
         chip: &mut C,
@@ -28,14 +29,15 @@ impl Pages {
         requires left { self.old.parts.counter + 14 < 2 ^ 64 }
         ensures upholds { Upholds 14 self.old (C.told chip.old) result self.new (C.told chip.new) }
         ensures complete { Completes self.old result (C.told chip.old) }
+        ensures faults { TellsFaults self.old result (C.told chip.old) self.new }
+        ensures exact { FailsAsMerge (C.told chip.old).places (tables_in self.old) unit result
+            (C.told chip.old) }
         ensures frames { frames_in self.new ≡ frames_after result (frames_in self.old) unit page }
         ensures framed { KeepsFramed self.old self.new }
         ensures order { self.new.pool.order ≡ self.old.pool.order }
         ensures status { self.new.parts.status ≡ self.old.parts.status }
-        ensures costs { Spends (ErasesAndLogs self.old.parts.directory)
+        ensures asks { AsksToWriteOut unit page result self.old self.new
             (C.told chip.old) (C.told chip.new) }
-        ensures idle { logs_of (frames_in self.old) unit page ≡ []
-            → C.told chip.new ≡ C.told chip.old }
     {
         if !has_records(&self.pool, unit, page) {
             return Ok(());

@@ -8,3 +8,4 @@ pub mod KeepLemmas
 mod CauseLemmas
 pub mod SpendLemmas
 mod TidyLemmas
+mod InPlaceLemmas

@@ -1,16 +1,19 @@
 -- What finding room and writing a log sector cost.
-use Rattle.std.proofs.Common.{◌≡◌, ◌≤◌, ℕ, Bool, true, false, [], ◌∷◌, ◌++◌, ◌||◌, inl, inr, refl, sym, ◌∙◌, ap, arith}
+use Rattle.std.proofs.Common.{◌≡◌, ◌≤◌, ℕ, Bool, true, false, [], ◌∷◌, ◌++◌, ◌||◌, Result, Ok, Err, inl, inr, refl, sym, ◌∙◌, ap, subst, arith}
 use Rattle.std.specs.List.{Contains}
 use Rattle.std.proofs.lemmas.Bool.{cases_Bool, false≢true}
 use Rattle.chip_trait.specs.declared.event.Event.TheVariants.{Read, Program, Erase, Barrier, Said}
 use Rattle.chip_trait.specs.Story.{Story}
 use Rattle.chip_trait.specs.Told.{Told}
-use Rattle.ipl_meaning.specs.Tables.{Places}
+use Rattle.ipl_base.specs.declared.fault.ChipFault.{ChipFault}
+use Rattle.ipl_meaning.specs.Tables.{Places, Tables}
 use Rattle.unit_io.specs.Costs.{Costs, ProgramsAt, Spends, erases, is_erased}
 use Rattle.unit_io.specs.ReadsAt.{ReadsAt}
 use Rattle.unit_io.proofs.CostLemmas.{costs_at_most, costs_then, erased_joined, programs_at_cost, spends_reads, spends_then, spends_weaker}
 use Rattle.selective_merge.specs.Spending.{IsLowestFree, ErasesFree}
-use Rattle.page_writing.specs.Spending.{ErasesAndLogs}
+use Rattle.selective_merge.specs.Spotting.{HasHomeSpot}
+use Rattle.page_writing.specs.Spending.{ErasesAndLogs, UsesHome, RoomCosts, WritingCosts}
+use Rattle.page_writing.specs.Writing.{IsAfterLog}
 
 -- ---- what is erased
 
@@ -97,3 +100,84 @@ frees_then_logs before place old mid new = spends_then (ErasesFree before) (Prog
           no_kind does.costs) costs;
       lowest = both_lowest before later earlier (nothing_lowest before later costs.erased) does.lowest;
     })
+
+-- ---- room, and whether the unit's home has some
+
+pub reads_room : (At : ℕ → ℕ → Type 0) (t : Tables) (u : ℕ) (old new : Told) → ReadsAt At old new
+    → RoomCosts t t u old new
+reads_room At t u old new did = record {
+  home = λ has. (refl, spends_reads At [] old new did);
+  any = frees_read At t.places old new did;
+}
+
+-- reads first
+pub room_behind : (At Never : ℕ → ℕ → Type 0) (t after : Tables) (u : ℕ) (old mid new : Told)
+    → ReadsAt At old mid → (HasHomeSpot t u → (after ≡ t) × ReadsAt Never mid new)
+    → Spends (ErasesFree t.places) mid new → RoomCosts t after u old new
+room_behind At Never t after u old mid new reads home costs = record {
+  home = λ has.
+      let (same, read) = home has in (
+        same,
+        reads_both old mid new (spends_reads At [] old mid reads)
+            (spends_reads Never [] mid new read),
+      );
+  any = frees_behind At t.places old mid new reads costs;
+}
+  where
+    reads_both : (old mid new : Told) → Spends (Costs 0 0 0 []) old mid
+        → Spends (Costs 0 0 0 []) mid new → Spends (Costs 0 0 0 []) old new
+    reads_both old mid new = spends_then (Costs 0 0 0 []) (Costs 0 0 0 []) (Costs 0 0 0 []) old mid new
+        (λ later earlier one two. costs_then 0 0 0 0 0 0 [] later earlier one two)
+
+-- reads last
+pub room_then_reads : (At : ℕ → ℕ → Type 0) (t after : Tables) (u : ℕ) (old mid new : Told)
+    → RoomCosts t after u old mid → ReadsAt At mid new → RoomCosts t after u old new
+room_then_reads At t after u old mid new did reads = record {
+  home = λ has.
+      let (same, read) = did.home has in (
+        same,
+        spends_then (Costs 0 0 0 []) (Costs 0 0 0 []) (Costs 0 0 0 []) old mid new
+            (λ later earlier one two. costs_then 0 0 0 0 0 0 [] later earlier one two) read
+            (spends_reads At [] mid new reads),
+      );
+  any = frees_then_reads At t.places old mid new did.any reads;
+}
+
+-- ---- the log sector, and whether it goes home
+
+-- what counts as written then
+pub log_uses : (t after : Tables) (u p s next : ℕ) → IsAfterLog t after u p s next
+    → UsesHome (Ok tt) t.places after.places u
+log_uses t after u p s next (inl (home, is)) = inr (ap (λ (x : Tables). x.places) is)
+log_uses t after u p s next (inr (over, is)) = inl (ap (λ (x : Tables). x.places) is)
+
+-- no room was found
+pub unplaced_costs : (e : ChipFault) (t after : Tables) (u : ℕ) (old new : Told)
+    → RoomCosts t after u old new → WritingCosts (Err e) t after u old new
+unplaced_costs e t after u old new did = record {
+  home = λ has.
+      let (same, reads) = did.home has in (
+        spends_weaker (Costs 0 0 0 []) (Costs 0 1 0 (5 ∷ [])) old new
+            (λ added. costs_at_most 0 0 0 1 0 0 [] (5 ∷ []) added (omega arith) (omega arith) (omega arith)
+            no_kind) reads,
+        ap (λ (x : Tables). x.places) same,
+      );
+  any = frees_alone t.places old new did.any;
+}
+
+-- there was room, and the sector was written, or not
+pub placed_costs : (result : Result (Unit {0}) ChipFault) (t between after : Tables)
+    (u place : ℕ) (old mid new : Told) → RoomCosts t between u old mid
+    → Spends (ProgramsAt place 1 0 5) mid new → UsesHome result between.places after.places u
+    → WritingCosts result t after u old new
+placed_costs result t between after u place old mid new did programs uses = record {
+  home = λ has.
+      let (same, reads) = did.home has in (
+        spends_then (Costs 0 0 0 []) (ProgramsAt place 1 0 5) (Costs 0 1 0 (5 ∷ [])) old mid new
+            (λ later earlier read wrote. costs_then 0 0 0 1 0 0 (5 ∷ []) later earlier
+            (costs_at_most 0 0 0 0 0 0 [] (5 ∷ []) earlier (omega arith) (omega arith) (omega arith)
+            no_kind read) (programs_at_cost place 1 0 5 later wrote)) reads programs,
+        subst (λ (x : Tables). UsesHome result x.places after.places u) same uses,
+      );
+  any = frees_then_logs t.places place old mid new did.any programs;
+}

@@ -3,3 +3,4 @@ pub mod Writing
 pub mod Spending
 pub mod Causes
 pub mod Laws
+pub mod InPlace

@@ -1,12 +1,35 @@
 -- What writing a page's records out erases and programs.
-use Rattle.std.specs.Prelude.{ℕ, ◌≡◌, true, [], ◌∷◌}
+use Rattle.std.specs.Prelude.{ℕ, ◌≡◌, ◌⊎◌, true, [], ◌∷◌, Result, Ok, Err}
 use Rattle.chip_trait.specs.Story.{Story}
-use Rattle.ipl_meaning.specs.Tables.{Places}
-use Rattle.unit_io.specs.Costs.{Costs, is_erased}
-use Rattle.selective_merge.specs.Spending.{IsLowestFree}
+use Rattle.chip_trait.specs.Told.{Told}
+use Rattle.ipl_base.specs.declared.fault.ChipFault.{ChipFault}
+use Rattle.ipl_meaning.specs.Tables.{Places, Tables, with_written}
+use Rattle.unit_io.specs.Costs.{Costs, Spends, is_erased}
+use Rattle.selective_merge.specs.Spending.{ErasesFree, IsLowestFree}
+use Rattle.selective_merge.specs.Spotting.{HasHomeSpot}
 
 -- At most one place is erased, which was the lowest free one; of what wasn't erased before at most
 -- one sector is programmed, a log sector; and there are at most three barriers.
 pub record ErasesAndLogs (before : Places) (added : Story) : Type 0 where
   pub costs : Costs 1 1 3 (5 ∷ []) added
   pub lowest : (p : ℕ) → is_erased added p ≡ true → IsLowestFree before p
+
+-- Done, each unit stands where it stood, and no other log sector counts as written than before, but
+-- one more at this unit's home. Where it failed, all is as it was.
+abbrev pub UsesHome : Result (Unit {0}) ChipFault → Places → Places → ℕ → Type 0
+UsesHome (Ok v) before after u = (after ≡ before) ⊎ (after ≡ with_written before u)
+UsesHome (Err e) before after u = after ≡ before
+
+-- What finding room costs: where a log sector is clean at the unit's home, reads alone, and the
+-- tables stay as they are; else at most the erase of the lowest free place.
+pub record RoomCosts (t after : Tables) (u : ℕ) (old new : Told) : Type 0 where
+  pub home : HasHomeSpot t u → (after ≡ t) × Spends (Costs 0 0 0 []) old new
+  pub any : Spends (ErasesFree t.places) old new
+
+-- What writing out costs: where a log sector is clean at the unit's home, at most one program, of a
+-- log sector, and no erase and no barrier; else at most the erase of the lowest free place too.
+pub record WritingCosts (result : Result (Unit {0}) ChipFault) (t after : Tables) (u : ℕ)
+    (old new : Told) : Type 0 where
+  pub home : HasHomeSpot t u
+      → Spends (Costs 0 1 0 (5 ∷ [])) old new × UsesHome result t.places after.places u
+  pub any : Spends (ErasesAndLogs t.places) old new

@@ -4,7 +4,6 @@ ghost use Rattle.ipl_base.specs.declared.fault.ChipFault.TheVariants.{ReadFault}
 ghost use Rattle.ipl_format.specs.Sector.{Sector};
 ghost use Rattle.ipl_meaning.specs.Chart.{chart_of, IsDataHeader};
 ghost use Rattle.unit_io.specs.Accounts.{Accounts};
-ghost use Rattle.unit_io.specs.Costs.{Spends};
 ghost use Rattle.unit_io.specs.Kinds.{sector_named};
 ghost use Rattle.unit_io.specs.Reads.{OfContents};
 ghost use Rattle.unit_log.specs.Looks.{IsAt, LooksAt};
@@ -12,10 +11,11 @@ ghost use Rattle.steps.specs.Steps.{Tidies};
 ghost use Rattle.merge_rules.specs.Known.{KnowsPlaces};
 ghost use Rattle.selective_merge.specs.Merging.{FailsAsMerge, CompletesMerge};
 ghost use Rattle.selective_merge.specs.Moving.{tables_of, Holds};
-ghost use Rattle.selective_merge.specs.Spending.{ErasesFree};
 ghost use Rattle.selective_merge.specs.Spotting.{IsSpotFor};
 ghost use Rattle.page_writing.specs.Causes.{WritingCause};
+ghost use Rattle.page_writing.specs.InPlace.{StaysInPlace};
 ghost use Rattle.page_writing.specs.Rooms.{FindsRoom, FindsRoomInSteps};
+ghost use Rattle.page_writing.specs.Spending.{RoomCosts};
 
 use chip_trait::Chip;
 use ipl_base::{ChipFault, Spot};
@@ -60,7 +60,8 @@ fn read_generation<C: Chip>(chip: &mut C, place: u32, unit: u32) -> Result<u64, 
 }
 
 /// Finds room for the next log sector of a unit, by the rules of `log_place`, and the generation that
-/// the unit has then. It fails as `log_place` does, or where the unit's header isn't read.
+/// the unit has then. It fails as `log_place` does, or where the unit's header isn't read. Where a log
+/// sector is clean at home it only reads.
 ///
 /// The header is read before anything is written: a fault there leaves no overflow place in use that
 /// lists nothing. Where the unit was merged, it has another header, which is read too.
@@ -76,12 +77,15 @@ pub fn find_room<C: Chip>(chip: &mut C, parts: &mut Parts, unit: u32) -> Result<
         (C.told chip.old) }
     ensures complete { CompletesMerge (C.told chip.old).places (tables_of parts.old) unit result
         (C.told chip.old) }
+    ensures stays { StaysInPlace (C.told chip.old).places (tables_of parts.old) unit
+        (tables_of parts.new) result (C.told chip.old) }
     ensures spot { IfOk result (λ at.
         IsSpotFor (tables_of parts.new) unit at.spot.place at.spot.sector) }
     ensures holds { Holds (C.told chip.old).places (tables_of parts.old) (tables_of parts.new) }
     ensures draws { (parts.old.counter ≤ parts.new.counter)
         × (parts.new.counter ≤ parts.old.counter + 13) }
-    ensures costs { Spends (ErasesFree parts.old.directory) (C.told chip.old) (C.told chip.new) }
+    ensures costs { RoomCosts (tables_of parts.old) (tables_of parts.new) unit
+        (C.told chip.old) (C.told chip.new) }
     ensures tidy { Tidies (tables_of parts.old) result (tables_of parts.new)
         (C.told chip.old) (C.told chip.new) }
     ensures accounts { Accounts (WritingCause (tables_of parts.old) unit

@@ -10,7 +10,8 @@ ghost use Rattle.selective_merge.specs.Merging.{FailsAsMerge, CompletesMerge};
 ghost use Rattle.selective_merge.specs.Moving.{tables_of, Holds};
 ghost use Rattle.selective_merge.specs.Spotting.{IsHomeSpot, IsSpotFor};
 ghost use Rattle.page_writing.specs.Causes.{WritingCause};
-ghost use Rattle.page_writing.specs.Spending.{ErasesAndLogs};
+ghost use Rattle.page_writing.specs.InPlace.{StaysInPlace};
+ghost use Rattle.page_writing.specs.Spending.{UsesHome, WritingCosts};
 ghost use Rattle.page_writing.specs.Writing.{
   IsAfterLog,
   WritesLog,
@@ -78,6 +79,7 @@ fn write_log<C: Chip>(
         (tables_of parts.old) (tables_of parts.new) (C.told chip.old) result (C.told chip.new) }
     ensures holds { Holds (C.told chip.old).places (tables_of parts.old) (tables_of parts.new) }
     ensures places { parts.new.directory.current ≡ parts.old.directory.current }
+    ensures uses { UsesHome result parts.old.directory parts.new.directory unit }
     ensures drawn { parts.new.counter ≡ parts.old.counter + 1 }
     ensures costs { Spends (ProgramsAt at.spot.place 1 0 5) (C.told chip.old) (C.told chip.new) }
     ensures tidy { Tidies (tables_of parts.old) result (tables_of parts.new)
@@ -99,8 +101,9 @@ fn write_log<C: Chip>(
 }
 
 /// Writes the records of a page that are in memory only to the chip, as one log sector of its unit,
-/// and empties the list. Where no log sector is clean at the unit's home, a merge of the unit or a
-/// new overflow place may come first, by the rules of `log_place`.
+/// and empties the list. Where a log sector is clean at the unit's home, that is one program, with no
+/// erase and no barrier. Where none is, a merge of the unit or a new overflow place may come first, by
+/// the rules of `log_place`.
 ///
 /// Whatever a power cut leaves at any moment stands for the map on which the story rested, and where
 /// no write failed, it rests on that map at the end: nothing makes sure of the sector, which is for
@@ -125,11 +128,13 @@ pub fn write_out<C: Chip>(
         (tables_of parts.old) (tables_of parts.new) (C.told chip.old) result (C.told chip.new) }
 
     // Why it fails over what the chip holds: where the unit's pages read well and few log sectors
-    // would be carried, only where a call of the chip failed.
+    // would be carried, only where a call of the chip failed. Else the unit is where it was.
     ensures fault { FailsAsMerge (C.told chip.old).places (tables_of parts.old) unit result
         (C.told chip.old) }
     ensures complete { CompletesMerge (C.told chip.old).places (tables_of parts.old) unit result
         (C.told chip.old) }
+    ensures stays { StaysInPlace (C.told chip.old).places (tables_of parts.old) unit
+        (tables_of parts.new) result (C.told chip.old) }
 
     // What is in memory, whatever the chip tells.
     ensures empty { OnOk result (payload.new ≡ []) }
@@ -137,7 +142,8 @@ pub fn write_out<C: Chip>(
     ensures holds { Holds (C.told chip.old).places (tables_of parts.old) (tables_of parts.new) }
     ensures draws { (parts.old.counter ≤ parts.new.counter)
         × (parts.new.counter ≤ parts.old.counter + 14) }
-    ensures costs { Spends (ErasesAndLogs parts.old.directory) (C.told chip.old) (C.told chip.new) }
+    ensures costs { WritingCosts result (tables_of parts.old) (tables_of parts.new) unit
+        (C.told chip.old) (C.told chip.new) }
     ensures tidy { Tidies (tables_of parts.old) result (tables_of parts.new)
         (C.told chip.old) (C.told chip.new) }
     ensures accounts { Accounts (WritingCause (tables_of parts.old) unit

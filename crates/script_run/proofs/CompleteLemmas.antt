@@ -1,6 +1,6 @@
 -- What a run does with a store that keeps a state, in one part after another.
-use Rattle.std.proofs.Common.{◌≡◌, inl, inr, ◌≤◌, ◌+◌, ℕ, List, Option, Result, Ok, Err, arith}
-use Rattle.std.specs.Prelude.{IsErrAnd}
+use Rattle.std.proofs.Common.{◌≡◌, inl, inr, ◌≤◌, ◌+◌, ℕ, List, Option, Result, Ok, Err, arith, subst}
+use Rattle.std.specs.Prelude.{IsErrAnd, IsErrOf}
 use Rattle.ipl_rules.specs.State.{State, Limits}
 use Rattle.ipl_model.specs.declared.command.Command.{Command}
 use Rattle.ipl_model.specs.declared.reply.Reply.{Reply}
@@ -9,11 +9,15 @@ use Rattle.chip_trait.specs.declared.event.Event.TheVariants.{Said}
 use Rattle.chip_trait.specs.Told.{History, Told, IsBeside, Appends, adds_all}
 use Rattle.store_trait.specs.declared.fault.Fault.{Fault}
 use Rattle.store_trait.specs.Onward.{Further, sayings}
-use Rattle.store_trait.specs.Keeping.{Keeping, WORK_DRAWS, LOOK_UP_DRAWS, ChipRose, WorksFor, LooksUpFor}
+use Rattle.store_trait.specs.Keeping.{Keeping, WORK_DRAWS, LOOK_UP_DRAWS, ChipRose, SaysFailedCall, Excuses, WorksFor, LooksUpFor}
 use Rattle.store_trait.proofs.OnwardLemmas.{still_said, still_beside}
 use Rattle.script_run.specs.declared.fault.Stop.{Stop}
 use Rattle.script_run.specs.declared.fault.Stop.TheVariants as stop
 use Rattle.script_run.specs.Goes.{KeepsSome, Completes}
+
+-- the fault of a stop
+stop_fault : (s : Stop) (fault e : Fault) → s ≡ stop.Store fault → IsErrOf {T = Unit {0}} (Err s) (stop.Store e) → fault ≡ e
+stop_fault s fault e is same = cc (is, same)
 
 -- of a part that didn't stop
 abbrev pub CompletesSoFar : {S : Type 0} → Keeping S → Limits → ℕ → S → Told → S → Told → Type 0
@@ -23,6 +27,16 @@ CompletesSoFar k limits n before old then new = Completes k {T = Unit {0}} limit
 chip_earlier : (first old new : Told) → first.read_faults ≤ old.read_faults → first.write_faults ≤ old.write_faults → ChipRose old new → ChipRose first new
 chip_earlier first old new reads writes (inl rose) = inl (omega (arith, reads, rose))
 chip_earlier first old new reads writes (inr rose) = inr (omega (arith, writes, rose))
+
+excuse_earlier : (first old new : Told) (fault : Fault) → first.read_faults ≤ old.read_faults → first.write_faults ≤ old.write_faults
+    → ChipRose old new × SaysFailedCall fault → ChipRose first new × SaysFailedCall fault
+excuse_earlier first old new fault reads writes (rose, says) = (chip_earlier first old new reads writes rose, says)
+
+-- the fault that was met is the one that the run stops with
+fault_excused : {S : Type 0} (k : Keeping S) (n : ℕ) (before : S) (old new : Told) (s : Stop) (fault e : Fault) → s ≡ stop.Store fault
+    → IsErrOf {T = Unit {0}} (Err s) (stop.Store e) → Excuses k n before old new fault → Excuses k n before old new e
+fault_excused k n before old new s fault e is same excuse =
+    subst (Excuses k n before old new) (stop_fault s fault e is same) excuse
 
 module _ {S : Type 0} {k : Keeping S} {limits : Limits} where
   -- nothing was done
@@ -40,7 +54,7 @@ module _ {S : Type 0} {k : Keeping S} {limits : Limits} where
   pub completes_fault : {state : State} {c : Command} {before then : S} {h : History} {old new : Told} {fault : Fault} (result : Result (Unit {0}) Stop) → IsErrAnd result (λ s. s ≡ stop.Store fault)
       → WorksFor k limits state c before h (Err fault) then old new → Completes k limits WORK_DRAWS before old result then new
   completes_fault (Ok u) is w = absurd is
-  completes_fault (Err s) is w = record { drawn = w.drawn; excuse = λ e same. w.excuse; again = tt }
+  completes_fault {state} {c} {before} {then} {h} {old} {new} {fault} (Err s) is w = record { drawn = w.drawn; excuse = λ e same. fault_excused k WORK_DRAWS before old new s fault e is same w.excuse; again = tt }
 
   -- a record was looked up, or that failed
   pub completes_look : {state : State} {n : ℕ} {before then : S} {h : History} {old new : Told} {found : Option (List ℕ)} → LooksUpFor k limits state n before h (Ok found) then old new → CompletesSoFar k limits LOOK_UP_DRAWS before old then new
@@ -53,7 +67,7 @@ module _ {S : Type 0} {k : Keeping S} {limits : Limits} where
   pub completes_lost : {state : State} {n : ℕ} {before then : S} {h : History} {old new : Told} {fault : Fault} (result : Result (Unit {0}) Stop) → IsErrAnd result (λ s. s ≡ stop.Store fault)
       → LooksUpFor k limits state n before h (Err fault) then old new → Completes k limits LOOK_UP_DRAWS before old result then new
   completes_lost (Ok u) is w = absurd is
-  completes_lost (Err s) is w = record { drawn = w.drawn; excuse = λ e same. w.excuse; again = tt }
+  completes_lost {state} {n} {before} {then} {h} {old} {new} {fault} (Err s) is w = record { drawn = w.drawn; excuse = λ e same. fault_excused k LOOK_UP_DRAWS before old new s fault e is same w.excuse; again = tt }
 
   -- then its reply was said
   pub completes_said : {n m : ℕ} {before then : S} {old mid new : Told} {piece : List ℕ} → CompletesSoFar k limits n before old then mid → Appends (Said piece) mid new → n ≤ m → CompletesSoFar k limits m before old then new
@@ -90,7 +104,7 @@ module _ {S : Type 0} {k : Keeping S} {limits : Limits} where
   completes_then {T} {n} {m} {before} {between} {then} {old} {mid} {new} first on next =
       let more = next first.again in record {
         drawn = omega (arith, first.drawn, more.drawn);
-        excuse = λ fault is few. chip_earlier old mid new on.reads on.writes (more.excuse fault is (omega (arith, few, first.drawn)));
+        excuse = λ fault is few. excuse_earlier old mid new fault on.reads on.writes (more.excuse fault is (omega (arith, few, first.drawn)));
         again = more.again;
       }
 
@@ -101,7 +115,7 @@ module _ {S : Type 0} {k : Keeping S} {limits : Limits} where
       let still = still_beside old mid read in
       let more = next (record { state = keeps.state; history = adds_all (sayings still.pieces) keeps.history; holds = k.still limits before old mid keeps.history keeps.state still keeps.holds }) in record {
         drawn = more.drawn;
-        excuse = λ fault is few. chip_earlier old mid new read.reads read.writes (more.excuse fault is few);
+        excuse = λ fault is few. excuse_earlier old mid new fault read.reads read.writes (more.excuse fault is few);
         again = more.again;
       }
 

@@ -70,12 +70,12 @@ module _ {S : Type 0} (k : Keeping S) where
     pub holds : k.holds limits store t history state
 
   -- What a part of a run does with a store that keeps a state: it draws at most n numbers; it stops
-  -- with a fault of the store only where the chip failed, as long as numbers are left; and where it
+  -- with a fault of the store only where a call of the chip failed, which it says, as long as numbers are left; and where it
   -- is done, the store keeps a state again.
   pub record Completes {T : Type 0} (limits : Limits) (n : ℕ) (before : S) (old : Told) (result : Result T Stop)
       (then : S) (new : Told) : Type 0 where
     pub drawn : k.counter then ≤ k.counter before + n
-    pub excuse : (fault : Fault) → IsErrOf result (stop.Store fault) → Excuses k n before old new
+    pub excuse : (fault : Fault) → IsErrOf result (stop.Store fault) → Excuses k n before old new fault
     pub again : OnOk result (KeepsSome limits then new)
 
   -- wherever it keeps a state

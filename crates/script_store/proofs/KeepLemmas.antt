@@ -2,14 +2,14 @@
 use Rattle.std.proofs.Common.{ℕ, ◌≡◌, ◌≤◌, ◌<◌, ◌+◌, ◌^◌, max, arith, Bool, true, false, ◌∷◌, [], Option, List, Result, MatchResult, Ok, Err, OnOk, is_ok, if◌then◌else◌, sym, ap, subst}
 use Rattle.std.specs.FinMap.{get}
 use Rattle.std.proofs.lemmas.Bool.{true≢false, false≢true}
-use Rattle.std.proofs.lemmas.Result.{on_err_weaker}
+use Rattle.std.proofs.lemmas.Result.{IfErr-weaker}
 use Rattle.chip_trait.specs.Story.{Contents}
 use Rattle.chip_trait.specs.Told.{History, Told, adds_all}
 use Rattle.ipl_model.specs.declared.command.Command.{Command}
 use Rattle.ipl_model.specs.declared.reply.Reply.{Reply}
 use Rattle.ipl_model.specs.Step.{step}
 use Rattle.store_trait.specs.declared.fault.Fault.{Fault}
-use Rattle.store_trait.specs.Keeping.{FOUND_NUMBER, LAST_NUMBER, WORK_DRAWS, LOOK_UP_DRAWS, Draws, WorkLeaves, Stays, Works, LooksUp, LeavesTidy}
+use Rattle.store_trait.specs.Keeping.{FOUND_NUMBER, LAST_NUMBER, WORK_DRAWS, LOOK_UP_DRAWS, Excuses, Draws, WorkLeaves, Stays, Works, LooksUp, LeavesTidy}
 use Rattle.ipl_base.specs.declared.fault.StoreFault.{StoreFault}
 use Rattle.steps.specs.Steps.{Tidies}
 use Rattle.page_frames.specs.Pages.{tables_in}
@@ -129,7 +129,9 @@ module _ (a b : ScriptStore) (old new : Told) (up : a.store.down ≡ false)
         leaves = leaves_so _ h (is_ok result) did.leaves;
         ends = by_end result (adds_all did.leaves.added h) did.ends;
         drawn = drawn_so WORK_DRAWS did.drawn;
-        excuse = on_err_weaker result (λ excuse few. excuse (few_so WORK_DRAWS few)) did.excuse;
+        excuse = IfErr-weaker result (Excuses store_keeping WORK_DRAWS (view_of a.store) old new)
+            (Excuses script_keeping WORK_DRAWS a old new)
+            (λ fault excuse few. excuse (few_so WORK_DRAWS few)) did.excuse;
       }
     where
       by_end : (r : Result Reply Fault) (k : History) → MatchResult r
@@ -152,7 +154,9 @@ module _ (a b : ScriptStore) (old new : Told) (up : a.store.down ≡ false)
         leaves = leaves_so _ h (is_ok result) did.leaves;
         ends = by_end result (adds_all did.leaves.added h) did.ends;
         drawn = drawn_so LOOK_UP_DRAWS did.drawn;
-        excuse = on_err_weaker result (λ excuse few. excuse (few_so LOOK_UP_DRAWS few)) did.excuse;
+        excuse = IfErr-weaker result (Excuses store_keeping LOOK_UP_DRAWS (view_of a.store) old new)
+            (Excuses script_keeping LOOK_UP_DRAWS a old new)
+            (λ fault excuse few. excuse (few_so LOOK_UP_DRAWS few)) did.excuse;
       }
     where
       by_end : (r : Result (Option (List ℕ)) Fault) (k : History) → MatchResult r

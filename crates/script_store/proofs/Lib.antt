@@ -2,3 +2,4 @@ pub mod KeepLemmas
 pub mod WorkLemmas
 pub mod SeeLemmas
 pub mod RestartLemmas
+pub mod DoneLemmas

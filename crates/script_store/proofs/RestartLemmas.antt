@@ -29,7 +29,7 @@ use Rattle.status_renewal.specs.Recovers.{IsOpeningFault, FailsByCallAlone, Open
 use Rattle.status_renewal.proofs.ReadyLemmas.{layouts_say}
 use Rattle.store_trait.specs.declared.fault.Fault.{Fault}
 use Rattle.store_trait.specs.declared.fault.Fault.TheVariants.{Image}
-use Rattle.store_trait.specs.Keeping.{FOUND_NUMBER, WORK_DRAWS, ChipRose, Works}
+use Rattle.store_trait.specs.Keeping.{FOUND_NUMBER, WORK_DRAWS, ChipRose, SaysFailedCall, Works}
 use Rattle.store_steps.specs.Advances.{memory_of, TurnsMapOf}
 use Rattle.store_steps.specs.Keeps.{View, ImageCause, DrawsFew, IsExcused, ShowsState, store_keeping}
 use Rattle.store_steps.proofs.AdvanceLemmas.{answers_advance}
@@ -114,9 +114,9 @@ module _ (a b : ScriptStore) (old new : Told) (up : a.store.down ≡ false)
 -- where no call of the chip failed it would have been done
 rose_for : (e : ImageFault) (before after : Told) → OpeningCause e before after
     → (e ≢ image.Chip ReadFault → e ≢ image.Chip Stopped → FailsByCallAlone e)
-    → ChipRose before after
-rose_for (image.Chip ReadFault) before after cause fails = inl (cause.read refl)
-rose_for (image.Chip Stopped) before after cause fails = inr (cause.stopped refl)
+    → ChipRose before after × SaysFailedCall (Image e)
+rose_for (image.Chip ReadFault) before after cause fails = (inl (cause.read refl), tt)
+rose_for (image.Chip Stopped) before after cause fails = (inr (cause.stopped refl), tt)
 rose_for (image.Chip (Damaged p s stored computed)) before after cause fails =
     elim (fails (λ no. absurd (cc no)) (λ no. absurd (cc no))) [
       | inl is ↦ absurd (cc is)
@@ -301,7 +301,7 @@ module _ (a b : ScriptStore) (before after : Told) (runs : IsRunning before.plac
             ends = did.ends;
           }
 
-      excused : IsExcused WORK_DRAWS first before after
+      excused : IsExcused WORK_DRAWS first before after (Image e)
       excused h state keeps low = rose_for e before after tries.accounts.cause fails
         where
           x : Contents

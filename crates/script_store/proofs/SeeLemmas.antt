@@ -27,6 +27,7 @@ use Rattle.store_steps.proofs.FaultLemmas.{idle_faults_look_up}
 use Rattle.ipl_store.specs.declared.store.Store.{Store}
 use Rattle.ipl_store.specs.Calls.{memory_of_store, view_of, counter_of, IsSound, early_fault, entry_fault, refuses_name, Serves, Calls}
 use Rattle.ipl_store.specs.Shown.{IsSeen, IsCommitted}
+use Rattle.ipl_store.proofs.ShownLemmas.{name_shown}
 use Rattle.script_store.specs.declared.store.ScriptStore.{ScriptStore}
 use Rattle.script_store.specs.Keeps.{IsRunning, script_keeping, not_found, looked_up, Finds}
 use Rattle.script_store.proofs.KeepLemmas.{looks_up_so, draws_few, tidy_so}
@@ -52,6 +53,7 @@ calls_copied copy early next most old before (Ok found) new after calls = record
         least = did.least;
         drawn = did.drawn;
         complete = λ x told state shown. tt;
+        faults = λ x told it state fits. tt;
       };
   sound = calls.sound;
   tidy = calls.tidy;
@@ -69,6 +71,7 @@ calls_copied {U = U} copy early next most old before (Err e) new after calls = r
         least = did.least;
         drawn = did.drawn;
         complete = did.complete;
+        faults = did.faults;
       };
   sound = calls.sound;
   tidy = calls.tidy;
@@ -107,7 +110,8 @@ pub seen_replies : (s n : ℕ) (old : Store) (before : Told)
     → IfOk result (λ found. (state : State) → OfContents before (λ x.
     ShowsState (view_of old) state x → found_reply (see state s n) ∷ [] ≡ found_reply found ∷ []))
 seen_replies s n old before (Ok found) seen = λ state x told shown.
-    ap (λ (value : Option (List ℕ)). found_reply value ∷ []) (sym (seen state x told shown))
+    ap (λ (value : Option (List ℕ)). found_reply value ∷ [])
+    (sym (seen state x told (name_shown (view_of old) state n x shown)))
 seen_replies s n old before (Err fault) seen = tt
 
 -- ---- a record is looked up
@@ -131,7 +135,7 @@ leaves_same P first last h old new done leaves = record {
 }
 
 -- a name below the limit isn't refused
-low_is_free : (units n : ℕ) (r : Refusal) → refuses_name (limits_of units) n ≡ Some r
+pub low_is_free : (units n : ℕ) (r : Refusal) → refuses_name (limits_of units) n ≡ Some r
     → n < 960 * units → ⊥
 low_is_free units n r is low = by_test (nat_le (960 * units) n) refl is
   where
@@ -203,7 +207,11 @@ module _ (n : ℕ) (a b : ScriptStore) (before after : Told) (runs : IsRunning b
             let here = is_at first before h state runs.up
             (at_limits limits first before h state keeps) in record {
               leaves = leaves_same _ first last h before after true did_work.leaves;
-              ends = (did_work.ends.0, committed state _ here.steady.holds here.shown);
+              ends = (
+                did_work.ends.0,
+                committed state _ here.steady.holds
+                    (name_shown first state n _ here.shown),
+              );
               drawn = few;
               excuse = tt;
             }

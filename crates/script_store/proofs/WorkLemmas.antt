@@ -20,7 +20,7 @@ use Rattle.steps.specs.Steps.{Tidies}
 use Rattle.page_frames.specs.Pages.{tables_in, PageCause}
 use Rattle.store_trait.specs.declared.fault.Fault.{Fault}
 use Rattle.store_trait.specs.declared.fault.Fault.TheVariants.{Chip, Spent}
-use Rattle.store_trait.specs.Keeping.{LAST_NUMBER, WORK_DRAWS, ChipRose, LeavesTidy}
+use Rattle.store_trait.specs.Keeping.{LAST_NUMBER, WORK_DRAWS, ChipRose, IsFailedCall, LeavesTidy}
 use Rattle.store_trait.proofs.TidyLemmas.{tidy_same}
 use Rattle.store_steps.specs.Advances.{TurnsMapOf, LeadsTo}
 use Rattle.store_steps.specs.Keeps.{View, limits_of, ShowsState, StoreCause}
@@ -37,11 +37,11 @@ use Rattle.script_store.proofs.KeepLemmas.{works_so, draws_few, tidy_so}
 
 -- ---- faults of the chip
 
--- a fault of a call of the chip has its excuse
+-- a fault of a call of the chip has its excuse, and says so
 pub chip_rose : (e : ChipFault) (before after : Told) → IsOfTheChip (store.Chip e)
-    → PageCause e before after → ChipRose before after
-chip_rose ReadFault before after of cause = inl cause
-chip_rose Stopped before after of cause = inr cause
+    → PageCause e before after → ChipRose before after × IsFailedCall e
+chip_rose ReadFault before after of cause = (inl cause, tt)
+chip_rose Stopped before after of cause = (inr cause, tt)
 chip_rose (Damaged p s stored computed) before after (inl is) cause = absurd (cc is)
 chip_rose (Damaged p s stored computed) before after (inr is) cause = absurd (cc is)
 chip_rose (Malformed p s) before after (inl is) cause = absurd (cc is)

@@ -1,6 +1,8 @@
 //! Commands that have no record as their reply.
+ghost use Rattle.std.specs.Prelude.{◌⊎◌, IfOk, OnOk};
 ghost use Rattle.ipl_model.specs.declared.command.Command.TheVariants as command;
 ghost use Rattle.script_store.specs.Keeps.{IsRunning, Does};
+ghost use Rattle.script_store.specs.Done.{IsRefused, HasMoved, HasNewStatus};
 
 use crate::ScriptStore;
 use crate::replies::reply_of;
@@ -60,8 +62,11 @@ impl ScriptStore {
     /// Merges a unit.
     pub(crate) fn merge<C: Chip>(&mut self, chip: &mut C, unit: u32) -> Result<Reply, Fault>
         requires runs { IsRunning (C.told chip.old).places self.old }
-        ensures { Does (command.Merge unit) self.old (C.told chip.old) result self.new
+        ensures does { Does (command.Merge unit) self.old (C.told chip.old) result self.new
             (C.told chip.new) }
+        // Done, the place where the unit stands was erased.
+        ensures done { IfOk result (λ reply. IsRefused reply
+            ⊎ HasMoved unit self.new (C.told chip.old) (C.told chip.new)) }
     {
         reply_of(self.store.merge(chip, unit))
     }
@@ -69,7 +74,10 @@ impl ScriptStore {
     /// Opens the chip again, whatever the memory has: all sessions are dropped.
     pub(crate) fn restart<C: Chip>(&mut self, chip: &mut C) -> Result<Reply, Fault>
         requires runs { IsRunning (C.told chip.old).places self.old }
-        ensures { Does command.Restart self.old (C.told chip.old) result self.new (C.told chip.new) }
+        ensures does { Does command.Restart self.old (C.told chip.old) result self.new
+            (C.told chip.new) }
+        // Done, the place that the status has was erased.
+        ensures done { OnOk result (HasNewStatus self.new (C.told chip.old) (C.told chip.new)) }
     {
         match self.store.open_chip(chip) {
             Ok(()) => Ok(Reply::Ok),

@@ -8,6 +8,7 @@ ghost use Rattle.store_steps.specs.Keeps.{limits_of};
 ghost use Rattle.ipl_store.specs.Calls.{Calls, early_fault, entry_fault, refuses_name};
 ghost use Rattle.ipl_store.specs.Shown.{IsSeen, IsCommitted};
 ghost use Rattle.script_store.specs.Keeps.{IsRunning, Does, Finds};
+ghost use Rattle.script_store.specs.Done.{SaysSeen, HasFound};
 
 use crate::ScriptStore;
 use crate::replies::{copied, found_of, looked_up};
@@ -73,8 +74,9 @@ impl ScriptStore {
     /// What a session sees of a name.
     pub(crate) fn get<C: Chip>(&mut self, chip: &mut C, s: u32, n: u32) -> Result<Reply, Fault>
         requires runs { IsRunning (C.told chip.old).places self.old }
-        ensures { Does (command.Get s n) self.old (C.told chip.old) result self.new
+        ensures does { Does (command.Get s n) self.old (C.told chip.old) result self.new
             (C.told chip.new) }
+        ensures done { IfOk result (λ reply. SaysSeen s n self.old (C.told chip.old) reply) }
     {
         found_of(self.see(chip, s, n))
     }
@@ -82,8 +84,9 @@ impl ScriptStore {
     /// What a session sees of a name, which it shares then.
     pub(crate) fn share<C: Chip>(&mut self, chip: &mut C, s: u32, n: u32) -> Result<Reply, Fault>
         requires runs { IsRunning (C.told chip.old).places self.old }
-        ensures { Does (command.Share s n) self.old (C.told chip.old) result self.new
+        ensures does { Does (command.Share s n) self.old (C.told chip.old) result self.new
             (C.told chip.new) }
+        ensures done { IfOk result (λ reply. SaysSeen s n self.old (C.told chip.old) reply) }
     {
         found_of(self.see_shared(chip, s, n))
     }
@@ -91,7 +94,8 @@ impl ScriptStore {
     /// The committed record of a name, where there is one. A name that the chip hasn't has none.
     pub(crate) fn look<C: Chip>(&mut self, chip: &mut C, n: u32) -> Result<Option<Value>, Fault>
         requires runs { IsRunning (C.told chip.old).places self.old }
-        ensures { Finds n self.old (C.told chip.old) result self.new (C.told chip.new) }
+        ensures finds { Finds n self.old (C.told chip.old) result self.new (C.told chip.new) }
+        ensures done { IfOk result (λ found. HasFound n self.old (C.told chip.old) found) }
     {
         looked_up(self.find(chip, n))
     }

@@ -1,9 +1,12 @@
 //! The store that a run of a script works with.
-ghost use Rattle.std.specs.Prelude.{◌≡◌, ◌≤◌};
-ghost use Rattle.chip_trait.specs.Told.{History, Told};
+ghost use Rattle.std.specs.Prelude.{◌≡◌, ◌≤◌, ℕ, IfOk, IfErr, OnOk, IsErrOf, is_ok};
+ghost use Rattle.chip_trait.specs.Told.{History, Told, Counts};
 ghost use Rattle.ipl_rules.specs.State.{State, Limits};
-ghost use Rattle.store_trait.specs.Keeping.{IsSingle};
+ghost use Rattle.store_trait.specs.declared.fault.Fault.TheVariants.{Spent};
+ghost use Rattle.store_trait.specs.Keeping.{IsSingle, Works, LooksUp, LeavesTidy, Draws, WORK_DRAWS, LOOK_UP_DRAWS};
+ghost use Rattle.store_steps.specs.Keeps.{StoreCause};
 ghost use Rattle.script_store.specs.Keeps.{IsRunning, KeepsScript, Does, script_keeping};
+ghost use Rattle.script_store.specs.Done.{HasDone, HasFound};
 
 use chip_trait::Chip;
 use ipl_base::{UNIT_NAMES, Value};
@@ -44,7 +47,10 @@ impl ScriptStore {
     fn answer<C: Chip>(&mut self, chip: &mut C, command: &Command) -> Result<Reply, Fault>
         requires single { IsSingle command.now }
         requires runs { IsRunning (C.told chip.old).places self.old }
-        ensures { Does command.now self.old (C.told chip.old) result self.new (C.told chip.new) }
+        ensures does { Does command.now self.old (C.told chip.old) result self.new
+            (C.told chip.new) }
+        ensures done { IfOk result (λ reply. HasDone command.now self.old (C.told chip.old) reply
+            self.new (C.told chip.new)) }
     {
         match command {
             Command::Begin(s) => self.begin(chip, *s),
@@ -69,11 +75,42 @@ impl store_trait::Store for ScriptStore {
         self.limit()
     }
 
-    fn work<C: Chip>(&mut self, chip: &mut C, command: &Command) -> Result<Reply, Fault> {
+    fn work<C: Chip>(&mut self, chip: &mut C, command: &Command) -> Result<Reply, Fault>
+        requires single { IsSingle command.now }
+        requires suits { IsRunning (C.told chip.old).places self.old }
+        ensures draws { Draws script_keeping WORK_DRAWS self.old (IsErrOf result Spent) self.new }
+        ensures works { Works script_keeping command.now self.old (C.told chip.old) result self.new
+            (C.told chip.new) }
+        ensures tidy { LeavesTidy script_keeping self.old self.new (C.told chip.old)
+            (C.told chip.new) (is_ok result) }
+        ensures suited { OnOk result ((places : ℕ) → IsRunning places self.old
+            → IsRunning places self.new) }
+        ensures counts { Counts (C.told chip.old) (C.told chip.new) }
+        ensures cause { IfErr result (λ fault. StoreCause fault (C.told chip.old)
+            (C.told chip.new)) }
+        // And what it has done by itself, also where not all pages of the chip read well.
+        ensures done { IfOk result (λ reply. HasDone command.now self.old (C.told chip.old) reply
+            self.new (C.told chip.new)) }
+    {
         self.answer(chip, command)
     }
 
-    fn look_up<C: Chip>(&mut self, chip: &mut C, n: u32) -> Result<Option<Value>, Fault> {
+    fn look_up<C: Chip>(&mut self, chip: &mut C, n: u32) -> Result<Option<Value>, Fault>
+        requires { IsRunning (C.told chip.old).places self.old }
+        ensures draws { Draws script_keeping LOOK_UP_DRAWS self.old (IsErrOf result Spent)
+            self.new }
+        ensures looks_up { LooksUp script_keeping n self.old (C.told chip.old) result self.new
+            (C.told chip.new) }
+        ensures tidy { LeavesTidy script_keeping self.old self.new (C.told chip.old)
+            (C.told chip.new) (is_ok result) }
+        ensures suited { OnOk result ((places : ℕ) → IsRunning places self.old
+            → IsRunning places self.new) }
+        ensures counts { Counts (C.told chip.old) (C.told chip.new) }
+        ensures cause { IfErr result (λ fault. StoreCause fault (C.told chip.old)
+            (C.told chip.new)) }
+        // What the name's own page shows, also where others don't read well.
+        ensures done { IfOk result (λ found. HasFound n self.old (C.told chip.old) found) }
+    {
         self.look(chip, n)
     }
 }

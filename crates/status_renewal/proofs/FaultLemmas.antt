@@ -20,9 +20,11 @@ use Rattle.merge_rules.specs.Packs.{among}
 use Rattle.merge_rules.proofs.FaultLemmas.{faults_are_of_the_place, fault_with_few}
 use Rattle.opening_rules.specs.Faults.{first_fault}
 use Rattle.opening_rules.specs.LaidOut.{layout_in}
-use Rattle.selective_merge.specs.Merging.{FailsAsMerge}
+use Rattle.selective_merge.specs.Merging.{Merges, StaysMirrored, FailsAsMerge}
 use Rattle.selective_merge.specs.Spending.{SparesUsed}
+use Rattle.selective_merge.specs.Throughout.{ChartsThroughout}
 use Rattle.unit_io.specs.Leads.{IsStopped}
+use Rattle.status_renewal.specs.InPlace.{FailsInPlace}
 use Rattle.status_renewal.specs.Joins.{joined}
 use Rattle.status_renewal.specs.Passes.{kept_below, has_room, HasPassed, SparesUnits, IsRenewalFault, FailsAsPass}
 use Rattle.status_renewal.specs.Recovers.{IsOpeningFault}
@@ -97,24 +99,43 @@ module _ (places n : ℕ) (x : Contents) (it : Layout) (t : Tables) (kept : List
         rw (ap (λ (s : Status). s.numbers) status, same_unit, was.kept_is) refl in
         lt-leb _ _ (subst (λ (l : List ℕ). 3840 < length l) all many)
 
-    pub merge_fails : (result : Result (Unit {0}) ChipFault)
+    -- that is why a merge fails, and the unit is where it was
+    pub merge_in_place : (result : Result (Unit {0}) ChipFault) (new : Told) (after : Tables)
         → 3840 < length (joined between.status.numbers (records_of (was.now.units n).log) kept)
         → mid.places ≡ places → FailsAsMerge mid.places between n result mid
-        → IfErr result (FailsAsPass places x it t)
-    merge_fails result many sized fails = go result
+        → ChartsThroughout (λ done. Merges mid.places n between after)
+        (StaysMirrored mid.places between after) result mid new
+        → IfErr result (FailsInPlace places x it t after)
+    merge_in_place result new after many sized fails tells = go result
         (subst (λ (q : ℕ). FailsAsMerge q between n result mid) sized fails was.contents
         (reads ∙ was.told) was.now was.mirrors)
+        (subst (λ (q : ℕ). ChartsThroughout (λ done. Merges q n between after)
+        (StaysMirrored q between after) result mid new) sized tells)
       where
         go : (r : Result (Unit {0}) ChipFault)
             → IfErr r (IsTheFault (merge_fault was.contents between (was.now.units n) n))
-            → IfErr r (FailsAsPass places x it t)
-        go (Ok v) is = tt
-        go (Err e) is = λ read stopped. record {
-          unit = n;
-          low = low;
-          full = no_room many;
-          fault = sym fault_is ∙ is read stopped;
-        }
+            → ChartsThroughout (λ done. Merges places n between after)
+            (StaysMirrored places between after) r mid new
+            → IfErr r (FailsInPlace places x it t after)
+        go (Ok v) is stays = tt
+        go (Err e) is stays = λ read stopped.
+            let (y, told_y, still) = stays stopped was.contents (reads ∙ was.told) in record {
+              is = record {
+                unit = n;
+                low = low;
+                full = no_room many;
+                fault = sym fault_is ∙ is read stopped;
+              };
+              stays = (still was.now was.mirrors).0.directory.current n low
+                  ∙ ap (λ (s : Shape). s.home) same_unit;
+            }
+
+-- wherever the unit is
+pub in_place_fails : (places : ℕ) (x : Contents) (it : Layout) (t after : Tables)
+    (result : Result (Unit {0}) ChipFault) → IfErr result (FailsInPlace places x it t after)
+    → IfErr result (FailsAsPass places x it t)
+in_place_fails places x it t after (Ok v) fails = tt
+in_place_fails places x it t after (Err e) fails = λ read stopped. (fails read stopped).is
 
 -- a call that only writes
 pub pass_written : (places : ℕ) (x : Contents) (it : Layout) (t : Tables) (old new : Told)
@@ -122,6 +143,12 @@ pub pass_written : (places : ℕ) (x : Contents) (it : Layout) (t : Tables) (old
     → IfErr result (FailsAsPass places x it t)
 pass_written places x it t old new (Ok v) is = tt
 pass_written places x it t old new (Err e) is = λ read stopped. absurd (stopped is.0)
+
+pub place_written : (places : ℕ) (x : Contents) (it : Layout) (t after : Tables) (old new : Told)
+    (result : Result (Unit {0}) ChipFault) → IfErr result (λ e. IsStopped e old new)
+    → IfErr result (FailsInPlace places x it t after)
+place_written places x it t after old new (Ok v) is = tt
+place_written places x it t after old new (Err e) is = λ read stopped. absurd (stopped is.0)
 
 -- ---- an opening
 

@@ -6,3 +6,4 @@ pub mod Renewed
 pub mod Passes
 pub mod Renewals
 pub mod Recovers
+pub mod InPlace

@@ -1,5 +1,5 @@
 -- What a pass over the units makes of a chip and of its tables.
-use Rattle.std.specs.Prelude.{ℕ, zero, suc, ◌≡◌, ◌≢◌, ◌⊎◌, ◌↔◌, ◌<◌, ◌≤◌, ◌-◌, ◌*◌, nat_le, Bool, false, IsTrue, List, [], length, Some, Result, MatchResult, IfErr, if◌then◌else◌}
+use Rattle.std.specs.Prelude.{ℕ, zero, suc, ◌≡◌, ◌≢◌, ◌⊎◌, ◌↔◌, ◌<◌, ◌≤◌, ◌-◌, ◌*◌, nat_le, Bool, true, false, IsTrue, List, [], length, Some, Result, MatchResult, IfErr, if◌then◌else◌}
 use Rattle.ipl_base.specs.declared.limits.TheConstants.{RESERVED_PLACES, PAGES, FIRST_LOG_SECTOR, KEPT_NUMBERS}
 use Rattle.chip_trait.specs.Story.{Story, Contents}
 use Rattle.chip_trait.specs.Told.{History, Told, Rose}
@@ -20,7 +20,7 @@ use Rattle.merge_rules.specs.Packs.{among, packs_of, entries_from}
 use Rattle.selective_merge.specs.Throughout.{ChartsThroughout}
 use Rattle.steps.specs.Laws.{Preserves}
 use Rattle.txn_status.specs.Status.{room_of}
-use Rattle.unit_io.specs.Costs.{Costs}
+use Rattle.unit_io.specs.Costs.{Costs, is_erased}
 use Rattle.unit_io.specs.Leads.{IsSteady}
 use Rattle.unit_io.specs.Reads.{OfContents}
 use Rattle.status_renewal.specs.Joins.{joined}
@@ -193,6 +193,10 @@ CompletesRenewal places t result told = OfContents told (λ x. (it : Layout)
 -- programmed
 abbrev pub ErasesAtMost : ℕ → Story → Type 0
 ErasesAtMost n added = Costs n 0 (3 * n) [] added
+
+-- the place was erased among these events
+abbrev pub HasErased : ℕ → Story → Type 0
+HasErased place added = is_erased added place ≡ true
 
 -- ---- causes
 

@@ -11,6 +11,7 @@ ghost use Rattle.selective_merge.specs.Moving.{tables_of, Holds};
 ghost use Rattle.steps.specs.Steps.{Tidies};
 ghost use Rattle.unit_io.specs.Accounts.{Accounts};
 ghost use Rattle.unit_io.specs.Costs.{Spends};
+ghost use Rattle.status_renewal.specs.InPlace.{FailsInPlace, RenewalFailsInPlace};
 ghost use Rattle.status_renewal.specs.Passes.{HasPassed, PassEnds, GoesOnTelling, KeepsInSteps, SparesUnits, FailsAsPass, FailsAsRenewal, AreMergeable, CompletesRenewal, ErasesAtMost, RenewCause};
 
 use crate::kept::KeptNumbers;
@@ -46,6 +47,11 @@ fn take_unit<C: Chip>(
         → HasPassed places unit (chart_of x) it t kept.old (C.told chip.old) (tables_of parts.old)
         → SparesUnits places unit x it (C.told chip.old)
         → IfErr result (FailsAsPass places x it t) }
+    ensures stays { (places : ℕ) (x : Contents) (it : Layout) (t : Tables)
+        → (C.told chip.old).places ≡ places → Holds places t (tables_of parts.old)
+        → HasPassed places unit (chart_of x) it t kept.old (C.told chip.old) (tables_of parts.old)
+        → SparesUnits places unit x it (C.told chip.old)
+        → IfErr result (FailsInPlace places x it t (tables_of parts.new)) }
     ensures complete { (places : ℕ) (c : Chart) (it : Layout) (t : Tables)
         → (C.told chip.old).places ≡ places → Holds places t (tables_of parts.old)
         → HasPassed places unit c it t kept.old (C.told chip.old) (tables_of parts.old)
@@ -94,6 +100,8 @@ pub fn pass<C: Chip>(
     ensures goes_on { GoesOnTelling result (C.told chip.old) (C.told chip.new) }
     ensures fault { FailsAsRenewal (C.told chip.old).places (tables_of parts.old) result
         (C.told chip.old) }
+    ensures stays { RenewalFailsInPlace (C.told chip.old).places (tables_of parts.old)
+        (tables_of parts.new) result (C.told chip.old) }
     ensures complete { CompletesRenewal (C.told chip.old).places (tables_of parts.old) result
         (C.told chip.old) }
     ensures steps { (places : ℕ) → (C.told chip.old).places ≡ places

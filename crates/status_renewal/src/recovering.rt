@@ -9,7 +9,7 @@ ghost use Rattle.steps.specs.Steps.{TidyWork};
 ghost use Rattle.unit_io.specs.Accounts.{Accounts};
 ghost use Rattle.unit_io.specs.Costs.{Spends};
 ghost use Rattle.unit_io.specs.Reads.{OfContents};
-ghost use Rattle.status_renewal.specs.Passes.{ErasesAtMost};
+ghost use Rattle.status_renewal.specs.Passes.{ErasesAtMost, HasErased};
 ghost use Rattle.status_renewal.specs.Recovers.{CompletesOpening, RecoversTold, LooksAtFaults, IsNowhere, RecoversInSteps, HoldsOpened, OpeningCause};
 
 use crate::kept::KeptNumbers;
@@ -63,6 +63,9 @@ pub fn recover<C: Chip>(
     // At most one erase a unit, and one for the status place.
     ensures costs { Spends (ErasesAtMost ((C.told chip.old).places - 3))
         (C.told chip.old) (C.told chip.new) }
+    // Done, the status place is a new one, which was erased.
+    ensures renewed { OnOk result (Spends (HasErased parts.new.status.place)
+        (C.told chip.old) (C.told chip.new)) }
     // Whatever the chip holds, what it adds is lawful after any lawful events; and done, what the
     // tables count as clean is clean.
     ensures tidy { Spends

@@ -1,11 +1,12 @@
 //! The renewal of the status place.
-ghost use Rattle.std.specs.Prelude.{◌≡◌, ◌<◌, ◌≤◌, ◌+◌, ◌-◌, ◌^◌};
+ghost use Rattle.std.specs.Prelude.{◌≡◌, ◌<◌, ◌≤◌, ◌+◌, ◌-◌, ◌^◌, OnOk};
 ghost use Rattle.merge_rules.specs.Known.{KnowsPlaces};
 ghost use Rattle.selective_merge.specs.Moving.{tables_of};
 ghost use Rattle.steps.specs.Steps.{Tidies};
 ghost use Rattle.unit_io.specs.Accounts.{Accounts};
 ghost use Rattle.unit_io.specs.Costs.{Spends};
-ghost use Rattle.status_renewal.specs.Passes.{RenewsTold, HoldsRenewed, KeepsInSteps, FailsAsRenewal, CompletesRenewal, ErasesAtMost, RenewCause};
+ghost use Rattle.status_renewal.specs.InPlace.{RenewalFailsInPlace};
+ghost use Rattle.status_renewal.specs.Passes.{RenewsTold, HoldsRenewed, KeepsInSteps, FailsAsRenewal, CompletesRenewal, ErasesAtMost, HasErased, RenewCause};
 
 use crate::kept::KeptNumbers;
 use crate::passing::pass;
@@ -37,10 +38,12 @@ pub fn renew<C: Chip>(
         (tables_of parts.new) (C.told chip.old) result (C.told chip.new) }
 
     // Why it fails over what the chip holds: it tells what is wrong with a unit that had to be
-    // merged; and where all units' pages read well and few log sectors of each would be carried,
-    // only where a call of the chip failed.
+    // merged, which is where it was; and where all units' pages read well and few log sectors of
+    // each would be carried, only where a call of the chip failed.
     ensures fault { FailsAsRenewal (C.told chip.old).places (tables_of parts.old) result
         (C.told chip.old) }
+    ensures stays { RenewalFailsInPlace (C.told chip.old).places (tables_of parts.old)
+        (tables_of parts.new) result (C.told chip.old) }
     ensures complete { CompletesRenewal (C.told chip.old).places (tables_of parts.old) result
         (C.told chip.old) }
 
@@ -52,6 +55,9 @@ pub fn renew<C: Chip>(
     // At most one erase a unit, and one for the status place.
     ensures costs { Spends (ErasesAtMost ((C.told chip.old).places - 3))
         (C.told chip.old) (C.told chip.new) }
+    // Done, the place that the status has was erased.
+    ensures renewed { OnOk result (Spends (HasErased parts.new.status.place)
+        (C.told chip.old) (C.told chip.new)) }
     // Whatever the chip holds, what it adds is lawful after any lawful events that leave clean what
     // the tables count so; and where no write failed, what they count so then is clean.
     ensures tidy { Tidies (tables_of parts.old) result (tables_of parts.new)

@@ -1,7 +1,7 @@
 -- What calls of a store leave, as a run over a script asks for it.
 use Rattle.std.specs.FinMap.{get}
 use Rattle.std.proofs.Common.{◌≡◌, ℕ, ◌+◌, ◌<◌, ◌*◌, true, false, [], ◌∷◌, Option, List, Result, MatchResult, IfOk, Ok, Err, is_ok, sym, ap, subst}
-use Rattle.std.proofs.lemmas.Result.{on_err_weaker}
+use Rattle.std.proofs.lemmas.Result.{IfErr-weaker}
 use Rattle.chip_trait.specs.Moment.{AtEachMoment, Leaves}
 use Rattle.chip_trait.specs.Chart.{says}
 use Rattle.chip_trait.specs.Story.{Story, Contents, held}
@@ -20,9 +20,9 @@ use Rattle.unit_io.specs.Leads.{IsSteady}
 use Rattle.steps.specs.Steps.{Settled, EndsWith, Steps}
 use Rattle.pending_writes.specs.Fits.{AreSessionsOf}
 use Rattle.store_trait.specs.declared.fault.Fault.{Fault}
-use Rattle.store_trait.specs.Keeping.{AllOf, WorkLeaves, WorksFor, LooksUpFor}
+use Rattle.store_trait.specs.Keeping.{AllOf, WORK_DRAWS, LOOK_UP_DRAWS, Excuses, WorkLeaves, WorksFor, LooksUpFor}
 use Rattle.store_steps.specs.Advances.{memory_of, MemoryFits, MemoryFitsStory, ShowsNext, state_then, Advances, KeepsMapOf, TurnsMapOf}
-use Rattle.store_steps.specs.Keeps.{View, limits_of, ShowsState, KeepsStore, store_keeping, LeadsAreWork, KeepersLookUp}
+use Rattle.store_steps.specs.Keeps.{View, limits_of, ShowsState, KeepsStore, store_keeping, IsExcused, LeadsAreWork, KeepersLookUp}
 use Rattle.store_steps.proofs.AdvanceLemmas.{same_held}
 
 -- ---- small facts
@@ -166,7 +166,8 @@ leads_are_work c before after result old new suits units up leads replies drawn 
           state h here suits units
           leads);
       drawn = drawn h state own;
-      excuse = on_err_weaker result (λ excuse. excuse h state own) excused;
+      excuse = IfErr-weaker result (IsExcused WORK_DRAWS before old new)
+          (Excuses store_keeping WORK_DRAWS before old new) (λ fault excuse. excuse h state own) excused;
     })
   where
     own : KeepsStore (limits_of before.units) before old h state
@@ -212,7 +213,8 @@ keepers_look_up n before after result old new suits units up slots keeper finds 
           (keeps_then KeepsMapOf (λ state. state) before after result old new state h here suits
           units whole);
       drawn = drawn;
-      excuse = on_err_weaker result (λ excuse. excuse h state own) excused;
+      excuse = IfErr-weaker result (IsExcused LOOK_UP_DRAWS before old new)
+          (Excuses store_keeping LOOK_UP_DRAWS before old new) (λ fault excuse. excuse h state own) excused;
     })
   where
     own : KeepsStore (limits_of before.units) before old h state

@@ -1,5 +1,5 @@
 -- How a store keeps a state on a chip, as a run over a script asks for it.
-use Rattle.std.specs.Prelude.{ℕ, ◌≡◌, ◌≢◌, ◌<◌, ◌≤◌, ◌+◌, ◌*◌, Bool, true, false, [], ◌∷◌, ◌++◌, List, Option, Some, None, refl, Result, Ok, Err, IfOk, OnErr}
+use Rattle.std.specs.Prelude.{ℕ, ◌≡◌, ◌≢◌, ◌<◌, ◌≤◌, ◌+◌, ◌*◌, Bool, true, false, [], ◌∷◌, ◌++◌, List, Option, Some, None, refl, Result, Ok, Err, IfOk, IfErr}
 use Rattle.std.specs.FinMap.{get}
 use Rattle.std.proofs.Common.{sym, ◌∙◌, ap, subst, arith}
 use Rattle.ipl_base.specs.declared.limits.TheConstants.{RESERVED_PLACES, UNIT_NAMES, SESSIONS}
@@ -217,9 +217,9 @@ OpenedStoresKeep = (units : ℕ) (t : Tables) (slots : Slots) (told : Told) (h :
     → KeepsStore (limits_of units) (opened_with units t slots) told h (at_rest m)
 
 -- A fault of a call has its excuse, where the store keeps a state.
-abbrev pub IsExcused : ℕ → View → Told → Told → Type 0
-IsExcused n store old new = (h : History) (state : State)
-    → KeepsStore (limits_of store.units) store old h state → Excuses store_keeping n store old new
+abbrev pub IsExcused : ℕ → View → Told → Told → Fault → Type 0
+IsExcused n store old new fault = (h : History) (state : State)
+    → KeepsStore (limits_of store.units) store old h state → Excuses store_keeping n store old new fault
 
 -- Few numbers were drawn, where the store keeps a state: a chip that tells nothing may have any when
 -- it is opened again.
@@ -241,7 +241,7 @@ LeadsAreWork = (c : Command) (before after : View) (result : Result Reply Fault)
     → KeepsStore (limits_of before.units) before old h state
     → (step (limits_of before.units) state c).1 ≡ reply ∷ [])
     → DrawsFew WORK_DRAWS before old after
-    → OnErr result (IsExcused WORK_DRAWS before old new)
+    → IfErr result (IsExcused WORK_DRAWS before old new)
     → Works store_keeping c before old result after new
 
 -- what the frame of its page tells of a name: the record, and what each session sees
@@ -273,7 +273,7 @@ KeepersLookUp = (n : ℕ) (before after : View) (result : Result (Option (List �
     → KeepsStore (limits_of before.units) before old h state
     → n < UNIT_NAMES * before.units → found ≡ get state.map n)
     → after.memory.tables.next ≤ before.memory.tables.next + LOOK_UP_DRAWS
-    → OnErr result (IsExcused LOOK_UP_DRAWS before old new)
+    → IfErr result (IsExcused LOOK_UP_DRAWS before old new)
     → LooksUp store_keeping n before old result after new
 
 -- ---- faults
@@ -299,5 +299,5 @@ FaultsThatLeaveDown = (c : Command) (before after : View) (fault : Fault) (old n
     → Preserves {T = Reply} (before.units + RESERVED_PLACES) state.map before.memory.tables after.memory.tables h
     (Err fault) old new)
     → after.memory.tables.next ≤ before.memory.tables.next + WORK_DRAWS
-    → IsExcused WORK_DRAWS before old new
+    → IsExcused WORK_DRAWS before old new fault
     → Works store_keeping c before old (Err fault) after new

@@ -1,7 +1,10 @@
 -- How a store keeps a state on a chip, and what one command's work leaves.
-use Rattle.std.specs.Prelude.{OnErr, ◌≡◌, ◌⊎◌, ◌<◌, ◌≤◌, ◌+◌, ◌-◌, ◌^◌, max, ℕ, Bool, true, List, [], ◌∷◌, Option, Result, MatchResult, is_ok}
+use Rattle.std.specs.Prelude.{IfErr, ◌≡◌, ◌⊎◌, ◌<◌, ◌≤◌, ◌+◌, ◌-◌, ◌^◌, max, ℕ, Bool, true, List, [], ◌∷◌, Option, Result, MatchResult, is_ok}
 use Rattle.std.specs.Option.{option_map}
 use Rattle.std.specs.FinMap.{get}
+use Rattle.ipl_base.specs.declared.fault.ChipFault.{ChipFault}
+use Rattle.ipl_base.specs.declared.fault.ChipFault.TheVariants.{ReadFault, Stopped, Damaged, Malformed}
+use Rattle.ipl_base.specs.declared.fault.ImageFault.TheVariants as image
 use Rattle.ipl_rules.specs.State.{Map, State, Limits}
 use Rattle.ipl_model.specs.declared.command.Command.{Command}
 use Rattle.ipl_model.specs.declared.command.Command.TheVariants as command
@@ -13,6 +16,7 @@ use Rattle.chip_trait.specs.Moment.{AtEachMoment, Leaves}
 use Rattle.chip_trait.specs.Lawful.{IsLawfulAfter, LeavesClean}
 use Rattle.chip_trait.specs.Told.{History, Told, adds_all, Rose, Unrisen}
 use Rattle.store_trait.specs.declared.fault.Fault.{Fault}
+use Rattle.store_trait.specs.declared.fault.Fault.TheVariants.{Chip, Image, Spent}
 use Rattle.store_trait.specs.Onward.{Further, Still, sayings}
 
 -- each of these events is so
@@ -74,6 +78,24 @@ SCRIPT_DRAWS = 2 ^ 56
 abbrev pub ChipRose : Told → Told → Type 0
 ChipRose old new = Rose old.read_faults new.read_faults ⊎ Rose old.write_faults new.write_faults
 
+-- the fault says that a read or a write failed
+abbrev pub IsFailedCall : ChipFault → Type 0
+IsFailedCall ReadFault = Unit {0}
+IsFailedCall Stopped = Unit {0}
+IsFailedCall (Damaged p s stored computed) = ⊥
+IsFailedCall (Malformed p s) = ⊥
+
+-- so does that of a store, whether its chip was open or was to be opened again
+abbrev pub SaysFailedCall : Fault → Type 0
+SaysFailedCall (Chip e) = IsFailedCall e
+SaysFailedCall (Image image.Geometry) = ⊥
+SaysFailedCall (Image image.NotFormatted) = ⊥
+SaysFailedCall (Image (image.Missing u)) = ⊥
+SaysFailedCall (Image (image.Chip e)) = IsFailedCall e
+SaysFailedCall (Image image.Spent) = ⊥
+SaysFailedCall (Image (image.NoSpare n)) = ⊥
+SaysFailedCall Spent = ⊥
+
 -- every command but a list has one line as its reply
 abbrev pub IsSingle : Command → Type 0
 IsSingle (command.Begin s) = Unit {0}
@@ -121,9 +143,10 @@ module _ {S : Type 0} (k : Keeping S) where
   abbrev pub Stays : Limits → S → Told → Told → History → State → Type 0
   Stays limits store old new h state = Unrisen old new → k.holds limits store new h state
 
-  -- as long as n numbers are left below 2^63, the chip failed
-  abbrev pub Excuses : ℕ → S → Told → Told → Type 0
-  Excuses n before old new = k.counter before + n < 2 ^ 63 → ChipRose old new
+  -- as long as n numbers are left below 2^63, a call of the chip failed, and the fault says so
+  abbrev pub Excuses : ℕ → S → Told → Told → Fault → Type 0
+  Excuses n before old new fault =
+      k.counter before + n < 2 ^ 63 → ChipRose old new × SaysFailedCall fault
 
   -- The work for one command: wherever the power is cut, the chip stands for the records before the command or after it.
   -- Done, the store keeps the model's next state, and the reply is the model's. After a fault it keeps the state, unless a
@@ -138,7 +161,7 @@ module _ {S : Type 0} (k : Keeping S) where
         × ((step limits state c).1 ≡ reply ∷ []))
         (λ fault. Stays limits then old new (adds_all leaves.added h) state)
     pub drawn : k.counter then ≤ k.counter before + WORK_DRAWS
-    pub excuse : OnErr result (Excuses WORK_DRAWS before old new)
+    pub excuse : IfErr result (Excuses WORK_DRAWS before old new)
 
   abbrev pub Works : Command → S → Told → Result Reply Fault → S → Told → Type 0
   Works c before old result then new = (limits : Limits) (state : State) (h : History)
@@ -152,7 +175,7 @@ module _ {S : Type 0} (k : Keeping S) where
         (λ found. k.holds limits then new (adds_all leaves.added h) state × (found ≡ get state.map n))
         (λ fault. Stays limits then old new (adds_all leaves.added h) state)
     pub drawn : k.counter then ≤ k.counter before + LOOK_UP_DRAWS
-    pub excuse : OnErr result (Excuses LOOK_UP_DRAWS before old new)
+    pub excuse : IfErr result (Excuses LOOK_UP_DRAWS before old new)
 
   abbrev pub LooksUp : ℕ → S → Told → Result (Option (List ℕ)) Fault → S → Told → Type 0
   LooksUp n before old result then new = (limits : Limits) (state : State) (h : History)

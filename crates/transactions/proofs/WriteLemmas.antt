@@ -3,6 +3,7 @@ use Rattle.std.proofs.Common.{◌≡◌, ℕ, ◌<◌, ◌-◌, ◌*◌, Some, I
 use Rattle.chip_trait.specs.Told.{Told}
 use Rattle.chip_trait.proofs.CountsLemmas.{counts_none}
 use Rattle.ipl_base.specs.declared.fault.ChipFault.{ChipFault}
+use Rattle.ipl_base.specs.Places.{home_of}
 use Rattle.ipl_base.specs.declared.spot.Home.{Home}
 use Rattle.ipl_format.specs.Record.{Record, IsRecord}
 use Rattle.ipl_rules.specs.Operations as rules
@@ -10,6 +11,7 @@ use Rattle.ipl_rules.specs.State.{State}
 use Rattle.record_locks.specs.Held.{number_of, numbers_in, after_write}
 use Rattle.selective_merge.specs.declared.parts.Parts.{Parts}
 use Rattle.selective_merge.specs.Moving.{tables_of}
+use Rattle.selective_merge.specs.Spotting.{HasHomeSpot}
 use Rattle.buffer_pool.specs.Holding.{KeepsPins}
 use Rattle.pending_writes.specs.Pending.{name_at}
 use Rattle.pending_writes.specs.Frames.{Frame, Frames, with_frame_at, IsWrittenFrame}
@@ -20,10 +22,12 @@ use Rattle.steps.specs.Steps.{Tidies}
 use Rattle.steps.proofs.TablesLemmas.{tables_none}
 use Rattle.store_steps.specs.Advances.{Memory, memory_of, LeadsTo}
 use Rattle.store_steps.proofs.SessionLemmas.{writes_lead}
-use Rattle.frame_changes.specs.Changes.{FrameChanges}
+use Rattle.frame_changes.specs.Changes.{FrameChanges, MayPut}
 use Rattle.page_frames.specs.declared.pages.Pages.{Pages}
 use Rattle.page_frames.specs.Pages.{tables_in, frames_in, IsFramed, Upholds}
 use Rattle.transactions.specs.declared.transactions.Transactions.{Transactions}
+use Rattle.page_frames.specs.Asks.{AsksToPrepare}
+use Rattle.transactions.specs.Costs.{HasRoomFor, AsksToWrite}
 use Rattle.transactions.specs.Turns.{memory_in, IsInOrder, Turns}
 use Rattle.transactions.proofs.OrderLemmas.{HadFrames, still_ready}
 use Rattle.transactions.proofs.SessionLemmas.{among_all, writes_keep_numbers}
@@ -52,6 +56,30 @@ put_framed R u page at old new same also did =
     ap (λ (frames : Frames). frames at.unit at.page) did.frames
     ∙ frame_here (frames_in old) u page (Some did.now) at.unit at.page same also in
     subst IsSome (sym now) refl
+
+-- a record fits behind those of its page
+pub room_put : (pages : Pages) (n : ℕ) (at : Home) (r : Record) → at ≡ home_of n
+    → r.page ≡ at.page → HasRoomFor pages n r.change → MayPut (frames_in pages) at.unit r
+room_put pages n at r home page room = record {
+  frame = room.frame;
+  there = ap (frames_in pages at.unit) page
+      ∙ ap (λ (h : Home). frames_in pages h.unit h.page) home ∙ room.there;
+  fits = room.fits;
+}
+
+-- the page of a name was made ready for its record
+pub prepared_asks : (pages : Pages) (n : ℕ) (at : Home) (r : Record) (before after : Told)
+    → at ≡ home_of n → r.page ≡ at.page → AsksToPrepare at.unit r pages before after
+    → AsksToWrite n r.change pages before after
+prepared_asks pages n at r before after home page asks =
+    let there : frames_in pages at.unit r.page ≡ frames_in pages (home_of n).unit (home_of n).page =
+    ap (frames_in pages at.unit) page ∙ ap (λ (h : Home). frames_in pages h.unit h.page) home in record {
+      idle = λ room. asks.idle (room_put pages n at r home page room);
+      free = λ none free. asks.free (there ∙ none) free;
+      home = λ framed has. asks.home (subst IsSome (sym there) framed)
+          (subst (λ (h : Home). HasHomeSpot (tables_in pages) h.unit) (sym home) has);
+      costs = asks.costs;
+    }
 
 -- a record was put behind those of its page
 pub was_put : (s n u : ℕ) (r : Record) (old new : Transactions) (told : Told)

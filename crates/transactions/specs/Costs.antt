@@ -1,10 +1,38 @@
--- What a commit costs, where the status place has a clean sector.
-use Rattle.std.specs.Prelude.{ℕ, ◌+◌, ◌*◌, [], ◌∷◌}
+-- What writes and commits ask of the chip.
+use Rattle.std.specs.Prelude.{ℕ, ◌≡◌, ◌<◌, ◌≤◌, ◌+◌, ◌*◌, [], ◌∷◌, Some, None, length}
 use Rattle.chip_trait.specs.Story.{Story}
-use Rattle.unit_io.specs.Costs.{Costs}
+use Rattle.chip_trait.specs.Told.{Told}
+use Rattle.ipl_base.specs.Places.{home_of}
+use Rattle.ipl_format.specs.Record.{Change, value_of}
+use Rattle.ipl_meaning.specs.Last.{size_of_all}
+use Rattle.unit_io.specs.Costs.{Costs, Spends}
+use Rattle.txn_status.specs.Status.{room_of}
+use Rattle.selective_merge.specs.Spotting.{HasHomeSpot}
+use Rattle.pending_writes.specs.Frames.{Frame}
 use Rattle.record_locks.specs.Held.{written_of}
-use Rattle.page_frames.specs.Changed.{changed_pages}
+use Rattle.page_writing.specs.Spending.{ErasesAndLogs}
+use Rattle.page_frames.specs.declared.pages.Pages.{Pages}
+use Rattle.page_frames.specs.Pages.{tables_in, frames_in, IsFramed, HasFreeFrame}
+use Rattle.page_frames.specs.Changed.{changed_pages, HasHomesFor}
 use Rattle.transactions.specs.declared.transactions.Transactions.{Transactions}
+
+-- the page of a name is in a frame, and a record of this change fits behind its records in memory
+pub record HasRoomFor (pages : Pages) (n : ℕ) (change : Change) : Type 0 where
+  pub frame : Frame
+  pub there : frames_in pages (home_of n).unit (home_of n).page ≡ Some frame
+  pub fits : size_of_all frame.log + (12 + length (value_of change)) ≤ 480
+
+-- A write of a name: nothing where its page is in a frame and has room for the record; reads alone
+-- where it is in none and a frame is free; where it is in a frame and a log sector is clean at its
+-- unit's home, at most one program, of a log sector, with no erase and no barrier; and what writing
+-- one page out may cost in any case.
+pub record AsksToWrite (n : ℕ) (change : Change) (old : Pages) (before after : Told) : Type 0 where
+  pub idle : HasRoomFor old n change → after ≡ before
+  pub free : frames_in old (home_of n).unit (home_of n).page ≡ None → HasFreeFrame old
+      → Spends (Costs 0 0 0 []) before after
+  pub home : IsFramed old (home_of n).unit (home_of n).page → HasHomeSpot (tables_in old) (home_of n).unit
+      → Spends (Costs 0 1 0 (5 ∷ [])) before after
+  pub costs : Spends (ErasesAndLogs old.parts.directory) before after
 
 -- how many pages in frames have records in memory and a name that the session wrote
 abbrev pub pages_to_write : Transactions → ℕ → ℕ
@@ -17,3 +45,12 @@ PagesOut pages = Costs pages pages (3 * pages) (5 ∷ [])
 -- and one commit sector
 abbrev pub CommitCosts : ℕ → Story → Type 0
 CommitCosts pages = Costs pages (pages + 1) (3 * pages + 2) (5 ∷ 6 ∷ [])
+
+-- A commit of a session: nothing where it wrote nothing; where the status place has a clean sector,
+-- so much for the pages in frames that are to be written; and no erase where each unit also has log
+-- sectors clean at home for its own of these.
+pub record CommitAsks (it : Transactions) (s : ℕ) (before after : Told) : Type 0 where
+  pub idle : written_of it.sessions s ≡ [] → after ≡ before
+  pub costs : 0 < room_of it.pages.parts.status → Spends (CommitCosts (pages_to_write it s)) before after
+  pub homes : 0 < room_of it.pages.parts.status → HasHomesFor it.pages (written_of it.sessions s)
+      → Spends (Costs 0 (pages_to_write it s + 1) 2 (5 ∷ 6 ∷ [])) before after

@@ -1,6 +1,6 @@
 //! A session is committed.
-ghost use Rattle.std.specs.Prelude.{◌≡◌, ◌<◌, ◌+◌, ◌*◌, ◌^◌, [], All, None, Some, OnOk};
-ghost use Rattle.unit_io.specs.Costs.{ProgramsAt, Spends};
+ghost use Rattle.std.specs.Prelude.{◌≡◌, ◌<◌, ◌+◌, ◌*◌, ◌^◌, [], ◌∷◌, All, None, Some, OnOk};
+ghost use Rattle.unit_io.specs.Costs.{Costs, ProgramsAt, Spends};
 ghost use Rattle.txn_status.specs.Status.{room_of};
 ghost use Rattle.ipl_rules.specs.Operations.{after_commit};
 ghost use Rattle.record_locks.specs.Held.{number_of, written_of};
@@ -8,9 +8,11 @@ ghost use Rattle.record_locks.specs.Locks.{refuses_end};
 ghost use Rattle.merge_rules.specs.Faults.{FailsByChipAlone};
 ghost use Rattle.store_steps.specs.Numbers.{IsOut};
 ghost use Rattle.page_frames.specs.Complete.{Completes};
+ghost use Rattle.page_frames.specs.Faulty.{TellsFaults};
+ghost use Rattle.page_frames.specs.Changed.{HasHomesFor};
 ghost use Rattle.page_frames.specs.Pages.{frames_in, KeepsFramed, Upholds};
 ghost use Rattle.transactions.specs.Turns.{IsInOrder, Turns};
-ghost use Rattle.transactions.specs.Costs.{pages_to_write, PagesOut, CommitCosts};
+ghost use Rattle.transactions.specs.Costs.{pages_to_write, PagesOut, CommitAsks};
 
 use crate::Transactions;
 use chip_trait::Chip;
@@ -34,6 +36,7 @@ impl Transactions {
         ensures upholds { Upholds (2 ^ 14 + 14 * 64) self.old.pages (C.told chip.old)
             result self.new.pages (C.told chip.new) }
         ensures complete { Completes self.old.pages result (C.told chip.old) }
+        ensures faults { TellsFaults self.old.pages result (C.told chip.old) self.new.pages }
         ensures room { OnOk result (0 < room_of self.new.pages.parts.status) }
         ensures out { OnOk result (All (IsOut (frames_in self.new.pages))
             (written_of self.old.sessions s)) }
@@ -41,6 +44,10 @@ impl Transactions {
         ensures framed { KeepsFramed self.old.pages self.new.pages }
         ensures costs { 0 < room_of self.old.pages.parts.status
             → Spends (PagesOut (pages_to_write self.old s)) (C.told chip.old) (C.told chip.new) }
+        ensures homes { 0 < room_of self.old.pages.parts.status
+            → HasHomesFor self.old.pages (written_of self.old.sessions s)
+            → Spends (Costs 0 (pages_to_write self.old s) 0 (5 ∷ []))
+            (C.told chip.old) (C.told chip.new) }
     {
         self.pages.ready_status(chip, kept)?;
         self.pages.write_names_out(chip, self.sessions.written(s))
@@ -84,10 +91,9 @@ impl Transactions {
         ensures turns { Turns (λ state. after_commit state s) (2 ^ 15)
             self.old (C.told chip.old) result self.new (C.told chip.new) }
         ensures complete { Completes self.old.pages result (C.told chip.old) }
+        ensures faults { TellsFaults self.old.pages result (C.told chip.old) self.new.pages }
         ensures framed { KeepsFramed self.old.pages self.new.pages }
-        ensures idle { written_of self.old.sessions s ≡ [] → C.told chip.new ≡ C.told chip.old }
-        ensures costs { 0 < room_of self.old.pages.parts.status
-            → Spends (CommitCosts (pages_to_write self.old s)) (C.told chip.old) (C.told chip.new) }
+        ensures asks { CommitAsks self.old s (C.told chip.old) (C.told chip.new) }
     {
         let Some(tid) = self.sessions.number(s) else {
             unreachable!("the session is open");

@@ -1,14 +1,14 @@
 //! A name is changed.
 ghost use Rattle.std.specs.Prelude.{◌≡◌, ◌<◌, ◌+◌, ◌-◌, ◌*◌, ◌^◌, ◌≤◌, length, None, OnOk};
-ghost use Rattle.unit_io.specs.Costs.{Spends};
 ghost use Rattle.ipl_base.specs.Places.{home_of};
 ghost use Rattle.ipl_format.specs.Record.{IsRecord, value_of};
 ghost use Rattle.log_records.specs.View.{change_of, record_of};
 ghost use Rattle.ipl_rules.specs.Operations.{after_write};
 ghost use Rattle.record_locks.specs.Locks.{refuses_write};
-ghost use Rattle.page_writing.specs.Spending.{ErasesAndLogs};
 ghost use Rattle.page_frames.specs.Complete.{Completes};
-ghost use Rattle.page_frames.specs.Pages.{IsFramed, KeepsFramedFor};
+ghost use Rattle.page_frames.specs.Faulty.{FailsAsPage, TellsFaults};
+ghost use Rattle.page_frames.specs.Pages.{tables_in, frames_in, HasFreeFrame, IsFramed, KeepsFramedFor};
+ghost use Rattle.transactions.specs.Costs.{AsksToWrite};
 ghost use Rattle.transactions.specs.Turns.{IsInOrder, Turns};
 
 use crate::Transactions;
@@ -35,11 +35,15 @@ impl Transactions {
         ensures turns { Turns (λ state. after_write state s (name.0, change_of change)) 14
             self.old (C.told chip.old) result self.new (C.told chip.new) }
         ensures complete { Completes self.old.pages result (C.told chip.old) }
+        ensures faults { TellsFaults self.old.pages result (C.told chip.old) self.new.pages }
+        ensures exact { frames_in self.old.pages (home_of name.0).unit (home_of name.0).page ≡ None
+            → HasFreeFrame self.old.pages → FailsAsPage (tables_in self.old.pages)
+            (home_of name.0).unit (home_of name.0).page result (C.told chip.old) }
         ensures framed { OnOk result
             (IsFramed self.new.pages (home_of name.0).unit (home_of name.0).page) }
         ensures stays { KeepsFramedFor (home_of name.0).unit (home_of name.0).page
             self.old.pages self.new.pages }
-        ensures costs { Spends (ErasesAndLogs self.old.pages.parts.directory)
+        ensures asks { AsksToWrite name.0 (change_of change) self.old.pages
             (C.told chip.old) (C.told chip.new) }
     {
         let home = home(name);

@@ -8,4 +8,5 @@ returns-in-Ok c =
         rw c.in-Some.ensures.some.1 at
             c.in-Ok.ensures.sound,
       );
+      frames = c.in-Ok.ensures.frames;
     }

@@ -1,5 +1,6 @@
-use Rattle.std.proofs.Common.{refl}
+use Rattle.std.proofs.Common.{refl, ◌∙◌, ap}
 use Rattle.page_frames.specs.Pages.{tables_in}
+use Rattle.ipl_store.specs.declared.store.Store.{Store}
 use Rattle.ipl_cli.proofs.StartLemmas.{starts_over}
 use Rattle.ipl_cli.proofs.top.open_over.Goals as goal
 
@@ -8,6 +9,7 @@ returns-in-Ok g c = record {
   opens = starts_over (g.D.Chip.told c.args.desk.now) (g.D.Chip.told c.open_chip.new.chip)
       c.open_chip.new.self c.over.result c.over.ensures c.open_chip.ensures.sound
       c.in-Ok.ensures.opens c.in-Ok.ensures.tries;
+  frames = ap (λ (s : Store). s.frames) c.over.ensures ∙ c.open_chip.ensures.frames;
 }
 
 pub returns-in-Err : goal.returns-in-Err
@@ -19,4 +21,5 @@ returns-in-Err g c = record {
     tables = tables_in c.open_chip.new.self.transactions.pages;
     tries = c.in-Err.ensures.tries;
   };
+  frames = tt;
 }

@@ -1,4 +1,4 @@
-use Rattle.std.proofs.Common.{Err, Ok}
+use Rattle.std.proofs.Common.{Err, Ok, refl}
 use Rattle.std.proofs.lemmas.Result.{err_from_is_err_and}
 use Rattle.store_trait.proofs.OnwardLemmas.{onward_counts, further_onward, further_then}
 use Rattle.ipl_cli.proofs.StartLemmas.{not_started_left, not_started_cause, formatted_left, formatted_cause, formatted_running, formatted_number}
@@ -93,3 +93,15 @@ pub returns-in_err-store-clause-lawful : goal.returns-in_err-store-clause-lawful
 returns-in_err-store-clause-lawful g c =
     unstarted_adds c.in_err-store.field-0.0 (g.D.Chip.told c.args.desk.now)
     (g.D.Chip.told c.start_formatted.new.desk) c.in_err-store.ensures.stops
+
+pub returns-clause-framed : goal.returns-clause-framed
+returns-clause-framed g c = record {
+  store = c.in_ok-store.store;
+  frames_are = c.in_ok-store.ensures.frames;
+  started = g.D.Chip.told c.start_formatted.new.desk;
+  starts = c.in_ok-store.ensures.starts;
+  then = c.run_over.new.store;
+  last = g.D.Chip.told c.run_over.new.desk;
+  does = c.in_ok-run_over.ensures.runs;
+  noted = refl;
+}

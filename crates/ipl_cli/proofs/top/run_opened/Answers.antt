@@ -1,4 +1,4 @@
-use Rattle.std.proofs.Common.{Err, Ok}
+use Rattle.std.proofs.Common.{Err, Ok, refl}
 use Rattle.std.proofs.lemmas.Result.{err_from_is_err_and}
 use Rattle.store_trait.proofs.OnwardLemmas.{onward_counts, further_onward, further_then}
 use Rattle.ipl_cli.proofs.StartLemmas.{opened_left, opened_cause, opened_running, opened_number}
@@ -75,3 +75,15 @@ returns-clause-lawful g c =
     (g.D.Chip.told c.run_over.new.desk) c.in_ok-store.store c.run_over.new.store
     (is_ok c.in_ok-run_over.ensures.runs.result) c.in_ok-store.ensures.starts
     c.in_ok-run_over.ensures.runs.tidy
+
+pub returns-clause-framed : goal.returns-clause-framed
+returns-clause-framed g c = record {
+  store = c.in_ok-store.store;
+  frames_are = c.in_ok-store.ensures.frames;
+  started = g.D.Chip.told c.start_opened.new.desk;
+  starts = c.in_ok-store.ensures.starts;
+  then = c.run_over.new.store;
+  last = g.D.Chip.told c.run_over.new.desk;
+  does = c.in_ok-run_over.ensures.runs;
+  noted = refl;
+}

@@ -1,4 +1,4 @@
-use Rattle.std.proofs.Common.{ℕ, Err, inl, inr, refl, sym, subst}
+use Rattle.std.proofs.Common.{ℕ, Err, inl, inr, refl, sym, ◌∙◌, subst}
 use Rattle.std.proofs.lemmas.Result.{err_from_is_err_and}
 use Rattle.chip_trait.proofs.CountsLemmas.{counts_then}
 use Rattle.ipl_store.specs.Calls.{IsSound}
@@ -63,3 +63,6 @@ returns-clause-counts g c =
     counts_then (g.D.Chip.told c.args.desk.now) (g.D.Chip.told c.format_first.new.desk)
     (g.D.Chip.told c.open_over.new.desk) c.in_ok-format_first.ensures.formats.counts
     c.in_ok-started.ensures.opens.tries.accounts.counts
+
+pub returns-clause-frames : goal.returns-clause-frames
+returns-clause-frames g c = c.in_ok-started.ensures.frames ∙ c.in_ok-store.ensures.frames

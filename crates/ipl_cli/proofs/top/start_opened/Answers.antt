@@ -2,7 +2,7 @@ use Rattle.std.proofs.Common.{ℕ, Err, subst}
 use Rattle.std.proofs.lemmas.Result.{err_from_is_err_and}
 use Rattle.ipl_cli.specs.Runs.{ClosesFor}
 use Rattle.ipl_cli.proofs.StartLemmas.{closed_left, closed_cause, unopened_left, unopened_ends}
-use Rattle.std.proofs.Common.{refl}
+use Rattle.std.proofs.Common.{refl, ◌∙◌}
 use Rattle.ipl_cli.proofs.LawfulLemmas.{adds_nothing, unopened_adds}
 use Rattle.ipl_cli.proofs.top.start_opened.Goals as goal
 
@@ -60,3 +60,6 @@ returns-in_err-started-clause-lawful g c =
     c.from_residual-in_err-started.ensures.1 in
     rw e.1 (unopened_adds c.in_err-started.field-0.0 (g.D.Chip.told c.args.desk.now)
     (g.D.Chip.told c.open_over.new.desk) c.in_err-started.ensures.opens)
+
+pub returns-clause-frames : goal.returns-clause-frames
+returns-clause-frames g c = c.in_ok-started.ensures.frames ∙ c.in_ok-store.ensures.frames

@@ -2,10 +2,12 @@ use Rattle.std.proofs.Common.{ℕ, map, subst}
 use Rattle.std.specs.String.{string_bytes}
 use Rattle.command_line.specs.Choice.{requested}
 use Rattle.ipl_cli.proofs.NoteLemmas.{ends, none_falls}
-use Rattle.ipl_cli.proofs.TopLemmas.{end_opened, end_refuses, end_laid, end_read, end_formatted, end_part, end_stops, end_formats, end_trials, end_views, end_only_views, end_early, end_wanting, end_other, end_words, end_chip, end_image, end_script, end_output, end_long, end_spent, end_invalid, end_completes}
+use Rattle.ipl_cli.proofs.TopLemmas.{end_opened, end_refuses, end_laid, end_read, end_formatted, end_part, end_stops, end_formats, end_trials, end_views, end_only_views, end_early, end_wanting, end_other, end_words, end_chip, end_image, end_unfit, end_script, end_output, end_long, end_spent, end_invalid, end_completes}
 use Rattle.ipl_cli.specs.Ending.{AtStatus}
 use Rattle.ipl_cli.specs.Top.{RunsOpened}
 use Rattle.ipl_cli.proofs.RecordLemmas.{opened_records, formatted_records}
+use Rattle.ipl_cli.proofs.SurviveLemmas.{opened_survives, formatted_survives}
+use Rattle.ipl_cli.proofs.FrameLemmas.{done_as_asked}
 use Rattle.ipl_cli.proofs.LawfulLemmas.{adds_noted}
 use Rattle.ipl_cli.proofs.top.top.Goals as goal
 
@@ -26,6 +28,16 @@ pub returns-clause-opened : goal.returns-clause-opened
 returns-clause-opened g c = end_opened (requested (map string_bytes c.args.words.now))
     (g.D.Chip.told c.args.desk.now) (g.D.Chip.told c.finish.new.desk) c.finish.result
     (returns-clause-ends g c)
+
+pub returns-clause-survives : goal.returns-clause-survives
+returns-clause-survives g c = λ asks.
+    opened_survives (g.D.Chip.told c.args.desk.now) (g.D.Chip.told c.finish.new.desk)
+    (g.met.D.Chip.consistent c.args.desk.now) c.finish.result (returns-clause-opened g c asks)
+
+pub returns-clause-survives_anew : goal.returns-clause-survives_anew
+returns-clause-survives_anew g c = formatted_survives (g.D.Chip.told c.args.desk.now)
+    (g.D.Chip.told c.finish.new.desk) (g.met.D.Chip.consistent c.args.desk.now)
+    (requested (map string_bytes c.args.words.now)) c.finish.result (returns-clause-ends g c)
 
 pub returns-clause-refuses : goal.returns-clause-refuses
 returns-clause-refuses g c = end_refuses (requested (map string_bytes c.args.words.now))
@@ -119,6 +131,11 @@ returns-clause-image g c = end_image (requested (map string_bytes c.args.words.n
     (g.D.Chip.told c.args.desk.now) (g.D.Chip.told c.finish.new.desk) c.finish.result
     (returns-clause-ends g c)
 
+pub returns-clause-unfit : goal.returns-clause-unfit
+returns-clause-unfit g c = end_unfit (requested (map string_bytes c.args.words.now))
+    (g.D.Chip.told c.args.desk.now) (g.D.Chip.told c.finish.new.desk) c.finish.result
+    (returns-clause-ends g c) (g.met.D.Chip.consistent c.args.desk.now)
+
 pub returns-clause-script : goal.returns-clause-script
 returns-clause-script g c = end_script (requested (map string_bytes c.args.words.now))
     (g.D.Chip.told c.args.desk.now) (g.D.Chip.told c.finish.new.desk) c.finish.result
@@ -153,3 +170,9 @@ pub returns-clause-lawful : goal.returns-clause-lawful
 returns-clause-lawful g c =
     adds_noted (g.D.Chip.told c.args.desk.now) (g.D.Chip.told c.run-ending.new.desk)
     (g.D.Chip.told c.finish.new.desk) c.run-ending.ensures.lawful c.finish.ensures.only
+
+pub returns-clause-framed : goal.returns-clause-framed
+returns-clause-framed g c = done_as_asked (requested (map string_bytes c.args.words.now))
+    c.run-ending.result (g.D.Chip.told c.args.desk.now) (g.D.Chip.told c.run-ending.new.desk)
+    (g.D.Chip.told c.finish.new.desk) c.finish.result c.run-ending.ensures.framed
+    c.finish.ensures.status c.finish.ensures.only

@@ -1,4 +1,4 @@
-use Rattle.std.proofs.Common.{Err, Ok}
+use Rattle.std.proofs.Common.{Err, Ok, refl}
 use Rattle.std.proofs.lemmas.Result.{err_from_is_err_and}
 use Rattle.store_trait.proofs.OnwardLemmas.{onward_counts, onward_then, further_onward}
 use Rattle.ipl_cli.proofs.StartLemmas.{formatted_running, formatted_number}
@@ -97,3 +97,15 @@ returns-clause-lawful g c =
     (g.D.Chip.told c.trial_over.new.desk) c.in_ok-store.store c.trial_over.new.store
     (is_ok c.in_ok-trial_over.ensures.tries.result) c.in_ok-store.ensures.starts
     c.in_ok-trial_over.ensures.tries.tidy
+
+pub returns-clause-framed : goal.returns-clause-framed
+returns-clause-framed g c = record {
+  store = c.in_ok-store.store;
+  frames_are = c.in_ok-store.ensures.frames;
+  started = g.D.Chip.told c.start_formatted.new.desk;
+  starts = c.in_ok-store.ensures.starts;
+  then = c.trial_over.new.store;
+  last = g.D.Chip.told c.trial_over.new.desk;
+  does = c.in_ok-trial_over.ensures.tries;
+  noted = refl;
+}

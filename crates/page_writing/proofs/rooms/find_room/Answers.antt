@@ -14,8 +14,9 @@ use Rattle.selective_merge.specs.Moving.{tables_of, Holds}
 use Rattle.selective_merge.specs.Placing.{Opens, IsPlaced, MakesRoom, MakesRoomInSteps}
 use Rattle.page_writing.proofs.CauseLemmas.{unread_cause, unplaced_cause, lost_cause}
 use Rattle.page_writing.proofs.FoundLemmas.{Says, generation_first, generation_then, told_unread, found_told, lost_told, header_then, unplaced_told}
+use Rattle.page_writing.proofs.InPlaceLemmas.{in_place_unread, unplaced_stays}
 use Rattle.page_writing.proofs.RoomStepLemmas.{unread_steps, unplaced_steps, room_steps, read_steps, lost_steps}
-use Rattle.page_writing.proofs.SpendLemmas.{frees_read, frees_behind, frees_then_reads}
+use Rattle.page_writing.proofs.SpendLemmas.{reads_room, room_behind, room_then_reads}
 use Rattle.merge_rules.proofs.FaultLemmas.{fault_as, fault_unread}
 use Rattle.selective_merge.proofs.CompleteLemmas.{fails_behind, fails_complete}
 use Rattle.page_writing.proofs.RoomLemmas.{header_first}
@@ -51,7 +52,7 @@ returns-in_err-generation-clause-costs g c =
     let old = g.C.Chip.told c.args.chip.now in
     let new = g.C.Chip.told c.read_generation.new.chip in
     let looks = c.in_err-generation.ensures.looks in
-    frees_read _ (tables_of c.args.parts.now).places old new looks.reads
+    reads_room _ (tables_of c.args.parts.now) c.args.unit old new looks.reads
 
 pub returns-in_err-generation-clause-accounts : goal.returns-in_err-generation-clause-accounts
 returns-in_err-generation-clause-accounts g c =
@@ -107,9 +108,10 @@ returns-in_err-spot-clause-costs g c =
     let old = g.C.Chip.told c.args.chip.now in
     let mid = g.C.Chip.told c.read_generation.new.chip in
     let new = g.C.Chip.told c.log_place.new.chip in
-    let t = tables_of c.args.parts.now in
     let reads = c.in_ok-generation.ensures.looks.reads in
-    frees_behind _ t.places old mid new reads c.in_err-spot.ensures.costs
+    let says = c.in_err-spot.ensures in
+    room_behind _ _ (tables_of c.args.parts.now) (tables_of c.log_place.new.parts) c.args.unit old mid
+    new reads says.home says.costs
 
 pub returns-in_err-spot-clause-accounts : goal.returns-in_err-spot-clause-accounts
 returns-in_err-spot-clause-accounts g c =
@@ -180,9 +182,10 @@ returns-then-place-home-clause-costs g c =
     let old = g.C.Chip.told c.args.chip.now in
     let mid = g.C.Chip.told c.read_generation.new.chip in
     let new = g.C.Chip.told c.log_place.new.chip in
-    let t = tables_of c.args.parts.now in
     let reads = c.in_ok-generation.ensures.looks.reads in
-    frees_behind _ t.places old mid new reads c.in_ok-spot.ensures.costs
+    let says = c.in_ok-spot.ensures in
+    room_behind _ _ (tables_of c.args.parts.now) (tables_of c.log_place.new.parts) c.args.unit old mid
+    new reads says.home says.costs
 
 -- ---- the header of the merged unit wasn't read
 
@@ -233,10 +236,12 @@ returns-in_err-merged-clause-costs g c =
     let mid = g.C.Chip.told c.read_generation.new.chip in
     let new = g.C.Chip.told c.log_place.new.chip in
     let t = tables_of c.args.parts.now in
+    let after = tables_of c.log_place.new.parts in
     let reads = c.in_ok-generation.ensures.looks.reads in
+    let says = c.in_ok-spot.ensures in
     let last = g.C.Chip.told c.read_generation-2.new.chip in
-    frees_then_reads _ t.places old new last
-    (frees_behind _ t.places old mid new reads c.in_ok-spot.ensures.costs)
+    room_then_reads _ t after c.args.unit old new last
+    (room_behind _ _ t after c.args.unit old mid new reads says.home says.costs)
     c.in_err-merged.ensures.looks.reads
 
 pub returns-in_err-merged-clause-accounts : goal.returns-in_err-merged-clause-accounts
@@ -327,10 +332,12 @@ returns-clause-costs g c =
     let mid = g.C.Chip.told c.read_generation.new.chip in
     let new = g.C.Chip.told c.log_place.new.chip in
     let t = tables_of c.args.parts.now in
+    let after = tables_of c.log_place.new.parts in
     let reads = c.in_ok-generation.ensures.looks.reads in
+    let says = c.in_ok-spot.ensures in
     let last = g.C.Chip.told c.read_generation-2.new.chip in
-    frees_then_reads _ t.places old new last
-    (frees_behind _ t.places old mid new reads c.in_ok-spot.ensures.costs)
+    room_then_reads _ t after c.args.unit old new last
+    (room_behind _ _ t after c.args.unit old mid new reads says.home says.costs)
     c.in_ok-merged.ensures.looks.reads
 
 -- ---- why it failed
@@ -459,3 +466,49 @@ returns-clause-tidy g c =
     (counts_then old mid new reads.counts c.in_ok-spot.ensures.accounts.counts)
     (tidies_behind _ t after done old mid new reads c.in_ok-spot.ensures.tidy)
     c.in_ok-merged.ensures.looks.reads
+
+-- ---- the unit is where it was
+
+pub returns-in_err-generation-clause-stays : goal.returns-in_err-generation-clause-stays
+returns-in_err-generation-clause-stays g c = λ x told it mirrors.
+    let e = err_from_is_err_and c.from_residual.result c.from_residual.ensures.1 in
+    rw e.1 (λ read stopped. refl)
+
+pub returns-in_err-spot-clause-stays : goal.returns-in_err-spot-clause-stays
+returns-in_err-spot-clause-stays g c = λ x told it mirrors.
+    let e = err_from_is_err_and c.from_residual-in_err-spot.result
+    c.from_residual-in_err-spot.ensures.1 in
+    let old = g.C.Chip.told c.args.chip.now in
+    let mid = g.C.Chip.told c.read_generation.new.chip in
+    let new = g.C.Chip.told c.log_place.new.chip in
+    let t = tables_of c.args.parts.now in
+    let after = tables_of c.log_place.new.parts in
+    let reads = c.in_ok-generation.ensures.looks.reads in
+    rw e.1 (unplaced_stays t c.args.unit after _ old.places old mid new e.0
+    (omega (arith, c.requires.unit)) reads
+    (λ soft. subst (λ (n : ℕ). Charts (Opens n t after) mid new) reads.counts.places
+    (c.in_err-spot.ensures.tells (λ same. soft (e.2 ∙ same)))) x told it mirrors)
+
+pub returns-in_err-merged-clause-stays : goal.returns-in_err-merged-clause-stays
+returns-in_err-merged-clause-stays g c = λ x told it mirrors.
+    let e = err_from_is_err_and c.from_residual-in_err-merged.result
+    c.from_residual-in_err-merged.ensures.1 in
+    let old = g.C.Chip.told c.args.chip.now in
+    let mid = g.C.Chip.told c.read_generation.new.chip in
+    let new = g.C.Chip.told c.log_place.new.chip in
+    let t = tables_of c.args.parts.now in
+    let after = tables_of c.log_place.new.parts in
+    let u = c.args.unit in
+    let reads = c.in_ok-generation.ensures.looks.reads in
+    let holds = subst (λ (n : ℕ). Holds n t after) reads.counts.places c.in_ok-spot.ensures.holds in
+    let spot = c.in_ok-spot.spot in
+    let made = subst (λ (n : ℕ). Charts (MakesRoom IsPlaced n u t after spot) mid new)
+    reads.counts.places c.in_ok-spot.ensures.tells in
+    let low : u < old.places - 4 = omega (arith, c.requires.unit) in
+    let fault = c.in_err-merged.field-0.0 in
+    let read = subst (λ (p : ℕ). OfContents new (λ y. (head : Sector)
+    → chart_of y p 0 ≡ Some head → IsDataHeader u head → fault ≡ ReadFault))
+    c.current-place.ensures.place c.in_err-merged.ensures.exact in
+    rw e.1 (in_place_unread t u after e.0 (e.2 ∙ header_then _ old.places u t after old mid new new
+    holds.known.none_lost holds.active reads refl (fault ≡ ReadFault) low spot made read x told it
+    mirrors))

@@ -6,6 +6,7 @@ use Rattle.selective_merge.specs.Moving.{tables_of}
 use Rattle.page_writing.specs.Writing.{IsAfterLog, IsLogOf}
 use Rattle.page_writing.proofs.LogLemmas.{log_told, log_steps}
 use Rattle.page_writing.proofs.SpotLemmas.{spot_within, spot_drawn, drawn_before, known_drawn, holds_drawn, log_holds}
+use Rattle.page_writing.proofs.SpendLemmas.{log_uses}
 use Rattle.page_writing.proofs.TidyLemmas.{logs_tidily, fails_tidily}
 use Rattle.page_writing.proofs.writing.write_log.Goals as goal
 
@@ -163,3 +164,17 @@ returns-clause-tidy g c =
     (Unit {0}) (Ok tt) old (g.C.Chip.told c.program_log.new.chip) c.facts.ensures.logs
     (drawn_before t after next u spot.place spot.sector next c.use_spot.ensures)
     c.in_ok-program_log.ensures.tidy
+
+-- ---- what counts as written then
+
+pub returns-in_err-program_log-clause-uses : goal.returns-in_err-program_log-clause-uses
+returns-in_err-program_log-clause-uses g c =
+    let e = err_from_is_err_and c.from_residual.result c.from_residual.ensures.1 in
+    rw e.1 refl
+
+pub returns-clause-uses : goal.returns-clause-uses
+returns-clause-uses g c =
+    let next = c.draw.new.self in
+    let at = c.args.at.spot in
+    log_uses (with_next (tables_of c.args.parts.now) next) (tables_of c.use_spot.new.parts)
+    c.args.unit at.place at.sector next c.use_spot.ensures

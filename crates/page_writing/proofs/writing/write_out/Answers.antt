@@ -5,8 +5,9 @@ use Rattle.unit_io.specs.Charts.{Charts}
 use Rattle.selective_merge.specs.Moving.{tables_of, Holds}
 use Rattle.page_writing.specs.Writing.{WritesLog, WritesLogInSteps}
 use Rattle.page_writing.proofs.CauseLemmas.{stopped_cause}
+use Rattle.page_writing.proofs.InPlaceLemmas.{in_place_as, in_place_stopped}
 use Rattle.page_writing.proofs.OutLemmas.{out_told, out_steps, stopped_told}
-use Rattle.page_writing.proofs.SpendLemmas.{frees_alone, frees_then_logs}
+use Rattle.page_writing.proofs.SpendLemmas.{unplaced_costs, placed_costs}
 use Rattle.page_writing.proofs.SpotLemmas.{holds_then}
 use Rattle.merge_rules.proofs.FaultLemmas.{fault_as, fault_stopped}
 use Rattle.selective_merge.proofs.CompleteLemmas.{fails_complete}
@@ -30,8 +31,10 @@ returns-in_err-at-clause-steps g c =
 
 pub returns-in_err-at-clause-costs : goal.returns-in_err-at-clause-costs
 returns-in_err-at-clause-costs g c =
-    frees_alone (tables_of c.args.parts.now).places (g.C.Chip.told c.args.chip.now)
-    (g.C.Chip.told c.find_room.new.chip) c.in_err-at.ensures.costs
+    let e = err_from_is_err_and c.from_residual.result c.from_residual.ensures.1 in
+    rw e.1 (unplaced_costs e.0 (tables_of c.args.parts.now) (tables_of c.find_room.new.parts)
+    c.args.unit (g.C.Chip.told c.args.chip.now) (g.C.Chip.told c.find_room.new.chip)
+    c.in_err-at.ensures.costs)
 
 pub returns-in_err-at-clause-accounts : goal.returns-in_err-at-clause-accounts
 returns-in_err-at-clause-accounts g c =
@@ -80,9 +83,13 @@ returns-in_err-write_log-clause-holds g c =
 
 pub returns-in_err-write_log-clause-costs : goal.returns-in_err-write_log-clause-costs
 returns-in_err-write_log-clause-costs g c =
-    frees_then_logs (tables_of c.args.parts.now).places c.in_ok-at.at.spot.place
+    let e = err_from_is_err_and c.from_residual-in_err-write_log.result
+    c.from_residual-in_err-write_log.ensures.1 in
+    let says = c.in_err-write_log.ensures in
+    rw e.1 (placed_costs (Err e.0) (tables_of c.args.parts.now) (tables_of c.find_room.new.parts)
+    (tables_of c.write_log.new.parts) c.args.unit c.in_ok-at.at.spot.place
     (g.C.Chip.told c.args.chip.now) (g.C.Chip.told c.find_room.new.chip)
-    (g.C.Chip.told c.write_log.new.chip) c.in_ok-at.ensures.costs c.in_err-write_log.ensures.costs
+    (g.C.Chip.told c.write_log.new.chip) c.in_ok-at.ensures.costs says.costs says.uses)
 
 pub returns-in_err-write_log-clause-accounts : goal.returns-in_err-write_log-clause-accounts
 returns-in_err-write_log-clause-accounts g c =
@@ -141,9 +148,11 @@ returns-clause-holds g c =
 
 pub returns-clause-costs : goal.returns-clause-costs
 returns-clause-costs g c =
-    frees_then_logs (tables_of c.args.parts.now).places c.in_ok-at.at.spot.place
+    let says = c.in_ok-write_log.ensures in
+    placed_costs (Ok tt) (tables_of c.args.parts.now) (tables_of c.find_room.new.parts)
+    (tables_of c.write_log.new.parts) c.args.unit c.in_ok-at.at.spot.place
     (g.C.Chip.told c.args.chip.now) (g.C.Chip.told c.find_room.new.chip)
-    (g.C.Chip.told c.write_log.new.chip) c.in_ok-at.ensures.costs c.in_ok-write_log.ensures.costs
+    (g.C.Chip.told c.write_log.new.chip) c.in_ok-at.ensures.costs says.costs says.uses
 
 pub returns-clause-accounts : goal.returns-clause-accounts
 returns-clause-accounts g c =
@@ -201,3 +210,18 @@ returns-clause-tidy g c =
     (tables_of c.write_log.new.parts) c.in_ok-at.at done (g.C.Chip.told c.args.chip.now)
     (g.C.Chip.told c.find_room.new.chip) (g.C.Chip.told c.write_log.new.chip)
     found.accounts.counts found.tidy c.in_ok-write_log.ensures.tidy
+
+-- ---- the unit is where it was
+
+pub returns-in_err-at-clause-stays : goal.returns-in_err-at-clause-stays
+returns-in_err-at-clause-stays g c = λ x told it mirrors.
+    let e = err_from_is_err_and c.from_residual.result c.from_residual.ensures.1 in
+    rw e.1 (in_place_as (tables_of c.args.parts.now) c.args.unit (tables_of c.find_room.new.parts)
+    e.0 c.in_err-at.field-0.0 e.2 (c.in_err-at.ensures.stays x told it mirrors))
+
+pub returns-in_err-write_log-clause-stays : goal.returns-in_err-write_log-clause-stays
+returns-in_err-write_log-clause-stays g c = λ x told it mirrors.
+    let e = err_from_is_err_and c.from_residual-in_err-write_log.result
+    c.from_residual-in_err-write_log.ensures.1 in
+    rw e.1 (in_place_stopped (tables_of c.args.parts.now) c.args.unit
+    (tables_of c.write_log.new.parts) e.0 (e.2 ∙ c.in_err-write_log.ensures.accounts.cause.0))

@@ -159,3 +159,12 @@ returns-in_err-take_unit-clause-tidy g c =
     (Err c.in_err-take_unit.field-0.0) (g.C.Chip.told c.args.chip.now)
     (g.C.Chip.told c.loop-unit.chip) (g.C.Chip.told c.take_unit.new.chip) so_far.counts
     so_far.tidy c.in_err-take_unit.ensures.tidy)
+
+pub returns-in_err-take_unit-clause-stays : goal.returns-in_err-take_unit-clause-stays
+returns-in_err-take_unit-clause-stays g c = λ x told it mirrors.
+    let so_far = c.loop-unit.invariant in
+    let places = (g.C.Chip.told c.args.chip.now).places in
+    let e = err_from_is_err_and c.from_residual.result c.from_residual.ensures.1 in
+    rw (e.1 ∙ ap Err e.2) (c.in_err-take_unit.ensures.stays places x it
+    (tables_of c.args.parts.now) so_far.counts.places so_far.holds
+    (so_far.passes places x it refl told mirrors) (so_far.spares places x it refl told mirrors))

@@ -22,7 +22,7 @@ use Rattle.status_renewal.proofs.CompleteLemmas.{merge_is_complete}
 use Rattle.status_renewal.proofs.TellingLemmas.{goes_on_same, goes_on_then, goes_on_from}
 use Rattle.merge_rules.specs.Known.{KnowsPlaces}
 use Rattle.selective_merge.proofs.CompleteLemmas.{merge_fails_so}
-use Rattle.status_renewal.proofs.FaultLemmas.{spared_read, spared_merged, merge_fails}
+use Rattle.status_renewal.proofs.FaultLemmas.{spared_read, spared_merged, merge_in_place, in_place_fails}
 use Rattle.status_renewal.proofs.TidyLemmas.{tidies_read, tidies_read_then}
 use Rattle.status_renewal.proofs.passing.take_unit.Goals as goal
 
@@ -207,8 +207,8 @@ returns-clause-complete g c = λ places chart it t same holds was all.
     (tables_of c.args.parts.now) c.merge.result (omega (arith, c.requires.unit, same)) holds.active
     (reads.counts.places ∙ same) reads.contents was all c.merge.ensures.complete
 
-pub returns-in_err-read_live-clause-fault : goal.returns-in_err-read_live-clause-fault
-returns-in_err-read_live-clause-fault g c = λ places x it t same holds was spared.
+pub returns-in_err-read_live-clause-stays : goal.returns-in_err-read_live-clause-stays
+returns-in_err-read_live-clause-stays g c = λ places x it t same holds was spared.
     let parts = tables_of c.args.parts.now in
     let e = err_from_is_err_and c.from_residual.result c.from_residual.ensures.1 in
     rw (e.1 ∙ ap Err e.2) (λ read stopped. absurd (read
@@ -218,6 +218,11 @@ returns-in_err-read_live-clause-fault g c = λ places x it t same holds was spar
       directory_is = refl;
       overflow_is = refl;
     }))))
+
+pub returns-in_err-read_live-clause-fault : goal.returns-in_err-read_live-clause-fault
+returns-in_err-read_live-clause-fault g c = λ places x it t same holds was spared.
+    in_place_fails places x it t (tables_of c.args.parts.now) c.from_residual.result
+    (returns-in_err-read_live-clause-stays g c places x it t same holds was spared)
 
 pub returns-then-join-clause-spares : goal.returns-then-join-clause-spares
 returns-then-join-clause-spares g c = λ places x it t same was spared.
@@ -233,8 +238,8 @@ returns-clause-spares g c = λ places x it t same was spared.
     (subst (λ n. KnowsPlaces n parts) same c.requires.known) was spared reads.contents
     c.merge.result (g.C.Chip.told c.merge.new.chip) c.merge.ensures.spares
 
-pub returns-clause-fault : goal.returns-clause-fault
-returns-clause-fault g c = λ places x it t same holds was spared.
+pub returns-clause-stays : goal.returns-clause-stays
+returns-clause-stays g c = λ places x it t same holds was spared.
     let parts = c.args.parts.now in
     let unit = c.args.unit in
     let mid = g.C.Chip.told c.read_live.new.chip in
@@ -255,11 +260,18 @@ returns-clause-fault g c = λ places x it t same holds was spared.
     let many : 3840 < length (joined parts.status.numbers (records_of log) c.args.kept.now) =
     subst (λ (rs : List Record). 3840 < length (joined parts.status.numbers rs c.args.kept.now))
     records (too_many c.join.result _ c.join.ensures.fits c.if-join.false) in
-    merge_fails places unit x it t c.args.kept.now (g.C.Chip.told c.args.chip.now) mid
+    merge_in_place places unit x it t c.args.kept.now (g.C.Chip.told c.args.chip.now) mid
     (tables_of parts) (subst (λ n. KnowsPlaces n (tables_of parts)) same c.requires.known) was
-    spared reads.contents low holds.active holds.status c.merge.result many
+    spared reads.contents low holds.active holds.status c.merge.result
+    (g.C.Chip.told c.merge.new.chip) (tables_of c.merge.new.parts) many
     (reads.counts.places ∙ same)
     (merge_fails_so mid.places (tables_of parts) unit c.merge.result mid c.merge.ensures.fault)
+    c.merge.ensures.tells
+
+pub returns-clause-fault : goal.returns-clause-fault
+returns-clause-fault g c = λ places x it t same holds was spared.
+    in_place_fails places x it t (tables_of c.merge.new.parts) c.merge.result
+    (returns-clause-stays g c places x it t same holds was spared)
 
 pub returns-in_err-read_live-clause-tidy : goal.returns-in_err-read_live-clause-tidy
 returns-in_err-read_live-clause-tidy g c =

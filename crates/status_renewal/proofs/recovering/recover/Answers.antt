@@ -7,7 +7,7 @@ use Rattle.selective_merge.specs.Moving.{tables_of}
 use Rattle.unit_io.specs.Costs.{Spends}
 use Rattle.unit_io.specs.ReadsAt.{Anywhere}
 use Rattle.status_renewal.specs.Passes.{RenewsTold, KeepsInSteps, FailsAsRenewal, CompletesRenewal, ErasesAtMost}
-use Rattle.status_renewal.proofs.CostLemmas.{reads_erase, reads_then_erase}
+use Rattle.status_renewal.proofs.CostLemmas.{reads_erase, reads_then_erase, reads_then_renewed}
 use Rattle.status_renewal.proofs.RecoverLemmas.{of_parts, opened_parts, opens_told, opens_done, sound_looks, reads_recover, recovers_done, recovers_failed}
 use Rattle.status_renewal.proofs.CompleteLemmas.{all_mergeable, call_failed, reading_failed}
 use Rattle.ipl_base.specs.declared.fault.ImageFault.TheVariants.{Chip}
@@ -139,6 +139,12 @@ returns-clause-costs g c =
     c.recover.ensures.looks.reads
     (subst (λ n. Spends (ErasesAtMost (n - 3)) mid new)
     c.recover.ensures.looks.reads.counts.places c.renew.ensures.costs)
+
+pub returns-clause-renewed : goal.returns-clause-renewed
+returns-clause-renewed g c =
+    reads_then_renewed Anywhere c.renew.new.parts.status.place (g.C.Chip.told c.args.chip.now)
+    (g.C.Chip.told c.recover.new.chip) (g.C.Chip.told c.renew.new.chip)
+    c.recover.ensures.looks.reads c.in_ok-renew.ensures.renewed
 
 pub returns-in_err-recover-clause-complete : goal.returns-in_err-recover-clause-complete
 returns-in_err-recover-clause-complete g c = λ x told m none says.

@@ -1,20 +1,22 @@
-use Rattle.std.proofs.Common.{◌+◌, ◌-◌, ◌∙◌, ℕ, List, Err, OnOk, refl, sym, ap, subst, arith}
-use Rattle.std.proofs.lemmas.Result.{err_from_is_err_and}
+use Rattle.std.proofs.Common.{◌+◌, ◌-◌, ◌∙◌, ℕ, List, Some, Err, OnOk, refl, sym, ap, subst, arith}
+use Rattle.std.proofs.lemmas.Result.{err_from_is_err_and, on_ok_weaker}
 use Rattle.ipl_meaning.specs.Chart.{chart_of}
 use Rattle.ipl_meaning.specs.Rests.{now}
+use Rattle.ipl_meaning.specs.Tables.{Status}
+use Rattle.unit_directory.specs.Free.{first_free}
 use Rattle.merge_rules.specs.Known.{KnowsPlaces}
 use Rattle.selective_merge.specs.Moving.{tables_of}
 use Rattle.steps.specs.Steps.{NoOtherEnd}
 use Rattle.txn_status.specs.Switching.{RestsSwitched}
 use Rattle.unit_io.specs.Charts.{Charts}
-use Rattle.status_renewal.specs.Passes.{HasPassed}
+use Rattle.status_renewal.specs.Passes.{HasPassed, ErasesAtMost}
 use Rattle.status_renewal.specs.Renewed.{with_tables, Renews, RenewsInSteps}
-use Rattle.status_renewal.proofs.CostLemmas.{erases_more, erases_then, place_erases}
+use Rattle.status_renewal.proofs.CostLemmas.{erases_more, erases_then, place_erases, renewed_then}
 use Rattle.status_renewal.proofs.PreserveLemmas.{passed_then, steps_preserve}
 use Rattle.status_renewal.proofs.RenewLemmas.{may_renew, renew_ends, status_ends}
 use Rattle.status_renewal.proofs.CompleteLemmas.{written_alone}
 use Rattle.status_renewal.proofs.TellingLemmas.{goes_on_then, goes_on_where, renews_told}
-use Rattle.status_renewal.proofs.FaultLemmas.{pass_written}
+use Rattle.status_renewal.proofs.FaultLemmas.{pass_written, place_written}
 use Rattle.status_renewal.proofs.TidyLemmas.{tidies_then}
 use Rattle.status_renewal.proofs.renewing.renew.Goals as goal
 
@@ -136,6 +138,17 @@ returns-clause-costs g c =
     (erases_then (old.places - 4) 1 old mid new c.pass.ensures.costs
     (place_erases one.0 _ mid new one.2))
 
+pub returns-clause-renewed : goal.returns-clause-renewed
+returns-clause-renewed g c =
+    let old = g.C.Chip.told c.args.chip.now in
+    let one = c.renew_place.ensures.costs in
+    renewed_then (ErasesAtMost (old.places - 4)) one.0 c.renew_place.new.status.place
+    (first_free c.pass.new.parts.directory.in_use) old (g.C.Chip.told c.pass.new.chip)
+    (g.C.Chip.told c.renew_place.new.chip) c.renew_place.result c.pass.ensures.costs one.1
+    (on_ok_weaker c.renew_place.result
+    (λ moved. moved.lowest ∙ ap Some (sym (ap (λ (s : Status). s.place) moved.status_is)))
+    c.renew_place.ensures.moved) one.2
+
 pub returns-in_err-pass-clause-complete : goal.returns-in_err-pass-clause-complete
 returns-in_err-pass-clause-complete g c = λ x told it mirrors all.
     let e = err_from_is_err_and c.from_residual.result c.from_residual.ensures.1 in
@@ -179,3 +192,16 @@ returns-clause-tidy g c =
     (record { places_is = refl; status_is = refl; next_is = refl })
     (subst (λ n. KnowsPlaces n between) (sym c.pass.ensures.accounts.counts.places)
     c.in_ok-pass.ensures.holds.known))
+
+pub returns-in_err-pass-clause-stays : goal.returns-in_err-pass-clause-stays
+returns-in_err-pass-clause-stays g c = λ x told it mirrors.
+    let e = err_from_is_err_and c.from_residual.result c.from_residual.ensures.1 in
+    rw (e.1 ∙ ap Err e.2) (c.in_err-pass.ensures.stays x told it mirrors)
+
+pub returns-clause-stays : goal.returns-clause-stays
+returns-clause-stays g c = λ x told it mirrors.
+    place_written (g.C.Chip.told c.args.chip.now).places x it (tables_of c.args.parts.now)
+    (with_tables (tables_of c.pass.new.parts) c.renew_place.new.directory c.renew_place.new.status
+    c.renew_place.new.counter)
+    (g.C.Chip.told c.pass.new.chip) (g.C.Chip.told c.renew_place.new.chip) c.renew_place.result
+    c.renew_place.ensures.accounts.cause

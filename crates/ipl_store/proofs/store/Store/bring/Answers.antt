@@ -19,7 +19,8 @@ returns-clause-fetches g c =
           c.end.result c.end.new.self c.requires.up c.requires.sound
           (pages_move 14 store.transactions pages old after c.bring-done.result
           (c.requires.sound.order c.requires.up) c.bring-done.ensures.upholds
-          c.bring-done.ensures.complete) rest
+          c.bring-done.ensures.complete
+          c.bring-done.ensures.faults) rest
           c.end.ensures.ends None refl;
       holds = kept_holds store c.end.new.self (record store.transactions { pages = pages })
           store.kept rest c.bring-done.ensures.upholds.pins;

@@ -12,7 +12,8 @@ returns-clause-calls g c =
     c.requires.up c.requires.sound
     (pages_move 14 store.transactions pages old (g.C.Chip.told c.bring-done.new.chip)
     c.bring-done.result (c.requires.sound.order c.requires.up) c.bring-done.ensures.upholds
-    c.bring-done.ensures.complete)
+    c.bring-done.ensures.complete
+    c.bring-done.ensures.faults)
     c.end.ensures.rest c.end.ensures.ends None refl
 
 pub returns-clause-holds : goal.returns-clause-holds
@@ -33,3 +34,10 @@ returns-clause-stays g c = λ room.
     let store = c.args.self.now in
     kept_framed store c.end.new.self (record store.transactions { pages = c.bring-done.new.self })
     store.kept c.end.ensures.rest (c.bring-done.ensures.framed room)
+
+pub returns-clause-asks : goal.returns-clause-asks
+returns-clause-asks g c = record {
+  idle = λ framed. (c.bring-done.ensures.idle framed).1;
+  free = c.bring-done.ensures.free;
+  costs = c.bring-done.ensures.costs;
+}

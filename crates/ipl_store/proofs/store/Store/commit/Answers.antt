@@ -5,6 +5,7 @@ use Rattle.record_locks.specs.Standing.{state_of}
 use Rattle.store_steps.specs.Keeps.{limits_of}
 use Rattle.ipl_store.specs.Calls.{early_fault, entry_fault}
 use Rattle.ipl_store.proofs.CallLemmas.{let_in, turns_move, moved_calls, kept_holds, kept_framed}
+use Rattle.transactions.proofs.CostLemmas.{empty_asks}
 use Rattle.ipl_store.proofs.store.Store.commit.Goals as goal
 
 pub returns-clause-calls : goal.returns-clause-calls
@@ -23,7 +24,8 @@ returns-clause-calls g c =
     c.commit-done.new.kept old after c.commit-done.result c.end.result c.end.new.self up
     c.requires.sound (turns_move (λ state. after_commit state c.args.s) (2 ^ 15)
     store.transactions c.commit-done.new.self old after c.commit-done.result
-    c.commit-done.ensures.turns c.commit-done.ensures.complete) c.end.ensures.rest
+    c.commit-done.ensures.turns c.commit-done.ensures.complete
+    c.commit-done.ensures.faults) c.end.ensures.rest
     c.end.ensures.ends early none
 
 pub returns-clause-holds : goal.returns-clause-holds
@@ -36,3 +38,10 @@ returns-in_err-admit-clause-framed g c = λ u page is. is
 pub returns-clause-framed : goal.returns-clause-framed
 returns-clause-framed g c = kept_framed c.args.self.now c.end.new.self c.commit-done.new.self
     c.commit-done.new.kept c.end.ensures.rest c.commit-done.ensures.framed
+
+pub returns-in_err-admit-clause-asks : goal.returns-in_err-admit-clause-asks
+returns-in_err-admit-clause-asks g c =
+    empty_asks c.args.self.now.transactions c.args.s (g.C.Chip.told c.args.chip.now)
+
+pub returns-clause-asks : goal.returns-clause-asks
+returns-clause-asks g c = c.commit-done.ensures.asks

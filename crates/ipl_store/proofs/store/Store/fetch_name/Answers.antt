@@ -1,6 +1,7 @@
 use Rattle.std.proofs.Common.{◌≡◌, ◌∙◌, None, Some, Err, sym, ap}
 use Rattle.std.proofs.lemmas.Result.{err_from_is_err_and}
 use Rattle.store_steps.specs.Keeps.{limits_of}
+use Rattle.ipl_base.specs.Places.{home_of}
 use Rattle.ipl_store.specs.Calls.{early_fault, entry_fault, refuses_name}
 use Rattle.ipl_store.proofs.ShownLemmas.{looks_answered, let_in_fetches, refused_fetches, asks_nothing}
 use Rattle.ipl_store.proofs.store.Store.fetch_name.Goals as goal
@@ -36,7 +37,7 @@ returns-in_err-admit-clause-looks g c = λ found.
 
 pub returns-in_err-admit-clause-asks : goal.returns-in_err-admit-clause-asks
 returns-in_err-admit-clause-asks g c =
-    asks_nothing c.args.n c.args.self.now (g.C.Chip.told c.args.chip.now)
+    asks_nothing (home_of c.args.n).unit (home_of c.args.n).page c.args.self.now (g.C.Chip.told c.args.chip.now)
 
 pub returns-clause-fetches : goal.returns-clause-fetches
 returns-clause-fetches g c =

@@ -6,6 +6,7 @@ use Rattle.record_locks.specs.Held.{Slots, number_of}
 use Rattle.record_locks.specs.Locks as locks
 use Rattle.record_locks.specs.Standing.{state_of}
 use Rattle.store_steps.specs.Keeps.{limits_of}
+use Rattle.ipl_base.specs.Places.{home_of}
 use Rattle.ipl_store.specs.Calls.{early_fault, entry_fault}
 use Rattle.store_steps.proofs.RefusalLemmas.{passed_shares}
 use Rattle.ipl_store.proofs.CallLemmas.{let_in}
@@ -47,7 +48,7 @@ returns-in_err-admit-clause-looks g c = λ found.
 
 pub returns-in_err-admit-clause-asks : goal.returns-in_err-admit-clause-asks
 returns-in_err-admit-clause-asks g c =
-    asks_nothing c.args.n c.args.self.now (g.C.Chip.told c.args.chip.now)
+    asks_nothing (home_of c.args.n).unit (home_of c.args.n).page c.args.self.now (g.C.Chip.told c.args.chip.now)
 
 pub returns-in_err-bring-clause-fetches : goal.returns-in_err-bring-clause-fetches
 returns-in_err-bring-clause-fetches g c =

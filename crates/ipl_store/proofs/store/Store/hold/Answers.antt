@@ -6,6 +6,7 @@ use Rattle.pending_writes.specs.Frames.{Frames}
 use Rattle.ipl_store.specs.Calls.{early_fault, entry_fault, refuses_hold}
 use Rattle.ipl_store.proofs.CallLemmas.{calls_refused, let_in, let_in_calls, idle_calls}
 use Rattle.ipl_store.proofs.HoldLemmas.{holds_then, held_before, passed_hold, repooled_calls}
+use Rattle.ipl_store.proofs.ShownLemmas.{asks_nothing}
 use Rattle.ipl_store.proofs.store.Store.hold.Goals as goal
 
 pub returns-then-is_held-clause-calls : goal.returns-then-is_held-clause-calls
@@ -105,3 +106,17 @@ returns-in_err-admit-clause-calls g c =
     let e = err_from_is_err_and c.from_residual.result c.from_residual.ensures.1 in
     rw (e.1 ∙ ap Err e.2) (calls_refused early (λ state. state) 14 store
     (g.C.Chip.told c.args.chip.now) (Err fault) fault is refl c.requires.sound)
+
+pub returns-in_err-admit-clause-asks : goal.returns-in_err-admit-clause-asks
+returns-in_err-admit-clause-asks g c =
+    asks_nothing c.args.unit c.args.page c.args.self.now (g.C.Chip.told c.args.chip.now)
+
+pub returns-then-is_held-clause-asks : goal.returns-then-is_held-clause-asks
+returns-then-is_held-clause-asks g c =
+    asks_nothing c.args.unit c.args.page c.args.self.now (g.C.Chip.told c.args.chip.now)
+
+pub returns-in_err-bring_page-clause-asks : goal.returns-in_err-bring_page-clause-asks
+returns-in_err-bring_page-clause-asks g c = c.in_err-bring_page.ensures.asks
+
+pub returns-clause-asks : goal.returns-clause-asks
+returns-clause-asks g c = c.in_ok-bring_page.ensures.asks

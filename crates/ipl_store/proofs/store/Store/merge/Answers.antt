@@ -25,7 +25,8 @@ returns-clause-calls g c =
     c.merge-done.result
     c.end.result c.end.new.self up c.requires.sound
     (pages_move 13 store.transactions c.merge-done.new.self old after c.merge-done.result
-    (c.requires.sound.order up) c.merge-done.ensures.upholds c.merge-done.ensures.complete)
+    (c.requires.sound.order up) c.merge-done.ensures.upholds c.merge-done.ensures.complete
+    c.merge-done.ensures.faults)
     c.end.ensures.rest c.end.ensures.ends (early_fault (entry_fault store) refusal) none
 
 pub returns-clause-holds : goal.returns-clause-holds

@@ -5,9 +5,11 @@ use Rattle.ipl_rules.specs.Operations.{after_write}
 use Rattle.ipl_rules.specs.Refusals.{refuses_put}
 use Rattle.record_locks.specs.Standing.{state_of}
 use Rattle.store_steps.specs.Keeps.{limits_of}
+use Rattle.transactions.specs.Costs.{AsksToWrite}
 use Rattle.transactions.specs.Turns.{Turns}
 use Rattle.ipl_store.specs.Calls.{early_fault, entry_fault}
 use Rattle.ipl_store.proofs.CallLemmas.{calls_refused, let_in, turns_move, moved_calls, kept_holds, kept_framed, ended_framed}
+use Rattle.ipl_store.proofs.ShownLemmas.{write_asks_nothing}
 use Rattle.ipl_store.proofs.store.Store.put.Goals as goal
 
 pub returns-clause-calls : goal.returns-clause-calls
@@ -30,7 +32,8 @@ returns-clause-calls g c =
     c.requires.sound
     (turns_move (λ state. after_write state c.args.s (c.args.n, Some c.args.value.now)) 14
     store.transactions
-    c.write-done.new.self old after c.write-done.result turns c.write-done.ensures.complete)
+    c.write-done.new.self old after c.write-done.result turns c.write-done.ensures.complete
+    c.write-done.ensures.faults)
     c.end.ensures.rest c.end.ensures.ends early none
 
 pub returns-clause-holds : goal.returns-clause-holds
@@ -61,3 +64,15 @@ returns-in_err-admit-clause-calls g c =
     let e = err_from_is_err_and c.from_residual.result c.from_residual.ensures.1 in
     rw (e.1 ∙ ap Err e.2) (calls_refused early (λ state. after_write state c.args.s (c.args.n, Some c.args.value.now)) 14 store
     (g.C.Chip.told c.args.chip.now) (Err fault) fault is refl c.requires.sound)
+
+pub returns-in_err-admit-clause-asks : goal.returns-in_err-admit-clause-asks
+returns-in_err-admit-clause-asks g c = write_asks_nothing c.args.n (Some c.args.value.now)
+    c.args.self.now.transactions.pages (g.C.Chip.told c.args.chip.now)
+
+pub returns-clause-asks : goal.returns-clause-asks
+returns-clause-asks g c =
+    let pages = c.args.self.now.transactions.pages in
+    let old = g.C.Chip.told c.args.chip.now in
+    let after = g.C.Chip.told c.write-done.new.chip in
+    subst (λ (bytes : List ℕ). AsksToWrite c.args.n (Some bytes) pages old after)
+    c.in-Some.ensures.some.0 c.write-done.ensures.asks

@@ -15,3 +15,9 @@ returns-clause-framed g c = λ room. elim room [
   | inl there ↦ absurd (false≢true (sym c.if-is_framed.false ∙ c.is_framed.ensures.1 there))
   | inr free ↦ c.fetch.ensures.framed free
 ]
+
+pub returns-clause-exact : goal.returns-clause-exact
+returns-clause-exact g c = λ room. elim room [
+  | inl there ↦ absurd (false≢true (sym c.if-is_framed.false ∙ c.is_framed.ensures.1 there))
+  | inr free ↦ c.fetch.ensures.exact free
+]

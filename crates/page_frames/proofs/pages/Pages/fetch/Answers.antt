@@ -1,3 +1,4 @@
+use Rattle.std.proofs.lemmas.Bool.{false≢true}
 use Rattle.std.proofs.lemmas.Result.{err_from_is_err_and}
 use Rattle.page_frames.proofs.BringLemmas.{brings_fresh}
 use Rattle.page_frames.proofs.SpendLemmas.{logs_then_reads}
@@ -7,6 +8,10 @@ use Rattle.std.proofs.Common.{sym, subst}
 use Rattle.page_frames.specs.declared.pages.Pages.{Pages}
 use Rattle.page_frames.specs.Pages.{KeepsFramed}
 use Rattle.page_frames.proofs.FramedLemmas.{brings_framed}
+use Rattle.page_frames.proofs.TellLemmas.{tells_then}
+use Rattle.chip_trait.specs.Told.{Told}
+use Rattle.page_frames.specs.Pages.{tables_in}
+use Rattle.page_frames.specs.Faulty.{FailsAsPage}
 use Rattle.page_frames.proofs.pages.Pages.fetch.Goals as goal
 
 pub returns-clause-upholds : goal.returns-clause-upholds
@@ -50,3 +55,27 @@ returns-clause-framed g c = λ free.
     (c.in_ok-make_room.ensures.idle free).0
     (brings_framed c.load.result c.args.unit c.args.page c.make_room.new.self c.load.new.self
     c.load.ensures.brings)
+
+pub returns-clause-faults : goal.returns-clause-faults
+returns-clause-faults g c =
+    let made = c.in_ok-make_room.ensures.upholds in
+    tells_then c.args.self.now c.make_room.new.self c.load.new.self c.load.result
+    (g.C.Chip.told c.args.chip.now) (g.C.Chip.told c.make_room.new.chip) made.accounts.counts.places
+    made.keeps c.load.ensures.faults
+
+pub returns-in_err-make_room-clause-faults : goal.returns-in_err-make_room-clause-faults
+returns-in_err-make_room-clause-faults g c =
+    let e = err_from_is_err_and c.from_residual.result c.from_residual.ensures.1 in
+    rw (e.1, e.2) c.in_err-make_room.ensures.faults
+
+pub returns-clause-exact : goal.returns-clause-exact
+returns-clause-exact g c = λ free.
+    let same = c.in_ok-make_room.ensures.idle free in
+    subst (λ (told : Told). FailsAsPage (tables_in c.args.self.now) c.args.unit c.args.page
+    c.load.result told) same.1
+    (subst (λ (pages : Pages). FailsAsPage (tables_in pages) c.args.unit c.args.page c.load.result
+    (g.C.Chip.told c.make_room.new.chip)) same.0 c.load.ensures.exact)
+
+pub returns-in_err-make_room-clause-exact : goal.returns-in_err-make_room-clause-exact
+returns-in_err-make_room-clause-exact g c = λ free. absurd
+    (false≢true (c.in_err-make_room.ensures.done free))

@@ -49,3 +49,14 @@ pub returns-in_err-write_out-clause-complete : goal.returns-in_err-write_out-cla
 returns-in_err-write_out-clause-complete g c =
     let e = err_from_is_err_and c.from_residual.result c.from_residual.ensures.1 in
     rw (e.1, e.2) c.in_err-write_out.ensures.complete
+
+pub returns-in_err-write_out-clause-faults : goal.returns-in_err-write_out-clause-faults
+returns-in_err-write_out-clause-faults g c =
+    let e = err_from_is_err_and c.from_residual.result c.from_residual.ensures.1 in
+    rw (e.1, e.2) c.in_err-write_out.ensures.faults
+
+pub returns-in_err-write_out-clause-costs : goal.returns-in_err-write_out-clause-costs
+returns-in_err-write_out-clause-costs g c = c.in_err-write_out.ensures.asks.costs
+
+pub returns-clause-costs : goal.returns-clause-costs
+returns-clause-costs g c = c.in_ok-write_out.ensures.asks.costs

@@ -10,6 +10,7 @@ use Rattle.page_frames.proofs.HeldLemmas.{taken_log}
 use Rattle.page_frames.proofs.LoadLemmas.{loaded_then, freed_then, load_upholds, fail_upholds}
 use Rattle.page_frames.proofs.SpendLemmas.{reads_alone}
 use Rattle.page_frames.proofs.CompleteLemmas.{loaded_completes}
+use Rattle.page_frames.proofs.TellLemmas.{loaded_tells}
 use Rattle.page_frames.proofs.pages.Pages.load.Goals as goal
 
 pub load_frame-requires-clause-empty : goal.load_frame-requires-clause-empty
@@ -89,3 +90,11 @@ pub returns-in-Err-clause-complete : goal.returns-in-Err-clause-complete
 returns-in-Err-clause-complete g c =
     loaded_completes {T = Unit {0}} c.args.unit c.args.page c.args.self.now (Err c.in-Err.fault)
     (g.C.Chip.told c.args.chip.now) c.requires.unit c.requires.page c.in-Err.ensures.complete
+
+pub returns-in-Err-clause-faults : goal.returns-in-Err-clause-faults
+returns-in-Err-clause-faults g c =
+    let is = c.in-Err.ensures in
+    loaded_tells {T = Unit {0}} c.args.unit c.args.page c.args.self.now
+    (record { parts = c.load_frame.new.self.parts; pool = c.free_frame.new.pool })
+    (Err c.in-Err.fault) (g.C.Chip.told c.args.chip.now) c.requires.unit c.requires.page is.tables
+    is.exact

@@ -12,6 +12,7 @@ use Rattle.store_steps.specs.Views.{frame_of}
 use Rattle.page_frames.specs.Pages.{tables_in, frames_in}
 use Rattle.page_frames.proofs.HeldLemmas.{unheld_page, has_log}
 use Rattle.page_frames.proofs.CompleteLemmas.{load_completes}
+use Rattle.page_frames.proofs.TellLemmas.{load_exact}
 use Rattle.page_frames.proofs.pages.Pages.load_frame.Goals as goal
 
 pub unreachable-requires : goal.unreachable-requires
@@ -67,4 +68,9 @@ returns-clause-pins g c =
 pub returns-clause-complete : goal.returns-clause-complete
 returns-clause-complete g c =
     load_completes (tables_in c.args.self.now) c.args.unit c.args.page c.load.result
+    (g.C.Chip.told c.args.chip.now) c.load.ensures.fault
+
+pub returns-clause-exact : goal.returns-clause-exact
+returns-clause-exact g c =
+    load_exact (tables_in c.args.self.now) c.args.unit c.args.page c.load.result
     (g.C.Chip.told c.args.chip.now) c.load.ensures.fault

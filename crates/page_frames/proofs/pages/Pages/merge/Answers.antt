@@ -2,6 +2,9 @@ use Rattle.std.proofs.Common.{slice_index, refl}
 use Rattle.overflow.specs.Lists.{spots_in}
 use Rattle.page_frames.proofs.TableLemmas.{merge_upholds}
 use Rattle.page_frames.proofs.CompleteLemmas.{merge_completes}
+use Rattle.page_frames.proofs.TellLemmas.{merged_tells}
+use Rattle.page_frames.specs.Pages.{tables_in}
+use Rattle.selective_merge.proofs.CompleteLemmas.{merge_fails_so}
 use Rattle.page_frames.proofs.pages.Pages.merge.Goals as goal
 
 pub returns-clause-upholds : goal.returns-clause-upholds
@@ -20,3 +23,16 @@ returns-clause-complete g c =
 
 pub returns-clause-framed : goal.returns-clause-framed
 returns-clause-framed g c = λ u page is. is
+
+pub returns-clause-faults : goal.returns-clause-faults
+returns-clause-faults g c =
+    let is = c.merge.ensures in
+    merged_tells c.args.unit c.args.self.now
+    (record { parts = c.merge.new.parts; pool = c.args.self.now.pool }) c.merge.result
+    (g.C.Chip.told c.args.chip.now) (g.C.Chip.told c.merge.new.chip) c.requires.unit is.fault is.tells
+
+pub returns-clause-exact : goal.returns-clause-exact
+returns-clause-exact g c =
+    let told = g.C.Chip.told c.args.chip.now in
+    merge_fails_so told.places (tables_in c.args.self.now) c.args.unit c.merge.result told
+    c.merge.ensures.fault

@@ -1,5 +1,6 @@
 use Rattle.std.proofs.lemmas.Result.{on_ok_weaker}
 use Rattle.log_records.specs.View.{record_of}
+use Rattle.page_frames.proofs.AskLemmas.{fitting_asks, framed_asks, fetched_asks}
 use Rattle.page_frames.proofs.BringLemmas.{fits_fresh, out_fresh}
 use Rattle.page_frames.proofs.UpholdLemmas.{upholds_none}
 use Rattle.std.proofs.Common.{inl, inr, sym, ◌∙◌}
@@ -35,3 +36,23 @@ returns-clause-framed g c = λ room. elim room [
   | inl there ↦ absurd (false≢true (sym c.if-is_framed.false ∙ c.is_framed.ensures.1 there))
   | inr free ↦ c.fetch.ensures.framed free
 ]
+
+pub returns-then-has_room-clause-asks : goal.returns-then-has_room-clause-asks
+returns-then-has_room-clause-asks g c =
+    fitting_asks c.args.unit (record_of c.args.logged.now) c.args.self.now
+    (g.C.Chip.told c.args.chip.now)
+
+pub returns-then-is_framed-clause-asks : goal.returns-then-is_framed-clause-asks
+returns-then-is_framed-clause-asks g c =
+    framed_asks c.args.unit (record_of c.args.logged.now) c.write_out.result c.args.self.now
+    c.write_out.new.self (g.C.Chip.told c.args.chip.now) (g.C.Chip.told c.write_out.new.chip)
+    (λ may. false≢true (sym c.if-has_room.false ∙ c.has_room.ensures.1 may))
+    (c.is_framed.ensures.0 c.if-is_framed.true) c.write_out.ensures.asks
+
+pub returns-clause-asks : goal.returns-clause-asks
+returns-clause-asks g c =
+    fetched_asks c.args.unit (record_of c.args.logged.now) c.args.self.now
+    (g.C.Chip.told c.args.chip.now) (g.C.Chip.told c.fetch.new.chip)
+    (λ may. false≢true (sym c.if-has_room.false ∙ c.has_room.ensures.1 may))
+    (λ there. false≢true (sym c.if-is_framed.false ∙ c.is_framed.ensures.1 there))
+    c.fetch.ensures.idle c.fetch.ensures.costs

@@ -2,6 +2,7 @@ use Rattle.std.proofs.Common.{◌^◌, refl}
 use Rattle.page_frames.proofs.TableLemmas.{renew_upholds}
 use Rattle.page_frames.proofs.UpholdLemmas.{upholds_none}
 use Rattle.page_frames.proofs.CompleteLemmas.{renew_completes}
+use Rattle.page_frames.proofs.TellLemmas.{renew_tells}
 use Rattle.page_frames.proofs.pages.Pages.ready_status.Goals as goal
 
 pub returns-then-room-gt0-clause-upholds : goal.returns-then-room-gt0-clause-upholds
@@ -25,3 +26,8 @@ returns-then-room-gt0-clause-framed g c = λ u page is. is
 
 pub returns-clause-framed : goal.returns-clause-framed
 returns-clause-framed g c = λ u page is. is
+
+pub returns-clause-faults : goal.returns-clause-faults
+returns-clause-faults g c =
+    renew_tells c.args.self.now (record { parts = c.renew.new.parts; pool = c.args.self.now.pool })
+    c.renew.result (g.C.Chip.told c.args.chip.now) c.renew.ensures.stays

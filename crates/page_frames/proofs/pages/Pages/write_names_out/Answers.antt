@@ -1,10 +1,12 @@
 use Rattle.std.proofs.Common.{◌*◌, arith, map, sym, ◌∙◌, Err}
 use Rattle.std.proofs.lemmas.Result.{err_from_is_err_and}
-use Rattle.page_frames.proofs.OutAllLemmas.{none_out, passed_out, written_out, unwritten_upholds, unwritten_costs, framed_unit, names_out}
+use Rattle.page_frames.proofs.OutAllLemmas.{none_out, passed_out, written_out, unwritten_upholds, unwritten_costs, unwritten_homes, framed_unit, framed_low, names_out}
+use Rattle.page_frames.proofs.HomesLemmas.{home_all}
 use Rattle.page_frames.specs.Pages.{frames_in}
 use Rattle.page_frames.proofs.ChangedLemmas.{spends_all}
 use Rattle.page_frames.proofs.CompleteLemmas.{completes_then}
 use Rattle.page_frames.proofs.pages.Pages.write_names_out.Goals.{then-has_page+in_ok-write_out, else-has_page}
+use Rattle.page_frames.proofs.TellLemmas.{tells_then}
 use Rattle.page_frames.proofs.pages.Pages.write_names_out.Goals as goal
 
 pub loop-i-init : goal.loop-i-init
@@ -35,8 +37,12 @@ loop-i-preserved g c = elim c.if-has_page.branch [
       (g.C.Chip.told c.args.chip.now) c.loop-i.self (g.C.Chip.told c.loop-i.chip)
       w.write_out.new.self (g.C.Chip.told w.write_out.new.chip)
       (omega (arith, c.loop-i-test.true, c.len-i-end.ensures.all))
-      (sym c.has_page.ensures ∙ w.if-has_page.true) is.idle c.page_at-unit.ensures.page c.page_at-unit.ensures.number c.loop-i.invariant is.upholds
-      is.frames is.order is.status is.costs)
+      (sym c.has_page.ensures ∙ w.if-has_page.true)
+      (framed_low (14 * c.loop-i.i) c.args.self.now c.loop-i.self (g.C.Chip.told c.args.chip.now)
+      (g.C.Chip.told c.loop-i.chip) c.page_at-unit.result.0 c.page_at-unit.result.1
+      c.loop-i.invariant.upholds c.facts.ensures.once c.page_at-unit.ensures.there c.requires.ready)
+      c.page_at-unit.ensures.page c.page_at-unit.ensures.number c.loop-i.invariant is.upholds
+      is.frames is.order is.status is.asks)
   | else-has_page w ↦
       rw (w.self-is, w.chip-is) (passed_out c.loop-i.i c.page_at-unit.result.0
       c.page_at-unit.result.1 (map (λ n. n.0) c.args.names.now) c.args.self.now
@@ -72,15 +78,43 @@ returns-clause-framed g c = c.loop-i.invariant.framed
 pub returns-in_err-write_out-clause-costs : goal.returns-in_err-write_out-clause-costs
 returns-in_err-write_out-clause-costs g c =
     unwritten_costs c.loop-i.i c.page_at-unit.result.0 c.page_at-unit.result.1
-    (map (λ n. n.0) c.args.names.now) c.args.self.now (g.C.Chip.told c.args.chip.now) c.loop-i.self
-    (g.C.Chip.told c.loop-i.chip) (g.C.Chip.told c.write_out.new.chip)
+    (map (λ n. n.0) c.args.names.now) c.in_err-write_out.field-0.0 c.args.self.now
+    (g.C.Chip.told c.args.chip.now) c.loop-i.self (g.C.Chip.told c.loop-i.chip)
+    c.write_out.new.self (g.C.Chip.told c.write_out.new.chip)
     (omega (arith, c.loop-i-test.true, c.len-i-end.ensures.all))
-    (sym c.has_page.ensures ∙ c.if-has_page.true) c.in_err-write_out.ensures.idle
-    c.page_at-unit.ensures.page c.page_at-unit.ensures.number c.loop-i.invariant
-    c.in_err-write_out.ensures.costs
+    (sym c.has_page.ensures ∙ c.if-has_page.true) c.page_at-unit.ensures.page
+    c.page_at-unit.ensures.number c.loop-i.invariant c.in_err-write_out.ensures.asks
 
 pub returns-clause-costs : goal.returns-clause-costs
 returns-clause-costs g c =
     spends_all c.loop-i.i (map (λ n. n.0) c.args.names.now) c.args.self.now.pool.order
     (frames_in c.args.self.now) (g.C.Chip.told c.args.chip.now) (g.C.Chip.told c.loop-i.chip)
     c.loop-i.invariant.spends
+
+pub returns-in_err-write_out-clause-faults : goal.returns-in_err-write_out-clause-faults
+returns-in_err-write_out-clause-faults g c =
+    let e = err_from_is_err_and c.from_residual.result c.from_residual.ensures.1 in
+    let done = c.loop-i.invariant.upholds in
+    rw (e.1, e.2) (tells_then {T = Unit {0}} c.args.self.now c.loop-i.self c.write_out.new.self
+    (Err c.in_err-write_out.field-0.0) (g.C.Chip.told c.args.chip.now)
+    (g.C.Chip.told c.loop-i.chip) done.accounts.counts.places done.keeps
+    c.in_err-write_out.ensures.faults)
+
+pub returns-in_err-write_out-clause-homes : goal.returns-in_err-write_out-clause-homes
+returns-in_err-write_out-clause-homes g c =
+    unwritten_homes c.loop-i.i c.page_at-unit.result.0 c.page_at-unit.result.1
+    (map (λ n. n.0) c.args.names.now) c.in_err-write_out.field-0.0 c.args.self.now
+    (g.C.Chip.told c.args.chip.now) c.loop-i.self (g.C.Chip.told c.loop-i.chip)
+    c.write_out.new.self (g.C.Chip.told c.write_out.new.chip)
+    (omega (arith, c.loop-i-test.true, c.len-i-end.ensures.all))
+    (sym c.has_page.ensures ∙ c.if-has_page.true) c.page_at-unit.ensures.page
+    c.page_at-unit.ensures.number c.loop-i.invariant c.in_err-write_out.ensures.asks
+    (framed_low (14 * c.loop-i.i) c.args.self.now c.loop-i.self (g.C.Chip.told c.args.chip.now)
+    (g.C.Chip.told c.loop-i.chip) c.page_at-unit.result.0 c.page_at-unit.result.1
+    c.loop-i.invariant.upholds c.facts.ensures.once c.page_at-unit.ensures.there c.requires.ready)
+
+pub returns-clause-homes : goal.returns-clause-homes
+returns-clause-homes g c = λ has.
+    home_all c.loop-i.i (map (λ n. n.0) c.args.names.now) c.args.self.now.pool.order
+    (frames_in c.args.self.now) (g.C.Chip.told c.args.chip.now) (g.C.Chip.told c.loop-i.chip)
+    (c.loop-i.invariant.homes has).spends

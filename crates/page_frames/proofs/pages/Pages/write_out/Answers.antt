@@ -1,12 +1,14 @@
-use Rattle.std.proofs.Common.{refl, sym, slice_index, Err}
+use Rattle.std.proofs.Common.{refl, sym, slice_index, Ok, Err}
 use Rattle.std.proofs.lemmas.Result.{err_from_is_err_and}
 use Rattle.page_frames.specs.declared.pages.Pages.{Pages}
 use Rattle.page_frames.specs.Pages.{frames_in}
+use Rattle.page_frames.proofs.AskLemmas.{none_to_write, some_to_write}
 use Rattle.page_frames.proofs.FrameLemmas.{emptied_same}
 use Rattle.page_frames.proofs.FramedLemmas.{out_framed}
 use Rattle.page_frames.proofs.OutLemmas.{out_failed, cleared_frames, out_done}
 use Rattle.page_frames.proofs.UpholdLemmas.{upholds_none}
 use Rattle.page_frames.proofs.CompleteLemmas.{merge_completes}
+use Rattle.page_frames.proofs.TellLemmas.{merge_tells}
 use Rattle.page_frames.proofs.pages.Pages.write_out.Goals as goal
 
 pub returns-then-not-has_records-clause-upholds : goal.returns-then-not-has_records-clause-upholds
@@ -29,8 +31,17 @@ returns-in_err-write_out-clause-upholds g c =
     c.requires.ready refl (c.if-not-has_records.ensures.some refl) c.log_payload-payload.ensures is.tells
     is.steps is.holds is.tidy is.draws is.accounts)
 
-pub returns-in_err-write_out-clause-idle : goal.returns-in_err-write_out-clause-idle
-returns-in_err-write_out-clause-idle g c = λ none. absurd (c.if-not-has_records.ensures.full refl none)
+pub returns-then-not-has_records-clause-asks : goal.returns-then-not-has_records-clause-asks
+returns-then-not-has_records-clause-asks g c =
+    none_to_write c.args.unit c.args.page c.args.self.now (g.C.Chip.told c.args.chip.now)
+
+pub returns-in_err-write_out-clause-asks : goal.returns-in_err-write_out-clause-asks
+returns-in_err-write_out-clause-asks g c =
+    let e = err_from_is_err_and c.from_residual.result c.from_residual.ensures.1 in
+    rw (e.1, e.2) (some_to_write c.args.unit c.args.page (Err c.in_err-write_out.field-0.0)
+    c.args.self.now (record { parts = c.write_out.new.parts; pool = c.args.self.now.pool })
+    (g.C.Chip.told c.args.chip.now) (g.C.Chip.told c.write_out.new.chip)
+    (c.if-not-has_records.ensures.full refl) c.in_err-write_out.ensures.costs)
 
 pub returns-clause-upholds : goal.returns-clause-upholds
 returns-clause-upholds g c =
@@ -48,8 +59,12 @@ returns-clause-frames g c =
     (frames_in (record { parts = c.write_out.new.parts; pool = c.clear_log.new.pool })) c.args.unit
     c.args.page c.clear_log.ensures.cleared
 
-pub returns-clause-idle : goal.returns-clause-idle
-returns-clause-idle g c = λ none. absurd (c.if-not-has_records.ensures.full refl none)
+pub returns-clause-asks : goal.returns-clause-asks
+returns-clause-asks g c =
+    some_to_write c.args.unit c.args.page (Ok tt) c.args.self.now
+    (record { parts = c.write_out.new.parts; pool = c.clear_log.new.pool })
+    (g.C.Chip.told c.args.chip.now) (g.C.Chip.told c.write_out.new.chip)
+    (c.if-not-has_records.ensures.full refl) c.in_ok-write_out.ensures.costs
 
 pub returns-in_err-write_out-clause-complete : goal.returns-in_err-write_out-clause-complete
 returns-in_err-write_out-clause-complete g c =
@@ -70,3 +85,17 @@ returns-clause-framed g c =
     out_framed c.args.unit c.args.page c.args.self.now new
     (cleared_frames (frames_in c.args.self.now) (frames_in new) c.args.unit c.args.page
     c.clear_log.ensures.cleared)
+
+pub returns-in_err-write_out-clause-faults : goal.returns-in_err-write_out-clause-faults
+returns-in_err-write_out-clause-faults g c =
+    let e = err_from_is_err_and c.from_residual.result c.from_residual.ensures.1 in
+    let is = c.in_err-write_out.ensures in
+    rw (e.1, e.2) (merge_tells {T = Unit {0}} c.args.unit c.args.self.now
+    (record { parts = c.write_out.new.parts; pool = c.args.self.now.pool })
+    (Err c.in_err-write_out.field-0.0) (g.C.Chip.told c.args.chip.now) c.requires.unit is.fault
+    is.stays)
+
+pub returns-in_err-write_out-clause-exact : goal.returns-in_err-write_out-clause-exact
+returns-in_err-write_out-clause-exact g c =
+    let e = err_from_is_err_and c.from_residual.result c.from_residual.ensures.1 in
+    rw (e.1, e.2) c.in_err-write_out.ensures.fault

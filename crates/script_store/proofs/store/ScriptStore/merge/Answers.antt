@@ -1,4 +1,4 @@
-use Rattle.std.proofs.Common.{Result, arith, refl, sym, subst}
+use Rattle.std.proofs.Common.{Result, IfOk, ◌⊎◌, arith, refl, sym, subst}
 use Rattle.ipl_model.specs.declared.command.Command.TheVariants as command
 use Rattle.ipl_model.specs.declared.reply.Reply.{Reply}
 use Rattle.ipl_model.specs.declared.reply.Reply.TheVariants as reply
@@ -6,12 +6,15 @@ use Rattle.ipl_rules.specs.Refusals.{refuses_merge}
 use Rattle.store_trait.specs.declared.fault.Fault.{Fault}
 use Rattle.store_steps.specs.Keeps.{limits_of}
 use Rattle.ipl_store.proofs.CallLemmas.{on_ok}
+use Rattle.script_store.specs.declared.store.ScriptStore.{ScriptStore}
 use Rattle.script_store.specs.Keeps.{Does}
+use Rattle.script_store.specs.Done.{IsRefused, HasMoved}
+use Rattle.script_store.proofs.DoneLemmas.{merge_done}
 use Rattle.script_store.proofs.WorkLemmas.{calls_do}
 use Rattle.script_store.proofs.store.ScriptStore.merge.Goals as goal
 
-pub returns : goal.returns
-returns g c =
+pub returns-clause-does : goal.returns-clause-does
+returns-clause-does g c =
     let store = c.args.self.now.store in
     let refusal = refuses_merge (limits_of store.units) c.args.unit in
     let before = g.C.Chip.told c.args.chip.now in
@@ -22,3 +25,13 @@ returns g c =
     c.args.self.now
     (record { store = c.merge.new.self }) before after c.merge.result c.requires.runs (omega arith) refl (λ state. refl)
     (on_ok c.merge.result (λ state x told shown. refl)) c.merge.ensures.calls)
+
+pub returns-clause-done : goal.returns-clause-done
+returns-clause-done g c =
+    let before = g.C.Chip.told c.args.chip.now in
+    let after = g.C.Chip.told c.merge.new.chip in
+    let b : ScriptStore = record { store = c.merge.new.self } in
+    subst (λ (r : Result Reply Fault). IfOk r (λ answer. IsRefused answer
+    ⊎ HasMoved c.args.unit b before after)) (sym c.reply_of.ensures)
+    (merge_done c.args.unit c.args.self.now.store.transactions.pages.parts.directory b before after
+    c.merge.result c.merge.ensures.costs)

@@ -1,13 +1,14 @@
-use Rattle.std.proofs.Common.{Result, subst}
+use Rattle.std.proofs.Common.{Result, OnOk, subst}
 use Rattle.ipl_base.specs.declared.fault.ImageFault.{ImageFault}
 use Rattle.ipl_model.specs.declared.command.Command.TheVariants as command
 use Rattle.script_store.specs.declared.store.ScriptStore.{ScriptStore}
 use Rattle.script_store.specs.Keeps.{Does}
+use Rattle.script_store.specs.Done.{HasNewStatus}
 use Rattle.script_store.proofs.RestartLemmas.{restarted, restart_does}
 use Rattle.script_store.proofs.store.ScriptStore.restart.Goals as goal
 
-pub returns-in-Ok : goal.returns-in-Ok
-returns-in-Ok g c =
+pub returns-in-Ok-clause-does : goal.returns-in-Ok-clause-does
+returns-in-Ok-clause-does g c =
     let before = g.C.Chip.told c.args.chip.now in
     let after = g.C.Chip.told c.open_chip.new.chip in
     let b : ScriptStore = record { store = c.open_chip.new.self } in
@@ -18,8 +19,8 @@ returns-in-Ok g c =
     c.open_chip.result c.open_chip.ensures.opens c.open_chip.ensures.tries
     c.open_chip.ensures.leads)
 
-pub returns-in-Err : goal.returns-in-Err
-returns-in-Err g c =
+pub returns-in-Err-clause-does : goal.returns-in-Err-clause-does
+returns-in-Err-clause-does g c =
     let before = g.C.Chip.told c.args.chip.now in
     let after = g.C.Chip.told c.open_chip.new.chip in
     let b : ScriptStore = record { store = c.open_chip.new.self } in
@@ -29,3 +30,10 @@ returns-in-Err g c =
     c.requires.runs c.open_chip.ensures.sound
     c.open_chip.result c.open_chip.ensures.opens c.open_chip.ensures.tries
     c.open_chip.ensures.leads)
+
+pub returns-in-Ok-clause-done : goal.returns-in-Ok-clause-done
+returns-in-Ok-clause-done g c =
+    let b : ScriptStore = record { store = c.open_chip.new.self } in
+    subst (λ (r : Result (Unit {0}) ImageFault). OnOk r (HasNewStatus b
+    (g.C.Chip.told c.args.chip.now) (g.C.Chip.told c.open_chip.new.chip))) c.in-Ok.is
+    c.open_chip.ensures.tries.renewed

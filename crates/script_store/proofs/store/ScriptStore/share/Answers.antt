@@ -1,4 +1,4 @@
-use Rattle.std.proofs.Common.{Result, arith, refl, sym, subst}
+use Rattle.std.proofs.Common.{Result, IfOk, arith, refl, sym, subst}
 use Rattle.ipl_model.specs.declared.command.Command.TheVariants as command
 use Rattle.ipl_model.specs.declared.reply.Reply.{Reply}
 use Rattle.ipl_model.specs.Step.{found_reply}
@@ -8,12 +8,14 @@ use Rattle.record_locks.specs.Standing.{state_of}
 use Rattle.store_trait.specs.declared.fault.Fault.{Fault}
 use Rattle.store_steps.specs.Keeps.{limits_of}
 use Rattle.script_store.specs.Keeps.{Does}
+use Rattle.script_store.specs.Done.{SaysSeen}
+use Rattle.script_store.proofs.DoneLemmas.{seen_done}
 use Rattle.script_store.proofs.SeeLemmas.{seen_replies}
 use Rattle.script_store.proofs.WorkLemmas.{calls_do}
 use Rattle.script_store.proofs.store.ScriptStore.share.Goals as goal
 
-pub returns : goal.returns
-returns g c =
+pub returns-clause-does : goal.returns-clause-does
+returns-clause-does g c =
     let store = c.args.self.now.store in
     let refusal = refuses_share (limits_of store.units) (state_of store.transactions.sessions)
     c.args.s c.args.n in
@@ -26,3 +28,10 @@ returns g c =
     c.args.self.now c.see_shared.new.self before after c.see_shared.result c.requires.runs (omega arith) refl (λ state. refl)
     (seen_replies c.args.s c.args.n store before c.see_shared.result c.see_shared.ensures.seen)
     c.see_shared.ensures.calls)
+
+pub returns-clause-done : goal.returns-clause-done
+returns-clause-done g c =
+    let before = g.C.Chip.told c.args.chip.now in
+    subst (λ (r : Result Reply Fault). IfOk r (λ answer. SaysSeen c.args.s c.args.n c.args.self.now
+    before answer)) (sym c.found_of.ensures)
+    (seen_done c.args.s c.args.n c.args.self.now before c.see_shared.result c.see_shared.ensures.seen)

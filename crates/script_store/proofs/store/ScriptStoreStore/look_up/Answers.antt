@@ -4,19 +4,22 @@ use Rattle.script_store.proofs.store.ScriptStoreStore.look_up.Goals as goal
 pub returns-clause-suited : goal.returns-clause-suited
 returns-clause-suited g c =
     suits_still c.args.self.now c.look.new.self (g.C.Chip.told c.args.chip.now).places
-    c.requires c.look.result c.look.ensures.running
+    c.requires c.look.result c.look.ensures.finds.running
 
 pub returns-clause-looks_up : goal.returns-clause-looks_up
-returns-clause-looks_up g c = c.look.ensures.looks_up
+returns-clause-looks_up g c = c.look.ensures.finds.looks_up
 
 pub returns-clause-draws : goal.returns-clause-draws
-returns-clause-draws g c = c.look.ensures.draws
+returns-clause-draws g c = c.look.ensures.finds.draws
 
 pub returns-clause-counts : goal.returns-clause-counts
-returns-clause-counts g c = c.look.ensures.counts
+returns-clause-counts g c = c.look.ensures.finds.counts
 
 pub returns-clause-cause : goal.returns-clause-cause
-returns-clause-cause g c = c.look.ensures.cause
+returns-clause-cause g c = c.look.ensures.finds.cause
 
 pub returns-clause-tidy : goal.returns-clause-tidy
-returns-clause-tidy g c = c.look.ensures.tidy
+returns-clause-tidy g c = c.look.ensures.finds.tidy
+
+pub returns-clause-done : goal.returns-clause-done
+returns-clause-done g c = c.look.ensures.done

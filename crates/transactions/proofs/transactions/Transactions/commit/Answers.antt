@@ -1,12 +1,12 @@
-use Rattle.std.proofs.Common.{◌^◌, refl, sym, ◌∙◌}
+use Rattle.std.proofs.Common.{◌^◌, sym, ◌∙◌}
 use Rattle.std.proofs.lemmas.Option.{none-some}
 use Rattle.std.proofs.lemmas.Result.{err_from_is_err_and}
 use Rattle.record_locks.specs.Held.{written_of}
 use Rattle.page_frames.proofs.FramedLemmas.{pool_framed}
-use Rattle.transactions.specs.Costs.{pages_to_write}
 use Rattle.transactions.proofs.CommitLemmas.{empty_committed, committed, not_committed, wrote_nothing, wrote_some}
-use Rattle.transactions.proofs.CostLemmas.{no_cost, pages_cost, commit_cost}
+use Rattle.transactions.proofs.CostLemmas.{empty_asks, unwritten_asks, commit_asks}
 use Rattle.transactions.proofs.OpenLemmas.{ends_numbered}
+use Rattle.page_frames.proofs.TellLemmas.{alone_tells}
 use Rattle.transactions.proofs.transactions.Transactions.commit.Goals as goal
 
 pub unreachable-requires : goal.unreachable-requires
@@ -35,18 +35,6 @@ returns-in_err-write_session_out-clause-turns g c =
     c.in_err-write_session_out.field-0.0 (g.C.Chip.told c.args.chip.now)
     (g.C.Chip.told c.write_session_out.new.chip) c.requires.order says.upholds says.sessions)
 
-pub returns-in_err-write_session_out-clause-idle :
-    goal.returns-in_err-write_session_out-clause-idle
-returns-in_err-write_session_out-clause-idle g c = λ none. absurd
-    (wrote_some c.is_empty.result (written_of c.args.self.now.sessions c.args.s)
-    c.written.result.now c.is_empty.ensures c.if-is_empty.false c.written.ensures.names none)
-
-pub returns-in_err-write_session_out-clause-costs :
-    goal.returns-in_err-write_session_out-clause-costs
-returns-in_err-write_session_out-clause-costs g c = λ room.
-    pages_cost (pages_to_write c.args.self.now c.args.s) (g.C.Chip.told c.args.chip.now)
-    (g.C.Chip.told c.write_session_out.new.chip) (c.in_err-write_session_out.ensures.costs room)
-
 pub returns-clause-turns : goal.returns-clause-turns
 returns-clause-turns g c =
     let says = c.in_ok-write_session_out.ensures in
@@ -54,18 +42,6 @@ returns-clause-turns g c =
     c.commit_number.result (g.C.Chip.told c.args.chip.now)
     (g.C.Chip.told c.write_session_out.new.chip) (g.C.Chip.told c.commit_number.new.chip)
     says.upholds says.sessions c.commit_number.ensures.turns
-
-pub returns-clause-idle : goal.returns-clause-idle
-returns-clause-idle g c = λ none. absurd
-    (wrote_some c.is_empty.result (written_of c.args.self.now.sessions c.args.s)
-    c.written.result.now c.is_empty.ensures c.if-is_empty.false c.written.ensures.names none)
-
-pub returns-clause-costs : goal.returns-clause-costs
-returns-clause-costs g c = λ room.
-    commit_cost (pages_to_write c.args.self.now c.args.s)
-    c.write_session_out.new.self.pages.parts.status.place (g.C.Chip.told c.args.chip.now)
-    (g.C.Chip.told c.write_session_out.new.chip) (g.C.Chip.told c.commit_number.new.chip)
-    (c.in_ok-write_session_out.ensures.costs room) c.commit_number.ensures.costs
 
 pub returns-in_err-write_session_out-clause-complete :
     goal.returns-in_err-write_session_out-clause-complete
@@ -89,8 +65,37 @@ pub returns-clause-framed : goal.returns-clause-framed
 returns-clause-framed g c = λ u page is.
     c.commit_number.ensures.framed u page (c.in_ok-write_session_out.ensures.framed u page is)
 
-pub returns-then-is_empty-clause-costs : goal.returns-then-is_empty-clause-costs
-returns-then-is_empty-clause-costs g c = λ room.
-    let k = pages_to_write c.args.self.now c.args.s in
-    let told = g.C.Chip.told c.args.chip.now in
-    pages_cost k told told (no_cost k told told refl)
+pub returns-in_err-write_session_out-clause-faults :
+    goal.returns-in_err-write_session_out-clause-faults
+returns-in_err-write_session_out-clause-faults g c =
+    let e = err_from_is_err_and c.from_residual.result c.from_residual.ensures.1 in
+    rw (e.1, e.2) c.in_err-write_session_out.ensures.faults
+
+pub returns-clause-faults : goal.returns-clause-faults
+returns-clause-faults g c =
+    alone_tells c.args.self.now.pages c.commit_number.new.self.pages c.commit_number.result
+    (g.C.Chip.told c.args.chip.now) c.commit_number.ensures.complete
+
+pub returns-then-is_empty-clause-asks : goal.returns-then-is_empty-clause-asks
+returns-then-is_empty-clause-asks g c =
+    empty_asks c.args.self.now c.args.s (g.C.Chip.told c.args.chip.now)
+
+pub returns-in_err-write_session_out-clause-asks :
+    goal.returns-in_err-write_session_out-clause-asks
+returns-in_err-write_session_out-clause-asks g c =
+    let says = c.in_err-write_session_out.ensures in
+    unwritten_asks c.args.self.now c.args.s (g.C.Chip.told c.args.chip.now)
+    (g.C.Chip.told c.write_session_out.new.chip)
+    (wrote_some c.is_empty.result (written_of c.args.self.now.sessions c.args.s)
+    c.written.result.now c.is_empty.ensures c.if-is_empty.false c.written.ensures.names) says.costs
+    says.homes
+
+pub returns-clause-asks : goal.returns-clause-asks
+returns-clause-asks g c =
+    let says = c.in_ok-write_session_out.ensures in
+    commit_asks c.args.self.now c.args.s (g.C.Chip.told c.args.chip.now)
+    (g.C.Chip.told c.write_session_out.new.chip)
+    (wrote_some c.is_empty.result (written_of c.args.self.now.sessions c.args.s)
+    c.written.result.now c.is_empty.ensures c.if-is_empty.false c.written.ensures.names) says.costs
+    says.homes c.write_session_out.new.self.pages.parts.status.place
+    (g.C.Chip.told c.commit_number.new.chip) c.commit_number.ensures.costs

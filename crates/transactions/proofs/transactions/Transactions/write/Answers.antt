@@ -10,10 +10,13 @@ use Rattle.record_locks.specs.Locks.{refuses_write}
 use Rattle.transactions.proofs.OpenLemmas.{writes_numbered, unrefused_done}
 use Rattle.transactions.proofs.SessionLemmas.{locks_of}
 use Rattle.transactions.proofs.TurnLemmas.{upheld_no_more}
-use Rattle.transactions.proofs.WriteLemmas.{put_framed, was_written}
+use Rattle.transactions.proofs.WriteLemmas.{put_framed, prepared_asks, was_written}
 use Rattle.std.proofs.Common.{subst}
 use Rattle.page_frames.specs.Pages.{KeepsFramedFor}
 use Rattle.page_frames.proofs.FramedLemmas.{set_framed}
+use Rattle.std.proofs.Common.{◌≡◌, None, Err}
+use Rattle.page_frames.specs.Pages.{tables_in, frames_in, HasFreeFrame}
+use Rattle.page_frames.specs.Faulty.{FailsAsPage}
 use Rattle.transactions.proofs.transactions.Transactions.write.Goals as goal
 
 pub unreachable-requires : goal.unreachable-requires
@@ -89,3 +92,36 @@ returns-clause-stays g c = λ room u page there.
     (record { parts = c.prepare.new.self.parts; pool = c.put_record.new.pool }) put.frames u page
     (subst (λ (h : Home). KeepsFramedFor h.unit h.page c.args.self.now.pages c.prepare.new.self)
     c.home-home.ensures.home c.in_ok-prepare.ensures.framed room u page there)
+
+pub returns-in_err-prepare-clause-asks : goal.returns-in_err-prepare-clause-asks
+returns-in_err-prepare-clause-asks g c =
+    prepared_asks c.args.self.now.pages c.args.name.0 c.home-home.result (record {
+      page = c.home-home.result.page;
+      slot = c.home-home.result.slot;
+      tid = c.in-Some.tid;
+      change = change_of c.args.change;
+    }) (g.C.Chip.told c.args.chip.now) (g.C.Chip.told c.prepare.new.chip) c.home-home.ensures.home refl
+    c.in_err-prepare.ensures.asks
+
+pub returns-clause-asks : goal.returns-clause-asks
+returns-clause-asks g c =
+    prepared_asks c.args.self.now.pages c.args.name.0 c.home-home.result (record {
+      page = c.home-home.result.page;
+      slot = c.home-home.result.slot;
+      tid = c.in-Some.tid;
+      change = change_of c.args.change;
+    }) (g.C.Chip.told c.args.chip.now) (g.C.Chip.told c.prepare.new.chip) c.home-home.ensures.home refl
+    c.in_ok-prepare.ensures.asks
+
+pub returns-in_err-prepare-clause-faults : goal.returns-in_err-prepare-clause-faults
+returns-in_err-prepare-clause-faults g c =
+    let e = err_from_is_err_and c.from_residual.result c.from_residual.ensures.1 in
+    rw (e.1, e.2) c.in_err-prepare.ensures.faults
+
+pub returns-in_err-prepare-clause-exact : goal.returns-in_err-prepare-clause-exact
+returns-in_err-prepare-clause-exact g c =
+    let old = c.args.self.now.pages in
+    let e = err_from_is_err_and c.from_residual.result c.from_residual.ensures.1 in
+    rw (e.1, e.2) (subst (λ (h : Home). frames_in old h.unit h.page ≡ None → HasFreeFrame old
+    → FailsAsPage {T = Unit {0}} (tables_in old) h.unit h.page (Err c.in_err-prepare.field-0.0)
+    (g.C.Chip.told c.args.chip.now)) c.home-home.ensures.home c.in_err-prepare.ensures.exact)

@@ -7,7 +7,8 @@ use Rattle.page_frames.specs.Pages.{frames_in}
 use Rattle.page_frames.proofs.UpholdLemmas.{upholds_then, upholds_weaker}
 use Rattle.page_frames.proofs.CompleteLemmas.{completes_then}
 use Rattle.transactions.specs.Costs.{pages_to_write}
-use Rattle.transactions.proofs.CostLemmas.{no_cost, pages_out_cost}
+use Rattle.transactions.proofs.CostLemmas.{no_cost, pages_out_cost, no_home_cost, homes_cost}
+use Rattle.page_frames.proofs.TellLemmas.{tells_then}
 use Rattle.transactions.proofs.transactions.Transactions.write_session_out.Goals as goal
 
 pub returns-in_err-ready_status-clause-upholds : goal.returns-in_err-ready_status-clause-upholds
@@ -63,3 +64,29 @@ returns-clause-costs g c = λ room.
     (g.C.Chip.told c.args.chip.now) (g.C.Chip.told c.ready_status.new.chip)
     (g.C.Chip.told c.write_names_out.new.chip) same c.written.ensures.names idle
     c.write_names_out.ensures.costs
+
+pub returns-in_err-ready_status-clause-faults : goal.returns-in_err-ready_status-clause-faults
+returns-in_err-ready_status-clause-faults g c =
+    let e = err_from_is_err_and c.from_residual.result c.from_residual.ensures.1 in
+    rw (e.1, e.2) c.in_err-ready_status.ensures.faults
+
+pub returns-clause-faults : goal.returns-clause-faults
+returns-clause-faults g c =
+    let did = c.in_ok-ready_status.ensures.upholds in
+    tells_then c.args.self.now.pages c.ready_status.new.self c.write_names_out.new.self
+    c.write_names_out.result (g.C.Chip.told c.args.chip.now) (g.C.Chip.told c.ready_status.new.chip)
+    did.accounts.counts.places did.keeps c.write_names_out.ensures.faults
+
+pub returns-in_err-ready_status-clause-homes : goal.returns-in_err-ready_status-clause-homes
+returns-in_err-ready_status-clause-homes g c = λ room has.
+    no_home_cost (pages_to_write c.args.self.now c.args.s) (g.C.Chip.told c.args.chip.now)
+    (g.C.Chip.told c.ready_status.new.chip) (c.in_err-ready_status.ensures.idle room).1
+
+pub returns-clause-homes : goal.returns-clause-homes
+returns-clause-homes g c = λ room.
+    let (same, idle) = c.in_ok-ready_status.ensures.idle room in
+    homes_cost c.args.self.now.pages c.ready_status.new.self
+    (map (λ n. n.0) c.written.result.now) (written_of c.args.self.now.sessions c.args.s)
+    (g.C.Chip.told c.args.chip.now) (g.C.Chip.told c.ready_status.new.chip)
+    (g.C.Chip.told c.write_names_out.new.chip) same c.written.ensures.names idle
+    c.write_names_out.ensures.homes

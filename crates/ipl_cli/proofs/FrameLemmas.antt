@@ -1,0 +1,40 @@
+-- What was done with how many frames stays so once the end was noted.
+use Rattle.std.proofs.Common.{◌≡◌, ◌∙◌, ℕ, true, false, Some, None, OnOk, sym, ap, subst}
+use Rattle.chip_trait.specs.Told.{Told}
+use Rattle.command_line.specs.declared.asked.Request.TheVariants.{Format, Run, Serial, Trial}
+use Rattle.script_store.specs.declared.store.ScriptStore.{ScriptStore}
+use Rattle.ipl_cli.specs.Ending.{AskedFor, Ending, but_noted, status_at}
+use Rattle.ipl_cli.specs.Frames.{DoesWith, DoesAsAsked}
+use Rattle.ipl_cli.proofs.StatusLemmas.{done_at_zero}
+
+module _ (old mid new : Told) (only : new ≡ but_noted mid new.beside.noted) where
+  with_noted : (Starts : Told → ScriptStore → Told → Type 0)
+      (Does : ScriptStore → Told → ScriptStore → Told → Type 0) (frames : ℕ)
+      → DoesWith Starts Does frames old mid → DoesWith Starts Does frames old new
+  with_noted Starts Does frames d = record {
+    store = d.store;
+    frames_are = d.frames_are;
+    started = d.started;
+    starts = d.starts;
+    then = d.then;
+    last = d.last;
+    does = d.does;
+    noted = only ∙ ap (λ (t : Told). but_noted t new.beside.noted) d.noted;
+  }
+
+  pub asked_noted : (asked : AskedFor) → DoesAsAsked asked old mid → DoesAsAsked asked old new
+  asked_noted None d = tt
+  asked_noted (Some Format) d = tt
+  asked_noted (Some (Run frames true)) d = with_noted _ _ frames d
+  asked_noted (Some (Run frames false)) d = with_noted _ _ frames d
+  asked_noted (Some Serial) d = tt
+  asked_noted (Some (Trial seed count frames)) d = with_noted _ _ frames d
+
+-- at 0 all was done
+pub done_as_asked : (asked : AskedFor) (ending : Ending) (old mid new : Told) (status : ℕ)
+    → OnOk ending (DoesAsAsked asked old mid) → status ≡ status_at ending
+    → new ≡ but_noted mid new.beside.noted → status ≡ 0 → DoesAsAsked asked old new
+done_as_asked asked ending old mid new status did is only zero =
+    asked_noted old mid new only asked
+    (subst (λ (e : Ending). OnOk e (DoesAsAsked asked old mid))
+    (done_at_zero ending (sym is ∙ zero)) did)

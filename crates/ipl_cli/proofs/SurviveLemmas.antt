@@ -1,0 +1,135 @@
+-- What a power cut leaves of a run, where the chip tells what it holds.
+use Rattle.std.proofs.Common.{◌≡◌, ℕ, [], ◌++◌, List, Some, Ok, Err, inl, inr, sym, ◌∙◌, ap, subst, refl, arith, append_assoc, ◌≤◌, ◌-◌, length}
+use Rattle.std.proofs.lemmas.List.{append-nil, append_cancel_right, length-append, nil_from_length}
+use Rattle.std.specs.Option.{option_map}
+use Rattle.std.specs.FinMap.{empty}
+use Rattle.chip_trait.specs.Chart.{says}
+use Rattle.chip_trait.specs.Story.{Story, Contents, held, said}
+use Rattle.chip_trait.specs.Image.{IsNoChanceImage}
+use Rattle.chip_trait.specs.Told.{Told, IsConsistent, Unrisen, adds_all}
+use Rattle.chip_trait.proofs.HistoryLemmas.{same_history, history_then}
+use Rattle.ipl_base.specs.Places.{IsGeometry}
+use Rattle.ipl_base.specs.declared.limits.TheConstants.{RESERVED_PLACES}
+use Rattle.ipl_rules.specs.State.{State, at_rest}
+use Rattle.ipl_model.specs.Grammar.{commands_of}
+use Rattle.ipl_format.specs.Sector.{sector_in}
+use Rattle.ipl_meaning.specs.Chart.{chart_of}
+use Rattle.ipl_meaning.specs.Stands.{Stands}
+use Rattle.ipl_meaning.proofs.StoryLemmas.{closed_rests}
+use Rattle.restart.specs.Events.{format_events}
+use Rattle.restart.proofs.FreshLemmas.{fresh_contents}
+use Rattle.status_renewal.specs.Chains.{starts_at}
+use Rattle.status_renewal.proofs.ChainLemmas.{images_rest}
+use Rattle.store_steps.specs.Keeps.{limits_of}
+use Rattle.program_end.specs.declared.end.End.TheVariants.{Words, Chip, OutOfMemory, Script, Output, TooLong}
+use Rattle.ipl_cli.specs.Ending.{AskedFor, Ending, AsksFormatted, AtStatus, StopsEarly, IsUntouched}
+use Rattle.ipl_cli.specs.Top.{Runs, RunsOpened, FormattedLeaves, EndLeaves, Ends}
+use Rattle.ipl_cli.specs.Survives.{StandsAfterAnswered, Survives, SurvivesFormat, SurvivesAnew}
+use Rattle.ipl_cli.proofs.EndLemmas.{near_silent}
+use Rattle.ipl_cli.proofs.RecordLemmas.{steady_start}
+
+-- what is left after a cut, by the events in other brackets
+cut_by : (x y : Contents) (e f : Story) → f ≡ e → IsNoChanceImage (says sector_in) x e y
+    → IsNoChanceImage (says sector_in) x f y
+cut_by x y e f same image =
+    subst (λ (s : Story). IsNoChanceImage (says sector_in) x s y) (sym same) image
+
+module _ (old new : Told) where
+  -- a chip that tells what it holds may be taken as the start of a history
+  pub opened_survives : IsConsistent old → (status : ℕ) → AtStatus (RunsOpened old new) status
+      → Survives old new
+  opened_survives consistent status (ending, is, runs) x m script told stands left =
+      let r = runs (starts_at x) script (steady_start x old consistent told) left m
+      (images_rest old.places m x stands) in
+      record {
+        added = r.added;
+        grew = r.history ∙ ap (option_map (adds_all r.added)) (sym (same_history old.history));
+        holds = λ unrisen. (r.steady unrisen).holds
+            ∙ ap (λ (s : Story). Some (held x s)) (append-nil r.added);
+        cut = λ later e y split image.
+            r.each_moment later e split y (cut_by x y e (e ++ []) (append-nil e) image);
+      }
+
+  module _ (x : Contents) (script : List ℕ) where
+    -- the script was run
+    run_survives : (ending : Ending)
+        → Runs old.places empty script (starts_at x) (format_events old.places) old new ending
+        → SurvivesFormat script x old new
+    run_survives ending r = record {
+      added = r.added ++ format_events old.places;
+      grew = r.history ∙ history_then r.added (format_events old.places) old.history;
+      holds = λ unrisen. (r.steady unrisen).holds
+          ∙ ap (λ (s : Story). Some (held x (r.added ++ s))) (append-nil (format_events old.places));
+      cut = λ later e y split image. r.each_moment later e
+          (append_cancel_right (later ++ e) r.added (format_events old.places)
+          (append_assoc later e (format_events old.places) ∙ split)) y
+          (cut_by x y (e ++ format_events old.places) (e ++ (format_events old.places ++ []))
+          (ap (λ (s : Story). e ++ s) (append-nil (format_events old.places))) image);
+    }
+
+    -- it wasn't: nothing was said, and no more than the format's own events are there
+    none_survives : (added : Story) → new.history ≡ option_map (adds_all added) old.history
+        → (Unrisen old new → new.contents ≡ Some (held x added))
+        → length added ≤ length (format_events old.places)
+        → (length added ≡ length (format_events old.places) → IsGeometry old.places)
+        → SurvivesFormat script x old new
+    none_survives added grew holds few fits = record {
+      added = added;
+      grew = grew;
+      holds = holds;
+      cut = λ later e y split image.
+          let counted = ap length split in
+          let parts = length-append later (e ++ format_events old.places) in
+          let inner = length-append e (format_events old.places) in
+          let none = nil_from_length e (omega (arith, counted, parts, inner, few)) in
+          let whole = fits (omega (arith, counted, parts, inner, few)) in
+          let rests = closed_rests old.places empty
+          (record { start = x; story = format_events old.places }) (λ p s. refl)
+          (fresh_contents old.places x whole).stands in
+          let stands = rests.each y (subst
+          (λ (s : Story). IsNoChanceImage (says sector_in) x (s ++ format_events old.places) y)
+          none image) in
+          subst (λ (s : Story). StandsAfterAnswered old.places empty script (said s) y) (sym none)
+          (near_silent (λ (s : State). Stands old.places (chart_of y) s.map)
+          (limits_of (old.places - RESERVED_PLACES)) (at_rest empty) (commands_of script) stands);
+    }
+
+    untouched_survives : old.contents ≡ Some x → IsUntouched old new → SurvivesFormat script x old new
+    untouched_survives told is = none_survives []
+        (ap (λ (t : Told). t.history) is ∙ same_history old.history)
+        (λ unrisen. ap (λ (t : Told). t.contents) is ∙ told) (omega arith)
+        (λ same. absurd (omega (arith, same)))
+
+    stopped_survives : IsGeometry old.places → StopsEarly old.places (starts_at x) old new
+        → SurvivesFormat script x old new
+    stopped_survives fits stops =
+        let f = stops.formats in
+        let counted = ap length f.part in
+        let parts = length-append f.later f.added in
+        none_survives f.added (ap (λ (t : Told). t.history) stops.noted ∙ f.history)
+        (λ unrisen. absurd (omega (arith, unrisen, ap (λ (t : Told). t.write_faults) stops.noted, stops.rose)))
+        (omega (arith, counted, parts)) (λ whole. fits)
+
+  anew_by : IsConsistent old → (ending : Ending) → FormattedLeaves ending old new
+      → SurvivesAnew old new
+  anew_by consistent (Ok u) l x script told left = run_survives x script (Ok u)
+      (l.0 (starts_at x) script (steady_start x old consistent told) left)
+  anew_by consistent (Err Words) l x script told left = absurd l
+  anew_by consistent (Err (Chip e)) (inl l) x script told left = untouched_survives x script told l.2
+  anew_by consistent (Err (Chip e)) (inr l) x script told left =
+      elim (l.1 (starts_at x) script (steady_start x old consistent told) left) [
+        | inl runs ↦ run_survives x script (Err (Chip e)) runs
+        | inr stops ↦ stopped_survives x script l.0 stops
+      ]
+  anew_by consistent (Err OutOfMemory) l x script told left = untouched_survives x script told l
+  anew_by consistent (Err Script) l x script told left = run_survives x script (Err Script)
+      (l (starts_at x) script (steady_start x old consistent told) left)
+  anew_by consistent (Err Output) l x script told left = run_survives x script (Err Output)
+      (l (starts_at x) script (steady_start x old consistent told) left)
+  anew_by consistent (Err TooLong) l x script told left = run_survives x script (Err TooLong)
+      (l (starts_at x) script (steady_start x old consistent told) left)
+
+  pub formatted_survives : IsConsistent old → (asked : AskedFor) (status : ℕ)
+      → Ends asked old new status → AsksFormatted asked → SurvivesAnew old new
+  formatted_survives consistent asked status e (frames, is) = anew_by consistent e.ending
+      (subst (λ (a : AskedFor). EndLeaves a e.ending old new) is e.leaves)

@@ -1,0 +1,32 @@
+-- With how many page frames what was asked was done.
+use Rattle.std.specs.Prelude.{ℕ, ◌≡◌, true, false, None, Some, Ok}
+use Rattle.chip_trait.specs.Told.{Told}
+use Rattle.command_line.specs.declared.asked.Request.TheVariants.{Format, Run, Serial, Trial}
+use Rattle.script_store.specs.declared.store.ScriptStore.{ScriptStore}
+use Rattle.ipl_cli.specs.Ending.{AskedFor, but_noted}
+use Rattle.ipl_cli.specs.Runs.{StartsOpened, StartsFormatted, RunsOver, TriesOver}
+
+-- A store of so many frames was started so over the chip, and then it did this to its end.
+pub record DoesWith (Starts : Told → ScriptStore → Told → Type 0)
+    (Does : ScriptStore → Told → ScriptStore → Told → Type 0) (frames : ℕ) (old new : Told)
+    : Type 0 where
+  pub store : ScriptStore
+  pub frames_are : store.store.frames ≡ frames
+  pub started : Told
+  pub starts : Starts old store started
+  pub then : ScriptStore
+  pub last : Told
+  pub does : Does store started then last
+  pub noted : new ≡ but_noted last new.beside.noted
+
+-- a run and a trial are done by a store of as many frames as the words ask for
+abbrev pub DoesAsAsked : AskedFor → Told → Told → Type 0
+DoesAsAsked None old new = Unit {0}
+DoesAsAsked (Some Format) old new = Unit {0}
+DoesAsAsked (Some (Run frames true)) old new =
+    DoesWith StartsFormatted (RunsOver (Ok tt)) frames old new
+DoesAsAsked (Some (Run frames false)) old new =
+    DoesWith StartsOpened (RunsOver (Ok tt)) frames old new
+DoesAsAsked (Some Serial) old new = Unit {0}
+DoesAsAsked (Some (Trial seed count frames)) old new =
+    DoesWith StartsFormatted (TriesOver seed count (Ok tt)) frames old new

@@ -1,0 +1,79 @@
+-- What calls on pages ask of the chip: one page written out, or made ready for a record.
+use Rattle.std.proofs.Common.{◌≢◌, ℕ, [], ◌∷◌, Result, Ok, inl, refl, subst, arith}
+use Rattle.std.specs.Prelude.{IsSome}
+use Rattle.std.proofs.lemmas.Bool.{false≢true}
+use Rattle.chip_trait.specs.Told.{Told}
+use Rattle.ipl_base.specs.declared.fault.ChipFault.{ChipFault}
+use Rattle.ipl_format.specs.Record.{Record}
+use Rattle.unit_io.specs.Costs.{Costs, Spends}
+use Rattle.unit_io.proofs.CostLemmas.{costs_at_most, spends_weaker}
+use Rattle.pending_writes.specs.Frames.{logs_of}
+use Rattle.frame_changes.specs.Changes.{MayPut}
+use Rattle.page_writing.specs.Spending.{ErasesAndLogs, WritingCosts}
+use Rattle.page_writing.proofs.SpendLemmas.{no_kind}
+use Rattle.page_frames.specs.declared.pages.Pages.{Pages}
+use Rattle.page_frames.specs.Pages.{tables_in, frames_in, IsFramed, HasFreeFrame}
+use Rattle.page_frames.specs.Asks.{AsksToWriteOut, AsksToPrepare}
+use Rattle.page_frames.proofs.SpendLemmas.{nothing_spent, logs_of_reads}
+
+-- nothing is within one program
+pub one_of_none : (t : Told) → Spends (Costs 0 1 0 (5 ∷ [])) t t
+one_of_none t = spends_weaker (Costs 0 0 0 []) (Costs 0 1 0 (5 ∷ [])) t t
+    (λ added. costs_at_most 0 0 0 1 0 0 [] (5 ∷ []) added (omega arith) (omega arith) (omega arith)
+    no_kind) (nothing_spent t)
+
+-- ---- a page's records
+
+-- it has none
+pub none_to_write : (u page : ℕ) (pages : Pages) (t : Told)
+    → AsksToWriteOut u page (Ok tt) pages pages t t
+none_to_write u page pages t = record {
+  idle = λ none. (refl, refl);
+  home = λ has. (one_of_none t, inl refl);
+  costs = logs_of_reads pages.parts.directory t t (nothing_spent t);
+}
+
+-- it has some
+pub some_to_write : (u page : ℕ) (result : Result (Unit {0}) ChipFault) (old new : Pages)
+    (before after : Told) → logs_of (frames_in old) u page ≢ []
+    → WritingCosts result (tables_in old) (tables_in new) u before after
+    → AsksToWriteOut u page result old new before after
+some_to_write u page result old new before after full costs = record {
+  idle = λ none. absurd (full none);
+  home = costs.home;
+  costs = costs.any;
+}
+
+-- ---- a record
+
+-- it fits behind those in memory
+pub fitting_asks : (u : ℕ) (r : Record) (pages : Pages) (t : Told) → AsksToPrepare u r pages t t
+fitting_asks u r pages t = record {
+  idle = λ may. refl;
+  free = λ none free. nothing_spent t;
+  home = λ there has. one_of_none t;
+  costs = logs_of_reads pages.parts.directory t t (nothing_spent t);
+}
+
+-- its page is in a frame, and its records are written out
+pub framed_asks : (u : ℕ) (r : Record) (result : Result (Unit {0}) ChipFault) (old new : Pages)
+    (before after : Told) → ¬ MayPut (frames_in old) u r → IsFramed old u r.page
+    → AsksToWriteOut u r.page result old new before after → AsksToPrepare u r old before after
+framed_asks u r result old new before after full there asks = record {
+  idle = λ may. absurd (full may);
+  free = λ none free. absurd (false≢true (subst IsSome none there));
+  home = λ framed has. (asks.home has).0;
+  costs = asks.costs;
+}
+
+-- its page is in none
+pub fetched_asks : (u : ℕ) (r : Record) (old : Pages) (before after : Told)
+    → ¬ MayPut (frames_in old) u r → ¬ IsFramed old u r.page
+    → (HasFreeFrame old → Spends (Costs 0 0 0 []) before after)
+    → Spends (ErasesAndLogs old.parts.directory) before after → AsksToPrepare u r old before after
+fetched_asks u r old before after full absent reads costs = record {
+  idle = λ may. absurd (full may);
+  free = λ none. reads;
+  home = λ framed has. absurd (absent framed);
+  costs = costs;
+}

@@ -1,0 +1,149 @@
+-- Calls over contents that stand for a state tell the fault of a page that didn't read well.
+use Rattle.std.proofs.Common.{◌≡◌, ◌≢◌, ◌<◌, ◌+◌, ◌-◌, ℕ, Option, Some, slice_index, Result, Ok, Err, IfErr, inl, inr, refl, sym, ◌∙◌, ap, subst, arith}
+use Rattle.chip_trait.specs.Story.{Contents}
+use Rattle.chip_trait.specs.Told.{Told}
+use Rattle.ipl_base.specs.declared.fault.ChipFault.{ChipFault}
+use Rattle.ipl_base.specs.declared.fault.ChipFault.TheVariants.{ReadFault}
+use Rattle.ipl_rules.specs.State.{State}
+use Rattle.record_locks.specs.Held.{Slots}
+use Rattle.ipl_meaning.specs.Chart.{chart_of}
+use Rattle.ipl_meaning.specs.Layout.{Layout}
+use Rattle.ipl_meaning.specs.Tables.{Tables}
+use Rattle.unit_io.specs.Faults.{TellsChipFault}
+use Rattle.merge_rules.specs.Faults.{page_fault_from, merge_fault, FailsByChipAlone}
+use Rattle.merge_rules.specs.Merged.{source_of}
+use Rattle.merge_rules.proofs.FaultLemmas.{fault_with_few}
+use Rattle.selective_merge.specs.Merging.{Merges, StaysMirrored, FailsAsMerge, TellsMergeFault}
+use Rattle.selective_merge.specs.Throughout.{ChartsThroughout}
+use Rattle.selective_merge.proofs.CompleteLemmas.{merge_fails_so}
+use Rattle.status_renewal.specs.InPlace.{RenewalFailsInPlace}
+use Rattle.page_rebuild.specs.Loaded.{OfTables, base_fault}
+use Rattle.page_writing.specs.InPlace.{StaysInPlace}
+use Rattle.pending_writes.proofs.FitLemmas.{merges_are_small}
+use Rattle.store_steps.specs.Advances.{memory_of, MemoryFits, KeepsState}
+use Rattle.page_frames.specs.declared.pages.Pages.{Pages}
+use Rattle.page_frames.specs.Pages.{tables_in, frames_in}
+use Rattle.page_frames.specs.Faulty.{FailsAsPage, NamesBadPage, TellsFaults}
+use Rattle.page_frames.proofs.FaultyLemmas.{first_some, names_page, still_sound}
+
+-- ---- merges
+
+-- what is wrong with a unit that is to be merged is what is wrong with a page of it
+unit_names : (places : ℕ) (x : Contents) (it : Layout) (old : Pages) (after : Tables)
+    (slots : Slots) (state : State) (u : ℕ) (e : ChipFault) → u < places - 4
+    → MemoryFits places (chart_of x) it (memory_of (tables_in old) (frames_in old) slots) state
+    → slice_index after.places.current u ≡ slice_index (tables_in old).places.current u
+    → merge_fault x (tables_in old) (it.units u) u ≡ Some e → NamesBadPage places x it after e
+unit_names places x it old after slots state u e low fits stays is =
+    let t = tables_in old in
+    let from = source_of t (it.units u) u in
+    let few = merges_are_small places (chart_of x) it t (frames_in old) slots state u fits low in
+    let (page, below, found) = first_some (page_fault_from x from) 15 e
+    (sym (fault_with_few x from _ few) ∙ is) in
+    names_page places x it t after u page e fits.mirrors low below stays found
+
+pub merge_tells : {T : Type 0} (u : ℕ) (old new : Pages) (result : Result T ChipFault)
+    (told : Told) → u + 4 < told.places → FailsAsMerge told.places (tables_in old) u result told
+    → StaysInPlace told.places (tables_in old) u (tables_in new) result told
+    → TellsFaults old result told new
+merge_tells u old new (Ok v) told low fails stays x there slots it state fits = tt
+merge_tells u old new (Err e) told low fails stays x there slots it state fits = λ read stopped.
+    unit_names told.places x it old (tables_in new) slots state u e (omega (arith, low)) fits
+    (stays x there it fits.mirrors read stopped) (fails x there it fits.mirrors read stopped)
+
+-- where it fails the tables mirror the same layout
+pub merge_in_place : (places u : ℕ) (t after : Tables) (result : Result (Unit {0}) ChipFault)
+    (old new : Told) → u < places - 4
+    → ChartsThroughout (λ done. Merges places u t after) (StaysMirrored places t after) result old new
+    → StaysInPlace places t u after result old
+merge_in_place places u t after (Ok v) old new low tells x told it mirrors = tt
+merge_in_place places u t after (Err e) old new low tells x told it mirrors = λ read stopped.
+    let (y, there, still) = tells stopped x told in
+    (still it mirrors).0.directory.current u low ∙ sym (mirrors.directory.current u low)
+
+pub merged_tells : (u : ℕ) (old new : Pages) (result : Result (Unit {0}) ChipFault)
+    (before after : Told) → u + 4 < before.places
+    → TellsMergeFault before.places (tables_in old) u result before
+    → ChartsThroughout (λ done. Merges before.places u (tables_in old) (tables_in new))
+    (StaysMirrored before.places (tables_in old) (tables_in new)) result before after
+    → TellsFaults old result before new
+merged_tells u old new result before after low fault tells =
+    merge_tells u old new result before low
+    (merge_fails_so before.places (tables_in old) u result before fault)
+    (merge_in_place before.places u (tables_in old) (tables_in new) result before after
+    (omega (arith, low)) tells)
+
+pub renew_tells : (old new : Pages) (result : Result (Unit {0}) ChipFault) (told : Told)
+    → RenewalFailsInPlace told.places (tables_in old) (tables_in new) result told
+    → TellsFaults old result told new
+renew_tells old new (Ok v) told fails x there slots it state fits = tt
+renew_tells old new (Err e) told fails x there slots it state fits = λ read stopped.
+    let here = fails x there it fits.mirrors read stopped in
+    unit_names told.places x it old (tables_in new) slots state here.is.unit e here.is.low fits
+    (here.stays ∙ sym (fits.mirrors.directory.current here.is.unit here.is.low)) here.is.fault
+
+-- ---- loads
+
+fault_read : {T : Type 0} (fault : Option ChipFault) (result : Result T ChipFault)
+    → TellsChipFault fault result → IfErr result (λ e. e ≢ ReadFault → fault ≡ Some e)
+fault_read fault (Ok v) tells = tt
+fault_read fault (Err e) tells = tells
+
+pub load_exact : {T : Type 0} (t : Tables) (u page : ℕ) (result : Result T ChipFault) (told : Told)
+    → OfTables told t.places t.overflow t.status
+    (λ x it. TellsChipFault (base_fault x it u page) result)
+    → FailsAsPage t u page result told
+load_exact t u page result told tells x there it mirrors =
+    fault_read (base_fault x it u page) result (tells x there it t (record {
+      mirrored = record { mirrors = mirrors; directory_is = refl; overflow_is = refl };
+      status_is = refl;
+    }))
+
+pub loaded_tells : {T : Type 0} (u page : ℕ) (old new : Pages) (result : Result T ChipFault)
+    (told : Told) → u + 4 < told.places → page < 15 → tables_in new ≡ tables_in old
+    → FailsAsPage (tables_in old) u page result told → TellsFaults old result told new
+loaded_tells u page old new (Ok v) told low few same fails x there slots it state fits = tt
+loaded_tells u page old new (Err e) told low few same fails x there slots it state fits =
+    λ read stopped. names_page told.places x it (tables_in old) (tables_in new) u page e fits.mirrors
+    (omega (arith, low)) few (ap (λ (t : Tables). slice_index t.places.current u) same)
+    (fails x there it fits.mirrors read)
+
+-- ---- calls of the chip
+
+pub alone_tells : {T : Type 0} (old new : Pages) (result : Result T ChipFault) (told : Told)
+    → FailsByChipAlone result → TellsFaults old result told new
+alone_tells old new (Ok v) told alone x there slots it state fits = tt
+alone_tells old new (Err e) told alone x there slots it state fits = λ read stopped.
+    elim alone [
+      | inl is ↦ absurd (read is)
+      | inr is ↦ absurd (stopped is)
+    ]
+
+-- ---- two calls
+
+-- after one that keeps each state and was done: a page without a fault has none still
+pub tells_then : {T : Type 0} (first between last : Pages) (result : Result T ChipFault)
+    (old mid : Told) → mid.places ≡ old.places
+    → KeepsState {T = Unit {0}} {E = ChipFault} (tables_in first) (frames_in first) old (Ok tt)
+    (tables_in between) (frames_in between) mid
+    → TellsFaults between result mid last → TellsFaults first result old last
+tells_then first between last (Ok v) old mid sized keeps tells x there slots it state fits = tt
+tells_then first between last (Err e) old mid sized keeps tells x there slots it state fits =
+    λ read stopped.
+    let memory = memory_of (tables_in first) (frames_in first) slots in
+    let after = memory_of (tables_in between) (frames_in between) slots in
+    let (y, now, had) = (keeps slots).fits old.places refl tt x there in
+    let on = had it state fits in
+    let is = subst (λ (n : ℕ). NamesBadPage n y on.layout (tables_in last) e) sized
+    (tells y now slots on.layout state
+    (subst (λ (n : ℕ). MemoryFits n (chart_of y) on.layout after state) (sym sized) on.fits)
+    read stopped) in
+    record {
+      unit = is.unit;
+      page = is.page;
+      low = is.low;
+      few = is.few;
+      bad = λ none. is.bad (still_sound old.places x y it on.layout memory after state is.unit is.page
+          is.low is.few (λ s held. had it s held) fits on.fits.mirrors none);
+      names = is.names;
+    }

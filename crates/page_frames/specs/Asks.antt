@@ -1,0 +1,33 @@
+-- What calls on pages ask of the chip.
+use Rattle.std.specs.Prelude.{ℕ, ◌≡◌, [], ◌∷◌, None, Result}
+use Rattle.chip_trait.specs.Told.{Told}
+use Rattle.ipl_base.specs.declared.fault.ChipFault.{ChipFault}
+use Rattle.ipl_format.specs.Record.{Record}
+use Rattle.unit_io.specs.Costs.{Costs, Spends}
+use Rattle.selective_merge.specs.Spotting.{HasHomeSpot}
+use Rattle.pending_writes.specs.Frames.{logs_of}
+use Rattle.frame_changes.specs.Changes.{MayPut}
+use Rattle.page_writing.specs.Spending.{ErasesAndLogs, UsesHome}
+use Rattle.page_frames.specs.declared.pages.Pages.{Pages}
+use Rattle.page_frames.specs.Pages.{tables_in, frames_in, IsFramed, HasFreeFrame}
+
+-- A page's records written out: nothing, and all stays as it is, where it has none in memory; where
+-- a log sector is clean at its unit's home, at most one program, of a log sector, with no erase and
+-- no barrier; else at most the erase of the lowest free place too.
+pub record AsksToWriteOut (u page : ℕ) (result : Result (Unit {0}) ChipFault) (old new : Pages)
+    (before after : Told) : Type 0 where
+  pub idle : logs_of (frames_in old) u page ≡ [] → (new ≡ old) × (after ≡ before)
+  pub home : HasHomeSpot (tables_in old) u → Spends (Costs 0 1 0 (5 ∷ [])) before after
+      × UsesHome result old.parts.directory new.parts.directory u
+  pub costs : Spends (ErasesAndLogs old.parts.directory) before after
+
+-- A page made ready for a record: nothing where it is in a frame and the record fits behind those in
+-- memory; reads alone where it is in none and a frame is free; where it is in a frame and a log
+-- sector is clean at its unit's home, at most one program, of a log sector, with no erase and no
+-- barrier; and what writing one page out may cost in any case.
+pub record AsksToPrepare (u : ℕ) (r : Record) (old : Pages) (before after : Told) : Type 0 where
+  pub idle : MayPut (frames_in old) u r → after ≡ before
+  pub free : frames_in old u r.page ≡ None → HasFreeFrame old → Spends (Costs 0 0 0 []) before after
+  pub home : IsFramed old u r.page → HasHomeSpot (tables_in old) u
+      → Spends (Costs 0 1 0 (5 ∷ [])) before after
+  pub costs : Spends (ErasesAndLogs old.parts.directory) before after
