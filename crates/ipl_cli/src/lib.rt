@@ -4,9 +4,14 @@
 //! and line the program ends, and what it leaves on the chip. There are two desks: one in memory, which
 //! tells all and fails where it is told to, and one over the streams of the process.
 //!
-//! Proved, by `top`: `lawful`, `opened`, `formatted`, `part`, `stops`: over every desk no sector
-//! is programmed twice between erases of its place, whatever the chip tells or holds. The
-//! headline, over a chip that is opened, wherever the run ends, and over one that is formatted
+//! Proved, by `top`: `survives`, `survives_anew`: the statement. Over a chip that tells what it
+//! holds, wherever the power is cut, what is left stands for the records after the commands whose
+//! replies were said, or after one more: from its own records on, or from none where it was
+//! formatted first.
+//!
+//! Proved, by `top`: `lawful`, `opened`, `formatted`, `part`, `stops`: over every desk that tells
+//! its history no sector is programmed twice between erases of its place, whatever the chip holds.
+//! The headline, over a chip that is opened, wherever the run ends, and over one that is formatted
 //! first, of each history that leaves what the chip holds and rests on records, by events that a
 //! told story grows by: each moment of a cut; what is said, line by line, and all of it at 0;
 //! lawful events; where no write failed, the chip holds at the end what the history then leaves,
@@ -24,14 +29,15 @@
 //! exactly its line is noted; at 2 and 5 nothing is asked of the chip, said or read, but that at 5
 //! a view may have read its script; another number of places is left alone. A chip that has a
 //! fault as it is laid out, where it tells what it holds, is only read by a run without
-//! `--format`, and the status is that of its first fault, or 5, or 3 where a call failed. A fault
-//! at 4 or 9 else is met in the run: then what the chip held had none, and where a history of that
-//! rested on records, a call of the chip failed. Where no count rises, the script ends in time and
-//! the chip is such as the words ask for, the status is 0, or 5.
+//! `--format`, and the status is that of its first fault, or 5, or 3 where a call failed. A run
+//! that opens a chip which tells what it holds ends with 4 or 9 only where that stood for no
+//! records, or a number of 2^62 or more was among it (`unfit`); a failed call is told as such. Where
+//! no count rises, the script ends in time and the chip is such as the words ask for, the status is
+//! 0, or 5. At 0 a run or a trial was done by a store of as many frames as were asked (`framed`).
 //!
 //! Proved, by `top`: `views`, `untouched`: the serial view of a script: over every desk that tells
 //! its script, what is said is a beginning of its lines, one by one, and at 0 all of them, with
-//! nothing of the script left; over every desk no sector is touched.
+//! nothing of the script left; over every desk that tells its history no sector is touched.
 //!
 //! Proved, by `MemDesk`, `RealDesk`: in memory: each call as the trait says, failing exactly where
 //! it is told to. Over the real streams: each call as the trait says, and one of the chip is the

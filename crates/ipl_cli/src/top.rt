@@ -326,8 +326,9 @@ pub fn top<D: Desk>(alloc: Global, words: &[String], desk: &mut D) -> u8
     // The chip has as many places as before, and no count falls.
     ensures counts { NoneFalls (D.told desk.old) (D.told desk.new) }
 
-    // Whatever is asked and whatever the chip tells or holds, also where that stands for no records: no
-    // sector is programmed twice between erases of its place.
+    // Whatever is asked and whatever the chip holds, also where that stands for no records: by the history
+    // that the desk tells no sector is programmed twice between erases of its place. Of one that tells none
+    // this says nothing.
     ensures lawful { AddsLawful (D.told desk.old) (D.told desk.new) }
 
     // The headline, over a chip that is opened: wherever the program ends. At 0 the whole script was
@@ -387,7 +388,8 @@ pub fn top<D: Desk>(alloc: Global, words: &[String], desk: &mut D) -> u8
         → requested (map string_bytes words.now) ≡ Some (Trial seed count frames)
         → AtStatus (λ ending. TrialLeaves seed count ending (D.told desk.old) (D.told desk.new)) result }
 
-    // A view is said at 0, and a part of it wherever else the program ends; no sector is touched.
+    // A view is said at 0, and a part of it wherever else the program ends; by the history that the desk
+    // tells no sector is touched.
     ensures views { requested (map string_bytes words.now) ≡ Some Serial
         → ViewsTold (D.told desk.old) (D.told desk.new) (result == 0) }
     ensures untouched { requested (map string_bytes words.now) ≡ Some Serial
