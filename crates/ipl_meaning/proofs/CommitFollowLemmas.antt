@@ -89,10 +89,11 @@ module _ (places : ℕ) (c : Chart) (it : Layout) (t : Tables) (sector : Sector)
   commit_followed : Mirrors places y jt tables
   commit_followed = record {
     laid = (commit_sectors_add places c it first sector numbers committed mirrors.laid may).0;
-    directory = let was = mirrors.directory in record { units = was.units; logs = was.logs; all = was.all; current = was.current; not_home = was.not_home; not_status = was.not_status; not_overflow = was.not_overflow };
+    directory = let was = mirrors.directory in record { units = was.units; logs = was.logs; all = was.all; current = was.current; heads = was.heads; generation = was.generation; not_home = was.not_home; not_status = was.not_status; not_overflow = was.not_overflow };
     overflow = overflow;
     status = status;
     numbers = numbers_there;
+    masks = let was = mirrors.masks in record { units = was.units; lists = was.lists; sectors = was.sectors; home = was.home; elsewhere = was.elsewhere };
     counted_clean = λ q n is. let (before, apart) = commit_counted places c it t mirrors numbers active next q n is in none_still c it.status first sector q n (mirrors.counted_clean q n before) apart;
   }
 

@@ -67,10 +67,10 @@ module _ (places : ℕ) (c : Chart) (it : Layout) (t : Tables) (mirrors : Mirror
   home_of : (v q : ℕ) → v < length t.places.current → q ≡ slice_index t.places.current v → (v < places - 4) × (q ≡ (it.units v).home)
   home_of v q less is = let low : v < places - 4 = omega (arith, less, mirrors.directory.units) in (low, is ∙ mirrors.directory.current v low)
 
-  pub home_counted : (u next : ℕ) → u < places - 4 → CountedShrink t (after_home_log t u next) (slice_index t.places.current u) (first_log t u)
-  home_counted u next low q n (small, inl (v, less, is, first)) = elim (cases_eq v u) [
+  pub home_counted : (u mask next : ℕ) → u < places - 4 → CountedShrink t (after_home_log t u mask next) (slice_index t.places.current u) (first_log t u)
+  home_counted u mask next low q n (small, inl (v, less, is, first)) = elim (cases_eq v u) [
     | inl same ↦
-        let mine : slice_index (after_home_log t u next).places.written u ≡ slice_index t.places.written u + 1 = get_or-set_same t.places.written u (slice_index t.places.written u + 1) 0 (omega (arith, low, mirrors.directory.logs)) in
+        let mine : slice_index (after_home_log t u mask next).places.written u ≡ slice_index t.places.written u + 1 = get_or-set_same t.places.written u (slice_index t.places.written u + 1) 0 (omega (arith, low, mirrors.directory.logs)) in
         let above : first_log t u + 1 ≤ n = let one = rw same at first in omega (arith, one, mine) in
         ((small, inl (v, less, is, rw same (omega (arith, above)))), λ _ there. omega (arith, above, there))
     | inr apart ↦
@@ -78,27 +78,27 @@ module _ (places : ℕ) (c : Chart) (it : Layout) (t : Tables) (mirrors : Mirror
         let (inside, home) = home_of v q less is in
         ((small, inl (v, less, is, above)), λ same _. apart (homes_apart places c it mirrors.laid v u inside low (sym home ∙ same ∙ mirrors.directory.current u low)))
   ]
-  home_counted u next low q n (small, inr (inl (first, is, above))) = (
+  home_counted u mask next low q n (small, inr (inl (first, is, above))) = (
     (small, inr (inl (first, is, above))),
     λ same _. home_not_over places c it mirrors.laid u low (let over = overflow_headed q first is in rw (same ∙ mirrors.directory.current u low) at over),
   )
-  home_counted u next low q n (small, inr (inr (is, above))) = (
+  home_counted u mask next low q n (small, inr (inr (is, above))) = (
     (small, inr (inr (is, above))),
     λ same _. home_not_status places c it mirrors.laid u low (sym (mirrors.directory.current u low) ∙ sym same ∙ is ∙ mirrors.status.place),
   )
 
-  pub overflow_counted : (u p s next : ℕ) → Contains t.overflow.in_use (p, s) → CountedShrink t (after_overflow_log t u p s next) p s
-  overflow_counted u p s next spot q n (small, inl (v, less, is, first)) =
+  pub overflow_counted : (u p s mask next : ℕ) → Contains t.overflow.in_use (p, s) → CountedShrink t (after_overflow_log t u p s mask next) p s
+  overflow_counted u p s mask next spot q n (small, inl (v, less, is, first)) =
       let (inside, home) = home_of v q less is in
       ((small, inl (v, less, is, first)), λ same _. home_not_over places c it mirrors.laid v inside (let over = overflow_headed p s spot in rw (sym same ∙ home) at over))
-  overflow_counted u p s next spot q n (small, inr (inl (first, is, above))) =
+  overflow_counted u p s mask next spot q n (small, inr (inl (first, is, above))) =
       let (old, listed, less, is_next) = spot_before p t.overflow.in_use q first is in (
         (small, inr (inl (old, listed, omega (arith, less, above)))),
         λ same there.
             let one : old ≡ s = one_spot t.overflow.in_use p old s mirrors.overflow.apart (subst (λ (z : ℕ). Contains t.overflow.in_use (z, old)) same listed) spot in
             omega (arith, one, is_next same, above, there),
       )
-  overflow_counted u p s next spot q n (small, inr (inr (is, above))) = (
+  overflow_counted u p s mask next spot q n (small, inr (inr (is, above))) = (
     (small, inr (inr (is, above))),
     λ same _. status_not_over places c it mirrors.laid (let over = overflow_headed p s spot in rw (sym same ∙ is ∙ mirrors.status.place) at over),
   )

@@ -7,7 +7,7 @@ use Rattle.std.proofs.lemmas.List.FromFn.{length-range_with_len, get_or-range_wi
 use Rattle.ipl_format.specs.Sector.{Sector}
 use Rattle.ipl_meaning.specs.Chart.{Chart}
 use Rattle.ipl_meaning.specs.Found.{IsRead, Mentions}
-use Rattle.ipl_meaning.specs.Tables.{IsFree, Tables, spots_of, IsCountedClean}
+use Rattle.ipl_meaning.specs.Tables.{IsFree, Tables, masks_in, spots_of, masks_of, IsCountedClean}
 use Rattle.ipl_meaning.specs.Mirrors.{Mirrors}
 use Rattle.ipl_meaning.specs.Formatted.{first_head, first_status, formatted}
 use Rattle.ipl_meaning.specs.FirstTables.{first_layout, first_tables}
@@ -33,6 +33,12 @@ module _ (places : ℕ) (least : 5 ≤ places) (most : places ≤ 1028) where
 
   no_spots : (u : ℕ) → u < places - 4 → spots_of t u ≡ []
   no_spots u low = get_or-replicate (places - 4) u [] [] low
+
+  no_masks : (u : ℕ) → u < places - 4 → masks_in t.places u ≡ replicate 15 0
+  no_masks u low = get_or-replicate (places - 4) u (replicate 15 0) [] low
+
+  no_list : (u : ℕ) → u < places - 4 → masks_of t u ≡ []
+  no_list u low = get_or-replicate (places - 4) u [] [] low
 
   none_listed : {X : Type 0} (x : X) → ¬ Contains [] x
   none_listed x (k, within, is) = omega (arith, within)
@@ -69,6 +75,8 @@ module _ (places : ℕ) (least : 5 ≤ places) (most : places ≤ 1028) where
       logs = length-replicate (places - 4) 15;
       all = omega (arith, length-append (replicate (places - 4 + 1) true) (replicate 3 false), length-replicate (places - 4 + 1) true, length-replicate 3 false, least);
       current = λ u low. get_or-range_with_len 0 (places - 4) u 0 low ∙ (let e : 0 + u ≡ u = omega arith in e);
+      heads = length-range_with_len 1 (places - 4);
+      generation = λ u low. get_or-range_with_len 1 (places - 4) u 0 low ∙ (let e : 1 + u ≡ u + 1 = omega arith in e);
       not_home = λ q free u low is. omega (arith, free_after q free, low, is);
       not_status = λ q free is. omega (arith, free_after q free, is);
       not_overflow = λ q free is. none_listed q is;
@@ -90,6 +98,13 @@ module _ (places : ℕ) (least : 5 ≤ places) (most : places ≤ 1028) where
       below = λ k none within. absurd (omega (arith, within));
       once = λ i j d before within. absurd (omega (arith, within));
       waits = λ k none within. absurd (omega (arith, within));
+    };
+    masks = record {
+      units = length-replicate (places - 4) (replicate 15 0);
+      lists = length-replicate (places - 4) [];
+      sectors = λ u low. rw (no_masks u low) (length-replicate {A = ℕ} 15 0);
+      home = λ u s low least most. rw (no_masks u low) (get_or-replicate {A = ℕ} 15 (s - 241) 0 0 (omega (arith, least, most)));
+      elsewhere = λ u low. rw (no_list u low, no_spots u low) refl;
     };
     counted_clean = λ p s is. absurd (none_counted p s is);
   }

@@ -62,7 +62,7 @@ module _ (places : ℕ) (c : Chart) (it : Layout) (t : Tables) (p : ℕ) (y : Ch
   idle_followed : Mirrors places y it (with_next t next)
   idle_followed = record {
     laid = (idle_places_do_not_count places c it p y mirrors.laid idle same nothing).0;
-    directory = let was = mirrors.directory in record { units = was.units; logs = was.logs; all = was.all; current = was.current; not_home = was.not_home; not_status = was.not_status; not_overflow = was.not_overflow };
+    directory = let was = mirrors.directory in record { units = was.units; logs = was.logs; all = was.all; current = was.current; heads = was.heads; generation = was.generation; not_home = was.not_home; not_status = was.not_status; not_overflow = was.not_overflow };
     overflow = let was = mirrors.overflow in record {
       units = was.units;
       listed = λ v q n x low live away. was.listed v q n x low (live_before v q n x (live_apart v q n x low live) live) away;
@@ -83,6 +83,7 @@ module _ (places : ℕ) (c : Chart) (it : Layout) (t : Tables) (p : ℕ) (y : Ch
       once = was.once;
       waits = was.waits;
     };
+    masks = let was = mirrors.masks in record { units = was.units; lists = was.lists; sectors = was.sectors; home = was.home; elsewhere = was.elsewhere };
     counted_clean = λ q n is. same q n (counted_apart places c it t p mirrors idle not_overflow q n is) ∙ mirrors.counted_clean q n is;
   }
 
@@ -105,6 +106,8 @@ module _ (places : ℕ) (c : Chart) (it : Layout) (t : Tables) (p : ℕ) (mirror
       logs = was.logs;
       all = length-set t.places.in_use p true ∙ was.all;
       current = was.current;
+      heads = was.heads;
+      generation = was.generation;
       not_home = λ q free. was.not_home q (free_before q free);
       not_status = λ q free. was.not_status q (free_before q free);
       not_overflow = λ q free. was.not_overflow q (free_before q free);
@@ -112,6 +115,7 @@ module _ (places : ℕ) (c : Chart) (it : Layout) (t : Tables) (p : ℕ) (mirror
     overflow = let was = mirrors.overflow in record { units = was.units; listed = was.listed; only = was.only; once = was.once; few = was.few; in_overflow = was.in_overflow; headed = was.headed; two = was.two; apart = was.apart };
     status = let was = mirrors.status in record { place = was.place; generation = was.generation; numbers = was.numbers };
     numbers = let was = mirrors.numbers in record { above = was.above; below = was.below; once = was.once; waits = was.waits };
+    masks = let was = mirrors.masks in record { units = was.units; lists = was.lists; sectors = was.sectors; home = was.home; elsewhere = was.elsewhere };
     counted_clean = mirrors.counted_clean;
   }
 

@@ -17,6 +17,7 @@ pub mod AllowedLemmas
 pub mod PackLemmas
 pub mod ApartLemmas
 pub mod CountedLemmas
+pub mod MaskLemmas
 pub mod LogFollowLemmas
 pub mod HomeLogLemmas
 pub mod OverflowLogLemmas

@@ -1,17 +1,34 @@
 -- A log sector more.
-use Rattle.std.proofs.Common.{◌≡◌, ◌≢◌, ◌⊎◌, ℕ, ◌≤◌, List, inl, inr, refl, sym, ◌∙◌, ap, arith}
+use Rattle.std.proofs.Common.{◌≡◌, ◌≢◌, ◌⊎◌, ℕ, ◌<◌, ◌≤◌, ◌-◌, List, [], ◌∷◌, ◌++◌, Some, None, inl, inr, refl, sym, ◌∙◌, ap, ap₂, arith}
+use Rattle.std.proofs.lemmas.List.Elements.{All-contains}
 use Rattle.std.proofs.lemmas.Bool.{cases_eq, eq-eqb, ne_eqb}
 use Rattle.chip_trait.specs.Chart.{with_sector}
 use Rattle.ipl_format.specs.Sector.{Sector}
 use Rattle.ipl_format.specs.Record.{Record}
 use Rattle.ipl_meaning.specs.Chart.{Chart, IsOverflow, IsLive}
-use Rattle.ipl_meaning.specs.Layout.{Layout, IsLiveIn}
+use Rattle.ipl_meaning.specs.Layout.{Layout, Laid, IsEntry, IsLiveIn}
 use Rattle.ipl_meaning.specs.Steps.{with_log, MayLog, entry_at}
 use Rattle.ipl_meaning.specs.Found.{MentionsBelow}
 use Rattle.ipl_meaning.specs.Tables.{Tables}
 use Rattle.ipl_meaning.specs.Mirrors.{MirrorsNumbers}
 use Rattle.ipl_meaning.proofs.PutLemmas.{new_or_old, kept, live_still, live_before}
+use Rattle.ipl_meaning.proofs.MaskLemmas.{NoneStands, stands_away}
 use Rattle.ipl_meaning.proofs.CounterLemmas.{log_sectors_keep_the_counter}
+
+-- no live log sector stands where nothing checks
+pub none_stands : (places : ℕ) (c : Chart) (it : Layout) (u p s : ℕ) → Laid places c it → u < places - 4 → c p s ≡ None → NoneStands (it.units u).log p s
+none_stands places c it u p s laid low free e has = stands_away e p s (λ place number.
+    let live = (All-contains (IsEntry c places u (it.units u).home (it.units u).head.generation) (it.units u).log e (laid.each u low).log.each has).live in
+    let there : Some e.sector ≡ None = sym live.here ∙ ap₂ c place number ∙ free in cc there)
+
+-- the log of the unit, and those of the others
+pub log_mine : (places : ℕ) (c : Chart) (it : Layout) (u p s : ℕ) (sector : Sector) (records : List Record)
+    → ((with_log it u (entry_at p s sector records)).units u).log ≡ (it.units u).log ++ entry_at p s sector records ∷ []
+log_mine places c it u p s sector records = rw (eq-eqb u u refl) refl
+
+pub log_other : (places : ℕ) (c : Chart) (it : Layout) (u p s : ℕ) (sector : Sector) (records : List Record) (v : ℕ) → v ≢ u
+    → ((with_log it u (entry_at p s sector records)).units v).log ≡ (it.units v).log
+log_other places c it u p s sector records v apart = rw (ne_eqb v u apart) refl
 
 module _ (places : ℕ) (c : Chart) (it : Layout) (u p s : ℕ) (sector : Sector) (records : List Record) (may : MayLog places c it u p s sector records) where
   abbrev y : Chart

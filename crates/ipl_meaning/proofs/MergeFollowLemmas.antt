@@ -11,8 +11,8 @@ use Rattle.ipl_meaning.specs.Layout.{Entry, Shape, Layout, IsLiveIn}
 use Rattle.ipl_meaning.specs.Steps.{with_unit, MaySeal}
 use Rattle.ipl_meaning.specs.Found.{MentionsBelow, IsPlaceBelow}
 use Rattle.ipl_meaning.specs.Tables.{IsFree, Status, Tables, spots_of, overflow_places, place_of, IsCountedClean}
-use Rattle.ipl_meaning.specs.Mirrors.{MirrorsPlaces, MirrorsOverflow, Mirrors}
-use Rattle.ipl_meaning.specs.TableSteps.{IsReady, IsMoved}
+use Rattle.ipl_meaning.specs.Mirrors.{MirrorsPlaces, MirrorsOverflow, MirrorsMasks, Mirrors}
+use Rattle.ipl_meaning.specs.TableSteps.{IsReady, IsMoved, TellsShape}
 use Rattle.ipl_meaning.specs.MovingLaws.{CountedFollowMerges, TablesFollowMerges}
 use Rattle.ipl_meaning.proofs.PutLemmas.{kept, live_still, live_back}
 use Rattle.ipl_meaning.proofs.SwitchLemmas.{headers_switch}
@@ -101,12 +101,24 @@ module _ (places : ℕ) (c : Chart) (it : Layout) (t after : Tables) (u p used :
     | inr apart ↦ rw moved.current (get_or-set_other t.places.current u v p 0 apart ∙ mirrors.directory.current v less ∙ ap (λ (z : Shape). z.home) (sym (shape_other v apart)))
   ]
 
-  directory : MirrorsPlaces places jt after
-  directory = let was = mirrors.directory in record {
-    units = ap (λ (l : List ℕ). length l) moved.current ∙ length-set t.places.current u p ∙ was.units;
+  generation : TellsShape t after u fresh → (v : ℕ) → v < places - 4
+      → slice_index after.places.generations v ≡ (jt.units v).head.generation
+  generation told v less = elim (cases_eq v u) [
+    | inl same ↦ rw (same, told.generation) (get_or-set_same t.places.generations u fresh.head.generation 0 (omega (arith, low, mirrors.directory.heads)) ∙ ap (λ (z : Shape). z.head.generation) (sym shape_mine))
+    | inr apart ↦ rw told.generation (get_or-set_other t.places.generations u v fresh.head.generation 0 apart ∙ mirrors.directory.generation v less ∙ ap (λ (z : Shape). z.head.generation) (sym (shape_other v apart)))
+  ]
+
+  units : length after.places.current ≡ places - 4
+  units = ap (λ (l : List ℕ). length l) moved.current ∙ length-set t.places.current u p ∙ mirrors.directory.units
+
+  directory : TellsShape t after u fresh → MirrorsPlaces places jt after
+  directory told = let was = mirrors.directory in record {
+    units = units;
     logs = ap (λ (l : List ℕ). length l) moved.written ∙ length-set t.places.written u used ∙ was.logs;
     all = moved.all ∙ was.all;
     current = current;
+    heads = ap (λ (l : List ℕ). length l) told.generation ∙ length-set t.places.generations u fresh.head.generation ∙ was.heads;
+    generation = generation told;
     not_home = not_home;
     not_status = not_status;
     not_overflow = not_overflow;
@@ -170,7 +182,7 @@ module _ (places : ℕ) (c : Chart) (it : Layout) (t after : Tables) (u p used :
   -- what is counted as clean now was so before, or stands behind the log sectors of the new place
   merge_counted : (q n : ℕ) → IsCountedClean after q n → (IsCountedClean t q n ⊎ ((q ≡ p) × (241 + used ≤ n) × (n < 256))) × (q ≡ p → n ≢ 0)
   merge_counted q n (small, inl (v, less, is, first)) =
-      let inside : v < places - 4 = omega (arith, less, directory.units) in
+      let inside : v < places - 4 = omega (arith, less, units) in
       let number : n ≢ 0 = λ none. omega (arith, first, none) in
       elim (cases_eq v u) [
         | inl same ↦
@@ -197,10 +209,28 @@ module _ (places : ℕ) (c : Chart) (it : Layout) (t after : Tables) (u p used :
   counted_clean q n is = let (was, apart) = merge_counted q n is in
       none_still c p 0 fresh.head q n (elim was [ inl before ↦ mirrors.counted_clean q n before | inr (at, from, small) ↦ rw at (clean n from small) ]) apart
 
-  merge_followed : Mirrors places y jt after
-  merge_followed = record {
+  masks_there : TellsShape t after u fresh → MirrorsMasks places jt after
+  masks_there told = let was = mirrors.masks in record {
+    units = ap (λ (l : List (List ℕ)). length l) told.home ∙ length-set t.places.masks u told.masks ∙ was.units;
+    lists = ap (λ (l : List (List ℕ)). length l) told.elsewhere ∙ length-set t.overflow.masks u [] ∙ was.lists;
+    sectors = λ v less. elim (cases_eq v u) [
+      | inl same ↦ rw (same, told.home) (ap length (get_or-set_same t.places.masks u told.masks [] (omega (arith, low, was.units))) ∙ told.sectors)
+      | inr apart ↦ rw told.home (ap length (get_or-set_other t.places.masks u v told.masks [] apart) ∙ was.sectors v less)
+    ];
+    home = λ v s less least most. elim (cases_eq v u) [
+      | inl same ↦ rw (same, told.home, shape_mine) (ap (λ (l : List ℕ). slice_index l (s - 241)) (get_or-set_same t.places.masks u told.masks [] (omega (arith, low, was.units))) ∙ told.each s least most)
+      | inr apart ↦ rw (told.home, shape_other v apart) (ap (λ (l : List ℕ). slice_index l (s - 241)) (get_or-set_other t.places.masks u v told.masks [] apart) ∙ was.home v s less least most)
+    ];
+    elsewhere = λ v less. elim (cases_eq v u) [
+      | inl same ↦ rw (same, told.elsewhere, spots_mine) (get_or-set_same t.overflow.masks u [] [] (omega (arith, low, was.lists)))
+      | inr apart ↦ rw (told.elsewhere, spots_other v apart, shape_other v apart) (get_or-set_other t.overflow.masks u v [] [] apart ∙ was.elsewhere v less)
+    ];
+  }
+
+  merge_followed : TellsShape t after u fresh → Mirrors places y jt after
+  merge_followed told = record {
     laid = (headers_switch places c it u p fresh mirrors.laid may).0;
-    directory = directory;
+    directory = directory told;
     overflow = overflow_there;
     status = let was = mirrors.status in record {
       place = ap (λ (s : Status). s.place) moved.status ∙ was.place;
@@ -213,11 +243,12 @@ module _ (places : ℕ) (c : Chart) (it : Layout) (t after : Tables) (u p used :
       once = rw moved.active was.once;
       waits = rw moved.active was.waits;
     };
+    masks = masks_there told;
     counted_clean = counted_clean;
   }
 
 pub tables_follow_merges : TablesFollowMerges
-tables_follow_merges places c it t after u p used fresh mirrors low ready in_use moved below all_below clean = merge_followed places c it t after u p used fresh mirrors low ready in_use moved below all_below clean
+tables_follow_merges places c it t after u p used fresh mirrors low ready in_use moved masked below all_below clean = merge_followed places c it t after u p used fresh mirrors low ready in_use moved below all_below clean masked
 
 pub counted_follow_merges : CountedFollowMerges
 counted_follow_merges places c it t after u p used fresh mirrors low ready in_use moved below all_below clean = merge_counted places c it t after u p used fresh mirrors low ready in_use moved below all_below clean

@@ -78,6 +78,8 @@ module _ (places : ℕ) (c : Chart) (it : Layout) (t : Tables) (p next : ℕ) (h
       logs = was.logs;
       all = was.all;
       current = was.current;
+      heads = was.heads;
+      generation = was.generation;
       not_home = was.not_home;
       not_status = was.not_status;
       not_overflow = λ q free is. elim (old_or_new q is) [ inl old ↦ was.not_overflow q free old | inr at ↦ in_use (rw at at free) ];
@@ -103,6 +105,7 @@ module _ (places : ℕ) (c : Chart) (it : Layout) (t : Tables) (p next : ℕ) (h
       once = was.once;
       waits = was.waits;
     };
+    masks = let was = mirrors.masks in record { units = was.units; lists = was.lists; sectors = was.sectors; home = was.home; elsewhere = was.elsewhere };
     counted_clean = counted_clean;
   }
 

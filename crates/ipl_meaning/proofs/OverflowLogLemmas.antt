@@ -1,19 +1,20 @@
 -- How the tables follow a log sector in an overflow place.
-use Rattle.std.proofs.Common.{◌≡◌, ◌≢◌, ◌⊎◌, ℕ, ◌<◌, ◌≤◌, ◌-◌, List, [], ◌∷◌, ◌++◌, length, inl, inr, refl, sym, ◌∙◌, ap, arith, zero, suc}
+use Rattle.std.proofs.Common.{◌≡◌, ◌≢◌, ◌⊎◌, ℕ, ◌<◌, ◌≤◌, ◌-◌, List, [], ◌∷◌, ◌++◌, length, map, false, Some, inl, inr, refl, sym, ◌∙◌, ap, ap₂, arith, zero, suc}
 use Rattle.std.specs.List.{Contains}
 use Rattle.std.proofs.lemmas.Bool.{cases_eq}
-use Rattle.std.proofs.lemmas.List.{length-set, get_or-set_same, get_or-set_other, length-map, length-append, get_or_default}
+use Rattle.std.proofs.lemmas.List.{length-set, get_or-set_same, get_or-set_other, length-map, length-append, map-append, get_or_default}
 use Rattle.std.proofs.lemmas.List.Quantifiers.{all_pairs_push}
 use Rattle.std.proofs.lemmas.List.Elements.{Contains-append_left, Contains-append_right, Contains-append_cases}
 use Rattle.chip_trait.specs.Chart.{with_sector}
 use Rattle.ipl_format.specs.Sector.{Sector}
 use Rattle.ipl_format.specs.Record.{Record}
 use Rattle.ipl_meaning.specs.Chart.{Chart, IsOverflow, IsLive}
-use Rattle.ipl_meaning.specs.Layout.{Layout, IsLiveIn}
+use Rattle.ipl_meaning.specs.Layout.{Entry, Layout, IsLiveIn}
+use Rattle.ipl_meaning.specs.Masks.{mask_of, mask_at_spot, stands_at}
 use Rattle.ipl_meaning.specs.Steps.{with_log, MayLog, entry_at}
 use Rattle.ipl_meaning.specs.Found.{MentionsBelow}
-use Rattle.ipl_meaning.specs.Tables.{Tables, spots_of}
-use Rattle.ipl_meaning.specs.Mirrors.{AreApart, MirrorsPlaces, MirrorsOverflow, Mirrors}
+use Rattle.ipl_meaning.specs.Tables.{Tables, spots_of, masks_of}
+use Rattle.ipl_meaning.specs.Mirrors.{AreApart, MirrorsPlaces, MirrorsOverflow, MirrorsMasks, Mirrors}
 use Rattle.ipl_meaning.specs.TableSteps.{IsFreshLog, after_overflow_log, with_next_spot}
 use Rattle.ipl_meaning.specs.FollowingLaws.{TablesFollowOverflowLogs}
 use Rattle.ipl_meaning.proofs.PutLemmas.{here, kept}
@@ -21,7 +22,8 @@ use Rattle.ipl_meaning.proofs.WaitLemmas.{log_sectors_wait}
 use Rattle.ipl_meaning.proofs.MirrorLemmas.{map_contains, log_sectors_may_go_elsewhere}
 use Rattle.ipl_meaning.proofs.ApartLemmas.{home_not_over, none_still}
 use Rattle.ipl_meaning.proofs.CountedLemmas.{same_places, overflow_counted}
-use Rattle.ipl_meaning.proofs.LogFollowLemmas.{live_then, new_or_live, numbers_then, over_then, same_head, same_home}
+use Rattle.ipl_meaning.proofs.MaskLemmas.{NoneStands, mask_of_new, mask_of_others, stands_here, stands_away, map_same}
+use Rattle.ipl_meaning.proofs.LogFollowLemmas.{log_mine, log_other, none_stands, live_then, new_or_live, numbers_then, over_then, same_head, same_home}
 
 module _ (places : ℕ) (c : Chart) (it : Layout) (t : Tables) (u p s next : ℕ) (sector : Sector) (records : List Record) (mirrors : Mirrors places c it t) (low : u < places - 4)
     (spot : Contains t.overflow.in_use (p, s)) (some : 1 ≤ s) (small : s < 256) (room : length (spots_of t u) < 16) (fresh : IsFreshLog it t u sector records) (more : t.next ≤ next) (below : MentionsBelow next sector) where
@@ -35,7 +37,7 @@ module _ (places : ℕ) (c : Chart) (it : Layout) (t : Tables) (u p s next : ℕ
   jt = with_log it u (entry_at p s sector records)
 
   abbrev tables : Tables
-  tables = after_overflow_log t u p s next
+  tables = after_overflow_log t u p s (mask_of records) next
 
   is_over : IsOverflow c p
   is_over = (mirrors.overflow.headed p (map_contains t.overflow.in_use p s spot)).1
@@ -46,6 +48,8 @@ module _ (places : ℕ) (c : Chart) (it : Layout) (t : Tables) (u p s next : ℕ
     logs = was.logs;
     all = was.all;
     current = λ v less. was.current v less ∙ sym (same_home places c it u p s sector records may v);
+    heads = was.heads;
+    generation = λ v less. was.generation v less ∙ ap (λ (x : Sector). x.generation) (sym (same_head places c it u p s sector records may v));
     not_home = λ q free v less is. was.not_home q free v less (sym (same_home places c it u p s sector records may v) ∙ is);
     not_status = was.not_status;
     not_overflow = λ q free. rw (same_places p t.overflow.in_use) (was.not_overflow q free);
@@ -84,8 +88,8 @@ module _ (places : ℕ) (c : Chart) (it : Layout) (t : Tables) (u p s next : ℕ
     counts = inr ((is_over.0, kept c p s sector may.free p 0 is_over.0 is_over.1, is_over.2), some);
   } in live)
 
-  stands_away : (v : ℕ) → v < places - 4 → p ≢ (it.units v).home
-  stands_away v less at = home_not_over places c it mirrors.laid v less (rw at at is_over)
+  stands_away_home : (v : ℕ) → v < places - 4 → p ≢ (it.units v).home
+  stands_away_home v less at = home_not_over places c it mirrors.laid v less (rw at at is_over)
 
   overflow : MirrorsOverflow places y jt tables
   overflow = let was = mirrors.overflow in record {
@@ -95,7 +99,7 @@ module _ (places : ℕ) (c : Chart) (it : Layout) (t : Tables) (u p s next : ℕ
       | inr old ↦ listed_then v q n (was.listed v q n x less old (λ is. away (is ∙ sym (same_home places c it u p s sector records may v))))
     ];
     only = λ v q n less is. elim (new_or_listed v q n is) [
-      | inl new ↦ rw (new.0, new.1, new.2) (λ at. stands_away u low (at ∙ same_home places c it u p s sector records may u), sector, live_new)
+      | inl new ↦ rw (new.0, new.1, new.2) (λ at. stands_away_home u low (at ∙ same_home places c it u p s sector records may u), sector, live_new)
       | inr old ↦ let (away, x, live) = was.only v q n less old in (λ same. away (same ∙ same_home places c it u p s sector records may v), x, live_then places c it u p s sector records may v q n x live)
     ];
     once = λ v less. elim (cases_eq v u) [
@@ -118,6 +122,52 @@ module _ (places : ℕ) (c : Chart) (it : Layout) (t : Tables) (u p s next : ℕ
     apart = rw (same_places p t.overflow.in_use) was.apart;
   }
 
+  abbrev entry : Entry
+  entry = entry_at p s sector records
+
+  masks : MirrorsMasks places jt tables
+  masks = let was = mirrors.masks in record {
+    units = was.units;
+    lists = length-set t.overflow.masks u (masks_of t u ++ mask_of records ∷ []) ∙ was.lists;
+    sectors = was.sectors;
+    home = λ v n less least most. elim (cases_eq v u) [
+      | inl same ↦ rw (same, log_mine places c it u p s sector records, same_home places c it u p s sector records may u) (was.home u n low least most
+          ∙ sym (mask_of_others (it.units u).log entry (it.units u).home n (stands_away entry (it.units u).home n (λ place number. stands_away_from u low place))))
+      | inr apart ↦ rw (log_other places c it u p s sector records v apart, same_home places c it u p s sector records may v) (was.home v n less least most)
+    ];
+    elsewhere = λ v less. elim (cases_eq v u) [
+      | inl same ↦ rw (same, masks_mine, mine, log_mine places c it u p s sector records) (both (was.elsewhere u low))
+      | inr apart ↦ rw (masks_other v apart, spots_other v apart, log_other places c it u p s sector records v apart) (was.elsewhere v less)
+    ];
+  }
+    where
+      stands_away_from : (v : ℕ) → v < places - 4 → p ≢ (it.units v).home
+      stands_away_from = stands_away_home
+
+      masks_mine : masks_of tables u ≡ masks_of t u ++ mask_of records ∷ []
+      masks_mine = get_or-set_same t.overflow.masks u (masks_of t u ++ mask_of records ∷ []) [] (omega (arith, low, mirrors.masks.lists))
+
+      masks_other : (v : ℕ) → v ≢ u → masks_of tables v ≡ masks_of t v
+      masks_other v apart = get_or-set_other t.overflow.masks u v (masks_of t u ++ mask_of records ∷ []) [] apart
+
+      none_stood : NoneStands (it.units u).log p s
+      none_stood = none_stands places c it u p s mirrors.laid low may.free
+
+      not_listed : (q : ℕ × ℕ) → Contains (spots_of t u) q → stands_at entry q.0 q.1 ≡ false
+      not_listed q has = stands_away entry q.0 q.1 (λ place number.
+          let (away, x, live) = mirrors.overflow.only u q.0 q.1 low has in
+          let nothing = may.free in
+          let something : c p s ≡ Some x = ap₂ c place number ∙ live.here in cc (something, nothing))
+
+      both : masks_of t u ≡ map (mask_at_spot (it.units u).log) (spots_of t u)
+          → masks_of t u ++ mask_of records ∷ [] ≡ map (mask_at_spot ((it.units u).log ++ entry ∷ [])) (spots_of t u ++ (p, s) ∷ [])
+      both was =
+          ap₂ (λ (a b : List ℕ). a ++ b)
+          (was ∙ map_same (mask_at_spot (it.units u).log) (mask_at_spot ((it.units u).log ++ entry ∷ [])) (spots_of t u) (λ q has.
+          sym (mask_of_others (it.units u).log entry q.0 q.1 (not_listed q has))))
+          (ap (λ (m : ℕ). m ∷ []) (sym (mask_of_new (it.units u).log entry p s none_stood (stands_here entry p s refl refl))))
+          ∙ sym (map-append (mask_at_spot ((it.units u).log ++ entry ∷ [])) (spots_of t u) ((p, s) ∷ []))
+
   overflow_followed : Mirrors places y jt tables
   overflow_followed = record {
     laid = (log_sectors_wait places c it u p s sector records mirrors.laid may).0;
@@ -125,7 +175,8 @@ module _ (places : ℕ) (c : Chart) (it : Layout) (t : Tables) (u p s next : ℕ
     overflow = overflow;
     status = let was = mirrors.status in record { place = was.place; generation = was.generation; numbers = was.numbers };
     numbers = numbers_then places c it u p s sector records may t tables next mirrors.numbers more below refl refl;
-    counted_clean = λ q n is. let (before, apart) = overflow_counted places c it t mirrors u p s next spot q n is in none_still c p s sector q n (mirrors.counted_clean q n before) apart;
+    masks = masks;
+    counted_clean = λ q n is. let (before, apart) = overflow_counted places c it t mirrors u p s (mask_of records) next spot q n is in none_still c p s sector q n (mirrors.counted_clean q n before) apart;
   }
 
 pub tables_follow_overflow_logs : TablesFollowOverflowLogs

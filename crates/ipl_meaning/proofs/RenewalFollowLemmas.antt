@@ -1,5 +1,5 @@
 -- How the tables follow the status to its new place.
-use Rattle.std.proofs.Common.{◌≡◌, ◌≢◌, ◌⊎◌, ◌↔◌, ℕ, ◌<◌, ◌≤◌, ◌-◌, [], length, map, get_or, slice_index, Some, None, inl, inr, sym, ◌∙◌, ap, arith, Bool, false, IsTrue}
+use Rattle.std.proofs.Common.{◌≡◌, ◌≢◌, ◌⊎◌, ◌↔◌, ℕ, List, ◌<◌, ◌≤◌, ◌-◌, [], length, map, get_or, slice_index, Some, None, inl, inr, sym, ◌∙◌, ap, arith, Bool, false, IsTrue}
 use Rattle.std.specs.List.{All, Contains}
 use Rattle.chip_trait.specs.Chart.{with_sector}
 use Rattle.ipl_format.specs.Sector.{Sector}
@@ -47,6 +47,8 @@ module _ (places : ℕ) (c : Chart) (it : Layout) (t after : Tables) (p first : 
     logs = rw renewed.written was.logs;
     all = renewed.all ∙ was.all;
     current = λ v less. rw renewed.current (was.current v less);
+    heads = rw renewed.generations was.heads;
+    generation = λ v less. rw renewed.generations (was.generation v less);
     not_home = λ q free v less is. elim (renewed.free q free) [
       | inl before ↦ was.not_home q before v less is
       | inr status ↦ home_not_status places c it mirrors.laid v less (is ∙ status ∙ mirrors.status.place)
@@ -101,6 +103,13 @@ module _ (places : ℕ) (c : Chart) (it : Layout) (t after : Tables) (p first : 
       below = rw renewed.active (λ k none within. let low = was.below k none within in omega (arith, low, renewed.next));
       once = rw renewed.active was.once;
       waits = rw renewed.active wait_still;
+    };
+    masks = let was = mirrors.masks in record {
+      units = ap (λ (l : List (List ℕ)). length l) renewed.masks ∙ was.units;
+      lists = ap (λ (s : OverflowLists). length s.masks) renewed.overflow ∙ was.lists;
+      sectors = λ v less. rw renewed.masks (was.sectors v less);
+      home = λ v s less least most. rw renewed.masks (was.home v s less least most);
+      elsewhere = λ v less. rw renewed.overflow (was.elsewhere v less);
     };
     counted_clean = counted_clean;
   }

@@ -22,8 +22,10 @@ first_tables places = record {
     current = range_with_len 0 (places - RESERVED_PLACES);
     in_use = replicate (places - RESERVED_PLACES + 1) true ++ replicate 3 false;
     written = replicate (places - RESERVED_PLACES) LOG_SECTORS;
+    generations = range_with_len 1 (places - RESERVED_PLACES);
+    masks = replicate (places - RESERVED_PLACES) (replicate LOG_SECTORS 0);
   };
-  overflow = record { spots = replicate (places - RESERVED_PLACES) []; in_use = [] };
+  overflow = record { spots = replicate (places - RESERVED_PLACES) []; masks = replicate (places - RESERVED_PLACES) []; in_use = [] };
   status = record {
     place = places - RESERVED_PLACES;
     generation = places - RESERVED_PLACES + 1;

@@ -6,6 +6,7 @@ use Rattle.ipl_format.specs.Sector.{Sector}
 use Rattle.ipl_format.specs.Record.{Record}
 use Rattle.ipl_meaning.specs.Chart.{Chart}
 use Rattle.ipl_meaning.specs.Layout.{Layout}
+use Rattle.ipl_meaning.specs.Masks.{mask_of}
 use Rattle.ipl_meaning.specs.Found.{MentionsBelow}
 use Rattle.ipl_meaning.specs.Steps.{with_log, with_committed, entry_at, MayCommit}
 use Rattle.ipl_meaning.specs.Tables.{Tables, spots_of, first_log}
@@ -19,7 +20,7 @@ TablesFollowHomeLogs =
     → Mirrors places c it t → u < places - RESERVED_PLACES
     → slice_index t.places.written u < LOG_SECTORS → IsFreshLog it t u sector records → t.next ≤ next → MentionsBelow next sector
     → let p = slice_index t.places.current u in let s = first_log t u in
-    Mirrors places (with_sector c p s sector) (with_log it u (entry_at p s sector records)) (after_home_log t u next)
+    Mirrors places (with_sector c p s sector) (with_log it u (entry_at p s sector records)) (after_home_log t u (mask_of records) next)
 
 -- after one in an overflow place
 abbrev pub TablesFollowOverflowLogs : Type 0
@@ -29,7 +30,7 @@ TablesFollowOverflowLogs =
     → Contains t.overflow.in_use (p, s) → 1 ≤ s → s < SECTORS → length (spots_of t u) < OVERFLOW_SECTORS → IsFreshLog it t u sector records
     → t.next ≤ next → MentionsBelow next sector
     → Mirrors places (with_sector c p s sector) (with_log it u (entry_at p s sector records))
-    (after_overflow_log t u p s next)
+    (after_overflow_log t u p s (mask_of records) next)
 
 -- after a commit sector
 abbrev pub TablesFollowCommits : Type 0
@@ -45,6 +46,6 @@ TablesFollowCommits =
 abbrev pub CountedFollow : Type 0
 CountedFollow =
     (places : ℕ) (c : Chart) (it : Layout) (t : Tables) → Mirrors places c it t
-    → ((u next : ℕ) → u < places - RESERVED_PLACES → CountedShrink t (after_home_log t u next) (slice_index t.places.current u) (first_log t u))
-    × ((u p s next : ℕ) → Contains t.overflow.in_use (p, s) → CountedShrink t (after_overflow_log t u p s next) p s)
+    → ((u mask next : ℕ) → u < places - RESERVED_PLACES → CountedShrink t (after_home_log t u mask next) (slice_index t.places.current u) (first_log t u))
+    × ((u p s mask next : ℕ) → Contains t.overflow.in_use (p, s) → CountedShrink t (after_overflow_log t u p s mask next) p s)
     × ((numbers active : List ℕ) (next : ℕ) → CountedShrink t (after_commit t numbers next active) it.status t.status.first)

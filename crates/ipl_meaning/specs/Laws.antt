@@ -8,6 +8,7 @@ use Rattle.ipl_format.specs.Sector.{Sector}
 use Rattle.ipl_format.specs.Record.{Record}
 use Rattle.ipl_meaning.specs.Chart.{Chart}
 use Rattle.ipl_meaning.specs.Layout.{Entry, Shape, Layout, Laid}
+use Rattle.ipl_meaning.specs.Masks.{of_page}
 use Rattle.ipl_meaning.specs.Allowed.{IsAllowed}
 use Rattle.ipl_meaning.specs.Values.{Values}
 use Rattle.ipl_meaning.specs.Stands.{Shows, Says, Stands}
@@ -35,17 +36,22 @@ abbrev pub KeptPagesKeepTheMap : Type 0
 KeptPagesKeepTheMap = (places : ℕ) (c y : Chart) (it new : Layout) (m : Map) → KeepsPages places c it y new
     → Says places c it m → Says places y new m
 
--- the chart has the unit's header and live sectors, and shows the page with these values
+-- the unit with those of its log sectors alone that have a record of the page
+abbrev pub with_page_log : Shape → ℕ → Shape
+with_page_log it page = record { home = it.home; head = it.head; pieces = it.pieces; log = of_page page it.log }
+
+-- the chart has the unit's header and its live sectors with a record of the page, and by these alone shows the page with
+-- these values
 pub record IsRebuilt (y : Chart) (it : Layout) (u page : ℕ) (now : Values) : Type 0 where
   pub head : y (it.units u).home 0 ≡ Some (it.units u).head
-  pub shows : Shows y it.committed u (it.units u) page now
-  pub log : (e : Entry) → Contains (it.units u).log e → y e.place e.number ≡ Some e.sector
+  pub shows : Shows y it.committed u (with_page_log (it.units u) page) page now
+  pub log : (e : Entry) → Contains (of_page page (it.units u).log) e → y e.place e.number ≡ Some e.sector
 
 -- a page is rebuilt from the allowed sectors alone: a chart that has these shows the page
 abbrev pub AllowedSectorsSuffice : Type 0
 AllowedSectorsSuffice =
     (places : ℕ) (c y : Chart) (it : Layout) (u page : ℕ) (now : Values)
-    → Laid places c it → u < places - RESERVED_PLACES → ((p s : ℕ) → IsAllowed c places it u page p s → y p s ≡ c p s)
+    → Laid places c it → u < places - RESERVED_PLACES → ((p s : ℕ) → IsAllowed it u page p s → y p s ≡ c p s)
     → Shows c it.committed u (it.units u) page now → IsRebuilt y it u page now
 
 -- a place at which nothing counts may change, where nothing there comes to count

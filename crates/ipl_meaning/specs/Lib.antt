@@ -1,6 +1,7 @@
 pub mod Chart
 pub mod Values
 pub mod Layout
+pub mod Masks
 pub mod Stands
 pub mod Allowed
 pub mod Rests

@@ -1,23 +1,27 @@
 -- The tables in memory say what the chip's sectors say.
-use Rattle.std.specs.Prelude.{ℕ, ◌≡◌, ◌≢◌, ◌↔◌, ◌⊎◌, ◌<◌, ◌≤◌, ◌-◌, false, IsTrue, length, slice_index, None, All, AllPairs, Contains}
-use Rattle.ipl_base.specs.declared.limits.TheConstants.{RESERVED_PLACES, OVERFLOW_PLACES, OVERFLOW_SECTORS}
+use Rattle.std.specs.Prelude.{ℕ, ◌≡◌, ◌≢◌, ◌↔◌, ◌⊎◌, ◌<◌, ◌≤◌, ◌-◌, false, IsTrue, length, map, slice_index, None, All, AllPairs, Contains}
+use Rattle.ipl_base.specs.declared.limits.TheConstants.{SECTORS, RESERVED_PLACES, FIRST_LOG_SECTOR, LOG_SECTORS, OVERFLOW_PLACES, OVERFLOW_SECTORS}
 use Rattle.ipl_format.specs.Sector.{Sector}
 use Rattle.ipl_meaning.specs.Chart.{Chart, IsOverflow}
 use Rattle.ipl_meaning.specs.Layout.{Layout, Laid, IsLiveIn}
+use Rattle.ipl_meaning.specs.Masks.{mask_at, mask_at_spot}
 use Rattle.ipl_meaning.specs.Found.{IsAbove}
-use Rattle.ipl_meaning.specs.Tables.{IsFree, Tables, spots_of, overflow_places, IsCountedClean}
+use Rattle.ipl_meaning.specs.Tables.{IsFree, Tables, masks_in, spots_of, masks_of, home_mask, overflow_places, IsCountedClean}
 
 -- the two are not the same
 abbrev pub AreApart : {X : Type 0} → X → X → Type 0
 AreApart x y = x ≢ y
 
--- the directory has each unit's place, and no place in use is free
+-- the directory has each unit's place and generation, and no place in use is free
 pub record MirrorsPlaces (places : ℕ) (it : Layout) (t : Tables) : Type 0 where
   pub units : length t.places.current ≡ places - RESERVED_PLACES
   pub logs : length t.places.written ≡ places - RESERVED_PLACES
   pub all : length t.places.in_use ≡ places
   pub current : (u : ℕ) → u < places - RESERVED_PLACES
       → slice_index t.places.current u ≡ (it.units u).home
+  pub heads : length t.places.generations ≡ places - RESERVED_PLACES
+  pub generation : (u : ℕ) → u < places - RESERVED_PLACES
+      → slice_index t.places.generations u ≡ (it.units u).head.generation
   pub not_home : (p : ℕ) → IsFree t.places p → (u : ℕ) → u < places - RESERVED_PLACES
       → (it.units u).home ≢ p
   pub not_status : (p : ℕ) → IsFree t.places p → it.status ≢ p
@@ -51,6 +55,16 @@ pub record MirrorsNumbers (places : ℕ) (c : Chart) (it : Layout) (t : Tables) 
   pub once : AllPairs AreApart t.active
   pub waits : All (λ n. it.committed n ≡ false) t.active
 
+-- each live log sector's mask has the pages that its records name, and every other sector's has none
+pub record MirrorsMasks (places : ℕ) (it : Layout) (t : Tables) : Type 0 where
+  pub units : length t.places.masks ≡ places - RESERVED_PLACES
+  pub lists : length t.overflow.masks ≡ places - RESERVED_PLACES
+  pub sectors : (u : ℕ) → u < places - RESERVED_PLACES → length (masks_in t.places u) ≡ LOG_SECTORS
+  pub home : (u s : ℕ) → u < places - RESERVED_PLACES → FIRST_LOG_SECTOR ≤ s → s < SECTORS
+      → home_mask t u s ≡ mask_at (it.units u).log (it.units u).home s
+  pub elsewhere : (u : ℕ) → u < places - RESERVED_PLACES
+      → masks_of t u ≡ map (mask_at_spot (it.units u).log) (spots_of t u)
+
 -- no place is lost: each that is in use is a unit's, the status place or an overflow place
 abbrev pub NoneIsLost : ℕ → Tables → Type 0
 NoneIsLost places t = (p : ℕ) → p < places → ¬ IsFree t.places p
@@ -63,5 +77,6 @@ pub record Mirrors (places : ℕ) (c : Chart) (it : Layout) (t : Tables) : Type 
   pub overflow : MirrorsOverflow places c it t
   pub status : MirrorsStatus it t
   pub numbers : MirrorsNumbers places c it t
+  pub masks : MirrorsMasks places it t
   -- no sector that is counted as clean checks
   pub counted_clean : (p s : ℕ) → IsCountedClean t p s → c p s ≡ None

@@ -9,7 +9,7 @@ use Rattle.ipl_meaning.specs.Found.{MentionsBelow, IsPlaceBelow}
 use Rattle.ipl_meaning.specs.Steps.{SameBut, with_unit, with_status, IsIdle, MaySwitch, MayOpenOverflow}
 use Rattle.ipl_meaning.specs.Tables.{IsFree, Tables, overflow_places}
 use Rattle.ipl_meaning.specs.Mirrors.{Mirrors}
-use Rattle.ipl_meaning.specs.TableSteps.{IsReady, with_next, taken, IsMoved, IsRenewed, with_overflow, CountedMove}
+use Rattle.ipl_meaning.specs.TableSteps.{IsReady, with_next, taken, IsMoved, TellsShape, IsRenewed, with_overflow, CountedMove}
 
 -- a place that is no one's may change, but for a header, and numbers may be drawn
 abbrev pub TablesFollowIdlePlaces : Type 0
@@ -28,7 +28,7 @@ abbrev pub TablesFollowMerges : Type 0
 TablesFollowMerges =
     (places : ℕ) (c : Chart) (it : Layout) (t after : Tables) (u p used : ℕ) (fresh : Shape) → Mirrors places c it t
     → u < places - RESERVED_PLACES → IsReady places c t u p fresh → ¬ IsFree t.places p
-    → IsMoved t after u p used → MentionsBelow after.next fresh.head → IsPlaceBelow after.next c p
+    → IsMoved t after u p used → TellsShape t after u fresh → MentionsBelow after.next fresh.head → IsPlaceBelow after.next c p
     → ((s : ℕ) → FIRST_LOG_SECTOR + used ≤ s → s < SECTORS → c p s ≡ None)
     → Mirrors places (with_sector c p 0 fresh.head) (with_unit it u fresh) after
 

@@ -1,12 +1,13 @@
 -- What each step makes of the tables, and what it asks of them.
 use Rattle.std.specs.Prelude.{ℕ, ◌≡◌, ◌≢◌, ◌⊎◌, ◌<◌, ◌≤◌, ◌+◌, ◌-◌, ◌==◌, true, List, [], ◌∷◌, ◌++◌, map, length, slice_index, slice_set, None, All, AllPairs, Contains, if◌then◌else◌}
-use Rattle.ipl_base.specs.declared.limits.TheConstants.{SECTORS, RESERVED_PLACES, OVERFLOW_PLACES}
+use Rattle.ipl_base.specs.declared.limits.TheConstants.{SECTORS, RESERVED_PLACES, FIRST_LOG_SECTOR, LOG_SECTORS, OVERFLOW_PLACES}
 use Rattle.ipl_format.specs.Sector.{Sector}
 use Rattle.ipl_format.specs.Record.{Record, SpellsLog}
 use Rattle.ipl_format.specs.Header.{SpellsDataHeader}
 use Rattle.ipl_meaning.specs.Chart.{Chart, IsDataHeader, IsLive}
 use Rattle.ipl_meaning.specs.Layout.{Entry, Shape, Layout, AllRise, IsEntry}
-use Rattle.ipl_meaning.specs.Tables.{IsFree, with_use, with_written, Tables, spots_of, overflow_places, IsCountedClean}
+use Rattle.ipl_meaning.specs.Masks.{mask_at}
+use Rattle.ipl_meaning.specs.Tables.{IsFree, with_use, with_written, with_mask, Tables, spots_of, masks_of, overflow_places, first_log, IsCountedClean}
 use Rattle.ipl_meaning.specs.Mirrors.{AreApart}
 
 -- a log sector as the counter and the open sessions make it
@@ -33,19 +34,29 @@ pub record IsReady (places : ℕ) (c : Chart) (t : Tables) (u p : ℕ) (fresh : 
       → (e : Entry) × Contains fresh.log e × (e.number ≡ s)
   pub rising : AllRise fresh.log
 
--- a log sector was written to the unit's first clean one
-abbrev pub after_home_log : Tables → ℕ → ℕ → Tables
-after_home_log t u next = record { places = with_written t.places u; overflow = t.overflow; status = t.status; next = next; active = t.active }
+-- a log sector that names these pages was written to the unit's first clean one
+abbrev pub after_home_log : Tables → ℕ → ℕ → ℕ → Tables
+after_home_log t u mask next = record {
+  places = with_mask (with_written t.places u) u (first_log t u) mask;
+  overflow = t.overflow;
+  status = t.status;
+  next = next;
+  active = t.active;
+}
 
 -- the overflow place's first clean sector is the next one now
 abbrev pub with_next_spot : ℕ → ℕ × ℕ → ℕ × ℕ
 with_next_spot p it = if it.0 == p then (it.0, it.1 + 1) else it
 
--- a log sector of the unit was written to this spot of an overflow place
-abbrev pub after_overflow_log : Tables → ℕ → ℕ → ℕ → ℕ → Tables
-after_overflow_log t u p s next = record {
+-- a log sector of the unit that names these pages was written to this spot of an overflow place
+abbrev pub after_overflow_log : Tables → ℕ → ℕ → ℕ → ℕ → ℕ → Tables
+after_overflow_log t u p s mask next = record {
   places = t.places;
-  overflow = record { spots = slice_set t.overflow.spots u (spots_of t u ++ (p, s) ∷ []); in_use = map (with_next_spot p) t.overflow.in_use };
+  overflow = record {
+    spots = slice_set t.overflow.spots u (spots_of t u ++ (p, s) ∷ []);
+    masks = slice_set t.overflow.masks u (masks_of t u ++ mask ∷ []);
+    in_use = map (with_next_spot p) t.overflow.in_use;
+  };
   status = t.status;
   next = next;
   active = t.active;
@@ -103,10 +114,22 @@ pub record IsMoved (t after : Tables) (u p used : ℕ) : Type 0 where
   pub next : t.next ≤ after.next
   pub active : after.active ≡ t.active
 
+-- the unit's generation once it stands at its new place, and which pages its log sectors name there
+pub record TellsShape (t after : Tables) (u : ℕ) (fresh : Shape) : Type 0 where
+  pub generation : after.places.generations ≡ slice_set t.places.generations u fresh.head.generation
+  pub masks : List ℕ
+  pub sectors : length masks ≡ LOG_SECTORS
+  pub each : (s : ℕ) → FIRST_LOG_SECTOR ≤ s → s < SECTORS
+      → slice_index masks (s - FIRST_LOG_SECTOR) ≡ mask_at fresh.log fresh.home s
+  pub home : after.places.masks ≡ slice_set t.places.masks u masks
+  pub elsewhere : after.overflow.masks ≡ slice_set t.overflow.masks u []
+
 -- the tables once the status stands at its new place, its first clean sector being this one
 pub record IsRenewed (t after : Tables) (p own from : ℕ) : Type 0 where
   pub current : after.places.current ≡ t.places.current
   pub written : after.places.written ≡ t.places.written
+  pub generations : after.places.generations ≡ t.places.generations
+  pub masks : after.places.masks ≡ t.places.masks
   pub all : length after.places.in_use ≡ length t.places.in_use
   -- what is free now was free, or was the status place
   pub free : (q : ℕ) → IsFree after.places q → IsFree t.places q ⊎ (q ≡ t.status.place)
@@ -121,7 +144,7 @@ pub record IsRenewed (t after : Tables) (p own from : ℕ) : Type 0 where
 abbrev pub with_overflow : Tables → ℕ → ℕ → Tables
 with_overflow t p next = record {
   places = t.places;
-  overflow = record { spots = t.overflow.spots; in_use = t.overflow.in_use ++ (p, 1) ∷ [] };
+  overflow = record { spots = t.overflow.spots; masks = t.overflow.masks; in_use = t.overflow.in_use ++ (p, 1) ∷ [] };
   status = t.status;
   next = next;
   active = t.active;

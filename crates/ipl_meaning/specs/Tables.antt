@@ -1,13 +1,15 @@
 -- What the tables in memory say, as lists.
-use Rattle.std.specs.Prelude.{ℕ, ◌≡◌, ◌⊎◌, ◌<◌, ◌≤◌, ◌+◌, Bool, true, false, List, [], map, length, slice_index, slice_index_or, slice_set, Contains}
+use Rattle.std.specs.Prelude.{ℕ, ◌≡◌, ◌⊎◌, ◌<◌, ◌≤◌, ◌+◌, ◌-◌, Bool, true, false, List, [], map, length, slice_index, slice_index_or, slice_set, Contains}
 use Rattle.ipl_base.specs.declared.limits.TheConstants.{SECTORS, FIRST_LOG_SECTOR}
 
--- the place of each unit, whether each place is in use, and how many of the last 15 sectors of each unit's place count as
--- written
+-- the place of each unit, whether each place is in use, how many of the last 15 sectors of each unit's place count as
+-- written, the generation of each unit, and by unit which pages each of these sectors names
 pub record Places : Type 0 where
   pub current : List ℕ
   pub in_use : List Bool
   pub written : List ℕ
+  pub generations : List ℕ
+  pub masks : List (List ℕ)
 
 -- the place is free
 abbrev pub IsFree : Places → ℕ → Type 0
@@ -21,10 +23,24 @@ with_use it p used = record it { in_use = slice_set it.in_use p used }
 abbrev pub with_written : Places → ℕ → Places
 with_written it u = record it { written = slice_set it.written u (slice_index it.written u + 1) }
 
+-- by sector from 241 on, which pages the log sectors at the unit's place name
+abbrev pub masks_in : Places → ℕ → List ℕ
+masks_in it u = slice_index_or it.masks u []
+
+-- the log sector at the unit's place names these pages
+abbrev pub with_mask : Places → ℕ → ℕ → ℕ → Places
+with_mask it u s mask = record it { masks = slice_set it.masks u (slice_set (masks_in it u) (s - FIRST_LOG_SECTOR) mask) }
+
+-- the log sectors at the unit's place name these
+abbrev pub with_masks : Places → ℕ → List ℕ → Places
+with_masks it u masks = record it { masks = slice_set it.masks u masks }
+
 -- the log sectors in overflow places
 pub record OverflowLists : Type 0 where
   -- by unit, where its log sectors in overflow places stand
   pub spots : List (List (ℕ × ℕ))
+  -- and which pages each of these names
+  pub masks : List (List ℕ)
   -- the overflow places in use, each with its first clean sector (256 where it has none)
   pub in_use : List (ℕ × ℕ)
 
@@ -47,6 +63,14 @@ pub record Tables : Type 0 where
 -- where the unit's log sectors in overflow places stand
 abbrev pub spots_of : Tables → ℕ → List (ℕ × ℕ)
 spots_of t u = slice_index_or t.overflow.spots u []
+
+-- which pages each of these names
+abbrev pub masks_of : Tables → ℕ → List ℕ
+masks_of t u = slice_index_or t.overflow.masks u []
+
+-- which pages the log sector at the unit's place names
+abbrev pub home_mask : Tables → ℕ → ℕ → ℕ
+home_mask t u s = slice_index (masks_in t.places u) (s - FIRST_LOG_SECTOR)
 
 -- the place of a spot
 abbrev pub place_of : ℕ × ℕ → ℕ

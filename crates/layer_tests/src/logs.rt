@@ -83,17 +83,25 @@ fn written(rt: &impl Abort, alloc: Global, sectors: &[Put<'_>]) -> Result<MemChi
     Ok(chip)
 }
 
-/// The tables that say what the chip says.
-fn read_tables(rt: &impl Abort, alloc: Global, chip: &mut MemChip) -> Result<Tables, Fail>
+/// The tables that say what the chip says. The masks are those of the sectors 241 and 242 of place 1,
+/// and of 3 and 200 of place 4.
+fn read_tables(
+    rt: &impl Abort,
+    alloc: Global,
+    chip: &mut MemChip,
+    masks: [u16; 4],
+) -> Result<Tables, Fail>
     ensures { IfOk result (λ t. (length t.directory.in_use ≡ 6)
         × (length t.directory.current ≡ 2) × (length t.overflow.spots ≡ 2)) }
 {
     let geometry = Geometry::of(6).ok_or("places")?;
     let mut directory = Directory::new(alloc, geometry)?;
-    directory.adopt(0, 1);
+    directory.adopt(0, 1, 5);
+    directory.set_mask(0, 241, masks[0]);
+    directory.set_mask(0, 242, masks[1]);
     let mut overflow = Overflow::new(alloc, geometry)?;
-    overflow.add(0, at(4, 3));
-    overflow.add(0, at(4, 200));
+    overflow.add(0, at(4, 3), masks[2]);
+    overflow.add(0, at(4, 200), masks[3]);
     let mut status = Status::new(alloc, geometry)?;
     assert!(rt; chip.units() == 6);
     status.read_under(chip, 2, 3)?;
@@ -104,10 +112,15 @@ fn read_tables(rt: &impl Abort, alloc: Global, chip: &mut MemChip) -> Result<Tab
     })
 }
 
-/// A frame with page 1, where the chip has these log sectors besides.
-fn loaded(rt: &impl Abort, alloc: Global, sectors: &[Put<'_>]) -> Result<Frame, Fail> {
+/// A frame with page 1, where the chip has these log sectors besides, with these masks.
+fn loaded(
+    rt: &impl Abort,
+    alloc: Global,
+    sectors: &[Put<'_>],
+    masks: [u16; 4],
+) -> Result<Frame, Fail> {
     let mut chip = written(rt, alloc, sectors)?;
-    let tables = read_tables(rt, alloc, &mut chip)?;
+    let tables = read_tables(rt, alloc, &mut chip, masks)?;
     let mut scratch = Scratch::new(alloc)?;
     let mut frame = Frame::empty();
     assert!(rt; chip.units() == 6);
@@ -134,18 +147,20 @@ fn pending(frame: &Frame) -> Option<Option<&[u8]>> {
 }
 
 /// Committed records apply in rising order of their sectors' serials, wherever these stand. What 9 did
-/// last is pending, what 8 did is lost, and a sector of another generation or page says nothing.
+/// last is pending, what 8 did is lost, and a sector of another generation or page says nothing. A mask
+/// of 2 is that of page 1, and one of 4 that of page 2.
 #[test]
 fn a_page_is_loaded_from_logs_of_many_kinds(rt: HostRuntime) -> Result<(), Fail> {
     let mine: Option<Option<&[u8]>> = Some(Some(b"mine"));
-    // The log sectors, the committed value of slot 5, and what is pending there.
-    let cases: [(&[Put<'_>], Option<&[u8]>, Option<Option<&[u8]>>); 6] = [
-        (&[], Some(b"was"), None),
+    // The log sectors, their masks, the committed value of slot 5, and what is pending there.
+    let cases: [(&[Put<'_>], [u16; 4], Option<&[u8]>, Option<Option<&[u8]>>); 6] = [
+        (&[], [0, 0, 0, 0], Some(b"was"), None),
         (
             &[
                 (at(1, 241), log(5, 20), SEVEN_LAST),
                 (at(1, 242), log(5, 10), SEVEN_NEW),
             ],
+            [2, 2, 0, 0],
             Some(b"last"),
             None,
         ),
@@ -154,6 +169,7 @@ fn a_page_is_loaded_from_logs_of_many_kinds(rt: HostRuntime) -> Result<(), Fail>
                 (at(1, 241), log(5, 20), SEVEN_LAST),
                 (at(4, 200), log(5, 30), SEVEN_NONE),
             ],
+            [2, 0, 0, 2],
             None,
             None,
         ),
@@ -162,6 +178,7 @@ fn a_page_is_loaded_from_logs_of_many_kinds(rt: HostRuntime) -> Result<(), Fail>
                 (at(1, 241), log(5, 10), SEVEN_NEW),
                 (at(1, 242), log(5, 20), EIGHT_AND_NINE),
             ],
+            [2, 2, 0, 0],
             Some(b"new"),
             mine,
         ),
@@ -170,6 +187,7 @@ fn a_page_is_loaded_from_logs_of_many_kinds(rt: HostRuntime) -> Result<(), Fail>
                 (at(1, 241), log(5, 20), NINE_NONE),
                 (at(4, 3), log(5, 10), NINE_MINE),
             ],
+            [2, 0, 2, 0],
             Some(b"was"),
             Some(None),
         ),
@@ -178,12 +196,13 @@ fn a_page_is_loaded_from_logs_of_many_kinds(rt: HostRuntime) -> Result<(), Fail>
                 (at(1, 241), log(5, 20), PAGE_TWO),
                 (at(4, 3), log(4, 10), SEVEN_NEW),
             ],
+            [4, 0, 2, 0],
             Some(b"was"),
             None,
         ),
     ];
-    for (number, (sectors, committed, change)) in cases.iter().enumerate() {
-        let frame = loaded(&rt, rt.alloc(), *sectors)?;
+    for (number, (sectors, masks, committed, change)) in cases.iter().enumerate() {
+        let frame = loaded(&rt, rt.alloc(), *sectors, *masks)?;
         assert!(rt; frame.committed().get(5) == *committed, "case {number}");
         assert!(rt; frame.committed().get(6) == Some(b"other".as_slice()));
         assert!(rt; pending(&frame) == *change, "case {number}");
@@ -225,7 +244,7 @@ fn live_log_sectors_come_by_their_serials(rt: HostRuntime) -> Result<(), Fail> {
         (at(4, 9), log(5, 1), &[]),
     ];
     let mut chip = written(&rt, rt.alloc(), &sectors)?;
-    let tables = read_tables(&rt, rt.alloc(), &mut chip)?;
+    let tables = read_tables(&rt, rt.alloc(), &mut chip, [0, 0, 0, 0])?;
     let mut scratch = Scratch::new(rt.alloc())?;
     let head = read(&rt, &mut chip, &tables, &mut scratch)?;
     assert_eq!(rt; head.generation, 5);
@@ -258,7 +277,7 @@ fn what_the_tables_do_not_say_is_malformed(rt: HostRuntime) -> Result<(), Fail> 
     for case in &cases {
         let sectors = [(at(1, 241), log(5, 20), [].as_slice()), *case];
         let mut chip = written(&rt, rt.alloc(), &sectors)?;
-        let tables = read_tables(&rt, rt.alloc(), &mut chip)?;
+        let tables = read_tables(&rt, rt.alloc(), &mut chip, [0, 0, 0, 0])?;
         let spot = case.0;
         let fault = ChipFault::Malformed {
             place: spot.place,

@@ -1,10 +1,11 @@
 //! What an opening of a small chip finds: the place of unit 0, the next number, a log sector in an
-//! overflow place and a committed number. Its faults are what the program notes, so they are tried
-//! there.
+//! overflow place, a committed number, and whether a live record has it. Its faults are what the
+//! program notes, so they are tried there.
 use crate::sectors::{Put, at, put_all};
 use chip_mem::MemChip;
 use chip_trait::Chip;
 use ipl_base::{Counter, Geometry};
+use kept_numbers::KeptNumbers;
 use overflow::Overflow;
 use restart::{Scratch, format, recover};
 use sector_format::Head;
@@ -69,14 +70,19 @@ const NO_PAGES: &[u8] = &[0, 0, 0, 1, 0, 0, 0, 0, 0, 0, 0, 0, 0, 0, 0, 0, 0, 0, 
 /// The number 20.
 const TWENTY: &[u8] = &[0, 0, 0, 0, 0, 0, 0, 20];
 
+/// A record of that number: slot 5 of page 0 is deleted.
+const RECORD: &[u8] = &[0, 2, 5, 0, 0, 0, 0, 0, 0, 0, 0, 20];
+
 /// What is found: the place of unit 0 and the next number, how many of its log sectors are listed in
-/// overflow places, and whether the number 20 is committed.
+/// overflow places, whether the number 20 is committed, and how many committed numbers live records
+/// have.
 #[derive(Clone, Copy, Debug, PartialEq, Eq)]
 struct Found {
     place: u32,
     next: u64,
     listed: u32,
     has_twenty: bool,
+    kept: usize,
 }
 
 /// Of a chip without a log.
@@ -86,6 +92,7 @@ fn bare(place: u32, next: u64) -> Found {
         next,
         listed: 0,
         has_twenty: false,
+        kept: 0,
     }
 }
 
@@ -99,14 +106,17 @@ fn opens(rt: &impl Abort, alloc: Global, chip: &mut MemChip) -> Result<Found, Fa
     let mut overflow = Overflow::new(alloc, geometry)?;
     let mut status = Status::new(alloc, geometry)?;
     let mut counter = Counter::at(0);
-    recover(
+    let mut kept = KeptNumbers::new(alloc)?;
+    let fits = recover(
         chip,
         &mut scratch,
         &mut directory,
         &mut overflow,
         &mut status,
         &mut counter,
+        &mut kept,
     )?;
+    assert!(rt; fits);
     assert!(rt; directory.free_count() > 0);
     directory.facts();
     Ok(Found {
@@ -114,6 +124,7 @@ fn opens(rt: &impl Abort, alloc: Global, chip: &mut MemChip) -> Result<Found, Fa
         next: counter.next(),
         listed: overflow.count(0),
         has_twenty: status.is_committed(20),
+        kept: kept.as_slice().len(),
     })
 }
 
@@ -127,7 +138,11 @@ fn what_a_small_chip_holds_is_found(rt: HostRuntime) -> Result<(), Fail> {
         has_twenty: true,
         ..bare(0, 21)
     };
-    let cases: [(&[Put<'_>], Found); 10] = [
+    let kept = Found {
+        kept: 1,
+        ..committed
+    };
+    let cases: [(&[Put<'_>], Found); 12] = [
         (&[], bare(0, 3)),
         (&[(at(3, 0), FIRST, NO_PAGES)], bare(0, 3)),
         (&[(at(3, 0), LATER, NO_PAGES)], bare(3, 10)),
@@ -141,6 +156,14 @@ fn what_a_small_chip_holds_is_found(rt: HostRuntime) -> Result<(), Fail> {
         ),
         (&[(at(1, 1), COMMIT, TWENTY)], committed),
         (&[(at(1, 1), OTHER_COMMIT, TWENTY)], bare(0, 3)),
+        (
+            &[(at(1, 1), COMMIT, TWENTY), (at(0, 241), LOG, RECORD)],
+            kept,
+        ),
+        (
+            &[(at(1, 1), OTHER_COMMIT, TWENTY), (at(0, 241), LOG, RECORD)],
+            bare(0, 21),
+        ),
     ];
     for (sectors, found) in cases {
         let mut chip = MemChip::new(rt.alloc(), 5, 2000)?;

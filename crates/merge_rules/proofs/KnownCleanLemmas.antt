@@ -101,12 +101,12 @@ module _ (places : ℕ) (t : Tables) (known : KnowsPlaces places t) where
   -- ---- a sector that was written
 
   -- the first log sector at a unit's home
-  pub home_shrinks : (u next : ℕ) → u + 4 < places
+  pub home_shrinks : (u mask next : ℕ) → u + 4 < places
       → length t.places.written ≡ length t.places.current
-      → CountedShrink t (after_home_log t u next) (slice_index t.places.current u) (first_log t u)
-  home_shrinks u next low logs q n (small, inl (v, less, is, first)) = elim (cases_eq v u) [
+      → CountedShrink t (after_home_log t u mask next) (slice_index t.places.current u) (first_log t u)
+  home_shrinks u mask next low logs q n (small, inl (v, less, is, first)) = elim (cases_eq v u) [
     | inl same ↦
-        let mine : slice_index (after_home_log t u next).places.written u
+        let mine : slice_index (after_home_log t u mask next).places.written u
         ≡ slice_index t.places.written u + 1 =
         get_or-set_same t.places.written u (slice_index t.places.written u + 1) 0
         (omega (arith, logs, unit_there u low)) in
@@ -127,25 +127,25 @@ module _ (places : ℕ) (t : Tables) (known : KnowsPlaces places t) where
               apart (sym is ∙ same),
         )
   ]
-  home_shrinks u next low logs q n (small, inr (inl (first, is, above))) = (
+  home_shrinks u mask next low logs q n (small, inr (inl (first, is, above))) = (
     (small, inr (inl (first, is, above))),
     λ same _. known.no_home q (map_contains t.overflow.in_use q first is)
         (is_home u q (unit_there u low) same),
   )
-  home_shrinks u next low logs q n (small, inr (inr (is, above))) = (
+  home_shrinks u mask next low logs q n (small, inr (inr (is, above))) = (
     (small, inr (inr (is, above))),
     λ same _. known.status_apart.0 (is_home u t.status.place (unit_there u low) (sym is ∙ same)),
   )
 
   -- the first clean sector of an overflow place
-  pub overflow_shrinks : (u p s next : ℕ) → Contains t.overflow.in_use (p, s)
-      → CountedShrink t (after_overflow_log t u p s next) p s
-  overflow_shrinks u p s next spot q n (small, inl (v, less, is, first)) = (
+  pub overflow_shrinks : (u p s mask next : ℕ) → Contains t.overflow.in_use (p, s)
+      → CountedShrink t (after_overflow_log t u p s mask next) p s
+  overflow_shrinks u p s mask next spot q n (small, inl (v, less, is, first)) = (
     (small, inl (v, less, is, first)),
     λ same _. known.no_home p (map_contains t.overflow.in_use p s spot)
         (is_home v p less (sym same ∙ is)),
   )
-  overflow_shrinks u p s next spot q n (small, inr (inl (first, is, above))) =
+  overflow_shrinks u p s mask next spot q n (small, inr (inl (first, is, above))) =
       let (old, listed, less, is_next) = spot_before p t.overflow.in_use q first is in (
         (small, inr (inl (old, listed, omega (arith, less, above)))),
         λ same there.
@@ -153,7 +153,7 @@ module _ (places : ℕ) (t : Tables) (known : KnowsPlaces places t) where
             (subst (λ (z : ℕ). Contains t.overflow.in_use (z, old)) same listed) spot in
             omega (arith, one, is_next same, above, there),
       )
-  overflow_shrinks u p s next spot q n (small, inr (inr (is, above))) = (
+  overflow_shrinks u p s mask next spot q n (small, inr (inr (is, above))) = (
     (small, inr (inr (is, above))),
     λ same _. known.status_apart.1 (map_contains t.overflow.in_use t.status.place s
         (subst (λ (z : ℕ). Contains t.overflow.in_use (z, s)) (sym same ∙ is) spot)),

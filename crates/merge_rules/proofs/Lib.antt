@@ -7,3 +7,4 @@ pub mod GrownLemmas
 pub mod MergeLemmas
 pub mod FaultLemmas
 pub mod KnownCleanLemmas
+pub mod MaskedLemmas

@@ -17,7 +17,7 @@ use Rattle.ipl_meaning.specs.Mirrors.{Mirrors}
 use Rattle.ipl_meaning.specs.Stands.{Says, Stands}
 use Rattle.ipl_meaning.specs.Steps.{KeepsPages, AllWait, with_unit, entry_at, IsApplied, IsMerged}
 use Rattle.ipl_meaning.specs.Tables.{Tables}
-use Rattle.ipl_meaning.specs.TableSteps.{IsReady, IsMoved, taken, with_next}
+use Rattle.ipl_meaning.specs.TableSteps.{IsReady, IsMoved, TellsShape, taken, with_next}
 use Rattle.ipl_meaning.specs.Values.{after_records, counts_for}
 use Rattle.ipl_meaning.proofs.LastLemmas.{merges_carry_the_last}
 use Rattle.ipl_meaning.proofs.MergeFollowLemmas.{tables_follow_merges}
@@ -199,6 +199,7 @@ module _ (places : ℕ) (c y : Chart) (it : Layout) (t : Tables) (u p : ℕ) (he
   -- ---- the tables then
 
   module _ (after : Tables) (moved : IsMoved t_taken after u p (length packs))
+      (masked : TellsShape t_taken after u fresh)
       (more : serial + length packs ≤ after.next) where
     mentions : MentionsBelow after.next head
     mentions number (inl is) = omega (arith, is, more, may.later)
@@ -249,7 +250,7 @@ module _ (places : ℕ) (c y : Chart) (it : Layout) (t : Tables) (u p : ℕ) (he
     mirrors_then : Mirrors places (with_sector y p 0 head) (with_unit it u fresh) after
     mirrors_then =
         tables_follow_merges places y it t_taken after u p (length packs) fresh mirrors_taken
-        may.low ready (taken_is_used t p) moved mentions place_below
+        may.low ready (taken_is_used t p) moved masked mentions place_below
         (λ s high within. full.beyond s high)
 
 pub filled_places_are_ready : FilledPlacesAreReady
@@ -261,8 +262,8 @@ stands_after_filling places c y it t u p head pieces serial m may says =
     stands_then places c y it t u p head pieces serial may m says
 
 pub tables_follow_filling : TablesFollowFilling
-tables_follow_filling places c y it t after u p head pieces serial may moved more = (
-  mirrors_then places c y it t u p head pieces serial may after moved more,
+tables_follow_filling places c y it t after u p head pieces serial may moved masked more = (
+  mirrors_then places c y it t u p head pieces serial may after moved masked more,
   keeps places c y it t u p head pieces serial may,
 )
 

@@ -1,11 +1,12 @@
 -- The log sectors that a merge writes: what it carries, packed.
-use Rattle.std.specs.Prelude.{ℕ, ◌≡◌, ◌<◌, ◌≤◌, ◌+◌, ◌==◌, Bool, List, [], ◌∷◌, map, slice_index_or, Some}
+use Rattle.std.specs.Prelude.{ℕ, zero, suc, ◌≡◌, ◌<◌, ◌≤◌, ◌+◌, ◌==◌, Bool, List, [], ◌∷◌, map, slice_index_or, Some}
 use Rattle.std.specs.List.{list_any}
 use Rattle.ipl_base.specs.declared.limits.TheConstants.{FIRST_LOG_SECTOR}
 use Rattle.ipl_format.specs.Sector.{Sector}
 use Rattle.ipl_format.specs.Record.{Record, log_bytes}
 use Rattle.ipl_meaning.specs.Chart.{Chart}
 use Rattle.ipl_meaning.specs.Layout.{Entry}
+use Rattle.ipl_meaning.specs.Masks.{mask_of}
 use Rattle.ipl_meaning.specs.Last.{pack, carried}
 use Rattle.ipl_meaning.specs.Steps.{entry_at}
 
@@ -50,3 +51,9 @@ pub record HasLogs (p u generation serial : ℕ) (payloads : List (List ℕ)) (n
   pub here : (i : ℕ) → i < n → y p (FIRST_LOG_SECTOR + i)
       ≡ Some (log_sector u generation (serial + i) (slice_index_or payloads i []))
   pub others : (q s : ℕ) → (q ≡ p → ¬ IsLogSpotBelow n s) → y q s ≡ c q s
+
+-- which pages the log sectors of these packs name, of n log sectors; those behind them name none
+abbrev pub masks_of_packs : ℕ → List (List Record) → List ℕ
+masks_of_packs zero packs = []
+masks_of_packs (suc n) [] = 0 ∷ masks_of_packs n []
+masks_of_packs (suc n) (records ∷ packs) = mask_of records ∷ masks_of_packs n packs

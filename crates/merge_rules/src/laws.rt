@@ -1,5 +1,5 @@
 //! The laws of merges, proved: a body that does nothing, and a contract that is the law.
-ghost use Rattle.merge_rules.specs.Laws.{FilledPlacesAreReady, StandsAfterFilling, TablesFollowFilling, MergesKeepTheLast};
+ghost use Rattle.merge_rules.specs.Laws.{FilledPlacesAreReady, StandsAfterFilling, TablesFollowFilling, MergesKeepTheLast, PacksAreTold};
 ghost use Rattle.merge_rules.specs.FaultLaws.{MergeableUnitsHaveNoFault, FaultsAreOfThePlace, SaidUnitsAreMergeable};
 ghost use Rattle.merge_rules.specs.KnownLaws.{KnownPlacesLeaveOne, KnownPlacesMove, KnownPlacesTakeOverflows};
 
@@ -10,6 +10,7 @@ pub fn merge_laws()
     ensures stands { StandsAfterFilling }
     ensures tables { TablesFollowFilling }
     ensures last { MergesKeepTheLast }
+    ensures told { PacksAreTold }
 {}
 
 /// Tables that know each place have a free one, and know each place once a unit has moved or there

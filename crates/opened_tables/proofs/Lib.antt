@@ -1,3 +1,4 @@
 pub mod ListLemmas
 pub mod SpotLemmas
 pub mod OpenedLemmas
+pub mod MaskLemmas

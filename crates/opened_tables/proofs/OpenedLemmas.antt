@@ -11,7 +11,7 @@ use Rattle.ipl_meaning.specs.Chart.{Chart, IsLive, IsOverflow}
 use Rattle.ipl_meaning.specs.Layout.{Layout, Laid, IsListed, IsLiveIn}
 use Rattle.ipl_meaning.specs.Found.{IsAbove}
 use Rattle.ipl_meaning.specs.Tables.{Tables, IsFree, spots_of, overflow_places, IsCountedClean}
-use Rattle.ipl_meaning.specs.Mirrors.{Mirrors, AreApart}
+use Rattle.ipl_meaning.specs.Mirrors.{MirrorsMasks, Mirrors, AreApart}
 use Rattle.opening_rules.specs.First.{passes, count_below}
 use Rattle.opening_rules.specs.Chosen.{KeptHeader, Winner, header_at, current_at, status_at, head_of}
 use Rattle.opening_rules.specs.Live.{is_overflow_place, Mark, mark_of, mark_at, marks_in}
@@ -22,7 +22,10 @@ use Rattle.opening_rules.proofs.LiveLemmas.{live_from, live_to, away_is_overflow
 use Rattle.opening_rules.proofs.NumberLemmas.{greatest_is_above}
 use Rattle.opening_rules.proofs.BelowLemmas.{all_has, all_from, any_some, count_within}
 use Rattle.opening_rules.proofs.LaidLemmas.{mark_from, mark_to, passes_from, number_of_spot, is_formed}
-use Rattle.opened_tables.specs.Found.{spot_of, spots_in}
+use Rattle.ipl_meaning.specs.Masks.{mask_at_spot}
+use Rattle.ipl_meaning.proofs.MaskLemmas.{map_same}
+use Rattle.opened_tables.specs.Found.{spot_of, spots_in, generation_of, mask_found}
+use Rattle.opened_tables.proofs.MaskLemmas.{mask_is}
 use Rattle.opened_tables.specs.Opened.{AreOpened, OpenedTablesMirror}
 use Rattle.opened_tables.proofs.ListLemmas.{any, all_apart, all_length}
 use Rattle.opened_tables.proofs.SpotLemmas.{free_low, number_has, has_number, spot_listed, spot_from, spot_to, same_spot, in_use_from, listed_holds, held_listed, places_apart, as_many}
@@ -229,6 +232,24 @@ module _ (places : ℕ) (c : Chart) (t : Tables) (it : AreOpened places c t) (la
   none_active : (k : ℕ) → k < length t.active → ⊥
   none_active k within = omega (arith, within, ap length it.active)
 
+  home_low : (u : ℕ) → u < places - 4 → (lay.units u).home < places
+  home_low u low = (laid.each u low).chosen.within
+
+  masks : MirrorsMasks places lay t
+  masks = record {
+    units = it.masks.units;
+    lists = it.masks.lists;
+    sectors = it.masks.sectors;
+    home = λ u s low least most. it.masks.home u s low least most
+        ∙ sym (mask_is c places u (lay.units u).home s (home_low u low) most);
+    elsewhere = λ u low. it.masks.elsewhere u low
+        ∙ map_same (λ (spot : ℕ × ℕ). mask_found c places u (spot.0 * 256 + spot.1)) (mask_at_spot (lay.units u).log) (spots_in c places u) (λ spot has.
+        let listed_is = subst (λ (xs : List (ℕ × ℕ)). Contains xs spot) (sym (spots_are u low)) has in
+        let (away, sector, live) = only u spot.0 spot.1 low listed_is in
+        sym (mask_is c places u spot.0 spot.1 live.within.0 live.within.1))
+        ∙ ap (map (mask_at_spot (lay.units u).log)) (sym (spots_are u low));
+  }
+
   pub mirror : Mirrors places c lay t
   mirror = record {
     laid = laid;
@@ -237,6 +258,8 @@ module _ (places : ℕ) (c : Chart) (t : Tables) (it : AreOpened places c t) (la
       logs = it.directory.logs;
       all = it.directory.all;
       current = it.directory.current;
+      heads = it.directory.heads;
+      generation = λ u low. it.directory.generation u low ∙ ap generation_of (own_is u low);
       not_home = not_home;
       not_status = not_status;
       not_overflow = not_overflow;
@@ -263,6 +286,7 @@ module _ (places : ℕ) (c : Chart) (t : Tables) (it : AreOpened places c t) (la
       once = λ i j e before within. absurd (none_active j within);
       waits = λ k e within. absurd (none_active k within);
     };
+    masks = masks;
     counted_clean = λ p s is. absurd (none_counted p s is);
   }
 

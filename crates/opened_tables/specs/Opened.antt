@@ -1,15 +1,15 @@
 -- What an opening makes of the tables.
-use Rattle.std.specs.Prelude.{ℕ, ◌≡◌, ◌≢◌, ◌↔◌, ◌<◌, ◌+◌, ◌-◌, ◌*◌, false, [], length, slice_index, slice_index_or, Some, Contains}
-use Rattle.ipl_base.specs.declared.limits.TheConstants.{SECTORS, RESERVED_PLACES, LOG_SECTORS}
+use Rattle.std.specs.Prelude.{ℕ, ◌≡◌, ◌≢◌, ◌↔◌, ◌<◌, ◌≤◌, ◌+◌, ◌-◌, ◌*◌, false, [], length, map, slice_index, slice_index_or, Some, Contains}
+use Rattle.ipl_base.specs.declared.limits.TheConstants.{SECTORS, RESERVED_PLACES, FIRST_LOG_SECTOR, LOG_SECTORS}
 use Rattle.ipl_meaning.specs.Chart.{Chart}
 use Rattle.ipl_meaning.specs.Layout.{Laid}
-use Rattle.ipl_meaning.specs.Tables.{Places, IsFree, OverflowLists, Status, Tables}
+use Rattle.ipl_meaning.specs.Tables.{Places, masks_in, IsFree, OverflowLists, Status, Tables}
 use Rattle.ipl_meaning.specs.Mirrors.{Mirrors}
 use Rattle.opening_rules.specs.Chosen.{Winner, header_at, current_at, status_at}
 use Rattle.opening_rules.specs.Live.{marks_in}
 use Rattle.opening_rules.specs.Faults.{holds_live, greatest_found}
 use Rattle.opening_rules.specs.LaidOut.{place_of, committed_numbers, layout_in}
-use Rattle.opened_tables.specs.Found.{spots_in, overflows_in}
+use Rattle.opened_tables.specs.Found.{spots_in, overflows_in, generation_of, mask_found}
 
 -- the place is neither that of a unit, nor the status place, nor an overflow place that holds live log sectors
 pub record IsUnused (places : ℕ) (c : Chart) (p : ℕ) : Type 0 where
@@ -19,7 +19,7 @@ pub record IsUnused (places : ℕ) (c : Chart) (p : ℕ) : Type 0 where
   pub not_status : (winner : Winner) → status_at c places ≡ Some winner → winner.place ≢ p
   pub not_held : holds_live (header_at c places) (marks_in c places (places * SECTORS)) p ≡ false
 
--- the directory has each unit's place, no log sector counts as clean, exactly the unused places are free, and the
+-- the directory has each unit's place and generation, no log sector counts as clean, exactly the unused places are free, and the
 -- counter is the number after the greatest found
 pub record IsOpened (places : ℕ) (c : Chart) (directory : Places) (counter : ℕ) : Type 0 where
   pub units : length directory.current ≡ places - RESERVED_PLACES
@@ -27,6 +27,9 @@ pub record IsOpened (places : ℕ) (c : Chart) (directory : Places) (counter : �
   pub all : length directory.in_use ≡ places
   pub current : (u : ℕ) → u < places - RESERVED_PLACES
       → slice_index directory.current u ≡ place_of (current_at c places u)
+  pub heads : length directory.generations ≡ places - RESERVED_PLACES
+  pub generation : (u : ℕ) → u < places - RESERVED_PLACES
+      → slice_index directory.generations u ≡ generation_of (current_at c places u)
   pub written : (u : ℕ) → u < places - RESERVED_PLACES
       → slice_index directory.written u ≡ LOG_SECTORS
   pub free : (p : ℕ) → p < places → IsFree directory p ↔ IsUnused places c p
@@ -37,6 +40,17 @@ pub record IsOpenedOverflow (places : ℕ) (c : Chart) (overflow : OverflowLists
   pub units : length overflow.spots ≡ places - RESERVED_PLACES
   pub spots_are : (u : ℕ) → u < places - RESERVED_PLACES → slice_index_or overflow.spots u [] ≡ spots_in c places u
   pub in_use_are : overflow.in_use ≡ overflows_in c places
+
+-- the masks have of each unit's live log sectors the pages that they name, and of other sectors none
+pub record AreOpenedMasks (places : ℕ) (c : Chart) (directory : Places) (overflow : OverflowLists) : Type 0 where
+  pub units : length directory.masks ≡ places - RESERVED_PLACES
+  pub lists : length overflow.masks ≡ places - RESERVED_PLACES
+  pub sectors : (u : ℕ) → u < places - RESERVED_PLACES → length (masks_in directory u) ≡ LOG_SECTORS
+  pub home : (u s : ℕ) → u < places - RESERVED_PLACES → FIRST_LOG_SECTOR ≤ s → s < SECTORS
+      → slice_index (masks_in directory u) (s - FIRST_LOG_SECTOR)
+      ≡ mask_found c places u (place_of (current_at c places u) * SECTORS + s)
+  pub elsewhere : (u : ℕ) → u < places - RESERVED_PLACES
+      → slice_index_or overflow.masks u [] ≡ map (λ spot. mask_found c places u (spot.0 * SECTORS + spot.1)) (spots_in c places u)
 
 -- the status has the status place, its generation and its numbers, and no sector of it counts as clean
 pub record IsOpenedStatus (places : ℕ) (c : Chart) (status : Status) : Type 0 where
@@ -55,6 +69,7 @@ tables_of directory overflow status counter =
 pub record AreOpened (places : ℕ) (c : Chart) (t : Tables) : Type 0 where
   pub directory : IsOpened places c t.places t.next
   pub overflow : IsOpenedOverflow places c t.overflow
+  pub masks : AreOpenedMasks places c t.places t.overflow
   pub status : IsOpenedStatus places c t.status
   pub active : t.active ≡ []
 

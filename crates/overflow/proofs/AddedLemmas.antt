@@ -5,7 +5,7 @@ use Rattle.std.proofs.lemmas.Bool.{cases_Bool, eqb-true}
 use Rattle.ipl_meaning.specs.Tables.{OverflowLists, Tables, overflow_places}
 use Rattle.ipl_meaning.specs.Mirrors.{AreApart}
 use Rattle.ipl_meaning.specs.TableSteps.{with_next_spot, after_overflow_log}
-use Rattle.overflow.specs.Lists.{clean_behind, after_add, spots_in}
+use Rattle.overflow.specs.Lists.{clean_behind, after_add, spots_in, masks_at}
 use Rattle.overflow.proofs.ElementLemmas.{contains_here, contains_there, one_spot}
 
 -- the places that have it as their first are those that are behind it then
@@ -25,12 +25,13 @@ same_firsts p s (o ∷ l) all =
       | inr apart ↦ rw apart (ap (λ (k : List (ℕ × ℕ)). o ∷ k) rest)
     ]
 
-pub first_spots_are_added : (t : Tables) (u p s next : ℕ) → AllPairs AreApart (overflow_places t)
+pub first_spots_are_added : (t : Tables) (u p s mask next : ℕ) → AllPairs AreApart (overflow_places t)
     → Contains t.overflow.in_use (p, s)
-    → after_add t.overflow u p s ≡ (after_overflow_log t u p s next).overflow
-first_spots_are_added t u p s next apart there =
+    → after_add t.overflow u p s mask ≡ (after_overflow_log t u p s mask next).overflow
+first_spots_are_added t u p s mask next apart there =
     ap (λ (l : List (ℕ × ℕ)). record {
       spots = set t.overflow.spots u (spots_in t.overflow u ++ (p, s) ∷ []);
+      masks = set t.overflow.masks u (masks_at t.overflow u ++ mask ∷ []);
       in_use = l;
     })
     (same_firsts p s t.overflow.in_use
@@ -53,7 +54,7 @@ untouched p s (o ∷ l) above =
       | inr apart ↦ rw apart (ap (λ (k : List (ℕ × ℕ)). o ∷ k) rest)
     ]
 
-pub found_spots_are_added : (it : OverflowLists) (u p s : ℕ)
+pub found_spots_are_added : (it : OverflowLists) (u p s mask : ℕ)
     → ((first : ℕ) → Contains it.in_use (p, first) → s < first)
-    → (after_add it u p s).in_use ≡ it.in_use
-found_spots_are_added it u p s above = untouched p s it.in_use above
+    → (after_add it u p s mask).in_use ≡ it.in_use
+found_spots_are_added it u p s mask above = untouched p s it.in_use above

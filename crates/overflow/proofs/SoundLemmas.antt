@@ -1,12 +1,12 @@
 -- What always holds of the table, after each call.
-use Rattle.std.proofs.Common.{◌≡◌, ℕ, ◌<◌, ◌+◌, List, [], ◌∷◌, ◌++◌, length, map, inl, inr, sym, subst, arith, eqb, set}
+use Rattle.std.proofs.Common.{◌≡◌, ℕ, ◌<◌, ◌+◌, List, [], ◌∷◌, ◌++◌, length, map, inl, inr, sym, ◌∙◌, ap, get_or, subst, arith, eqb, set}
 use Rattle.std.specs.List.{All, filter}
-use Rattle.std.proofs.lemmas.Bool.{cases_Bool}
-use Rattle.std.proofs.lemmas.List.{length-set, length-map, length_push}
+use Rattle.std.proofs.lemmas.Bool.{cases_Bool, cases_eq, cases_lt}
+use Rattle.std.proofs.lemmas.List.{length-set, length-map, length_push, get_or-set_same, get_or-set_other, get_or_past}
 use Rattle.std.proofs.lemmas.List.Elements.{All-nil, All-push, All-get_or, All-set, All-map, All-filter, All-weaker}
 use Rattle.std.proofs.lemmas.List.Sums.{length-filter, count_by-le-length}
 use Rattle.ipl_meaning.specs.Tables.{OverflowLists}
-use Rattle.overflow.specs.Lists.{IsSoundOverflow, IsFirst, AreFew, IsWithin, AreWithin, IsPlaceOf, clean_behind, after_add, after_drop, is_kept, spots_in, without_unit}
+use Rattle.overflow.specs.Lists.{IsSoundOverflow, IsFirst, AreFew, IsWithin, AreWithin, IsPlaceOf, clean_behind, after_add, after_drop, is_kept, spots_in, masks_at, without_unit}
 
 first_still : (p s : ℕ) → s < 256 → (o : ℕ × ℕ) → IsFirst o → IsFirst (clean_behind p s o)
 first_still p s low o (least, most) = elim (cases_Bool (eqb o.0 p)) [
@@ -20,10 +20,10 @@ place_still p s places o low = elim (cases_Bool (eqb o.0 p)) [
   | inr apart ↦ rw apart low
 ]
 
-pub sound_added : (it : OverflowLists) (u p s : ℕ) → IsSoundOverflow it → u < length it.spots
+pub sound_added : (it : OverflowLists) (u p s mask : ℕ) → IsSoundOverflow it → u < length it.spots
     → length (spots_in it u) < 16 → p < length it.spots + 4 → s < 256
-    → IsSoundOverflow (after_add it u p s)
-sound_added it u p s sound unit few place low = record {
+    → IsSoundOverflow (after_add it u p s mask)
+sound_added it u p s mask sound unit few place low = record {
   units = omega (arith, sound.units, length-set it.spots u (spots_in it u ++ (p, s) ∷ []));
   few = All-set AreFew it.spots u (spots_in it u ++ (p, s) ∷ [])
       (omega (arith, length_push (spots_in it u) (p, s))) sound.few;
@@ -44,6 +44,15 @@ sound_added it u p s sound unit few place low = record {
       (All-weaker (IsPlaceOf (length it.spots + 4))
       (λ o. IsPlaceOf (length it.spots + 4) (clean_behind p s o))
       (place_still p s (length it.spots + 4)) it.in_use sound.placed));
+  lists = length-set it.masks u (masks_at it u ++ mask ∷ []) ∙ sound.lists
+      ∙ sym (length-set it.spots u (spots_in it u ++ (p, s) ∷ []));
+  each = λ v. elim (cases_eq v u) [
+    | inl same ↦ rw same (ap length (get_or-set_same it.masks u (masks_at it u ++ mask ∷ []) [] (omega (arith, unit, sound.lists)))
+        ∙ length_push (masks_at it u) mask ∙ ap (λ (n : ℕ). n + 1) (sound.each u) ∙ sym (length_push (spots_in it u) (p, s))
+        ∙ sym (ap length (get_or-set_same it.spots u (spots_in it u ++ (p, s) ∷ []) [] unit)))
+    | inr apart ↦ ap length (get_or-set_other it.masks u v (masks_at it u ++ mask ∷ []) [] apart)
+        ∙ sound.each v ∙ sym (ap length (get_or-set_other it.spots u v (spots_in it u ++ (p, s) ∷ []) [] apart))
+  ];
 }
 
 pub sound_dropped : (it : OverflowLists) (u : ℕ) → IsSoundOverflow it
@@ -65,20 +74,32 @@ sound_dropped it u sound = record {
   placed = subst (λ (k : ℕ). All (IsPlaceOf (k + 4)) (filter (is_kept (without_unit it u)) it.in_use))
       (sym (length-set it.spots u []))
       (All-filter (is_kept (without_unit it u)) (IsPlaceOf (length it.spots + 4)) it.in_use sound.placed);
+  lists = length-set it.masks u [] ∙ sound.lists ∙ sym (length-set it.spots u []);
+  each = λ v. elim (cases_eq v u) [
+    | inl same ↦ rw same (emptied it.masks u ∙ sym (emptied it.spots u))
+    | inr apart ↦ ap length (get_or-set_other it.masks u v [] [] apart) ∙ sound.each v
+        ∙ sym (ap length (get_or-set_other it.spots u v [] [] apart))
+  ];
 }
+  where
+    emptied : {X : Type 0} (l : List (List X)) (u : ℕ) → length (get_or (set l u []) u []) ≡ 0
+    emptied l u = elim (cases_lt u (length l)) [
+      | inl low ↦ ap length (get_or-set_same l u [] [] low)
+      | inr past ↦ ap length (get_or_past (set l u []) u [] (omega (arith, past, length-set l u [])))
+    ]
 
 -- ---- the fields after a call
 
-pub sound_after : (it : OverflowLists) (u p s : ℕ) (list : List (ℕ × ℕ)) (places : List (ℕ × ℕ))
+pub sound_after : (it : OverflowLists) (u p s mask : ℕ) (list : List (ℕ × ℕ)) (masks : List ℕ) (places : List (ℕ × ℕ))
     → IsSoundOverflow it → u < length it.spots → length (spots_in it u) < 16
     → p < length it.spots + 4 → s < 256
-    → list ≡ spots_in it u ++ (p, s) ∷ [] → places ≡ map (clean_behind p s) it.in_use
-    → IsSoundOverflow (record { spots = set it.spots u list; in_use = places })
-sound_after it u p s list places sound unit few place low is are =
-    rw (is, are) (sound_added it u p s sound unit few place low)
+    → list ≡ spots_in it u ++ (p, s) ∷ [] → masks ≡ masks_at it u ++ mask ∷ [] → places ≡ map (clean_behind p s) it.in_use
+    → IsSoundOverflow (record { spots = set it.spots u list; masks = set it.masks u masks; in_use = places })
+sound_after it u p s mask list masks places sound unit few place low is names are =
+    rw (is, names, are) (sound_added it u p s mask sound unit few place low)
 
-pub sound_left : (it : OverflowLists) (u : ℕ) (list : List (ℕ × ℕ)) (places : List (ℕ × ℕ))
-    → IsSoundOverflow it → list ≡ []
+pub sound_left : (it : OverflowLists) (u : ℕ) (list : List (ℕ × ℕ)) (masks : List ℕ) (places : List (ℕ × ℕ))
+    → IsSoundOverflow it → list ≡ [] → masks ≡ []
     → places ≡ filter (is_kept (without_unit it u)) it.in_use
-    → IsSoundOverflow (record { spots = set it.spots u list; in_use = places })
-sound_left it u list places sound is are = rw (is, are) (sound_dropped it u sound)
+    → IsSoundOverflow (record { spots = set it.spots u list; masks = set it.masks u masks; in_use = places })
+sound_left it u list masks places sound is none are = rw (is, none, are) (sound_dropped it u sound)

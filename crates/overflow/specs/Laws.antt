@@ -22,15 +22,15 @@ SpotsAreCleanOnes = (places : List (ℕ × ℕ)) → OffersSpots places
 
 -- to add a place's first clean sector is a log sector written there
 abbrev pub FirstSpotsAreAdded : Type 0
-FirstSpotsAreAdded = (t : Tables) (u p s next : ℕ)
+FirstSpotsAreAdded = (t : Tables) (u p s mask next : ℕ)
     → AllPairs AreApart (overflow_places t) → Contains t.overflow.in_use (p, s)
-    → after_add t.overflow u p s ≡ (after_overflow_log t u p s next).overflow
+    → after_add t.overflow u p s mask ≡ (after_overflow_log t u p s mask next).overflow
 
 -- to add a sector that isn't clean changes the lists alone
 abbrev pub FoundSpotsAreAdded : Type 0
-FoundSpotsAreAdded = (it : OverflowLists) (u p s : ℕ)
+FoundSpotsAreAdded = (it : OverflowLists) (u p s mask : ℕ)
     → ((first : ℕ) → Contains it.in_use (p, first) → s < first)
-    → (after_add it u p s).in_use ≡ it.in_use
+    → (after_add it u p s mask).in_use ≡ it.in_use
 
 -- what a unit's move to a new place makes of the table
 pub record OverflowMoves (before after : OverflowLists) (u : ℕ) : Type 0 where

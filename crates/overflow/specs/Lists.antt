@@ -1,14 +1,19 @@
 -- What the calls on overflow places make of the table, and what always holds of it.
-use Rattle.std.specs.Prelude.{ℕ, ◌<◌, ◌≤◌, ◌+◌, ◌==◌, Bool, not, max, nat_le, List, [], ◌∷◌, ◌++◌, map, length, slice_index_or, slice_set, replicate, Option, Some, None, All, if◌then◌else◌}
+use Rattle.std.specs.Prelude.{ℕ, ◌≡◌, ◌<◌, ◌≤◌, ◌+◌, ◌==◌, Bool, not, max, nat_le, List, [], ◌∷◌, ◌++◌, map, length, slice_index_or, slice_set, replicate, Option, Some, None, All, if◌then◌else◌}
 use Rattle.std.specs.List.{list_any, filter}
 use Rattle.ipl_base.specs.declared.limits.TheConstants.{SECTORS, RESERVED_PLACES, OVERFLOW_PLACES, OVERFLOW_SECTORS}
 use Rattle.ipl_base.specs.declared.spot.Spot.{Spot}
 use Rattle.overflow.specs.declared.places.PlaceInUse.{PlaceInUse}
+use Rattle.overflow.specs.declared.spots.ShortSpot.{ShortSpot}
 use Rattle.ipl_meaning.specs.Tables.{OverflowLists, place_of}
 
 -- a spot, as its place and its sector
 abbrev pub pair_of : Spot → ℕ × ℕ
 pair_of spot = (spot.place, spot.sector)
+
+-- and where it is kept short
+abbrev pub short_pair : ShortSpot → ℕ × ℕ
+short_pair spot = (spot.place, spot.sector)
 
 -- an overflow place in use, as the place and its first clean sector
 abbrev pub first_of : PlaceInUse → ℕ × ℕ
@@ -17,6 +22,10 @@ first_of it = (it.place, it.first)
 -- the unit's spots
 abbrev pub spots_in : OverflowLists → ℕ → List (ℕ × ℕ)
 spots_in it u = slice_index_or it.spots u []
+
+-- which pages each of them names
+abbrev pub masks_at : OverflowLists → ℕ → List ℕ
+masks_at it u = slice_index_or it.masks u []
 
 -- one of the spots stands in the place
 abbrev pub names_place : ℕ → List (ℕ × ℕ) → Bool
@@ -30,7 +39,7 @@ is_named spots p = list_any (names_place p) spots
 
 -- no unit of so many has spots, and no place is in use
 abbrev pub empty_lists : ℕ → OverflowLists
-empty_lists units = record { spots = replicate units []; in_use = [] }
+empty_lists units = record { spots = replicate units []; masks = replicate units []; in_use = [] }
 
 -- one more place is in use, clean from this sector on
 abbrev pub with_place : OverflowLists → ℕ → ℕ → OverflowLists
@@ -40,10 +49,11 @@ with_place it p first = record it { in_use = it.in_use ++ (p, first) ∷ [] }
 abbrev pub clean_behind : ℕ → ℕ → ℕ × ℕ → ℕ × ℕ
 clean_behind p s it = if it.0 == p then (it.0, max it.1 (s + 1)) else it
 
--- the spot is the unit's, behind its others, and isn't clean any more
-abbrev pub after_add : OverflowLists → ℕ → ℕ → ℕ → OverflowLists
-after_add it u p s = record {
+-- the spot is the unit's, behind its others, names these pages, and isn't clean any more
+abbrev pub after_add : OverflowLists → ℕ → ℕ → ℕ → ℕ → OverflowLists
+after_add it u p s mask = record {
   spots = slice_set it.spots u (spots_in it u ++ (p, s) ∷ []);
+  masks = slice_set it.masks u (masks_at it u ++ mask ∷ []);
   in_use = map (clean_behind p s) it.in_use;
 }
 
@@ -59,6 +69,7 @@ is_kept spots place = is_named spots place.0
 abbrev pub after_drop : OverflowLists → ℕ → OverflowLists
 after_drop it u = record {
   spots = without_unit it u;
+  masks = slice_set it.masks u [];
   in_use = filter (is_kept (without_unit it u)) it.in_use;
 }
 
@@ -127,3 +138,5 @@ pub record IsSoundOverflow (it : OverflowLists) : Type 0 where
   pub firsts : All IsFirst it.in_use
   pub within : All (AreWithin (length it.spots + RESERVED_PLACES)) it.spots
   pub placed : All (IsPlaceOf (length it.spots + RESERVED_PLACES)) it.in_use
+  pub lists : length it.masks ≡ length it.spots
+  pub each : (u : ℕ) → length (masks_at it u) ≡ length (spots_in it u)

@@ -1,12 +1,12 @@
 //! The table of overflow places.
-ghost use Rattle.std.specs.Prelude.{◌≡◌, ◌≤◌, ◌<◌, ◌+◌, ◌-◌, ℕ, map, length, nat_lt, Contains, IfOk, IfSome, IfNone, None};
+ghost use Rattle.std.specs.Prelude.{◌≡◌, ◌≤◌, ◌<◌, ◌+◌, ◌-◌, [], ℕ, map, replicate, length, nat_lt, Contains, IfOk, IfSome, IfNone, None};
 ghost use Rattle.std.specs.Option.{option_map};
-ghost use Rattle.overflow.specs.Lists.{pair_of, spots_in, empty_lists, with_place, after_add, after_drop, places_left, listed, first_spot, AreWithin, IsSoundOverflow};
+ghost use Rattle.overflow.specs.Lists.{pair_of, spots_in, masks_at, empty_lists, with_place, after_add, after_drop, places_left, listed, first_spot, AreWithin, IsSoundOverflow};
 
 use crate::places::{PlaceInUse, first_spot, keep_named, places_left, use_spot};
-use crate::spots::SpotList;
+use crate::spots::{MaskList, SpotList};
 use arrayvec::ArrayVec;
-use ipl_base::{Geometry, OVERFLOW_PLACES, OutOfMemory, SECTORS, Spot};
+use ipl_base::{Geometry, OVERFLOW_PLACES, OVERFLOW_SECTORS, OutOfMemory, SECTORS, Spot};
 use std::alloc::Global;
 use std::marker::Model;
 
@@ -16,6 +16,7 @@ use std::marker::Model;
 #[derive(Drop)]
 pub struct Overflow {
     spots: Vec<SpotList>,
+    masks: Vec<MaskList>,
     in_use: ArrayVec<PlaceInUse, OVERFLOW_PLACES>,
 }
 
@@ -26,10 +27,15 @@ impl Model for Overflow {
 
     ghost Value = { OverflowLists };
 
-    ghost view = { λ o. record { spots = o.spots.items; in_use = map first_of o.in_use.items } };
+    ghost view = { λ o. record {
+      spots = o.spots.items;
+      masks = o.masks.items;
+      in_use = map first_of o.in_use.items;
+    } };
 
     ghost invariant = { λ o. IsSoundOverflow (record {
       spots = o.spots.items;
+      masks = o.masks.items;
       in_use = map first_of o.in_use.items;
     }) };
 }
@@ -44,8 +50,10 @@ impl Overflow {
         for _ in 0..units {
             spots.push_reserved(SpotList::new());
         }
+        let masks = no_masks(alloc, units)?;
         Ok(Overflow {
             spots,
+            masks,
             in_use: ArrayVec::new(),
         })
     }
@@ -56,6 +64,9 @@ impl Overflow {
     {
         for spots in self.spots.iter_mut() {
             spots.clear();
+        }
+        for masks in self.masks.iter_mut() {
+            masks.clear();
         }
         self.in_use = ArrayVec::new();
     }
@@ -69,14 +80,24 @@ impl Overflow {
     }
 
     /// Where the unit's log sectors in overflow places stand, the oldest first, at most 16.
-    pub fn list(&self, unit: u32) -> &[Spot]
+    pub fn list(&self, unit: u32) -> ArrayVec<Spot, OVERFLOW_SECTORS>
         requires { unit < length self.now.spots }
-        ensures spots { map pair_of result.now ≡ spots_in self.now unit }
-        ensures few { length result.now ≤ 16 }
+        ensures spots { map pair_of result.items ≡ spots_in self.now unit }
+        ensures few { length result.items ≤ 16 }
         ensures within { AreWithin (length self.now.spots + 4) (spots_in self.now unit) }
     {
         let list = &self.spots[unit as usize];
-        list.as_slice()
+        list.list()
+    }
+
+    /// Which pages each of these log sectors names, in the same order: bit p is page p's.
+    pub fn masks(&self, unit: u32) -> &[u16]
+        requires { unit < length self.now.spots }
+        ensures masks { result.now ≡ masks_at self.now unit }
+        ensures each { length result.now ≡ length (spots_in self.now unit) }
+    {
+        let masks = &self.masks[unit as usize];
+        masks.as_slice()
     }
 
     /// How many these are.
@@ -133,18 +154,20 @@ impl Overflow {
         self.in_use.push(PlaceInUse { place, first });
     }
 
-    /// Puts a spot behind the unit's others, of which there are fewer than 16. It isn't clean any
-    /// more, nor is any before it in its place.
-    pub fn add(&mut self, unit: u32, spot: Spot)
+    /// Puts a spot behind the unit's others, of which there are fewer than 16, with the pages that
+    /// its log sector names. It isn't clean any more, nor is any before it in its place.
+    pub fn add(&mut self, unit: u32, spot: Spot, mask: u16)
         requires unit { unit < length self.old.spots }
         requires few { length (spots_in self.old unit) < 16 }
         requires place { spot.place < length self.old.spots + 4 }
         requires sector { spot.sector < 256 }
-        ensures { self.new ≡ after_add self.old unit spot.place spot.sector }
+        ensures { self.new ≡ after_add self.old unit spot.place spot.sector mask }
     {
         use_spot(self.in_use.as_mut_slice(), spot);
         let list = &mut self.spots[unit as usize];
         list.push(spot);
+        let masks = &mut self.masks[unit as usize];
+        masks.push(mask);
     }
 
     /// The unit has no spots any more, and a place that no spot of another unit names isn't in use
@@ -156,8 +179,21 @@ impl Overflow {
     {
         let list = &mut self.spots[unit as usize];
         list.clear();
+        let masks = &mut self.masks[unit as usize];
+        masks.clear();
         let left = places_left(&self.spots, self.in_use.as_slice());
         keep_named(&self.spots, &mut self.in_use);
         left
     }
+}
+
+/// No masks, for so many units.
+fn no_masks(alloc: Global, units: usize) -> Result<Vec<MaskList>, OutOfMemory>
+    ensures { IfOk result (λ masks. masks.items ≡ replicate units []) }
+{
+    let mut masks = Vec::with_capacity(alloc, units)?;
+    for _ in 0..units {
+        masks.push_reserved(MaskList::new());
+    }
+    Ok(masks)
 }

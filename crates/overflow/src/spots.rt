@@ -1,25 +1,32 @@
-//! The spots of one unit.
+//! The spots of one unit, and which pages each of them names.
 ghost use Rattle.std.specs.Prelude.{◌≡◌, ◌≤◌, ◌<◌, ◌++◌, ◌∷◌, [], length, map};
-ghost use Rattle.overflow.specs.Lists.{pair_of, names_place};
+ghost use Rattle.overflow.specs.Lists.{pair_of, short_pair, names_place};
 
 use arrayvec::ArrayVec;
 use ipl_base::{OVERFLOW_SECTORS, Spot};
 use std::marker::Model;
 
+/// A spot in four bytes: places are below 1028, and sectors below 256.
+#[derive(Clone, Copy, Debug, Default, PartialEq, Eq)]
+pub struct ShortSpot {
+    place: u16,
+    sector: u16,
+}
+
 /// Where the log sectors of one unit stand that are in overflow places, at most 16, the oldest
 /// first. A contract sees them as pairs of place and sector. It never takes memory.
 #[derive(Drop)]
 pub struct SpotList {
-    items: ArrayVec<Spot, OVERFLOW_SECTORS>,
+    items: ArrayVec<ShortSpot, OVERFLOW_SECTORS>,
 }
 
 impl Model for SpotList {
     ghost use Rattle.std.specs.Prelude.{ℕ, List, map, length, ◌≤◌};
-    ghost use Rattle.overflow.specs.Lists.{pair_of};
+    ghost use Rattle.overflow.specs.Lists.{short_pair};
 
     ghost Value = { List (ℕ × ℕ) };
 
-    ghost view = { λ l. map pair_of l.items.items };
+    ghost view = { λ l. map short_pair l.items.items };
 
     ghost invariant = { λ l. length l.items.items ≤ 16 };
 }
@@ -42,11 +49,18 @@ impl SpotList {
     }
 
     /// The spots, the oldest first.
-    pub fn as_slice(&self) -> &[Spot]
-        ensures spots { map pair_of result.now ≡ self.now }
-        ensures few { length result.now ≤ 16 }
+    pub fn list(&self) -> ArrayVec<Spot, OVERFLOW_SECTORS>
+        ensures spots { map pair_of result.items ≡ self.now }
+        ensures few { length result.items ≤ 16 }
     {
-        self.items.as_slice()
+        let mut spots = ArrayVec::new();
+        for short in self.items.as_slice() {
+            spots.push(Spot {
+                place: u32::from(short.place),
+                sector: u32::from(short.sector),
+            });
+        }
+        spots
     }
 
     /// How many there are, at most 16.
@@ -59,28 +73,84 @@ impl SpotList {
 
     /// Puts a spot behind the others, of which there are fewer than 16.
     pub fn push(&mut self, spot: Spot)
-        requires { length self.old < 16 }
+        requires few { length self.old < 16 }
+        requires place { spot.place < 65536 }
+        requires sector { spot.sector < 65536 }
         ensures { self.new ≡ self.old ++ pair_of spot ∷ [] }
     {
-        self.items.push(spot);
+        self.items.push(ShortSpot {
+            place: spot.place as u16,
+            sector: spot.sector as u16,
+        });
     }
 
     /// Whether one of them stands in a place.
     pub fn names(&self, place: u32) -> bool
         ensures { result ≡ names_place place self.now }
     {
-        is_named(self.as_slice(), place)
+        is_named(self.items.as_slice(), place)
     }
 }
 
 /// Whether one of these spots stands in a place.
-fn is_named(spots: &[Spot], place: u32) -> bool
-    ensures { result ≡ names_place place (map pair_of spots.now) }
+fn is_named(spots: &[ShortSpot], place: u32) -> bool
+    ensures { result ≡ names_place place (map short_pair spots.now) }
 {
     for spot in spots {
-        if spot.place == place {
+        if u32::from(spot.place) == place {
             return true;
         }
     }
     false
+}
+
+/// Which pages the log sectors of one unit in overflow places name, in the order of their spots, at
+/// most 16: bit p is page p's. A contract sees them as numbers. It never takes memory.
+#[derive(Drop)]
+pub struct MaskList {
+    items: ArrayVec<u16, OVERFLOW_SECTORS>,
+}
+
+impl Model for MaskList {
+    ghost use Rattle.std.specs.Prelude.{ℕ, List, length, ◌≤◌};
+
+    ghost Value = { List ℕ };
+
+    ghost view = { λ l. l.items.items };
+
+    ghost invariant = { λ l. length l.items.items ≤ 16 };
+}
+
+impl MaskList {
+    /// No masks.
+    pub fn new() -> MaskList
+        ensures { result ≡ [] }
+    {
+        MaskList {
+            items: ArrayVec::new(),
+        }
+    }
+
+    /// Takes all masks away.
+    pub fn clear(&mut self)
+        ensures { self.new ≡ [] }
+    {
+        self.items.clear();
+    }
+
+    /// The masks, in the order of the spots.
+    pub fn as_slice(&self) -> &[u16]
+        ensures masks { result.now ≡ self.now }
+        ensures few { length result.now ≤ 16 }
+    {
+        self.items.as_slice()
+    }
+
+    /// Puts a mask behind the others, of which there are fewer than 16.
+    pub fn push(&mut self, mask: u16)
+        requires { length self.old < 16 }
+        ensures { self.new ≡ self.old ++ mask ∷ [] }
+    {
+        self.items.push(mask);
+    }
 }

@@ -110,11 +110,12 @@ written_then result t after u first below next uses so_far more one v = by_resul
 
     by_result : (result : Result (Unit {0}) ChipFault) → UsesHome result t after u
         → slice_index after.written v ≤ slice_index first v + next v
-    by_result (Ok x) (inl same) =
-        subst (λ (p : Places). slice_index p.written v ≤ slice_index first v + next v) (sym same)
+    by_result (Ok x) (inl alike) =
+        subst (λ (l : List ℕ). slice_index l v ≤ slice_index first v + next v) (sym alike.written)
         unused
-    by_result (Ok x) (inr is) =
-        subst (λ (p : Places). slice_index p.written v ≤ slice_index first v + next v) (sym is) used
+    by_result (Ok x) (inr alike) =
+        subst (λ (l : List ℕ). slice_index l v ≤ slice_index first v + next v) (sym alike.written)
+        used
     by_result (Err e) same =
         subst (λ (p : Places). slice_index p.written v ≤ slice_index first v + next v) (sym same)
         unused

@@ -28,22 +28,18 @@ use Rattle.page_frames.proofs.TableLemmas.{tables_uphold}
 
 -- ---- causes
 
-out_cause : (t : Tables) (u place : ℕ) (fault : ChipFault) (old new : Told)
-    → WritingCause t u place fault old new → RenewCause fault old new
-out_cause t u place ReadFault old new (inl rose) = rose
-out_cause t u place Stopped old new (inl rose) = rose
-out_cause t u place (Damaged p s stored computed) old new (inl is) = (is.1, is.2)
-out_cause t u place (Malformed p s) old new cause = tt
-out_cause t u place ReadFault old new (inr lost) = absurd (let is = lost.fault_is in cc is)
-out_cause t u place Stopped old new (inr lost) = absurd (let is = lost.fault_is in cc is)
-out_cause t u place (Damaged p s stored computed) old new (inr lost) =
-    absurd (let is = lost.fault_is in cc is)
+out_cause : (t : Tables) (u : ℕ) (fault : ChipFault) (old new : Told)
+    → WritingCause t u fault old new → RenewCause fault old new
+out_cause t u ReadFault old new rose = rose
+out_cause t u Stopped old new rose = rose
+out_cause t u (Damaged p s stored computed) old new is = (is.1, is.2)
+out_cause t u (Malformed p s) old new cause = tt
 
-out_accounts : (t : Tables) (u place : ℕ) (result : Result (Unit {0}) ChipFault) (old new : Told)
-    → Accounts (WritingCause t u place) result old new → Accounts PageCause result old new
-out_accounts t u place (Ok v) old new did = record { counts = did.counts; cause = tt }
-out_accounts t u place (Err e) old new did =
-    record { counts = did.counts; cause = out_cause t u place e old new did.cause }
+out_accounts : (t : Tables) (u : ℕ) (result : Result (Unit {0}) ChipFault) (old new : Told)
+    → Accounts (WritingCause t u) result old new → Accounts PageCause result old new
+out_accounts t u (Ok v) old new did = record { counts = did.counts; cause = tt }
+out_accounts t u (Err e) old new did =
+    record { counts = did.counts; cause = out_cause t u e old new did.cause }
 
 -- ---- the state is kept
 
@@ -53,24 +49,24 @@ frames_then (Ok v) frames u page f there =
     ap (with_frame_at frames u page) (sym (ap (option_map (λ g. with_frame_log g [])) there))
 frames_then (Err e) frames u page f there = refl
 
-out_keeps : (t after : Tables) (frames : Frames) (u page place : ℕ) (payload : List ℕ)
+out_keeps : (t after : Tables) (frames : Frames) (u page : ℕ) (payload : List ℕ)
     (old new : Told) (result : Result (Unit {0}) ChipFault) → IsSome (frames u page)
     → SpellsLog payload (logs_of frames u page)
     → WritesOut old.places u payload t after old result new
     → WritesOutInSteps old.places payload t after old result new
-    → Accounts (WritingCause t u place) result old new
+    → Accounts (WritingCause t u) result old new
     → KeepsState t frames old result after (frames_after result frames u page) new
-out_keeps t after frames u page place payload old new result there spelled tells steps accounts =
+out_keeps t after frames u page payload old new result there spelled tells steps accounts =
     let (f, is) = some_of (frames u page) there in
     subst (λ (later : Frames). KeepsState t frames old result after later new)
     (frames_then result frames u page f is)
-    (writings_keep_states t after frames u page place f payload old new result is
+    (writings_keep_states t after frames u page f payload old new result is
     (subst (SpellsLog payload) (ap (λ (o : Option Frame). option_map_or (λ g. g.log) o []) is) spelled)
     tells steps accounts.cause)
 
 -- ---- not done
 
-pub out_failed : (u page place : ℕ) (payload : List ℕ) (old new : Pages) (e : ChipFault)
+pub out_failed : (u page : ℕ) (payload : List ℕ) (old new : Pages) (e : ChipFault)
     (before after : Told) → IsReady before.places old → new.pool ≡ old.pool
     → IsSome (frames_in old u page) → SpellsLog payload (logs_of (frames_in old) u page)
     → WritesOut before.places u payload (tables_in old) (tables_in new) before (Err e) after
@@ -78,14 +74,14 @@ pub out_failed : (u page place : ℕ) (payload : List ℕ) (old new : Pages) (e 
     → Holds before.places (tables_in old) (tables_in new)
     → Tidies {T = Unit {0}} {E = ChipFault} (tables_in old) (Err e) (tables_in new) before after
     → (old.parts.counter ≤ new.parts.counter) × (new.parts.counter ≤ old.parts.counter + 14)
-    → Accounts {T = Unit {0}} (WritingCause (tables_in old) u place) (Err e) before after
+    → Accounts {T = Unit {0}} (WritingCause (tables_in old) u) (Err e) before after
     → Upholds {T = Unit {0}} 14 old before (Err e) new after
-out_failed u page place payload old new e before after ready same there spelled tells steps holds
+out_failed u page payload old new e before after ready same there spelled tells steps holds
     tidy draws accounts =
     tables_uphold 14 old new (Err e) before after ready same holds.known holds.active
-    (out_keeps (tables_in old) (tables_in new) (frames_in old) u page place payload before after
+    (out_keeps (tables_in old) (tables_in new) (frames_in old) u page payload before after
     (Err e) there spelled tells steps accounts) tidy draws
-    (out_accounts (tables_in old) u place (Err e) before after accounts)
+    (out_accounts (tables_in old) u (Err e) before after accounts)
 
 -- ---- done
 
@@ -96,7 +92,7 @@ cleared_frames old new u page did =
     did.frames ∙ ap (with_frame_at old u page) (ap Some did.changes
     ∙ sym (ap (option_map (λ g. with_frame_log g [])) did.there))
 
-pub out_done : (u page place : ℕ) (payload : List ℕ) (old new : Pages) (before after : Told)
+pub out_done : (u page : ℕ) (payload : List ℕ) (old new : Pages) (before after : Told)
     → IsReady before.places old → SpellsLog payload (logs_of (frames_in old) u page)
     → FrameChanges IsClearedFrame (frames_in old) (frames_in new) u page → KeepsPins old.pool new.pool
     → WritesOut before.places u payload (tables_in old) (tables_in new) before (Ok tt) after
@@ -104,14 +100,14 @@ pub out_done : (u page place : ℕ) (payload : List ℕ) (old new : Pages) (befo
     → Holds before.places (tables_in old) (tables_in new)
     → Tidies {T = Unit {0}} {E = ChipFault} (tables_in old) (Ok tt) (tables_in new) before after
     → (old.parts.counter ≤ new.parts.counter) × (new.parts.counter ≤ old.parts.counter + 14)
-    → Accounts {T = Unit {0}} {E = ChipFault} (WritingCause (tables_in old) u place) (Ok tt) before after
+    → Accounts {T = Unit {0}} {E = ChipFault} (WritingCause (tables_in old) u) (Ok tt) before after
     → Upholds {T = Unit {0}} 14 old before (Ok tt) new after
-out_done u page place payload old new before after ready spelled did pins tells steps holds tidy draws
+out_done u page payload old new before after ready spelled did pins tells steps holds tidy draws
     accounts =
     let is = cleared_frames (frames_in old) (frames_in new) u page did in record {
       keeps = subst (λ (later : Frames). KeepsState {T = Unit {0}} {E = ChipFault} (tables_in old)
           (frames_in old) before (Ok tt) (tables_in new) later after) (sym is)
-          (out_keeps (tables_in old) (tables_in new) (frames_in old) u page place payload before after
+          (out_keeps (tables_in old) (tables_in new) (frames_in old) u page payload before after
           (Ok tt) (subst IsSome (sym did.there) refl) spelled tells steps accounts);
       tidy = tidy;
       ready = record {
@@ -126,5 +122,5 @@ out_done u page place payload old new before after ready spelled did pins tells 
       pins = pins;
       least = draws.0;
       drawn = draws.1;
-      accounts = out_accounts (tables_in old) u place (Ok tt) before after accounts;
+      accounts = out_accounts (tables_in old) u (Ok tt) before after accounts;
     }

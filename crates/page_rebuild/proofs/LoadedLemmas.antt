@@ -3,6 +3,7 @@ use Rattle.std.proofs.Common.{◌≡◌, ◌<◌, ◌-◌, ℕ, suc, Bool, List,
 use Rattle.std.specs.List.{All}
 use Rattle.std.specs.Option.{option_or}
 use Rattle.std.proofs.lemmas.List.{get_or-replicate}
+use Rattle.std.proofs.lemmas.List.Elements.{All-filter}
 use Rattle.chip_trait.specs.Story.{Contents}
 use Rattle.ipl_rules.specs.State.{Map}
 use Rattle.ipl_format.specs.Page.{Slots, IsCutInto, page_text, value_in}
@@ -23,7 +24,9 @@ use Rattle.unit_io.specs.Faults.{page_fault, HoldsPage}
 use Rattle.unit_log.specs.declared.scratch.LogSector.{LogSector}
 use Rattle.unit_log.specs.declared.live.UnitHead.{UnitHead}
 use Rattle.unit_log.specs.Kept.{kept_of, records_kept}
-use Rattle.unit_log.specs.Live.{IsLive}
+use Rattle.ipl_meaning.specs.Masks.{of_page, is_of_page}
+use Rattle.ipl_meaning.proofs.MaskLemmas.{page_applied, page_last}
+use Rattle.unit_log.specs.Paged.{IsLiveOf}
 use Rattle.page_ops.specs.Frames.{FrameView, values_in, pending_in, kept_pending}
 use Rattle.page_rebuild.specs.Taken.{pending_of, pending_after, AreTaken}
 use Rattle.page_rebuild.specs.Loaded.{IsLoaded, HasPageOf, AreTables, base_fault}
@@ -54,73 +57,76 @@ module _ {places u place : ℕ} {c : Chart} {it : Layout} {t : Tables} {director
     {overflow : OverflowLists} {status : Status} {head : UnitHead} {kept : List LogSector}
     (are : AreTables places c it t directory overflow status)
     (low : u < length directory.current) (here : place ≡ slice_index directory.current u)
-    (live : IsLive it u head kept) where
+    (page : ℕ) (live : IsLiveOf it u page head kept) where
   place_is : place ≡ (it.units u).home
   place_is = here ∙ home_is are low
 
-  pub count_is : (page : ℕ) → slice_index head.pieces page ≡ slice_index (it.units u).pieces page
-  count_is page = ap (λ (l : List ℕ). slice_index l page) live.pieces
+  pub count_is : slice_index head.pieces page ≡ slice_index (it.units u).pieces page
+  count_is = ap (λ (l : List ℕ). slice_index l page) live.pieces
 
-  pub fault_is : (x : Contents) (page : ℕ)
+  pub fault_is : (x : Contents)
       → page_fault x place u head.generation page (slice_index head.pieces page)
       ≡ base_fault x it u page
-  fault_is x page = rw (place_is, live.generation, live.pieces) refl
+  fault_is x = rw (place_is, live.generation, live.pieces) refl
 
   committed_is : (tid : ℕ) → it.committed tid ≡ among status.numbers tid
   committed_is tid =
       among_from t.status.numbers tid (it.committed tid) (are.mirrored.mirrors.status.numbers tid)
       ∙ ap (λ (s : Status). among s.numbers tid) are.status_is
 
-  log_is : records_kept kept ≡ log_records_of (it.units u).log
+  log_is : records_kept kept ≡ log_records_of (of_page page (it.units u).log)
   log_is =
       ap records_kept live.log
-      ∙ kept_records c places u (it.units u).home (it.units u).head.generation (it.units u).log
-      (are.mirrored.mirrors.laid.each u (within are low)).log.each
+      ∙ kept_records c places u (it.units u).home (it.units u).head.generation (of_page page (it.units u).log)
+      (All-filter (is_of_page page) (IsEntry c places u (it.units u).home (it.units u).head.generation) (it.units u).log
+      (are.mirrored.mirrors.laid.each u (within are low)).log.each)
 
-  reads_well : (page : ℕ) (base : Slots)
+  reads_well : (base : Slots)
       → HoldsPage c place u head.generation page (slice_index head.pieces page) base
       → ReadsWell c u (it.units u) page base
-  reads_well page base held = record {
+  reads_well base held = record {
     fits = held.fits;
-    cut = subst (IsCutInto (page_text base)) (count_is page) held.cut;
+    cut = subst (IsCutInto (page_text base)) count_is held.cut;
     here = λ i less. ap (λ (p : ℕ). c p (base_sector_of page i)) (sym place_is)
-        ∙ held.here i (omega (arith, less, count_is page))
+        ∙ held.here i (omega (arith, less, count_is))
         ∙ ap (λ (g : ℕ). Some (base_sector u g page i (page_text base))) live.generation;
   }
 
   -- the records of the log give the values and the pending changes
-  values_shown : (page slot : ℕ) (value : Option (List ℕ))
+  values_shown : (slot : ℕ) (value : Option (List ℕ))
       → after_records (among status.numbers) page slot (records_kept kept) value
       ≡ after_records it.committed page slot (log_records_of (it.units u).log) value
-  values_shown page slot value =
+  values_shown slot value =
       let log = log_records_of (it.units u).log in
       ap (λ (l : List Record). after_records (among status.numbers) page slot l value) log_is
+      ∙ page_applied (among status.numbers) page slot (it.units u).log value
       ∙ sym (same_applied it.committed (among status.numbers) page slot log value
       (λ i d within. sym (committed_is _)))
 
-  pending_left : (active : ℕ → Bool) (page slot : ℕ) (f : FrameView)
+  pending_left : (active : ℕ → Bool) (slot : ℕ) (f : FrameView)
       → f.pending ≡ replicate 64 None → slot < 64
       → pending_after active page slot (records_kept kept) (pending_in f slot)
       ≡ pending_of (last_that (counts_for active page slot) (log_records_of (it.units u).log) None)
-  pending_left active page slot f none low =
+  pending_left active slot f none low =
       ap (λ (l : List Record). pending_after active page slot l (pending_in f slot)) log_is
-      ∙ ap (pending_after active page slot (log_records_of (it.units u).log))
+      ∙ ap (pending_after active page slot (log_records_of (of_page page (it.units u).log)))
       (none_pending f slot none low)
       ∙ or_none _
+      ∙ ap pending_of (page_last active page slot (it.units u).log None)
 
-  pub loaded : {f g : FrameView} (page : ℕ) (active : List ℕ)
+  pub loaded : {f g : FrameView} (active : List ℕ)
       → HoldsPage c place u head.generation page (slice_index head.pieces page) f.page
       → f.pending ≡ replicate 64 None
       → AreTaken (among status.numbers) (among active) page (records_kept kept) f g
       → IsLoaded c it (among active) u page g
-  loaded {f} {g} page active held none taken = record {
+  loaded {f} {g} active held none taken = record {
     shows = record {
       base = f.page;
-      reads = reads_well page f.page held;
-      says = λ slot less. taken.values slot less ∙ values_shown page slot (value_in f.page slot);
+      reads = reads_well f.page held;
+      says = λ slot less. taken.values slot less ∙ values_shown slot (value_in f.page slot);
     };
     pending = λ slot less. taken.pending slot less
-        ∙ pending_left (among active) page slot f none less;
+        ∙ pending_left (among active) slot f none less;
   }
 
 -- whatever map the chart stands for, the frame has that map's page

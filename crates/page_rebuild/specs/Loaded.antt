@@ -16,7 +16,7 @@ use Rattle.unit_io.specs.Reads.{OfContents}
 use Rattle.unit_io.specs.ReadsAt.{IsCauseAt}
 use Rattle.unit_io.specs.Spots.{IsPieceSpot}
 use Rattle.unit_log.specs.Live.{AreMirrored}
-use Rattle.unit_log.specs.Looks.{IsLogRead}
+use Rattle.unit_log.specs.Paged.{IsPageLogRead}
 use Rattle.page_ops.specs.Frames.{FrameView, values_in, pending_in}
 use Rattle.page_rebuild.specs.Taken.{pending_of}
 
@@ -58,11 +58,11 @@ base_fault x it u page = page_fault x (it.units u).home u (it.units u).head.gene
 abbrev pub IsBaseRead : ℕ → ℕ → ℕ → ℕ → ℕ → Type 0
 IsBaseRead home page pieces p s = (p ≡ home) × IsPieceSpot page pieces s
 
--- where a page may be read: where its unit's log may, and its base sectors
+-- where a page may be read: its unit's header, these spots, and its base sectors
 abbrev pub IsLoadRead : ℕ → List (ℕ × ℕ) → ℕ → ℕ → ℕ → Type 0
-IsLoadRead home spots page p s = IsLogRead home spots p s ⊎ IsBaseRead home page PAGE_SECTORS p s
+IsLoadRead home spots page p s = IsPageLogRead home spots p s ⊎ IsBaseRead home page PAGE_SECTORS p s
 
--- why a page isn't loaded, whatever the chip tells: its unit's log isn't read, or its base page
+-- why a page isn't loaded, whatever the chip tells: its log isn't read, or its base page
 abbrev pub IsLoadCause : ℕ → List (ℕ × ℕ) → ℕ → ChipFault → Told → Told → Type 0
 IsLoadCause home spots page fault old new =
-    IsCauseAt (IsLogRead home spots) fault old new ⊎ IsPageCause home page fault old new
+    IsCauseAt (IsPageLogRead home spots) fault old new ⊎ IsPageCause home page fault old new

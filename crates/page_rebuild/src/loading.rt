@@ -1,16 +1,17 @@
 //! A page is read, and its unit's log.
-ghost use Rattle.std.specs.Prelude.{◌≡◌, ◌≤◌, ◌<◌, ℕ, length, slice_index, All, IfErr, OnOk, OnErr};
+ghost use Rattle.std.specs.Prelude.{◌≡◌, ◌≤◌, ◌<◌, ◌+◌, ℕ, length, slice_index, All, IfErr, OnOk, OnErr};
 ghost use Rattle.chip_trait.specs.Told.{Told};
 ghost use Rattle.ipl_rules.specs.State.{Map};
 ghost use Rattle.ipl_format.specs.Page.{empty_page};
 ghost use Rattle.ipl_meaning.specs.Chart.{chart_of};
 ghost use Rattle.ipl_meaning.specs.Allowed.{IsAllowed};
+ghost use Rattle.ipl_meaning.specs.Masks.{of_page};
 ghost use Rattle.ipl_meaning.specs.Stands.{Stands};
-ghost use Rattle.overflow.specs.Lists.{spots_in};
 ghost use Rattle.number_set.specs.Numbers.{among};
 ghost use Rattle.unit_io.specs.Faults.{page_fault, TellsChipFault, HoldsPage, IsPageCause};
 ghost use Rattle.unit_io.specs.Reads.{OfContents};
 ghost use Rattle.unit_io.specs.ReadsAt.{ReadsAt};
+ghost use Rattle.unit_log.specs.Paged.{page_spots, AddsAtMost};
 ghost use Rattle.page_ops.specs.Frames.{empty_frame};
 ghost use Rattle.page_rebuild.specs.Loaded.{IsLoaded, OfTables, HasPageOf, IsBaseRead, IsLoadRead, IsLoadCause, base_fault};
 ghost use Rattle.page_rebuild.specs.Keeps.{KeepsWhatRests};
@@ -24,7 +25,7 @@ use sector_format::Head;
 use txn_status::Status;
 use unit_directory::Directory;
 use unit_io::read_page;
-use unit_log::{Scratch, UnitHead, read_live};
+use unit_log::{Scratch, UnitHead, read_page_log};
 
 /// Reads the base sectors of a page (0 to 14) into a frame, as many as the header of its unit says,
 /// at most 16. After a fault the frame's page is empty.
@@ -49,6 +50,7 @@ fn read_base<C: Chip>(
     ensures pending { frame.new.pending ≡ frame.old.pending }
     ensures reads { ReadsAt (IsBaseRead place page (slice_index header.now.pieces page))
         (C.told chip.old) (C.told chip.new) }
+    ensures count { AddsAtMost 16 (C.told chip.old) (C.told chip.new) }
     ensures cause { IfErr result (λ e.
         IsPageCause place page e (C.told chip.old) (C.told chip.new)) }
 {
@@ -62,8 +64,8 @@ fn read_base<C: Chip>(
     read_page(chip, place, &head, page, pieces, frame.committed_mut())
 }
 
-/// Loads a page (0 to 14) into a frame. The unit's header and log are read and then the base
-/// sectors of the page. Records of committed numbers become values; of those of active numbers the
+/// Loads a page (0 to 14) into a frame. The unit's header is read, those of its live log sectors that
+/// have a record of the page, and then the base sectors of the page. Records of committed numbers become values; of those of active numbers the
 /// last one on each slot is pending there. What was in the frame and in the scratch memory before
 /// is gone, however the call ends, and after a fault the frame is empty.
 ///
@@ -97,19 +99,23 @@ pub fn load<C: Chip>(
 
     // What it reads, and why it fails.
     ensures allowed { OfTables (C.told chip.old) directory.now overflow.now status.now
-        (λ x it. ReadsAt (IsAllowed (chart_of x) (C.told chip.old).places it unit page)
-        (C.told chip.old) (C.told chip.new)) }
+        (λ x it. ReadsAt (IsAllowed it unit page) (C.told chip.old) (C.told chip.new)) }
+    ensures count { OnOk result (OfTables (C.told chip.old) directory.now overflow.now status.now
+        (λ x it. AddsAtMost (17 + length (of_page page (it.units unit).log))
+        (C.told chip.old) (C.told chip.new))) }
     ensures reads { ReadsAt
-        (IsLoadRead (slice_index directory.now.current unit) (spots_in overflow.now unit) page)
+        (IsLoadRead (slice_index directory.now.current unit)
+        (page_spots directory.now overflow.now unit page) page)
         (C.told chip.old) (C.told chip.new) }
     ensures keeps { KeepsWhatRests result (C.told chip.old) (C.told chip.new) }
     ensures cause { IfErr result (λ e. IsLoadCause
-        (slice_index directory.now.current unit) (spots_in overflow.now unit) page e
+        (slice_index directory.now.current unit)
+        (page_spots directory.now overflow.now unit page) page e
         (C.told chip.old) (C.told chip.new)) }
 {
     *frame = Frame::empty();
     let place = directory.current(unit);
-    let header = read_live(chip, directory, overflow, unit, scratch)?;
+    let header = read_page_log(chip, directory, overflow, unit, page, scratch)?;
     read_base(chip, place, unit, &header, page, frame)?;
     take_sectors(frame, page, scratch.sectors(), status, active);
     Ok(())

@@ -110,13 +110,13 @@ unwritten_fits t after frames e old new slots places settled same turns =
 
 -- ---- the law
 
-soft : (t : Tables) (u place : ℕ) (e : ChipFault) (old new : Told)
-    → WritingCause t u place e old new → Settled {T = Unit {0}} (Err e) old new → e ≢ Stopped
-soft t u place e old new cause unrisen is =
-    let risen = writing_rose t u place e old new cause is in omega (arith, risen, unrisen)
+soft : (t : Tables) (u : ℕ) (e : ChipFault) (old new : Told)
+    → WritingCause t u e old new → Settled {T = Unit {0}} (Err e) old new → e ≢ Stopped
+soft t u e old new cause unrisen is =
+    let risen = writing_rose t u e old new cause is in omega (arith, risen, unrisen)
 
 pub writings_keep_states : WritingsKeepStates
-writings_keep_states t after frames u page place f payload old new (Ok v) there spelled tells steps cause
+writings_keep_states t after frames u page f payload old new (Ok v) there spelled tells steps cause
     slots = record {
       fits = λ places same settled.
           subst (λ (n : ℕ). Charts (λ c y. (it : Layout) (state : State)
@@ -140,12 +140,12 @@ writings_keep_states t after frames u page place f payload old new (Ok v) there 
           (payload_of_frame places (now h) it t frames slots state u page f payload story.fits there
           spelled);
     }
-writings_keep_states t after frames u page place f payload old new (Err e) there spelled tells steps cause
+writings_keep_states t after frames u page f payload old new (Err e) there spelled tells steps cause
     slots = record {
       fits = λ places same settled.
           unwritten_fits t after frames e old new slots places settled same
           (subst (λ (n : ℕ). Charts (TurnsTables n t after) old new) same
-          (tells (soft t u place e old new cause settled)));
+          (tells (soft t u e old new cause settled)));
       steps = λ places h it state same steady story.
           (subst (λ (n : ℕ). WritesOutInSteps n payload t after old (Err e) new) same steps)
           state.map it f.log h steady story.rests

@@ -2,7 +2,6 @@ mod SpotLemmas
 mod LogLemmas
 pub mod RoomLemmas
 mod FoundLemmas
-mod RoomStepLemmas
 mod OutLemmas
 pub mod KeepLemmas
 mod CauseLemmas

@@ -1,11 +1,12 @@
 -- A log sector, written at a spot of its unit.
-use Rattle.std.proofs.Common.{◌≡◌, ◌<◌, ◌+◌, ◌-◌, ℕ, List, Ok, Err, Result, IfErr, OnOk, inl, inr, refl, sym, ◌∙◌, subst, arith}
+use Rattle.std.proofs.Common.{◌≡◌, ◌<◌, ◌+◌, ◌-◌, ℕ, List, slice_index, Ok, Err, Result, IfErr, OnOk, inl, inr, refl, sym, ◌∙◌, ap, subst, arith}
 use Rattle.std.specs.List.{Contains}
 use Rattle.std.proofs.lemmas.List.Elements.{All-contains}
 use Rattle.chip_trait.specs.Chart.{with_sector}
 use Rattle.chip_trait.specs.Lawful.{Clean, age}
 use Rattle.chip_trait.specs.Told.{History, Told}
 use Rattle.ipl_base.specs.declared.fault.ChipFault.{ChipFault}
+use Rattle.ipl_base.specs.declared.spot.Spot.{Spot}
 use Rattle.ipl_format.specs.Record.{Record, SpellsLog}
 use Rattle.ipl_format.specs.Sector.{Sector}
 use Rattle.ipl_format.proofs.RecordLemmas.{logs_spell_once}
@@ -13,6 +14,8 @@ use Rattle.ipl_rules.specs.State.{Map}
 use Rattle.ipl_meaning.specs.Chart.{Chart}
 use Rattle.ipl_meaning.specs.Found.{MentionsBelow}
 use Rattle.ipl_meaning.specs.Layout.{Entry, Layout, Laid}
+use Rattle.log_records.proofs.RecordsLemmas.{records_list}
+use Rattle.ipl_meaning.specs.Masks.{mask_of}
 use Rattle.ipl_meaning.specs.Mirrors.{Mirrors, NoneIsLost}
 use Rattle.ipl_meaning.specs.Rests.{now, EachStands, StoryRests}
 use Rattle.ipl_meaning.specs.Steps.{KeepsPages, MayLog, with_log, entry_at}
@@ -28,19 +31,18 @@ use Rattle.unit_io.specs.Leads.{IsSteady, IsStopped, KeepsMap, RestsWith}
 use Rattle.unit_io.specs.Spots.{Programs, IsSpot}
 use Rattle.steps.proofs.StepLemmas.{writes_are_steps, failed_writes_are_steps}
 use Rattle.selective_merge.specs.Spotting.{IsSpotFor}
-use Rattle.page_writing.specs.declared.rooms.LogSpot.{LogSpot}
-use Rattle.page_writing.specs.Writing.{IsAfterLog, IsLogOf, IsToLog, HasLogSector, WritesLog, WritesLogInSteps}
+use Rattle.page_writing.specs.Writing.{mask_by, IsAfterLog, IsLogOf, IsToLog, HasLogSector, WritesLog, WritesLogInSteps}
 use Rattle.page_writing.proofs.SpotLemmas.{spot_counted, spot_of_log, log_active}
 
-module _ (places : ℕ) (c : Chart) (it : Layout) (t : Tables) (u : ℕ) (at : LogSpot)
+module _ (places : ℕ) (c : Chart) (it : Layout) (t : Tables) (u : ℕ) (at : Spot)
     (payload : List ℕ) (records : List Record) (sector : Sector) (low : u < places - 4)
-    (asked : IsToLog places c it t u at.generation payload records)
-    (is : IsLogOf u at.generation t.next payload sector) where
+    (asked : IsToLog places c it t payload records)
+    (is : IsLogOf u (slice_index t.places.generations u) t.next payload sector) where
   abbrev p : ℕ
-  p = at.spot.place
+  p = at.place
 
   abbrev s : ℕ
-  s = at.spot.sector
+  s = at.sector
 
   abbrev mirrors : Mirrors places c it t
   mirrors = asked.mirrors
@@ -52,7 +54,7 @@ module _ (places : ℕ) (c : Chart) (it : Layout) (t : Tables) (u : ℕ) (at : L
   fresh = record {
     kind = is.kind;
     of_unit = is.of_unit;
-    of_generation = is.of_generation ∙ asked.generation_is;
+    of_generation = is.of_generation ∙ mirrors.directory.generation u low;
     new = let serial = is.serial_is in omega (arith, serial);
     spelled = here;
     active = asked.payload_of.active;
@@ -67,7 +69,7 @@ module _ (places : ℕ) (c : Chart) (it : Layout) (t : Tables) (u : ℕ) (at : L
 
   -- ---- the counter is above all that the sector mentions
 
-  generation_low : at.generation < t.next
+  generation_low : slice_index t.places.generations u < t.next
   generation_low =
       let unit = mirrors.laid.each u low in
       let head = (it.units u).head in
@@ -86,7 +88,7 @@ module _ (places : ℕ) (c : Chart) (it : Layout) (t : Tables) (u : ℕ) (at : L
         ),
         inl refl,
       ) in
-      let same = asked.generation_is in omega (arith, below, same)
+      let same = mirrors.directory.generation u low in omega (arith, below, same)
 
   mentions : MentionsBelow (t.next + 1) sector
   mentions n (inl same) = let e = is.of_generation in omega (arith, same, e, generation_low)
@@ -104,26 +106,29 @@ module _ (places : ℕ) (c : Chart) (it : Layout) (t : Tables) (u : ℕ) (at : L
 
   -- ---- the tables follow
 
+  mask_is : mask_by payload ≡ mask_of records
+  mask_is = ap mask_of (records_list records payload asked.payload_of.spelled)
+
   abbrev entry : Entry
   entry = entry_at p s sector records
 
-  follows : (after : Tables) → IsAfterLog t after u p s (t.next + 1)
+  follows : (after : Tables) → IsAfterLog t after u p s (mask_by payload) (t.next + 1)
       → Mirrors places (with_sector c p s sector) (with_log it u entry) after
-  follows after (inl (home, then_is)) = rw (then_is, home.place, home.sector)
+  follows after (inl (home, then_is)) = rw (then_is, mask_is, home.place, home.sector)
       (tables_follow_home_logs places c it t u (t.next + 1) sector records mirrors low home.left
       fresh (omega arith) mentions)
-  follows after (inr (over, then_is)) = rw then_is
+  follows after (inr (over, then_is)) = rw (then_is, mask_is)
       (tables_follow_overflow_logs places c it t u p s (t.next + 1) sector records mirrors low
       over.first over.within.0 over.within.1 over.few fresh (omega arith) mentions)
 
-  pub shrinks : (after : Tables) → IsAfterLog t after u p s (t.next + 1)
+  pub shrinks : (after : Tables) → IsAfterLog t after u p s (mask_by payload) (t.next + 1)
       → CountedShrink t after p s
   shrinks after (inl (home, then_is)) = rw (then_is, home.place, home.sector)
-      ((counted_follow places c it t mirrors).0 u (t.next + 1) low)
+      ((counted_follow places c it t mirrors).0 u (mask_by payload) (t.next + 1) low)
   shrinks after (inr (over, then_is)) = rw then_is
-      ((counted_follow places c it t mirrors).1 u p s (t.next + 1) over.first)
+      ((counted_follow places c it t mirrors).1 u p s (mask_by payload) (t.next + 1) over.first)
 
-  pub sector_stands : (after : Tables) (y : Chart) → IsAfterLog t after u p s (t.next + 1)
+  pub sector_stands : (after : Tables) (y : Chart) → IsAfterLog t after u p s (mask_by payload) (t.next + 1)
       → NoneIsLost places after → Gains p s sector c y
       → HasLogSector places c it t u at payload records y after
   sector_stands after y tables none gains = record {
@@ -137,10 +142,10 @@ module _ (places : ℕ) (c : Chart) (it : Layout) (t : Tables) (u : ℕ) (at : L
       mirrors = subst (λ (z : Chart). Mirrors places z (with_log it u entry) after) (sym gains)
           (follows after tables);
       none_lost = none;
-      active = log_active t after u p s (t.next + 1) tables;
+      active = log_active t after u p s (mask_by payload) (t.next + 1) tables;
       pages = subst (λ (z : Chart). KeepsPages places c it z (with_log it u entry)) (sym gains)
           (log_sectors_wait places c it u p s sector records mirrors.laid
-          (may (spot_of_log t after u p s (t.next + 1) tables))).1;
+          (may (spot_of_log t after u p s (mask_by payload) (t.next + 1) tables))).1;
     };
     entry_is = refl;
   }
@@ -155,12 +160,12 @@ JoinsLog places p s sector old result new =
     → MayLog places (now h) it u p s sector records → age h.story p s ≡ Clean
     → KeepsMap places m (Programs p (IsSpot s)) (λ done. Gains p s sector) h old result new
 
-module _ (places u : ℕ) (at : LogSpot) (payload : List ℕ) (t after : Tables) (sector : Sector)
-    (old new : Told) (low : u < places - 4) (is : IsLogOf u at.generation t.next payload sector)
+module _ (places u : ℕ) (at : Spot) (payload : List ℕ) (t after : Tables) (sector : Sector)
+    (old new : Told) (low : u < places - 4) (is : IsLogOf u (slice_index t.places.generations u) t.next payload sector)
   where
-    pub log_told : IsAfterLog t after u at.spot.place at.spot.sector (t.next + 1)
+    pub log_told : IsAfterLog t after u at.place at.sector (mask_by payload) (t.next + 1)
         → NoneIsLost places after
-        → Charts (Gains at.spot.place at.spot.sector sector) old new
+        → Charts (Gains at.place at.sector sector) old new
         → Charts (WritesLog places u at payload t after) old new
     log_told tables none gained x told =
         let (y, there, gains) = gained x told in (
@@ -171,13 +176,13 @@ module _ (places u : ℕ) (at : LogSpot) (payload : List ℕ) (t after : Tables)
         )
 
     abbrev Spot_p : ℕ
-    Spot_p = at.spot.place
+    Spot_p = at.place
 
     abbrev Spot_s : ℕ
-    Spot_s = at.spot.sector
+    Spot_s = at.sector
 
     pub log_steps : (result : Result (Unit {0}) ChipFault) → IsSpotFor t u Spot_p Spot_s
-        → OnOk result (IsAfterLog t after u Spot_p Spot_s (t.next + 1))
+        → OnOk result (IsAfterLog t after u Spot_p Spot_s (mask_by payload) (t.next + 1))
         → JoinsLog places Spot_p Spot_s sector old result new
         → IfErr result (λ fault. IsStopped fault old new)
         → WritesLogInSteps places u at payload t after old result new

@@ -11,7 +11,7 @@ use Rattle.ipl_meaning.specs.Tables.{Tables}
 use Rattle.unit_io.specs.Charts.{Charts}
 use Rattle.steps.specs.Steps.{NoOtherEnd}
 use Rattle.store_steps.proofs.StepLemmas.{steps_then, steps_weaker}
-use Rattle.page_writing.specs.declared.rooms.LogSpot.{LogSpot}
+use Rattle.ipl_base.specs.declared.spot.Spot.{Spot}
 use Rattle.page_writing.specs.Rooms.{MakesLogRoom, RestsWithLogRoom, FindsRoomInSteps}
 use Rattle.page_writing.specs.Writing.{IsPayloadOf, WritesLog, WritesLogInSteps, WritesRecords, WritesOut, WritesOutInSteps}
 
@@ -28,7 +28,7 @@ pub stopped_told : (places u : ℕ) (payload : List ℕ) (t after : Tables) (e :
     (old new : Told) → e ≡ Stopped → WritesOut places u payload t after old (Err e) new
 stopped_told places u payload t after e old new is = λ soft. absurd (soft is)
 
-module _ (places u : ℕ) (at : LogSpot) (payload : List ℕ) (t between after : Tables)
+module _ (places u : ℕ) (at : Spot) (payload : List ℕ) (t between after : Tables)
     (old mid new : Told) where
   pub out_told : Charts (MakesLogRoom places u t between at) old mid
       → Charts (WritesLog places u at payload between after) mid new
@@ -46,7 +46,6 @@ module _ (places u : ℕ) (at : LogSpot) (payload : List ℕ) (t between after :
               room = room;
               log = writes room.turned.layout records (record {
                 mirrors = room.turned.mirrors;
-                generation_is = room.generation;
                 payload_of = payload_still t between payload records room.turned.active payload_of;
               });
             },
@@ -66,10 +65,9 @@ module _ (places u : ℕ) (at : LogSpot) (payload : List ℕ) (t between after :
       (first.steady tt) there.rests
       (record { mirrors = turned.mirrors; tidy = there.tidy }) (record {
         mirrors = turned.mirrors;
-        generation_is = there.room.generation;
         payload_of = payload_still t between payload records turned.active payload_of;
       }) in
-      steps_then LogSpot (Unit {0}) ChipFault ChipFault Each Each Each t between after
+      steps_then Spot (Unit {0}) ChipFault ChipFault Each Each Each t between after
       (λ at k. RestsWithLogRoom places m (now h) it t u between at k) (λ k. StoryRests places m k)
       (λ v k. StoryRests places m k) (λ k. StoryRests places m k) h at result old mid new
       (λ k is. is) (λ k is. is) counts first

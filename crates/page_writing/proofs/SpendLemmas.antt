@@ -41,36 +41,6 @@ both_lowest before later earlier one two p is = elim (cases_Bool (is_erased late
       ∙ (sym (erased_joined later earlier p) ∙ is))
 ]
 
--- ---- room
-
--- reads alone
-pub frees_read : (At : ℕ → ℕ → Type 0) (before : Places) (old new : Told) → ReadsAt At old new
-    → Spends (ErasesFree before) old new
-frees_read At before old new did = spends_weaker (Costs 0 0 0 []) (ErasesFree before) old new
-    (λ added costs. record {
-      costs = costs_at_most 0 1 0 0 0 3 [] [] added (omega arith) (omega arith) (omega arith)
-          (λ kind has. has) costs;
-      lowest = nothing_lowest before added costs.erased;
-    }) (spends_reads At [] old new did)
-
--- reads first
-pub frees_behind : (At : ℕ → ℕ → Type 0) (before : Places) (old mid new : Told)
-    → ReadsAt At old mid → Spends (ErasesFree before) mid new → Spends (ErasesFree before) old new
-frees_behind At before old mid new did = spends_then (Costs 0 0 0 []) (ErasesFree before)
-    (ErasesFree before) old mid new (λ later earlier costs does. record {
-      costs = costs_then 0 1 0 0 0 3 [] later earlier costs does.costs;
-      lowest = both_lowest before later earlier does.lowest (nothing_lowest before earlier costs.erased);
-    }) (spends_reads At [] old mid did)
-
--- reads last
-pub frees_then_reads : (At : ℕ → ℕ → Type 0) (before : Places) (old mid new : Told)
-    → Spends (ErasesFree before) old mid → ReadsAt At mid new → Spends (ErasesFree before) old new
-frees_then_reads At before old mid new spent did = spends_then (ErasesFree before)
-    (Costs 0 0 0 []) (ErasesFree before) old mid new (λ later earlier does costs. record {
-      costs = costs_then 1 0 0 0 3 0 [] later earlier does.costs costs;
-      lowest = both_lowest before later earlier (nothing_lowest before later costs.erased) does.lowest;
-    }) spent (spends_reads At [] mid new did)
-
 -- ---- the log sector
 
 -- no kind is listed
@@ -103,53 +73,30 @@ frees_then_logs before place old mid new = spends_then (ErasesFree before) (Prog
 
 -- ---- room, and whether the unit's home has some
 
-pub reads_room : (At : ℕ → ℕ → Type 0) (t : Tables) (u : ℕ) (old new : Told) → ReadsAt At old new
-    → RoomCosts t t u old new
-reads_room At t u old new did = record {
-  home = λ has. (refl, spends_reads At [] old new did);
-  any = frees_read At t.places old new did;
-}
-
--- reads first
-pub room_behind : (At Never : ℕ → ℕ → Type 0) (t after : Tables) (u : ℕ) (old mid new : Told)
-    → ReadsAt At old mid → (HasHomeSpot t u → (after ≡ t) × ReadsAt Never mid new)
-    → Spends (ErasesFree t.places) mid new → RoomCosts t after u old new
-room_behind At Never t after u old mid new reads home costs = record {
-  home = λ has.
-      let (same, read) = home has in (
-        same,
-        reads_both old mid new (spends_reads At [] old mid reads)
-            (spends_reads Never [] mid new read),
-      );
-  any = frees_behind At t.places old mid new reads costs;
-}
-  where
-    reads_both : (old mid new : Told) → Spends (Costs 0 0 0 []) old mid
-        → Spends (Costs 0 0 0 []) mid new → Spends (Costs 0 0 0 []) old new
-    reads_both old mid new = spends_then (Costs 0 0 0 []) (Costs 0 0 0 []) (Costs 0 0 0 []) old mid new
-        (λ later earlier one two. costs_then 0 0 0 0 0 0 [] later earlier one two)
-
--- reads last
-pub room_then_reads : (At : ℕ → ℕ → Type 0) (t after : Tables) (u : ℕ) (old mid new : Told)
-    → RoomCosts t after u old mid → ReadsAt At mid new → RoomCosts t after u old new
-room_then_reads At t after u old mid new did reads = record {
-  home = λ has.
-      let (same, read) = did.home has in (
-        same,
-        spends_then (Costs 0 0 0 []) (Costs 0 0 0 []) (Costs 0 0 0 []) old mid new
-            (λ later earlier one two. costs_then 0 0 0 0 0 0 [] later earlier one two) read
-            (spends_reads At [] mid new reads),
-      );
-  any = frees_then_reads At t.places old mid new did.any reads;
+-- by what the call says that makes it
+pub room_costs : (Never : ℕ → ℕ → Type 0) (t after : Tables) (u : ℕ) (old new : Told)
+    → (HasHomeSpot t u → (after ≡ t) × ReadsAt Never old new)
+    → Spends (ErasesFree t.places) old new → RoomCosts t after u old new
+room_costs Never t after u old new home costs = record {
+  home = λ has. let (same, read) = home has in (same, spends_reads Never [] old new read);
+  any = costs;
 }
 
 -- ---- the log sector, and whether it goes home
 
 -- what counts as written then
-pub log_uses : (t after : Tables) (u p s next : ℕ) → IsAfterLog t after u p s next
+pub log_uses : (t after : Tables) (u p s mask next : ℕ) → IsAfterLog t after u p s mask next
     → UsesHome (Ok tt) t.places after.places u
-log_uses t after u p s next (inl (home, is)) = inr (ap (λ (x : Tables). x.places) is)
-log_uses t after u p s next (inr (over, is)) = inl (ap (λ (x : Tables). x.places) is)
+log_uses t after u p s mask next (inl (home, is)) = inr (record {
+  current = ap (λ (x : Tables). x.places.current) is;
+  in_use = ap (λ (x : Tables). x.places.in_use) is;
+  written = ap (λ (x : Tables). x.places.written) is;
+})
+log_uses t after u p s mask next (inr (over, is)) = inl (record {
+  current = ap (λ (x : Tables). x.places.current) is;
+  in_use = ap (λ (x : Tables). x.places.in_use) is;
+  written = ap (λ (x : Tables). x.places.written) is;
+})
 
 -- no room was found
 pub unplaced_costs : (e : ChipFault) (t after : Tables) (u : ℕ) (old new : Told)

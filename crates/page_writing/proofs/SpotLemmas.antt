@@ -4,7 +4,7 @@ use Rattle.std.specs.List.{AllPairs, Contains}
 use Rattle.std.proofs.lemmas.List.{length-set, length-map}
 use Rattle.std.proofs.lemmas.List.Elements.{All-contains}
 use Rattle.ipl_meaning.specs.Mirrors.{AreApart}
-use Rattle.ipl_meaning.specs.Tables.{Tables, IsCountedClean, overflow_places, spots_of, with_written}
+use Rattle.ipl_meaning.specs.Tables.{Tables, IsCountedClean, overflow_places, spots_of, with_written, with_mask, first_log}
 use Rattle.ipl_meaning.specs.TableSteps.{after_overflow_log, with_next, with_next_spot}
 use Rattle.ipl_meaning.proofs.CountedLemmas.{same_places}
 use Rattle.unit_directory.specs.Directory.{IsSoundDirectory}
@@ -59,27 +59,27 @@ spot_drawn t n u p s (inr over) =
 
 -- ---- the tables once it is written
 
-pub spot_of_log : (t after : Tables) (u p s next : ℕ) → IsAfterLog t after u p s next
+pub spot_of_log : (t after : Tables) (u p s mask next : ℕ) → IsAfterLog t after u p s mask next
     → IsSpotFor t u p s
-spot_of_log t after u p s next (inl (home, is)) = inl home
-spot_of_log t after u p s next (inr (over, is)) = inr over
+spot_of_log t after u p s mask next (inl (home, is)) = inl home
+spot_of_log t after u p s mask next (inr (over, is)) = inr over
 
 -- a spot that isn't at home is one of an overflow place
-pub after_overflow : (t after : Tables) (u p s : ℕ) → FirstSpotsAreAdded → IsSpotFor t u p s
+pub after_overflow : (t after : Tables) (u p s mask : ℕ) → FirstSpotsAreAdded → IsSpotFor t u p s
     → ¬ IsHomeSpot t u p s → AllPairs AreApart (overflow_places t)
-    → after.overflow ≡ after_add t.overflow u p s → after.places ≡ t.places
+    → after.overflow ≡ after_add t.overflow u p s mask → after.places ≡ t.places
     → after.status ≡ t.status → after.next ≡ t.next → after.active ≡ t.active
-    → IsAfterLog t after u p s t.next
-after_overflow t after u p s adds (inl home) other apart overflow places status next active =
+    → IsAfterLog t after u p s mask t.next
+after_overflow t after u p s mask adds (inl home) other apart overflow places status next active =
     absurd (other home)
-after_overflow t after u p s adds (inr spot) other apart overflow places status next active = inr (
+after_overflow t after u p s mask adds (inr spot) other apart overflow places status next active = inr (
   spot,
-  tables_are (overflow ∙ adds t u p s t.next apart spot.first) places status next active,
+  tables_are (overflow ∙ adds t u p s mask t.next apart spot.first) places status next active,
 )
   where
-    tables_are : after.overflow ≡ (after_overflow_log t u p s t.next).overflow
+    tables_are : after.overflow ≡ (after_overflow_log t u p s mask t.next).overflow
         → after.places ≡ t.places → after.status ≡ t.status → after.next ≡ t.next
-        → after.active ≡ t.active → after ≡ after_overflow_log t u p s t.next
+        → after.active ≡ t.active → after ≡ after_overflow_log t u p s mask t.next
     tables_are one two three four five = λ i. record {
       places = two i;
       overflow = one i;
@@ -89,22 +89,22 @@ after_overflow t after u p s adds (inr spot) other apart overflow places status 
     }
 
 -- a number was drawn before
-pub drawn_before : (t after : Tables) (n u p s next : ℕ) → IsAfterLog (with_next t n) after u p s next
-    → IsAfterLog t after u p s next
-drawn_before t after n u p s next (inl (home, is)) =
+pub drawn_before : (t after : Tables) (n u p s mask next : ℕ) → IsAfterLog (with_next t n) after u p s mask next
+    → IsAfterLog t after u p s mask next
+drawn_before t after n u p s mask next (inl (home, is)) =
     inl (record { left = home.left; place = home.place; sector = home.sector }, is)
-drawn_before t after n u p s next (inr (over, is)) =
+drawn_before t after n u p s mask next (inr (over, is)) =
     inr (record { first = over.first; within = over.within; few = over.few }, is)
 
-pub log_active : (t after : Tables) (u p s next : ℕ) → IsAfterLog t after u p s next
+pub log_active : (t after : Tables) (u p s mask next : ℕ) → IsAfterLog t after u p s mask next
     → after.active ≡ t.active
-log_active t after u p s next (inl (home, is)) = ap (λ (x : Tables). x.active) is
-log_active t after u p s next (inr (over, is)) = ap (λ (x : Tables). x.active) is
+log_active t after u p s mask next (inl (home, is)) = ap (λ (x : Tables). x.active) is
+log_active t after u p s mask next (inr (over, is)) = ap (λ (x : Tables). x.active) is
 
-log_status : (t after : Tables) (u p s next : ℕ) → IsAfterLog t after u p s next
+log_status : (t after : Tables) (u p s mask next : ℕ) → IsAfterLog t after u p s mask next
     → after.status ≡ t.status
-log_status t after u p s next (inl (home, is)) = ap (λ (x : Tables). x.status) is
-log_status t after u p s next (inr (over, is)) = ap (λ (x : Tables). x.status) is
+log_status t after u p s mask next (inl (home, is)) = ap (λ (x : Tables). x.status) is
+log_status t after u p s mask next (inr (over, is)) = ap (λ (x : Tables). x.status) is
 
 -- the tables know each place where a number is drawn
 pub known_drawn : (places : ℕ) (t : Tables) (n : ℕ) → KnowsPlaces places t
@@ -139,9 +139,9 @@ holds_then places t between after first second = record {
 }
 
 -- the same places are a unit's, the status place or an overflow place
-module _ (places : ℕ) (t : Tables) (u p s next : ℕ) (known : KnowsPlaces places t) where
+module _ (places : ℕ) (t : Tables) (u p s mask next : ℕ) (known : KnowsPlaces places t) where
   home_known : KnowsPlaces places (record {
-    places = with_written t.places u;
+    places = with_mask (with_written t.places u) u (first_log t u) mask;
     overflow = t.overflow;
     status = t.status;
     next = next;
@@ -164,7 +164,7 @@ module _ (places : ℕ) (t : Tables) (u p s next : ℕ) (known : KnowsPlaces pla
   }
 
   abbrev over : Tables
-  over = after_overflow_log t u p s next
+  over = after_overflow_log t u p s mask next
 
   back : (q : ℕ) → Contains (overflow_places over) q → Contains (overflow_places t) q
   back q has = subst (λ (l : List ℕ). Contains l q) (same_places p t.overflow.in_use) has
@@ -206,13 +206,34 @@ module _ (places : ℕ) (t : Tables) (u p s next : ℕ) (known : KnowsPlaces pla
     status_placed = known.status_placed;
   }
 
-  pub log_known : (after : Tables) → IsAfterLog t after u p s next → KnowsPlaces places after
+  pub log_known : (after : Tables) → IsAfterLog t after u p s mask next → KnowsPlaces places after
   log_known after (inl (home, is)) = rw is home_known
   log_known after (inr (spot, is)) = rw is overflow_known
 
-  pub log_holds : (after : Tables) → IsAfterLog t after u p s next → Holds places t after
+  pub log_holds : (after : Tables) → IsAfterLog t after u p s mask next → Holds places t after
   log_holds after is = record {
-    active = log_active t after u p s next is;
-    status = log_status t after u p s next is;
+    active = log_active t after u p s mask next is;
+    status = log_status t after u p s mask next is;
     known = log_known after is;
   }
+
+-- the first clean log sector at home is used, and its mask is set
+pub after_home : (t after : Tables) (u p s mask : ℕ) → IsHomeSpot t u p s
+    → after ≡ record {
+      places = with_mask (with_written t.places u) u s mask;
+      overflow = t.overflow;
+      status = t.status;
+      next = t.next;
+      active = t.active;
+    }
+    → IsAfterLog t after u p s mask t.next
+after_home t after u p s mask home is = inl (
+  home,
+  is ∙ ap (λ (n : ℕ). record {
+    places = with_mask (with_written t.places u) u n mask;
+    overflow = t.overflow;
+    status = t.status;
+    next = t.next;
+    active = t.active;
+  }) home.sector,
+)

@@ -1,48 +1,38 @@
 -- What a log sector adds by the tables alone, whatever the chip tells.
-use Rattle.std.proofs.Common.{◌≡◌, ◌<◌, ◌+◌, ℕ, true, false, length, Result, Ok, Err, inl, inr, sym, subst, arith}
-use Rattle.chip_trait.specs.Told.{Told, Counts, Rose}
+use Rattle.std.proofs.Common.{◌≡◌, ◌<◌, ◌+◌, ℕ, true, false, length, Result, Err, inl, inr, sym, subst, arith}
+use Rattle.chip_trait.specs.Told.{Told, Rose}
 use Rattle.ipl_base.specs.declared.fault.ChipFault.{ChipFault}
 use Rattle.ipl_meaning.specs.Tables.{Tables, IsCountedClean}
 use Rattle.ipl_meaning.specs.TableSteps.{CountedShrink, with_next}
 use Rattle.unit_io.specs.Costs.{Spends}
-use Rattle.unit_io.specs.ReadsAt.{ReadsAt}
 use Rattle.unit_io.specs.Spots.{Programs, IsSpot}
 use Rattle.steps.specs.Steps.{Tidies}
-use Rattle.steps.proofs.TablesLemmas.{tables_read, tables_then, tables_programmed}
+use Rattle.steps.proofs.TablesLemmas.{tables_programmed}
 use Rattle.merge_rules.specs.Known.{KnowsPlaces}
 use Rattle.merge_rules.proofs.KnownCleanLemmas.{home_shrinks, overflow_shrinks}
 use Rattle.selective_merge.specs.Spotting.{IsSpotFor}
 use Rattle.page_writing.specs.Writing.{IsAfterLog}
 use Rattle.page_writing.proofs.SpotLemmas.{spot_counted, spot_of_log}
 
--- a call that was done, before reads
-pub tidies_before : {U : Type 0} (At : ℕ → ℕ → Type 0) (t after : Tables) (T : Type 0) (v : T)
-    (result : Result U ChipFault) (old mid new : Told) → Counts old mid
-    → Tidies {T = T} {E = ChipFault} t (Ok v) after old mid → ReadsAt At mid new
-    → Tidies t result after old new
-tidies_before At t after T v result old mid new counts first did =
-    tables_then T ChipFault t after after v result old mid new counts first
-    (tables_read At after result mid new did)
-
-module _ (places : ℕ) (t after : Tables) (u p s next : ℕ) (known : KnowsPlaces places t)
+module _ (places : ℕ) (t after : Tables) (u p s mask next : ℕ) (known : KnowsPlaces places t)
     (low : u + 4 < places) where
   -- the sector was counted as clean, and isn't then
-  log_shrinks : length t.places.written ≡ length t.places.current → IsAfterLog t after u p s next
+  log_shrinks : length t.places.written ≡ length t.places.current → IsAfterLog t after u p s mask next
       → CountedShrink t after p s
   log_shrinks logs (inl (home, is)) =
-      rw (is, home.place, home.sector) (home_shrinks places t known u next low logs)
+      rw (is, home.place, home.sector) (home_shrinks places t known u mask next low logs)
   log_shrinks logs (inr (over, is)) =
-      rw is (overflow_shrinks places t known u p s next over.first)
+      rw is (overflow_shrinks places t known u p s mask next over.first)
 
   -- a log sector was written to its spot
   pub logs_tidily : (T : Type 0) (result : Result T ChipFault) (old new : Told)
-      → length t.places.written ≡ length t.places.current → IsAfterLog t after u p s next
+      → length t.places.written ≡ length t.places.current → IsAfterLog t after u p s mask next
       → Spends (Programs p (IsSpot s) true) old new → Tidies t result after old new
   logs_tidily T result old new logs is =
       tables_programmed t after p (IsSpot s) true result old new
       (λ n at. subst (IsCountedClean t p) (sym at)
       (spot_counted t u p s (omega (arith, low, known.suits.units))
-      (spot_of_log t after u p s next is)))
+      (spot_of_log t after u p s mask next is)))
       (λ settled q n counted. log_shrinks logs is q n counted)
 
   -- or it wasn't, where a write failed and a number was drawn

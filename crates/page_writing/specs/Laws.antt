@@ -17,10 +17,10 @@ frames_out (Err e) frames u page f = frames
 -- A call wrote a payload out, or failed for such a cause, and the payload is the log in memory of a
 -- page's frame: each state is kept, with these frames.
 abbrev pub WritingsKeepStates : Type 0
-WritingsKeepStates = (t after : Tables) (frames : Frames) (u page place : ℕ) (f : Frame)
+WritingsKeepStates = (t after : Tables) (frames : Frames) (u page : ℕ) (f : Frame)
     (payload : List ℕ) (old new : Told) (result : Result (Unit {0}) ChipFault)
     → frames u page ≡ Some f → SpellsLog payload f.log
     → WritesOut old.places u payload t after old result new
     → WritesOutInSteps old.places payload t after old result new
-    → IfErr result (λ fault. WritingCause t u place fault old new)
+    → IfErr result (λ fault. WritingCause t u fault old new)
     → KeepsState t frames old result after (frames_out result frames u page f) new

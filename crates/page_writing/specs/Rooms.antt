@@ -2,6 +2,7 @@
 use Rattle.std.specs.Prelude.{ℕ, ◌≡◌, ◌⊎◌, Result}
 use Rattle.chip_trait.specs.Told.{History, Told}
 use Rattle.ipl_base.specs.declared.fault.ChipFault.{ChipFault}
+use Rattle.ipl_base.specs.declared.spot.Spot.{Spot}
 use Rattle.ipl_rules.specs.State.{Map}
 use Rattle.ipl_meaning.specs.Agrees.{IsTidy, Agrees}
 use Rattle.ipl_meaning.specs.Chart.{Chart}
@@ -15,7 +16,6 @@ use Rattle.merge_rules.specs.Merged.{IsMergedUnit, merged_layout}
 use Rattle.selective_merge.specs.Placing.{IsPlaced}
 use Rattle.selective_merge.specs.Throughout.{ChartsThroughout}
 use Rattle.store_steps.specs.Advances.{KeepsTablesOn, TurnsTables}
-use Rattle.page_writing.specs.declared.rooms.LogSpot.{LogSpot}
 
 -- the layout is as it was, or it has the unit merged
 abbrev pub IsMergedOrSame : ℕ → Chart → Chart → Layout → Tables → ℕ → Tables → Layout → Type 0
@@ -24,35 +24,34 @@ IsMergedOrSame places c y it t u after new =
     × (new ≡ merged_layout t it u is.place is.head is.pieces is.serial))
 
 -- There is room for a log sector of the unit at the spot, by the rules. The tables turned so that all
--- is as before, but that the unit may have been merged; and its generation is that of the spot.
+-- is as before, but that the unit may have been merged.
 pub record HasLogRoom (places : ℕ) (c y : Chart) (it : Layout) (t : Tables) (u : ℕ)
-    (after : Tables) (at : LogSpot) : Type 0 where
-  pub placed : IsPlaced places c y it t u after at.spot.place at.spot.sector
+    (after : Tables) (at : Spot) : Type 0 where
+  pub placed : IsPlaced places c y it t u after at.place at.sector
   pub turned : KeepsTablesOn places c it t y after
   pub unit : IsMergedOrSame places c y it t u after turned.layout
-  pub generation : at.generation ≡ (turned.layout.units u).head.generation
 
 -- whatever layout the tables mirrored
-abbrev pub MakesLogRoom : ℕ → ℕ → Tables → Tables → LogSpot → Chart → Chart → Type 0
+abbrev pub MakesLogRoom : ℕ → ℕ → Tables → Tables → Spot → Chart → Chart → Type 0
 MakesLogRoom places u t after at c y = (it : Layout) → Mirrors places c it t
     → HasLogRoom places c y it t u after at
 
 -- Over what the chip holds: done, there is room; and where no write failed, the tables turned so that
 -- all is as before, but that a unit may have been merged.
-abbrev pub FindsRoom : ℕ → ℕ → Tables → Tables → Told → Result LogSpot ChipFault → Told → Type 0
+abbrev pub FindsRoom : ℕ → ℕ → Tables → Tables → Told → Result Spot ChipFault → Told → Type 0
 FindsRoom places u t after old result new =
     ChartsThroughout (MakesLogRoom places u t after) (TurnsTables places t after) result old new
 
 -- the story rests on the map, there is room, and what is counted as clean is
 pub record RestsWithLogRoom (places : ℕ) (m : Map) (c : Chart) (it : Layout) (t : Tables) (u : ℕ)
-    (after : Tables) (at : LogSpot) (k : History) : Type 0 where
+    (after : Tables) (at : Spot) (k : History) : Type 0 where
   pub rests : StoryRests places m k
   pub room : HasLogRoom places c (now k) it t u after at
   pub tidy : IsTidy k.story after
 
 -- At each moment a power cut leaves the map. Where no write failed the story rests on it; and done,
 -- there is room.
-abbrev pub FindsRoomInSteps : ℕ → ℕ → Tables → Tables → Told → Result LogSpot ChipFault → Told
+abbrev pub FindsRoomInSteps : ℕ → ℕ → Tables → Tables → Told → Result Spot ChipFault → Told
     → Type 0
 FindsRoomInSteps places u t after old result new = (m : Map) (it : Layout) (h : History)
     → IsSteady h old → StoryRests places m h → Agrees places h it t

@@ -14,10 +14,17 @@ pub record ErasesAndLogs (before : Places) (added : Story) : Type 0 where
   pub costs : Costs 1 1 3 (5 ∷ []) added
   pub lowest : (p : ℕ) → is_erased added p ≡ true → IsLowestFree before p
 
+-- each unit stands where it stood, the same places are in use, and the same log sectors count as
+-- written; which pages they name may be another
+pub record AreAlike (before after : Places) : Type 0 where
+  pub current : after.current ≡ before.current
+  pub in_use : after.in_use ≡ before.in_use
+  pub written : after.written ≡ before.written
+
 -- Done, each unit stands where it stood, and no other log sector counts as written than before, but
 -- one more at this unit's home. Where it failed, all is as it was.
 abbrev pub UsesHome : Result (Unit {0}) ChipFault → Places → Places → ℕ → Type 0
-UsesHome (Ok v) before after u = (after ≡ before) ⊎ (after ≡ with_written before u)
+UsesHome (Ok v) before after u = AreAlike before after ⊎ AreAlike (with_written before u) after
 UsesHome (Err e) before after u = after ≡ before
 
 -- What finding room costs: where a log sector is clean at the unit's home, reads alone, and the

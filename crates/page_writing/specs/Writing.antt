@@ -1,13 +1,16 @@
 -- What writing a page's records to the chip leaves.
-use Rattle.std.specs.Prelude.{ℕ, ◌≡◌, ◌⊎◌, ◌+◌, List, Result, All, Contains}
+use Rattle.std.specs.Prelude.{ℕ, ◌≡◌, ◌⊎◌, ◌+◌, List, slice_index, Result, All, Contains}
 use Rattle.chip_trait.specs.Told.{History, Told}
 use Rattle.ipl_base.specs.declared.fault.ChipFault.{ChipFault}
+use Rattle.ipl_base.specs.declared.spot.Spot.{Spot}
 use Rattle.ipl_format.specs.Record.{Record, SpellsLog}
 use Rattle.ipl_format.specs.Sector.{Sector}
 use Rattle.ipl_rules.specs.State.{Map}
 use Rattle.ipl_meaning.specs.Agrees.{Agrees}
 use Rattle.ipl_meaning.specs.Chart.{Chart}
 use Rattle.ipl_meaning.specs.Layout.{Layout}
+use Rattle.log_records.specs.Reading.{records_of}
+use Rattle.ipl_meaning.specs.Masks.{mask_of}
 use Rattle.ipl_meaning.specs.Mirrors.{Mirrors}
 use Rattle.ipl_meaning.specs.Rests.{now, EachStands, StoryRests}
 use Rattle.ipl_meaning.specs.Steps.{entry_at}
@@ -21,16 +24,19 @@ use Rattle.selective_merge.specs.Spotting.{IsHomeSpot, IsOverflowSpot}
 use Rattle.selective_merge.specs.Throughout.{ChartsThroughout}
 use Rattle.store_steps.specs.Advances.{TurnsTables}
 use Rattle.store_steps.specs.Laws.{IsLogged}
-use Rattle.page_writing.specs.declared.rooms.LogSpot.{LogSpot}
 use Rattle.page_writing.specs.Rooms.{HasLogRoom}
 
 -- ---- one log sector
 
--- the tables once a log sector of the unit stands at this spot, with this counter
-abbrev pub IsAfterLog : Tables → Tables → ℕ → ℕ → ℕ → ℕ → Type 0
-IsAfterLog t after u p s next =
-    (IsHomeSpot t u p s × (after ≡ after_home_log t u next))
-    ⊎ (IsOverflowSpot t u p s × (after ≡ after_overflow_log t u p s next))
+-- which pages the records of a payload name
+abbrev pub mask_by : List ℕ → ℕ
+mask_by payload = mask_of (records_of payload)
+
+-- the tables once a log sector of the unit that names these pages stands at this spot, with this counter
+abbrev pub IsAfterLog : Tables → Tables → ℕ → ℕ → ℕ → ℕ → ℕ → Type 0
+IsAfterLog t after u p s mask next =
+    (IsHomeSpot t u p s × (after ≡ after_home_log t u mask next))
+    ⊎ (IsOverflowSpot t u p s × (after ≡ after_overflow_log t u p s mask next))
 
 -- a log sector of a unit under these numbers, with this payload
 pub record IsLogOf (u generation serial : ℕ) (payload : List ℕ) (sector : Sector) : Type 0 where
@@ -45,39 +51,38 @@ pub record IsPayloadOf (t : Tables) (payload : List ℕ) (records : List Record)
   pub spelled : SpellsLog payload records
   pub active : All (λ r. Contains t.active r.tid) records
 
--- the tables mirror the chart, the generation is the unit's, and the payload is of these records
-pub record IsToLog (places : ℕ) (c : Chart) (it : Layout) (t : Tables) (u generation : ℕ)
-    (payload : List ℕ) (records : List Record) : Type 0 where
+-- the tables mirror the chart, and the payload is of these records
+pub record IsToLog (places : ℕ) (c : Chart) (it : Layout) (t : Tables) (payload : List ℕ)
+    (records : List Record) : Type 0 where
   pub mirrors : Mirrors places c it t
-  pub generation_is : generation ≡ (it.units u).head.generation
   pub payload_of : IsPayloadOf t payload records
 
 -- The chart has a log sector of the unit at the spot too, with exactly these records, and the tables
 -- follow it. The unit's log has this one entry more, and each page that was shown is shown still.
 pub record HasLogSector (places : ℕ) (c : Chart) (it : Layout) (t : Tables) (u : ℕ)
-    (at : LogSpot) (payload : List ℕ) (records : List Record) (y : Chart)
+    (at : Spot) (payload : List ℕ) (records : List Record) (y : Chart)
     (after : Tables) : Type 0 where
   pub sector : Sector
-  pub is : IsLogOf u at.generation t.next payload sector
-  pub gains : Gains at.spot.place at.spot.sector sector c y
-  pub tables : IsAfterLog t after u at.spot.place at.spot.sector (t.next + 1)
+  pub is : IsLogOf u (slice_index t.places.generations u) t.next payload sector
+  pub gains : Gains at.place at.sector sector c y
+  pub tables : IsAfterLog t after u at.place at.sector (mask_by payload) (t.next + 1)
   pub logged : IsLogged places c it t u records y after
-  pub entry_is : logged.entry ≡ entry_at at.spot.place at.spot.sector sector records
+  pub entry_is : logged.entry ≡ entry_at at.place at.sector sector records
 
 -- whatever layout and records it was to be
-abbrev pub WritesLog : ℕ → ℕ → LogSpot → List ℕ → Tables → Tables → Chart → Chart → Type 0
+abbrev pub WritesLog : ℕ → ℕ → Spot → List ℕ → Tables → Tables → Chart → Chart → Type 0
 WritesLog places u at payload t after c y = (it : Layout) (records : List Record)
-    → IsToLog places c it t u at.generation payload records
+    → IsToLog places c it t payload records
     → HasLogSector places c it t u at payload records y after
 
 -- At each moment a power cut leaves the map; done, the story rests on it. It fails only where a
 -- write failed.
-abbrev pub WritesLogInSteps : ℕ → ℕ → LogSpot → List ℕ → Tables → Tables
+abbrev pub WritesLogInSteps : ℕ → ℕ → Spot → List ℕ → Tables → Tables
     → Told → Result (Unit {0}) ChipFault → Told → Type 0
 WritesLogInSteps places u at payload t after old result new =
     (m : Map) (it : Layout) (records : List Record) (h : History)
     → IsSteady h old → StoryRests places m h → Agrees places h it t
-    → IsToLog places (now h) it t u at.generation payload records
+    → IsToLog places (now h) it t payload records
     → Steps (EachStands places m) t after (λ done k. StoryRests places m k) NoOtherEnd
     h result old new
 
@@ -89,7 +94,7 @@ pub record IsWrittenOut (places : ℕ) (c : Chart) (it : Layout) (t : Tables) (u
     (payload : List ℕ) (records : List Record) (y : Chart) (after : Tables) : Type 0 where
   pub middle : Chart
   pub between : Tables
-  pub at : LogSpot
+  pub at : Spot
   pub room : HasLogRoom places c middle it t u between at
   pub log : HasLogSector places middle room.turned.layout between u at payload records y after
 

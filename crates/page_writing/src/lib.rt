@@ -8,15 +8,14 @@
 //! one entry more, with exactly these records, behind nothing, a new overflow place or a merge, by
 //! the rules; where it failed and no write did, the state is kept. At each moment a power cut
 //! leaves the same map. At most one place is erased, the lowest free one, and at most one sector
-//! programmed elsewhere, a log sector; where one is clean at the unit's home, nothing is erased,
-//! there is no barrier, and no other sector counts as written than before. Over what the chip holds
+//! programmed elsewhere, a log sector; where one is clean at the unit's home, nothing is read or
+//! erased, there is no barrier, and no other sector counts as written than before. Over what the chip holds
 //! it fails with what is wrong with the unit that it had to merge, which is where it was, or where
 //! a call of the chip failed; with that alone where the unit's pages read well and few log sectors
 //! would be carried.
 #![tactic(auto)]
 
 mod laws;
-mod rooms;
 mod writing;
 
 pub use laws::writing_laws;

@@ -1,5 +1,5 @@
 //! The records of a page, written as one log sector of its unit.
-ghost use Rattle.std.specs.Prelude.{◌≡◌, ◌<◌, ◌≤◌, ◌+◌, ◌^◌, [], length, false, slice_index, OnOk, OnErr, IsTrue};
+ghost use Rattle.std.specs.Prelude.{◌≡◌, ◌<◌, ◌≤◌, ◌+◌, ◌^◌, [], length, false, OnOk, OnErr, IsTrue};
 ghost use Rattle.unit_io.specs.Accounts.{Accounts};
 ghost use Rattle.unit_io.specs.Charts.{Charts};
 ghost use Rattle.unit_io.specs.Costs.{ProgramsAt, Spends};
@@ -20,14 +20,14 @@ ghost use Rattle.page_writing.specs.Writing.{
   WritesOutInSteps,
 };
 
-use crate::rooms::{LogSpot, find_room};
 use chip_trait::Chip;
 use ipl_base::{ChipFault, Spot};
 use log_records::Payload;
 use overflow::overflow_laws;
 use sector_format::Head;
-use selective_merge::Parts;
+use selective_merge::{Parts, log_place};
 use unit_io::program_log;
+use unit_log::mask_of;
 
 /// Whether a spot is the first clean log sector at the unit's home.
 fn is_home(parts: &Parts, unit: u32, spot: Spot) -> bool
@@ -43,35 +43,35 @@ fn is_home(parts: &Parts, unit: u32, spot: Spot) -> bool
     }
 }
 
-/// Counts a spot as written that was one for a log sector of the unit.
-fn use_spot(parts: &mut Parts, unit: u32, spot: Spot, places: u32)
+/// Counts a spot as written that was one for a log sector of the unit, which names these pages.
+fn use_spot(parts: &mut Parts, unit: u32, spot: Spot, mask: u16, places: u32)
     requires known { KnowsPlaces places (tables_of parts.old) }
     requires unit { unit + 4 < places }
     requires spot { IsSpotFor (tables_of parts.old) unit spot.place spot.sector }
     ensures { IsAfterLog (tables_of parts.old) (tables_of parts.new) unit spot.place spot.sector
-        parts.old.counter }
+        mask parts.old.counter }
 {
     overflow_laws();
     parts.overflow.facts();
     if is_home(parts, unit, spot) {
         parts.directory.used_log(unit);
+        parts.directory.set_mask(unit, spot.sector, mask);
     } else {
-        parts.overflow.add(unit, spot);
+        parts.overflow.add(unit, spot, mask);
     }
 }
 
-/// Writes records to a spot for a log sector of their unit, whose generation this is. It fails only
-/// where a write failed.
+/// Writes records to a spot for a log sector of their unit. It fails only where a write failed.
 fn write_log<C: Chip>(
     chip: &mut C,
     parts: &mut Parts,
     unit: u32,
-    at: LogSpot,
+    at: Spot,
     payload: &Payload,
 ) -> Result<(), ChipFault>
     requires known { KnowsPlaces (C.told chip.old).places (tables_of parts.old) }
     requires unit { unit + 4 < (C.told chip.old).places }
-    requires spot { IsSpotFor (tables_of parts.old) unit at.spot.place at.spot.sector }
+    requires spot { IsSpotFor (tables_of parts.old) unit at.place at.sector }
     requires left { parts.old.counter + 1 < 2 ^ 64 }
     ensures tells { OnOk result (Charts (WritesLog (C.told chip.old).places unit at payload.now
         (tables_of parts.old) (tables_of parts.new)) (C.told chip.old) (C.told chip.new)) }
@@ -81,7 +81,7 @@ fn write_log<C: Chip>(
     ensures places { parts.new.directory.current ≡ parts.old.directory.current }
     ensures uses { UsesHome result parts.old.directory parts.new.directory unit }
     ensures drawn { parts.new.counter ≡ parts.old.counter + 1 }
-    ensures costs { Spends (ProgramsAt at.spot.place 1 0 5) (C.told chip.old) (C.told chip.new) }
+    ensures costs { Spends (ProgramsAt at.place 1 0 5) (C.told chip.old) (C.told chip.new) }
     ensures tidy { Tidies (tables_of parts.old) result (tables_of parts.new)
         (C.told chip.old) (C.told chip.new) }
     ensures accounts { Accounts IsStopped result (C.told chip.old) (C.told chip.new) }
@@ -89,14 +89,15 @@ fn write_log<C: Chip>(
     parts.directory.facts();
     parts.overflow.facts();
     let places = chip.units();
+    let mask = mask_of(payload);
     let head = Head {
         kind: Head::LOG,
         unit,
-        generation: at.generation,
+        generation: parts.directory.generation(unit),
         serial: parts.counter.draw(),
     };
-    program_log(chip, at.spot, &head, payload)?;
-    use_spot(parts, unit, at.spot, places);
+    program_log(chip, at, &head, payload)?;
+    use_spot(parts, unit, at, mask, places);
     Ok(())
 }
 
@@ -109,8 +110,7 @@ fn write_log<C: Chip>(
 /// no write failed, it rests on that map at the end: nothing makes sure of the sector, which is for
 /// the next barrier. Where it failed, the list is as it was; at most 14 numbers are drawn.
 ///
-/// It fails as `log_place` does, where a read or a write failed, and as Malformed where the unit's
-/// header is none of the unit's, which tables that mirror the chip leave out.
+/// It fails as `log_place` does, or where a write failed.
 pub fn write_out<C: Chip>(
     chip: &mut C,
     parts: &mut Parts,
@@ -146,10 +146,10 @@ pub fn write_out<C: Chip>(
         (C.told chip.old) (C.told chip.new) }
     ensures tidy { Tidies (tables_of parts.old) result (tables_of parts.new)
         (C.told chip.old) (C.told chip.new) }
-    ensures accounts { Accounts (WritingCause (tables_of parts.old) unit
-        (slice_index parts.new.directory.current unit)) result (C.told chip.old) (C.told chip.new) }
+    ensures accounts { Accounts (WritingCause (tables_of parts.old) unit) result
+        (C.told chip.old) (C.told chip.new) }
 {
-    let at = find_room(chip, parts, unit)?;
+    let at = log_place(chip, parts, unit)?;
     write_log(chip, parts, unit, at, payload)?;
     *payload = Payload::empty();
     Ok(())

@@ -30,6 +30,8 @@ others_mirror places c it t next active was later below once waits = record {
     logs = was.directory.logs;
     all = was.directory.all;
     current = was.directory.current;
+    heads = was.directory.heads;
+    generation = was.directory.generation;
     not_home = was.directory.not_home;
     not_status = was.directory.not_status;
     not_overflow = was.directory.not_overflow;
@@ -51,6 +53,13 @@ others_mirror places c it t next active was later below once waits = record {
     below = below;
     once = once;
     waits = waits;
+  };
+  masks = record {
+    units = was.masks.units;
+    lists = was.masks.lists;
+    sectors = was.masks.sectors;
+    home = was.masks.home;
+    elsewhere = was.masks.elsewhere;
   };
   counted_clean = was.counted_clean;
 }

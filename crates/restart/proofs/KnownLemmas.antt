@@ -57,7 +57,7 @@ overflow_kind (Some head) is = (head, refl, eqb-true head.kind 3 is)
 module _ (heads : List (Option KeptHeader)) (current : List (Option Winner)) (winner : Winner)
     (chosen : AreChosen heads current winner) (there : (u : ℕ) → u < length current → at current u ≢ None) where
   -- the unit's header, at its place
-  home_of : (u : ℕ) → u < length current
+  pub home_of : (u : ℕ) → u < length current
       → (w : Winner) × (at current u ≡ Some w) × IsBest (is_data_of u) (at heads) (length heads) w
   home_of u low = case (at current u) refl
     where

@@ -10,12 +10,16 @@ pub mod TableLemmas
 pub mod CommitLemmas
 pub mod NoteLemmas
 pub mod ListedLemmas
+pub mod CollectedLemmas
 pub mod LogLemmas
+pub mod MaskedLemmas
 pub mod FillLemmas
 pub mod OpenLemmas
 pub mod OverflowLemmas
 pub mod KnownLemmas
 pub mod ReadingLemmas
 pub mod SpentLemmas
+pub mod OpenedMaskLemmas
+pub mod OpenedNumbersLemmas
 pub mod CleanLemmas
 pub mod OnceLemmas

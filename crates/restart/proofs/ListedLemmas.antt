@@ -19,11 +19,11 @@ and_none true = refl
 and_none false = refl
 
 -- one log sector is listed for its unit, and for no other
-pub listed_spots : (in_overflow : Bool) (lists : OverflowLists) (unit p s u : ℕ) → unit < length lists.spots
-    → spots_in (listed in_overflow lists unit p s) u
+pub listed_spots : (in_overflow : Bool) (lists : OverflowLists) (unit p s mask u : ℕ) → unit < length lists.spots
+    → spots_in (listed in_overflow lists unit p s mask) u
     ≡ with_one (spots_in lists u) (cond (in_overflow && (unit == u)) (Some (p, s)) None)
-listed_spots false lists unit p s u low = refl
-listed_spots true lists unit p s u low = elim (cases_eq unit u) [
+listed_spots false lists unit p s mask u low = refl
+listed_spots true lists unit p s mask u low = elim (cases_eq unit u) [
   | inl same ↦
       let more : List (ℕ × ℕ) = spots_in lists unit ++ (p, s) ∷ [] in
       rw (eq-eqb unit u same)
@@ -40,24 +40,24 @@ one_length : {A : Type 0} (xs : List A) (b : Bool) (x : A)
 one_length xs true x = length_push xs x
 one_length xs false x = omega arith
 
-pub listed_count : (in_overflow : Bool) (lists : OverflowLists) (unit p s u : ℕ) → unit < length lists.spots
-    → overflow_count_of (listed in_overflow lists unit p s) u
+pub listed_count : (in_overflow : Bool) (lists : OverflowLists) (unit p s mask u : ℕ) → unit < length lists.spots
+    → overflow_count_of (listed in_overflow lists unit p s mask) u
     ≡ overflow_count_of lists u + cond (in_overflow && (unit == u)) 1 0
-listed_count in_overflow lists unit p s u low =
-    ap length (listed_spots in_overflow lists unit p s u low)
+listed_count in_overflow lists unit p s mask u low =
+    ap length (listed_spots in_overflow lists unit p s mask u low)
     ∙ one_length (spots_in lists u) (in_overflow && (unit == u)) (p, s)
 
 -- of as many units
-pub listed_units : (in_overflow : Bool) (lists : OverflowLists) (unit p s : ℕ)
-    → length (listed in_overflow lists unit p s).spots ≡ length lists.spots
-listed_units true lists unit p s = length-set lists.spots unit (spots_in lists unit ++ (p, s) ∷ [])
-listed_units false lists unit p s = refl
+pub listed_units : (in_overflow : Bool) (lists : OverflowLists) (unit p s mask : ℕ)
+    → length (listed in_overflow lists unit p s mask).spots ≡ length lists.spots
+listed_units true lists unit p s mask = length-set lists.spots unit (spots_in lists unit ++ (p, s) ∷ [])
+listed_units false lists unit p s mask = refl
 
 -- and no place is in use, where none was
-pub listed_none : (in_overflow : Bool) (lists : OverflowLists) (unit p s : ℕ) → lists.in_use ≡ []
-    → (listed in_overflow lists unit p s).in_use ≡ []
-listed_none true lists unit p s none = rw none refl
-listed_none false lists unit p s none = none
+pub listed_none : (in_overflow : Bool) (lists : OverflowLists) (unit p s mask : ℕ) → lists.in_use ≡ []
+    → (listed in_overflow lists unit p s mask).in_use ≡ []
+listed_none true lists unit p s mask none = rw none refl
+listed_none false lists unit p s mask none = none
 
 empty_at : (n u : ℕ) → get_or (replicate n (let xs : List (ℕ × ℕ) = [] in xs)) u [] ≡ []
 empty_at zero u = refl

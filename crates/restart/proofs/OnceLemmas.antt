@@ -1,11 +1,11 @@
 -- Each sector is read at most once: the parts of a scan read other sectors.
-use Rattle.std.proofs.Common.{◌≡◌, ◌≤◌, ◌<◌, ◌+◌, ◌&&◌, ◌||◌, eqb, nat_le, ℕ, Bool, true, false, Option, Some, None, inl, inr, sym, ◌∙◌, ap, subst, arith}
+use Rattle.std.proofs.Common.{◌≡◌, ◌≤◌, ◌<◌, ◌+◌, ◌&&◌, ◌||◌, nat_le, ℕ, Bool, true, false, Option, Some, None, inl, inr, sym, ◌∙◌, ap, subst, arith}
 use Rattle.std.specs.Prelude.{◌⊎◌, ◌==◌}
-use Rattle.std.proofs.lemmas.Bool.{cases_Bool, and_parts, eqb-true, false≢true}
+use Rattle.std.proofs.lemmas.Bool.{and_parts, eqb-true, false≢true}
 use Rattle.std.proofs.lemmas.Bool.Decides.{nat_tests}
 use Rattle.chip_trait.specs.Told.{Told}
 use Rattle.opening_rules.specs.Chosen.{KeptHeader, Winner, is_status, is_overflow, status_in}
-use Rattle.opening_rules.specs.Live.{is_at, is_log_spot, is_log_spot_of}
+use Rattle.opening_rules.specs.Live.{is_at, is_log_spot_of}
 use Rattle.opening_rules.proofs.ChosenLemmas.{chosen_is_best}
 use Rattle.unit_io.specs.ReadsAt.{Anywhere, ReadsOnce}
 use Rattle.unit_io.proofs.OnceLemmas.{once_then, once_wider}

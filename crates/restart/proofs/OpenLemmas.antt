@@ -26,6 +26,7 @@ use Rattle.opening_rules.proofs.TellsLemmas.{tells_exit, tells_past}
 use Rattle.restart.specs.Bytes.{IsRestWhole}
 use Rattle.restart.specs.Looks.{IsMissed}
 use Rattle.restart.specs.Notes.{Notes, IsNoted}
+use Rattle.opened_tables.specs.Found.{generation_of}
 use Rattle.restart.specs.Filled.{is_home, is_used, AreUsed, AreAdopted}
 use Rattle.restart.specs.Shown.{ShowsHeaders, is_held, number_by, fault_by}
 use Rattle.opened_tables.specs.Opened.{IsUnused, IsOpened}
@@ -183,6 +184,8 @@ module _ (c : Chart) (places : ℕ) (heads : List (Option KeptHeader)) (current 
     logs = omega (arith, adopted.logs_are, four);
     all = used.all;
     current = λ u low. adopted.current_is u (omega (arith, low, four)) ∙ ap (λ (cur : ℕ → Option Winner). place_of (cur u)) shows.current_are;
+    heads = omega (arith, adopted.heads_are, four);
+    generation = λ u low. adopted.generation_is u (omega (arith, low, four)) ∙ ap (λ (cur : ℕ → Option Winner). generation_of (cur u)) shows.current_are;
     written = λ u low. adopted.written_is u (omega (arith, low, four));
     free = λ p low. (unused_from notes lists noted d units most four used p low, unused_to notes lists noted d units most four used p low);
     number = next ∙ ap (λ (n : ℕ). n + 1) (number_found greatest number);

@@ -104,7 +104,7 @@ pub headers_tell_first : {T : Type 0} (c : Chart) (places : ℕ) (r : Result T I
 headers_tell_first c places r e least most exit says = tells_past _ _ r (size_none places least most) (tells_here _ _ r e exit says)
 
 -- with a fault of what it read: its numbers are used up, or it has the first fault
-pub failed_bytes : (places : ℕ) (r : Result (Unit {0}) ImageFault) (e : ImageFault) (told mid new : Told) → IsErrAnd r (λ y. y ≡ e) → HasCause e mid new
+pub failed_bytes : {T : Type 0} (places : ℕ) (r : Result T ImageFault) (e : ImageFault) (told mid new : Told) → IsErrAnd r (λ y. y ≡ e) → HasCause e mid new
     → OfContents told (λ x. TellsImageFault (first_fault (chart_of x) places) r)
     → (e ≡ Spent → OfContents told (λ x. IsByteChart places (chart_of x)))
     → ReadsBytes places told r

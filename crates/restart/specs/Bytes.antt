@@ -24,7 +24,7 @@ IsRestWhole x places heads current status =
 
 -- what it read is bytes: where it was done, or failed though every call of the chip was done and
 -- what it read had no fault but that the numbers are used up
-abbrev pub ReadsBytes : ℕ → Told → Result (Unit {0}) ImageFault → Type 0
+abbrev pub ReadsBytes : {T : Type 0} → ℕ → Told → Result T ImageFault → Type 0
 ReadsBytes places told result = OfContents told (λ x. MatchResult result
     (λ done. IsByteChart places (chart_of x))
     (λ e. e ≢ Chip ReadFault → e ≢ Chip Stopped

@@ -5,6 +5,7 @@ use Rattle.ipl_meaning.specs.Tables.{Places}
 use Rattle.opening_rules.specs.Chosen.{Winner}
 use Rattle.opening_rules.specs.Live.{is_at}
 use Rattle.opening_rules.specs.LaidOut.{place_of}
+use Rattle.opened_tables.specs.Found.{generation_of}
 use Rattle.unit_directory.specs.Free.{free_count}
 
 -- one of the first n units has its header at the place
@@ -22,10 +23,20 @@ pub record AreUsed (used : ℕ → Bool) (places most : ℕ) (in_use : List Bool
   pub used_are : (p : ℕ) → p < places → slice_index_or in_use p true ≡ used p
   pub most_are : places ≤ free_count in_use + most
 
--- the first n units have the places of their headers, and no log sector of a unit is known clean
+-- only which places are in use is not as it was
+pub record OnlyInUse (old new : Places) : Type 0 where
+  pub current : new.current ≡ old.current
+  pub written : new.written ≡ old.written
+  pub generations : new.generations ≡ old.generations
+  pub masks : new.masks ≡ old.masks
+
+-- the first n units have the places and the generations of their headers, and no log sector of a unit is known clean
 pub record AreAdopted (current : ℕ → Option Winner) (n units : ℕ) (it : Places) : Type 0 where
   pub units_are : length it.current ≡ units
   pub logs_are : length it.written ≡ units
   pub current_is : (u : ℕ) → u < n → slice_index it.current u ≡ place_of (current u)
   pub later_are : (u : ℕ) → n ≤ u → slice_index it.current u ≡ 0
+  pub heads_are : length it.generations ≡ units
+  pub generation_is : (u : ℕ) → u < n → slice_index it.generations u ≡ generation_of (current u)
+  pub unheaded_are : (u : ℕ) → n ≤ u → slice_index it.generations u ≡ 0
   pub written_is : (u : ℕ) → u < units → slice_index it.written u ≡ LOG_SECTORS

@@ -5,6 +5,8 @@ pub mod Looks
 pub mod Bytes
 pub mod Taken
 pub mod Notes
+pub mod Masked
+pub mod Collected
 pub mod Scanned
 pub mod Filled
 pub mod Shown

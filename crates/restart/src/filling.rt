@@ -1,12 +1,13 @@
 //! The directory and the overflow lists are filled.
-ghost use Rattle.std.specs.Prelude.{◌≡◌, ◌<◌, ◌≤◌, ◌+◌, ◌-◌, ◌&&◌, ◌||◌, Bool, ℕ, [], true, length, Some};
+ghost use Rattle.std.specs.Prelude.{◌≡◌, ◌<◌, ◌≤◌, ◌+◌, ◌-◌, ◌&&◌, ◌||◌, Bool, ℕ, [], true, length, Option, Some};
 ghost use Rattle.opening_rules.specs.First.{at, count_below, all_below, with_one};
 ghost use Rattle.opening_rules.specs.Chosen.{Winner as Chosen};
 ghost use Rattle.opening_rules.specs.Live.{is_overflow_place};
 ghost use Rattle.opened_tables.specs.Found.{overflow_at};
 ghost use Rattle.restart.specs.Notes.{places_of, holds_one};
 ghost use Rattle.restart.specs.Shown.{is_held as is_held_place};
-ghost use Rattle.restart.specs.Filled.{is_home, is_used, AreUsed, AreAdopted};
+ghost use Rattle.restart.specs.Filled.{is_home, is_used, AreUsed, OnlyInUse, AreAdopted};
+ghost use Rattle.restart.specs.Masked.{NoneNamed};
 
 use crate::kept::{Header, Winner};
 use crate::live::is_overflow_place;
@@ -14,8 +15,9 @@ use crate::noted::Noted;
 use overflow::Overflow;
 use unit_directory::Directory;
 
-/// Gives each unit the place of its header, and nothing else is in use then.
-fn adopt_all(directory: &mut Directory, current: &[Option<Winner>])
+/// Gives each unit the place and the generation of its header, with no log sector known clean, nor one
+/// that names a page. Nothing else is in use then.
+pub(crate) fn adopt_all(directory: &mut Directory, current: &[Option<Winner>])
     requires units { length current.now + 4 ≡ length directory.old.in_use }
     requires places { length directory.old.in_use ≤ 1028 }
     requires within { (u : ℕ) (winner : Chosen) → at current.now u ≡ Some winner
@@ -23,11 +25,12 @@ fn adopt_all(directory: &mut Directory, current: &[Option<Winner>])
     ensures adopted { AreAdopted (at current.now) (length current.now) (length current.now) directory.new }
     ensures used { AreUsed (is_home (at current.now) (length current.now)) (length directory.old.in_use)
         (length current.now) directory.new.in_use }
+    ensures blank { NoneNamed (length current.now) directory.new }
 {
     directory.reset();
     for unit in 0..current.len() {
         match current[unit] {
-            Some(winner) => directory.adopt(unit as u32, winner.place()),
+            Some(winner) => directory.adopt(unit as u32, winner.place(), winner.generation()),
             None => {}
         }
     }
@@ -50,8 +53,7 @@ fn take_overflows(directory: &mut Directory, heads: &[Option<Header>], noted: &N
     ensures used { (used : ℕ → Bool) (most : ℕ) → AreUsed used (length heads.now) most directory.old.in_use
         → AreUsed (λ p. used p || (is_overflow_place (at heads.now p) && holds_one noted.now p)) (length heads.now)
         (most + count_below (λ p. is_overflow_place (at heads.now p) && holds_one noted.now p) (length heads.now)) directory.new.in_use }
-    ensures current { directory.new.current ≡ directory.old.current }
-    ensures written { directory.new.written ≡ directory.old.written }
+    ensures same { OnlyInUse directory.old directory.new }
 {
     for place in 0..heads.len() {
         let place = place as u32;
@@ -61,29 +63,25 @@ fn take_overflows(directory: &mut Directory, heads: &[Option<Header>], noted: &N
     }
 }
 
-/// Fills the directory: the units have the places of their headers, with no log sector known clean, and beside these the
-/// status place and the overflow places that hold live log sectors are in use.
-pub(crate) fn fill(
+/// Takes what is in use beside the places of the units: the status place, and the overflow places that
+/// hold live log sectors.
+pub(crate) fn take_others(
     directory: &mut Directory,
     heads: &[Option<Header>],
-    current: &[Option<Winner>],
     status: &Winner,
     noted: &Noted,
 )
-    requires units { length current.now + 4 ≡ length directory.old.in_use }
-    requires small { length directory.old.in_use ≤ 1028 }
+    requires small { length heads.now ≤ 1028 }
     requires places { length heads.now ≡ length directory.old.in_use }
     requires noted { places_of noted.now ≡ length directory.old.in_use }
-    requires within { (u : ℕ) (winner : Chosen) → at current.now u ≡ Some winner
-        → winner.place < length directory.old.in_use }
     requires status { status.now.place < length directory.old.in_use }
-    ensures adopted { AreAdopted (at current.now) (length current.now) (length current.now) directory.new }
-    ensures used { AreUsed (is_used (at current.now) (length current.now) status.now.place
-        (λ p. is_overflow_place (at heads.now p) && holds_one noted.now p)) (length heads.now)
-        (length current.now + 1 + count_below (λ p. is_overflow_place (at heads.now p) && holds_one noted.now p) (length heads.now))
+    ensures used { (current : ℕ → Option Chosen) (units : ℕ)
+        → AreUsed (is_home current units) (length heads.now) units directory.old.in_use
+        → AreUsed (is_used current units status.now.place (is_held_place heads.now noted.now))
+        (length heads.now) (units + 1 + count_below (is_held_place heads.now noted.now) (length heads.now))
         directory.new.in_use }
+    ensures same { OnlyInUse directory.old directory.new }
 {
-    adopt_all(directory, current);
     directory.take(status.place());
     take_overflows(directory, heads, noted);
 }
@@ -98,6 +96,7 @@ fn list_place(overflow: &mut Overflow, heads: &[Option<Header>], noted: &Noted, 
     ensures in_use { overflow.new.in_use ≡ with_one overflow.old.in_use
         (overflow_at (is_held_place heads.now noted.now) place) }
     ensures spots { overflow.new.spots ≡ overflow.old.spots }
+    ensures masks { overflow.new.masks ≡ overflow.old.masks }
 {
     if is_held(heads, noted, place) {
         overflow.adopt_place(place);
@@ -114,6 +113,7 @@ pub(crate) fn list_places(overflow: &mut Overflow, heads: &[Option<Header>], not
     ensures in_use { overflow.new.in_use
         ≡ all_below (overflow_at (is_held_place heads.now noted.now)) (length heads.now) }
     ensures spots { overflow.new.spots ≡ overflow.old.spots }
+    ensures masks { overflow.new.masks ≡ overflow.old.masks }
 {
     for place in 0..heads.len() {
         list_place(overflow, heads, noted, place as u32);

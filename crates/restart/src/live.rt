@@ -1,6 +1,7 @@
 //! Which log sectors are live, and the greatest number in one.
 ghost use Rattle.std.specs.Prelude.{◌≡◌, ◌<◌, ◌≤◌, ℕ, List, true, map, length, Some};
 ghost use Rattle.sector_format.specs.Decode.{sector_of};
+ghost use Rattle.ipl_meaning.specs.Masks.{mask_of};
 ghost use Rattle.log_records.specs.Reading.{records_of};
 ghost use Rattle.opening_rules.specs.First.{at, greatest_of};
 ghost use Rattle.opening_rules.specs.Payloads.{is_log_payload, tid_of};
@@ -11,6 +12,7 @@ use crate::kept::{Header, Winner};
 use ipl_base::FIRST_LOG_SECTOR;
 use log_records::{Payload, is_list, records};
 use sector_format::Head;
+use unit_log::mask_of;
 
 /// Whether the place is an overflow place.
 pub(crate) fn is_overflow_place(heads: &[Option<Header>], place: u32) -> bool
@@ -102,6 +104,15 @@ pub(crate) fn is_log_payload(payload: &[u8]) -> bool
     ensures { result ≡ is_log_payload payload.now }
 {
     is_list(payload)
+}
+
+/// Which pages the records of a log sector name: bit p is page p's.
+pub(crate) fn pages_of(payload: &[u8]) -> u16
+    requires list { is_log_payload payload.now ≡ true }
+    requires fits { length payload.now ≤ 480 }
+    ensures { result ≡ mask_of (records_of payload.now) }
+{
+    mask_of(&Payload::of(payload))
 }
 
 /// The greatest transaction number in a list of records, and at least this.

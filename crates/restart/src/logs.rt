@@ -1,28 +1,39 @@
 //! Log sectors are read where they may stand.
-ghost use Rattle.std.specs.Prelude.{◌≡◌, ◌<◌, ◌≤◌, ◌+◌, ◌*◌, ℕ, List, [], true, max, length, Some, IfOk, IfErr, IfSome, OnOk};
+ghost use Rattle.std.specs.Prelude.{◌≡◌, ◌<◌, ◌≤◌, ◌+◌, ◌*◌, ℕ, List, [], true, false, max, length, Some, IfOk, IfErr, IfSome, OnOk};
 ghost use Rattle.std.specs.Option.{option_map};
 ghost use Rattle.sector_format.specs.Decode.{sector_of};
 ghost use Rattle.ipl_meaning.specs.Chart.{chart_of};
+ghost use Rattle.ipl_meaning.specs.Masks.{mask_of as pages_of};
+ghost use Rattle.log_records.specs.Reading.{records_of};
 ghost use Rattle.unit_io.specs.Reads.{OfContents};
 ghost use Rattle.unit_io.specs.Kinds.{sector_named};
+ghost use Rattle.kept_numbers.specs.Joins.{joined};
 ghost use Rattle.ipl_base.specs.First.{first_below};
 ghost use Rattle.opening_rules.specs.First.{at, with_one};
 ghost use Rattle.opening_rules.specs.Live.{kept, Mark, mark_of, is_log, is_log_spot, is_overflow_place, is_live};
+ghost use Rattle.opening_rules.specs.Payloads.{is_log_payload};
+ghost use Rattle.opened_tables.specs.Found.{mask_of_sector};
 ghost use Rattle.opening_rules.specs.Faults.{TellsImageFault, is_image, log_test, log_fault, log_number};
 ghost use Rattle.overflow.specs.Lists.{spots_in};
 ghost use Rattle.unit_io.specs.ReadsAt.{ReadsOnce};
 ghost use Rattle.txn_status.specs.ReadingIn.{IsAt};
 ghost use Rattle.restart.specs.Looks.{Looks, HasCause, MayHoldLog};
 ghost use Rattle.restart.specs.Notes.{units_of, AreSized, overflow_count_of, listed, IsNoted, IsRoomy};
+ghost use Rattle.restart.specs.Masked.{SamePlaces, NoneNamed, masked, IsMasked};
+ghost use Rattle.restart.specs.Collected.{records_at, AreKept};
 ghost use Rattle.restart.specs.Scanned.{IsScanned};
 
+use crate::collecting::{Gathered, collect};
 use crate::kept::{Header, Winner};
-use crate::live::{is_live, is_log_payload, is_overflow_place, log_number, may_hold_log};
+use crate::live::{is_live, is_log_payload, is_overflow_place, log_number, may_hold_log, pages_of};
 use crate::noted::Noted;
 use chip_trait::Chip;
 use ipl_base::{ChipFault, Geometry, ImageFault, Spot};
+use kept_numbers::KeptNumbers;
 use overflow::Overflow;
 use sector_format::{Head, payload_in};
+use txn_status::Status;
+use unit_directory::Directory;
 use unit_io::read_sector;
 
 /// Tests a live log sector for its payload, and against those that were noted and listed.
@@ -44,6 +55,7 @@ fn check_log(
         (Some (sector_of head.now payload.now))) result }
     ensures room { OnOk result (is_overflow_place (at heads.now spot.place) ≡ true
         → overflow_count_of overflow.now head.now.unit < 16) }
+    ensures list { OnOk result (is_log_payload payload.now ≡ true) }
     ensures image { IfErr result (λ e. is_image e ≡ true) }
 {
     if !is_log_payload(payload)
@@ -58,36 +70,55 @@ fn check_log(
     Ok(())
 }
 
-/// Lists a log sector of a unit, if it stands in an overflow place.
-fn list_log(heads: &[Option<Header>], overflow: &mut Overflow, unit: u32, spot: Spot)
+/// Keeps which pages a log sector of a unit names, and lists it, if it stands in an overflow place.
+fn list_log(
+    heads: &[Option<Header>],
+    directory: &mut Directory,
+    overflow: &mut Overflow,
+    unit: u32,
+    spot: Spot,
+    mask: u16,
+)
     requires place { spot.place < length heads.now }
     requires sector { spot.sector < 256 }
     requires unit { unit < length overflow.old.spots }
+    requires units { length directory.old.current ≡ length overflow.old.spots }
     requires four { length overflow.old.spots + 4 ≡ length heads.now }
     requires few { is_overflow_place (at heads.now spot.place) ≡ true
         → overflow_count_of overflow.old unit < 16 }
-    ensures { overflow.new ≡ listed (is_overflow_place (at heads.now spot.place))
-        overflow.old unit spot.place spot.sector }
+    requires home { is_overflow_place (at heads.now spot.place) ≡ false → 241 ≤ spot.sector }
+    ensures listed { overflow.new ≡ listed (is_overflow_place (at heads.now spot.place))
+        overflow.old unit spot.place spot.sector mask }
+    ensures masked { directory.new ≡ masked (is_overflow_place (at heads.now spot.place))
+        directory.old unit spot.sector mask }
 {
     if is_overflow_place(heads, spot.place) {
-        overflow.add(unit, spot);
+        overflow.add(unit, spot, mask);
+    } else {
+        directory.set_mask(unit, spot.sector, mask);
     }
 }
 
-/// Notes a log sector, if it is live.
+/// Notes a log sector, which pages it names, and the committed numbers that it has, if it is live.
 fn take_log(
     heads: &[Option<Header>],
     current: &[Option<Winner>],
     noted: &mut Noted,
+    directory: &mut Directory,
     overflow: &mut Overflow,
+    numbers: &mut KeptNumbers,
+    status: &Status,
     spot: Spot,
     head: &Head,
     payload: &[u8],
-) -> Result<(), ImageFault>
+    fits: bool,
+) -> Result<bool, ImageFault>
     requires place { spot.place < length heads.now }
     requires sector { spot.sector < 256 }
     requires sized { AreSized (length current.now) (length heads.now) noted.old overflow.old }
+    requires units { length directory.old.current ≡ length current.now }
     requires spot { is_log_spot (at heads.now) (at current.now) spot.place spot.sector ≡ true }
+    requires fits { length payload.now ≤ 480 }
     requires roomy { IsRoomy (at current.now) (spot.place * 256 + spot.sector)
         noted.old overflow.old }
     ensures fault { (marks : List Mark) → IsNoted noted.old overflow.old marks
@@ -99,33 +130,54 @@ fn take_log(
         (option_map (mark_of (at heads.now) (spot.place * 256 + spot.sector))
         (kept (is_live (at heads.now) (at current.now) spot.place)
         (Some (sector_of head.now payload.now)))))) }
+    ensures masked { OnOk result ((found : ℕ → ℕ → ℕ)
+        → ((u : ℕ) → found u (spot.place * 256 + spot.sector) ≡ mask_of_sector u
+        (kept (is_live (at heads.now) (at current.now) spot.place)
+        (Some (sector_of head.now payload.now))))
+        → IsMasked (at heads.now) (at current.now) found (spot.place * 256 + spot.sector)
+        directory.old overflow.old
+        → IsMasked (at heads.now) (at current.now) found (spot.place * 256 + spot.sector + 1)
+        directory.new overflow.new) }
+    ensures collected { IfOk result (λ all. (found : List ℕ) → AreKept found fits numbers.old
+        → AreKept (joined status.now.numbers (records_at
+        (kept (is_live (at heads.now) (at current.now) spot.place)
+        (Some (sector_of head.now payload.now)))) found) all numbers.new) }
     ensures roomy { OnOk result (IsRoomy (at current.now) (spot.place * 256 + spot.sector + 1)
         noted.new overflow.new) }
     ensures sized { AreSized (length current.now) (length heads.now) noted.new overflow.new }
+    ensures places { SamePlaces directory.old directory.new }
     ensures image { IfErr result (λ e. is_image e ≡ true) }
 {
     if is_live(heads, current, spot.place, head) {
+        directory.facts();
+        overflow.facts();
         check_log(heads, noted, overflow, spot, head, payload)?;
         noted.add(head.unit, head.serial, spot.place);
-        list_log(heads, overflow, head.unit, spot);
+        let mask = pages_of(payload);
+        list_log(heads, directory, overflow, head.unit, spot, mask);
+        return Ok(collect(numbers, status, payload, fits));
     }
-    Ok(())
+    Ok(fits)
 }
 
-/// Takes what was found where log sectors may stand, and answers the greatest number found so far.
+/// Takes what was found where log sectors may stand, and answers what was found so far.
 fn take_found(
     heads: &[Option<Header>],
     current: &[Option<Winner>],
     noted: &mut Noted,
+    directory: &mut Directory,
     overflow: &mut Overflow,
+    numbers: &mut KeptNumbers,
+    status: &Status,
     spot: Spot,
     found: Option<(Head, usize)>,
     bytes: &[u8; 512],
-    greatest: u64,
-) -> Result<u64, ImageFault>
+    gathered: Gathered,
+) -> Result<Gathered, ImageFault>
     requires place { spot.place < length heads.now }
     requires sector { spot.sector < 256 }
     requires sized { AreSized (length current.now) (length heads.now) noted.old overflow.old }
+    requires units { length directory.old.current ≡ length current.now }
     requires spot { is_log_spot (at heads.now) (at current.now) spot.place spot.sector ≡ true }
     requires roomy { IsRoomy (at current.now) (spot.place * 256 + spot.sector)
         noted.old overflow.old }
@@ -139,23 +191,50 @@ fn take_found(
         (option_map (mark_of (at heads.now) (spot.place * 256 + spot.sector))
         (kept (is_live (at heads.now) (at current.now) spot.place)
         (kept is_log (sector_named bytes.now found)))))) }
-    ensures number { IfOk result (λ n.
-        n ≡ max greatest (log_number (kept is_log (sector_named bytes.now found)))) }
+    ensures masked { OnOk result ((masks : ℕ → ℕ → ℕ)
+        → ((u : ℕ) → masks u (spot.place * 256 + spot.sector) ≡ mask_of_sector u
+        (kept (is_live (at heads.now) (at current.now) spot.place)
+        (kept is_log (sector_named bytes.now found))))
+        → IsMasked (at heads.now) (at current.now) masks (spot.place * 256 + spot.sector)
+        directory.old overflow.old
+        → IsMasked (at heads.now) (at current.now) masks (spot.place * 256 + spot.sector + 1)
+        directory.new overflow.new) }
+    ensures number { IfOk result (λ all. all.greatest
+        ≡ max gathered.greatest (log_number (kept is_log (sector_named bytes.now found)))) }
+    ensures collected { IfOk result (λ all. (before : List ℕ)
+        → AreKept before gathered.fits numbers.old
+        → AreKept (joined status.now.numbers (records_at
+        (kept (is_live (at heads.now) (at current.now) spot.place)
+        (kept is_log (sector_named bytes.now found)))) before) all.fits numbers.new) }
     ensures roomy { OnOk result (IsRoomy (at current.now) (spot.place * 256 + spot.sector + 1)
         noted.new overflow.new) }
     ensures sized { AreSized (length current.now) (length heads.now) noted.new overflow.new }
+    ensures places { SamePlaces directory.old directory.new }
     ensures image { IfErr result (λ e. is_image e ≡ true) }
 {
     match found {
         Some((head, used)) => {
             if head.kind != Head::LOG {
-                return Ok(greatest);
+                return Ok(gathered);
             }
             let payload = payload_in(bytes, used);
-            take_log(heads, current, noted, overflow, spot, &head, payload)?;
-            Ok(greatest.max(log_number(&head, payload)))
+            let fits = take_log(
+                heads,
+                current,
+                noted,
+                directory,
+                overflow,
+                numbers,
+                status,
+                spot,
+                &head,
+                payload,
+                gathered.fits,
+            )?;
+            let greatest = gathered.greatest.max(log_number(&head, payload));
+            Ok(Gathered { greatest, fits })
         }
-        None => Ok(greatest),
+        None => Ok(gathered),
     }
 }
 
@@ -165,43 +244,51 @@ fn scan_sector<C: Chip>(
     heads: &[Option<Header>],
     current: &[Option<Winner>],
     noted: &mut Noted,
+    directory: &mut Directory,
     overflow: &mut Overflow,
+    numbers: &mut KeptNumbers,
+    status: &Status,
     spot: Spot,
-    greatest: u64,
-) -> Result<u64, ImageFault>
+    gathered: Gathered,
+) -> Result<Gathered, ImageFault>
     requires size { length heads.now ≡ (C.told chip.old).places }
     requires place { spot.place < length heads.now }
     requires sector { spot.sector < 256 }
     requires sized { AreSized (length current.now) (length heads.now) noted.old overflow.old }
+    requires units { length directory.old.current ≡ length current.now }
     requires roomy { IsRoomy (at current.now) (spot.place * 256 + spot.sector)
         noted.old overflow.old }
-    ensures scanned { IfOk result (λ n. OfContents (C.told chip.old) (λ x. (least : ℕ)
-        → IsScanned x (at heads.now) (at current.now) least (spot.place * 256 + spot.sector)
-        noted.old overflow.old greatest
-        → IsScanned x (at heads.now) (at current.now) least (spot.place * 256 + spot.sector + 1)
-        noted.new overflow.new n)) }
+    ensures scanned { IfOk result (λ all. OfContents (C.told chip.old) (λ x. (least : ℕ)
+        → IsScanned x (at heads.now) (at current.now) status.now.numbers least
+        (spot.place * 256 + spot.sector) noted.old directory.old overflow.old numbers.old
+        gathered.fits gathered.greatest
+        → IsScanned x (at heads.now) (at current.now) status.now.numbers least
+        (spot.place * 256 + spot.sector + 1) noted.new directory.new overflow.new numbers.new
+        all.fits all.greatest)) }
     ensures fault { IfErr result (λ e. OfContents (C.told chip.old) (λ x. (least : ℕ)
-        → IsScanned x (at heads.now) (at current.now) least (spot.place * 256 + spot.sector)
-        noted.old overflow.old greatest
+        → IsScanned x (at heads.now) (at current.now) status.now.numbers least
+        (spot.place * 256 + spot.sector) noted.old directory.old overflow.old numbers.old
+        gathered.fits gathered.greatest
         → is_image e ≡ true
         → first_below (log_fault (at heads.now) (at current.now) (chart_of x))
         (length heads.now * 256) ≡ Some e)) }
     ensures roomy { OnOk result (IsRoomy (at current.now) (spot.place * 256 + spot.sector + 1)
         noted.new overflow.new) }
     ensures sized { AreSized (length current.now) (length heads.now) noted.new overflow.new }
+    ensures places { SamePlaces directory.old directory.new }
     ensures looks { Looks HasCause result (C.told chip.old) (C.told chip.new) }
     ensures once { ReadsOnce (λ p s. IsAt spot.place spot.sector p s
         × MayHoldLog (at heads.now) (at current.now) p s) (C.told chip.old) (C.told chip.new) }
 {
     if !may_hold_log(heads, current, spot.place, spot.sector) {
-        return Ok(greatest);
+        return Ok(gathered);
     }
     let mut bytes = [0; 512];
     let found = read_sector(chip, spot, &mut bytes)?;
-    let greatest = take_found(
-        heads, current, noted, overflow, spot, found, &bytes, greatest,
+    let gathered = take_found(
+        heads, current, noted, directory, overflow, numbers, status, spot, found, &bytes, gathered,
     )?;
-    Ok(greatest)
+    Ok(gathered)
 }
 
 /// Reads the sectors of a place, where log sectors may stand.
@@ -210,71 +297,92 @@ fn scan_place<C: Chip>(
     heads: &[Option<Header>],
     current: &[Option<Winner>],
     noted: &mut Noted,
+    directory: &mut Directory,
     overflow: &mut Overflow,
+    numbers: &mut KeptNumbers,
+    status: &Status,
     place: u32,
-    least: u64,
-) -> Result<u64, ImageFault>
+    before: Gathered,
+) -> Result<Gathered, ImageFault>
     requires size { length heads.now ≡ (C.told chip.old).places }
     requires place { place < length heads.now }
     requires sized { AreSized (length current.now) (length heads.now) noted.old overflow.old }
+    requires units { length directory.old.current ≡ length current.now }
     requires roomy { IsRoomy (at current.now) (place * 256) noted.old overflow.old }
-    ensures scanned { IfOk result (λ n. OfContents (C.told chip.old) (λ x. (base : ℕ)
-        → IsScanned x (at heads.now) (at current.now) base (place * 256)
-        noted.old overflow.old least
-        → IsScanned x (at heads.now) (at current.now) base ((place + 1) * 256)
-        noted.new overflow.new n)) }
+    ensures scanned { IfOk result (λ all. OfContents (C.told chip.old) (λ x. (base : ℕ)
+        → IsScanned x (at heads.now) (at current.now) status.now.numbers base (place * 256)
+        noted.old directory.old overflow.old numbers.old before.fits before.greatest
+        → IsScanned x (at heads.now) (at current.now) status.now.numbers base ((place + 1) * 256)
+        noted.new directory.new overflow.new numbers.new all.fits all.greatest)) }
     ensures fault { IfErr result (λ e. OfContents (C.told chip.old) (λ x. (base : ℕ)
-        → IsScanned x (at heads.now) (at current.now) base (place * 256)
-        noted.old overflow.old least
+        → IsScanned x (at heads.now) (at current.now) status.now.numbers base (place * 256)
+        noted.old directory.old overflow.old numbers.old before.fits before.greatest
         → is_image e ≡ true
         → first_below (log_fault (at heads.now) (at current.now) (chart_of x))
         (length heads.now * 256) ≡ Some e)) }
     ensures roomy { OnOk result (IsRoomy (at current.now) ((place + 1) * 256)
         noted.new overflow.new) }
     ensures sized { AreSized (length current.now) (length heads.now) noted.new overflow.new }
+    ensures places { SamePlaces directory.old directory.new }
     ensures looks { Looks HasCause result (C.told chip.old) (C.told chip.new) }
     ensures once { ReadsOnce (λ p s. (p ≡ place) × MayHoldLog (at heads.now) (at current.now) p s)
         (C.told chip.old) (C.told chip.new) }
 {
-    let mut greatest = least;
+    let mut gathered = before;
     for sector in 0..256 {
         let spot = Spot { place, sector };
-        greatest = scan_sector(chip, heads, current, noted, overflow, spot, greatest)?;
+        gathered = scan_sector(
+            chip, heads, current, noted, directory, overflow, numbers, status, spot, gathered,
+        )?;
     }
-    Ok(greatest)
+    Ok(gathered)
 }
 
-/// Reads the sectors where log sectors may stand, of all places: what is live is noted, and listed
-/// where it stands in an overflow place. Answers the greatest number found, at least this.
+/// Reads the sectors where log sectors may stand, of all places: what is live is noted with the pages
+/// that it names, and listed where it stands in an overflow place, and the committed numbers that it
+/// has are kept as long as all fit. Answers whether they do, and the greatest number found, at least
+/// this.
 pub(crate) fn scan<C: Chip>(
     chip: &mut C,
     geometry: Geometry,
     heads: &[Option<Header>],
     current: &[Option<Winner>],
     noted: &mut Noted,
+    directory: &mut Directory,
     overflow: &mut Overflow,
+    numbers: &mut KeptNumbers,
+    status: &Status,
     least: u64,
-) -> Result<u64, ImageFault>
+) -> Result<Gathered, ImageFault>
     requires size { geometry ≡ (C.told chip.old).places }
     requires heads { length heads.now ≡ geometry }
     requires sized { AreSized (length current.now) geometry noted.old overflow.old }
-    ensures scanned { IfOk result (λ n. OfContents (C.told chip.old) (λ x.
-        IsScanned x (at heads.now) (at current.now) least (geometry * 256)
-        noted.new overflow.new n)) }
+    requires units { length directory.old.current ≡ length current.now }
+    requires blank { NoneNamed (length current.now) directory.old }
+    ensures scanned { IfOk result (λ all. OfContents (C.told chip.old) (λ x.
+        IsScanned x (at heads.now) (at current.now) status.now.numbers least (geometry * 256)
+        noted.new directory.new overflow.new numbers.new all.fits all.greatest)) }
     ensures fault { IfErr result (λ e. OfContents (C.told chip.old) (λ x. is_image e ≡ true
         → first_below (log_fault (at heads.now) (at current.now) (chart_of x)) (geometry * 256)
         ≡ Some e)) }
     ensures none { OnOk result (overflow.new.in_use ≡ []) }
     ensures sized { AreSized (length current.now) geometry noted.new overflow.new }
+    ensures places { SamePlaces directory.old directory.new }
     ensures looks { Looks HasCause result (C.told chip.old) (C.told chip.new) }
     ensures once { ReadsOnce (MayHoldLog (at heads.now) (at current.now))
         (C.told chip.old) (C.told chip.new) }
 {
     noted.clear();
     overflow.reset();
-    let mut greatest = least;
+    numbers.clear();
+    let mut gathered = Gathered {
+        greatest: least,
+        fits: true,
+    };
     for place in 0..geometry.places() {
-        greatest = scan_place(chip, heads, current, noted, overflow, place, greatest)?;
+        gathered = scan_place(
+            chip, heads, current, noted, directory, overflow, numbers, status, place, gathered,
+        )?;
     }
-    Ok(greatest)
+    Ok(gathered)
 }

@@ -19,12 +19,15 @@ ghost use Rattle.txn_status.specs.ReadingIn.{status_in};
 ghost use Rattle.merge_rules.specs.Known.{KnowsPlaces};
 ghost use Rattle.opened_tables.specs.Opened.{AreOpened, tables_of};
 ghost use Rattle.restart.specs.Notes.{units_of, places_of, AreSized, IsNoted};
+ghost use Rattle.restart.specs.Masked.{SamePlaces, NoneNamed, mask_by, IsMasked};
 ghost use Rattle.restart.specs.Shown.{ShowsHeaders, AreChosen, is_held, number_by, fault_by};
 ghost use Rattle.restart.specs.Opened.{HasFree, NoneIsClean};
+ghost use Rattle.restart.specs.Collected.{numbers_below, AreKept, AreCollected};
 
 use crate::choosing::choose;
+use crate::collecting::Gathered;
 use crate::commits::read_commits;
-use crate::filling::{fill, list_places};
+use crate::filling::{adopt_all, list_places, take_others};
 use crate::headers::check_headers;
 use crate::kept::{Header, Winner};
 use crate::logs::scan;
@@ -33,6 +36,7 @@ use crate::noted::Noted;
 use crate::verdict::{check_found, greatest_in};
 use chip_trait::Chip;
 use ipl_base::{Counter, Geometry, ImageFault, OutOfMemory};
+use kept_numbers::KeptNumbers;
 use overflow::Overflow;
 use std::alloc::Global;
 use std::marker::Model;
@@ -70,7 +74,7 @@ fn read_headers<C: Chip>(
 }
 
 /// Reads all that counts beyond the headers, by these headers and the one of the status place, and
-/// answers the greatest number found.
+/// answers the greatest number found, and whether the committed numbers of live records fit.
 fn read_rest<C: Chip>(
     chip: &mut C,
     geometry: Geometry,
@@ -78,19 +82,31 @@ fn read_rest<C: Chip>(
     current: &[Option<Winner>],
     winner: &Winner,
     noted: &mut Noted,
+    directory: &mut Directory,
     overflow: &mut Overflow,
     status: &mut Status,
-) -> Result<u64, ImageFault>
+    numbers: &mut KeptNumbers,
+) -> Result<Gathered, ImageFault>
     requires size { geometry ≡ (C.told chip.old).places }
     requires heads { length heads.now ≡ geometry }
     requires sized { AreSized (length current.now) geometry noted.old overflow.old }
+    requires units { length directory.old.current ≡ length current.now }
+    requires blank { NoneNamed (length current.now) directory.old }
     requires winner { winner.now.place < geometry }
     ensures fault { OfContents (C.told chip.old) (λ x. TellsImageFault
         (fault_by (chart_of x) (at heads.now) (at current.now) (Some winner.now) geometry) result) }
-    ensures number { IfOk result (λ n. OfContents (C.told chip.old) (λ x.
-        n ≡ number_by (chart_of x) (at heads.now) (at current.now) (Some winner.now) geometry)) }
+    ensures number { IfOk result (λ all. OfContents (C.told chip.old) (λ x. all.greatest
+        ≡ number_by (chart_of x) (at heads.now) (at current.now) (Some winner.now) geometry)) }
+    ensures collected { IfOk result (λ all. OfContents (C.told chip.old) (λ x. AreKept
+        (numbers_below status.new.numbers (at heads.now) (at current.now) (chart_of x)
+        (geometry * 256)) all.fits numbers.new)) }
     ensures noted { OnOk result (OfContents (C.told chip.old) (λ x. IsNoted noted.new overflow.new
         (marks (at heads.now) (at current.now) (chart_of x) (geometry * 256)))) }
+    ensures masked { OnOk result (OfContents (C.told chip.old) (λ x.
+        IsMasked (at heads.now) (at current.now)
+        (mask_by (at heads.now) (at current.now) (chart_of x)) (geometry * 256)
+        directory.new overflow.new)) }
+    ensures places { SamePlaces directory.old directory.new }
     ensures status { OnOk result (OfContents (C.told chip.old) (λ x.
         status.new ≡ status_in (chart_of x) winner.now.place winner.now.head.generation)) }
     ensures placed { OnOk result (status.new.place ≡ winner.now.place) }
@@ -99,7 +115,7 @@ fn read_rest<C: Chip>(
         IsRestWhole x geometry heads.now current.now winner.now)) }
     ensures spent { IfErr result (λ e. e ≡ Spent → OfContents (C.told chip.old) (λ x.
         IsRestWhole x geometry heads.now current.now winner.now)) }
-    ensures left { IfOk result (λ n. n < 2 ^ 63) }
+    ensures left { IfOk result (λ all. all.greatest < 2 ^ 63) }
     ensures two { OnOk result (count_below (is_held heads.now noted.new) (length heads.now) ≤ 2) }
     ensures none { OnOk result (overflow.new.in_use ≡ []) }
     ensures sized { AreSized (length current.now) geometry noted.new overflow.new }
@@ -109,12 +125,14 @@ fn read_rest<C: Chip>(
 {
     let least = greatest_in(heads);
     let least = read_commits(chip, winner, status, least)?;
-    let greatest = scan(chip, geometry, heads, current, noted, overflow, least)?;
-    check_found(heads, noted, greatest)?;
-    Ok(greatest)
+    let gathered = scan(
+        chip, geometry, heads, current, noted, directory, overflow, numbers, status, least,
+    )?;
+    check_found(heads, noted, gathered.greatest)?;
+    Ok(gathered)
 }
 
-/// Opens a chip into these tables.
+/// Opens a chip into these tables, and answers whether the committed numbers of live records fit.
 fn open<C: Chip>(
     chip: &mut C,
     geometry: Geometry,
@@ -125,7 +143,8 @@ fn open<C: Chip>(
     overflow: &mut Overflow,
     status: &mut Status,
     counter: &mut Counter,
-) -> Result<(), ImageFault>
+    numbers: &mut KeptNumbers,
+) -> Result<bool, ImageFault>
     requires size { geometry ≡ (C.told chip.old).places }
     requires heads { length heads.old ≡ geometry }
     requires sized { AreSized (length current.old) geometry noted.old overflow.old }
@@ -140,6 +159,8 @@ fn open<C: Chip>(
     ensures mirrors { OnOk result (OfContents (C.told chip.old) (λ x.
         Mirrors geometry (chart_of x) (layout_in (chart_of x) geometry)
         (tables_of directory.new overflow.new status.new counter.new))) }
+    ensures collected { IfOk result (λ fits. OfContents (C.told chip.old) (λ x.
+        AreCollected geometry (chart_of x) fits numbers.new)) }
     ensures bytes { ReadsBytes geometry (C.told chip.old) result }
     ensures known { OnOk result (KnowsPlaces geometry
         (tables_of directory.new overflow.new status.new counter.new)) }
@@ -153,13 +174,16 @@ fn open<C: Chip>(
     ensures once { ReadsOnce Anywhere (C.told chip.old) (C.told chip.new) }
 {
     let winner = read_headers(chip, geometry, heads, current)?;
-    let greatest = read_rest(
-        chip, geometry, heads, current, &winner, noted, overflow, status,
+    adopt_all(directory, current);
+    let gathered = read_rest(
+        chip, geometry, heads, current, &winner, noted, directory, overflow, status, numbers,
     )?;
-    fill(directory, heads, current, &winner, noted);
+    take_others(directory, heads, &winner, noted);
     list_places(overflow, heads, noted);
-    *counter = Counter::at(greatest + 1);
-    Ok(())
+    directory.facts();
+    overflow.facts();
+    *counter = Counter::at(gathered.greatest + 1);
+    Ok(gathered.fits)
 }
 
 /// The scratch memory of an opening: what is kept of each header, the header of each unit that counts, and what is noted of
@@ -211,6 +235,9 @@ impl Scratch {
 /// clean. The counter is the number after the greatest that was found. After a fault, all of them
 /// hold anything, but are made for as many places as before.
 ///
+/// The numbers that are kept then are the committed ones that live log records have, where those are
+/// at most 3,840. It answers false where they are more, and what is kept says nothing then.
+///
 /// Fails with the first fault of the chip, in the order that docs/RECOVERY.md tells, or with
 /// `Chip(ReadFault)` where a read of the chip failed.
 pub fn recover<C: Chip>(
@@ -220,7 +247,8 @@ pub fn recover<C: Chip>(
     overflow: &mut Overflow,
     status: &mut Status,
     counter: &mut Counter,
-) -> Result<(), ImageFault>
+    numbers: &mut KeptNumbers,
+) -> Result<bool, ImageFault>
     requires scratch { scratch.old ≡ (C.told chip.old).places }
     requires directory { length directory.old.in_use ≡ (C.told chip.old).places }
     requires overflow { length overflow.old.spots + 4 ≡ (C.told chip.old).places }
@@ -237,6 +265,10 @@ pub fn recover<C: Chip>(
         Mirrors (C.told chip.old).places (chart_of x)
         (layout_in (chart_of x) (C.told chip.old).places)
         (tables_of directory.new overflow.new status.new counter.new))) }
+
+    // The committed numbers that live log records have are kept, exactly where they are at most 3,840.
+    ensures collected { IfOk result (λ fits. OfContents (C.told chip.old) (λ x.
+        AreCollected (C.told chip.old).places (chart_of x) fits numbers.new)) }
 
     // What it read is bytes, also where it fails since the numbers are used up.
     ensures bytes { ReadsBytes (C.told chip.old).places (C.told chip.old) result }
@@ -268,5 +300,6 @@ pub fn recover<C: Chip>(
         overflow,
         status,
         counter,
+        numbers,
     )
 }

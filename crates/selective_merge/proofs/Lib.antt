@@ -18,6 +18,7 @@ mod PlacingLemmas
 mod RoomLemmas
 mod SpendLemmas
 mod FewLemmas
-mod SmallLemmas
 pub mod TidyLemmas
 pub mod CompleteLemmas
+pub mod MaskedLemmas
+pub mod LearntLemmas

@@ -1,23 +1,23 @@
 -- A merge, once the unit is written: what the chip stands for, and what the tables say.
-use Rattle.std.proofs.Common.{◌≡◌, ◌≢◌, ◌⊎◌, ◌<◌, ◌≤◌, ◌+◌, ◌-◌, ℕ, List, ◌++◌, length, slice_index, slice_set, Some, None, Ok, Err, inl, inr, refl, sym, ◌∙◌, ap, ap₂, subst, arith}
-use Rattle.std.specs.List.{Contains}
+use Rattle.std.proofs.Common.{◌≡◌, ◌≢◌, ◌⊎◌, ◌<◌, ◌≤◌, ◌+◌, ◌-◌, ℕ, true, List, [], ◌++◌, length, get_or, slice_index, slice_set, Some, None, Ok, Err, inl, inr, refl, sym, ◌∙◌, ap, ap₂, subst, arith}
+use Rattle.std.specs.List.{All, Contains}
 use Rattle.std.proofs.lemmas.Bool.{cases_eq}
 use Rattle.std.proofs.lemmas.List.{get_or-set_same, get_or-set_other, length-set, length-map}
-use Rattle.std.proofs.lemmas.List.Elements.{All-contains}
+use Rattle.std.proofs.lemmas.List.Elements.{All-contains, All-weaker}
 use Rattle.chip_trait.specs.Lawful.{AreClean}
 use Rattle.chip_trait.specs.Story.{Story}
 use Rattle.chip_trait.specs.Told.{History, Told, adds_all}
 use Rattle.ipl_base.specs.declared.fault.ChipFault.{ChipFault}
-use Rattle.ipl_format.specs.Record.{Record, log_bytes}
+use Rattle.ipl_format.specs.Record.{Record, IsRecord, log_bytes}
 use Rattle.ipl_format.specs.Sector.{Sector}
 use Rattle.ipl_rules.specs.State.{Map}
 use Rattle.ipl_meaning.specs.Agrees.{IsTidy}
 use Rattle.ipl_meaning.specs.Chart.{Chart}
-use Rattle.ipl_meaning.specs.Layout.{Layout}
+use Rattle.ipl_meaning.specs.Layout.{Layout, records_of}
 use Rattle.ipl_meaning.specs.Mirrors.{Mirrors}
 use Rattle.ipl_meaning.specs.Rests.{now}
 use Rattle.ipl_meaning.specs.Steps.{IsIdle, KeepsPages}
-use Rattle.ipl_meaning.specs.Tables.{IsFree, Status, Tables, overflow_places, IsCountedClean}
+use Rattle.ipl_meaning.specs.Tables.{Places, IsFree, with_use, OverflowLists, Status, Tables, overflow_places, IsCountedClean}
 use Rattle.ipl_meaning.specs.TableSteps.{IsMoved, taken, with_next}
 use Rattle.ipl_meaning.proofs.IdleFollowLemmas.{counted_apart, tables_follow_idle_places}
 use Rattle.ipl_meaning.proofs.IdleLemmas.{idle_places_do_not_count}
@@ -25,9 +25,14 @@ use Rattle.ipl_meaning.proofs.MirrorLemmas.{free_places_are_idle}
 use Rattle.unit_io.specs.Spots.{Rewrites}
 use Rattle.merge_rules.specs.Merged.{source_of, packs_in, IsToMerge, IsWritten, IsMergedUnit}
 use Rattle.merge_rules.specs.Moved.{Source, IsUnsealed}
-use Rattle.merge_rules.specs.Packs.{packs_of, payloads_of}
+use Rattle.merge_rules.specs.Packs.{packs_of, payloads_of, masks_of_packs}
 use Rattle.merge_rules.proofs.MergeLemmas.{tables_follow_filling}
+use Rattle.merge_rules.proofs.MaskedLemmas.{packs_are_told}
+use Rattle.merge_rules.proofs.PacksLemmas.{packs_all, all_records}
+use Rattle.selective_merge.specs.Packing.{masks_of_payloads}
+use Rattle.selective_merge.proofs.MaskedLemmas.{packs_masks}
 use Rattle.selective_merge.specs.Merging.{StepsMerging}
+use Rattle.selective_merge.specs.Moving.{TellsUnit}
 use Rattle.selective_merge.specs.Throughout.{KeepsThroughout}
 
 -- ---- what is clean then
@@ -119,17 +124,45 @@ pub many_packs : (places : ℕ) (c : Chart) (it : Layout) (t : Tables) (u p g se
 many_packs places c it t u p g serial from payloads what =
     ap length what.carried ∙ length-map (packs_in t (it.units u)) log_bytes
 
+-- the tables tell of the unit there: its generation, and the masks of these packs
+pub record TellsPacks (t after : Tables) (u generation : ℕ) (packs : List (List Record)) : Type 0 where
+  pub generation_is : after.places.generations ≡ slice_set t.places.generations u generation
+  pub home : after.places.masks ≡ slice_set t.places.masks u (masks_of_packs 15 packs)
+  pub elsewhere : after.overflow.masks ≡ slice_set t.overflow.masks u []
+
+-- those of the payloads are
+pub tells_packs : (places : ℕ) (c : Chart) (it : Layout) (t taken_t after : Tables) (u p g serial : ℕ) (from : Source)
+    (payloads : List (List ℕ)) (masks : List ℕ) → IsToMerge places c it t u p g serial from payloads
+    → masks ≡ masks_of_payloads 15 payloads → TellsUnit taken_t after u g masks
+    → taken_t.places ≡ with_use t.places p true → taken_t.overflow ≡ t.overflow
+    → TellsPacks t after u g (packs_in t (it.units u))
+tells_packs places c it t taken_t after u p g serial from payloads masks what are told taken same = record {
+  generation_is = told.generation_is ∙ ap (λ (d : Places). slice_set d.generations u g) taken;
+  home = told.home ∙ ap (λ (d : Places). slice_set d.masks u masks) taken
+      ∙ ap (slice_set t.places.masks u)
+      (are ∙ ap (masks_of_payloads 15) what.carried ∙ packs_masks 15 (packs_in t (it.units u)) valid);
+  elsewhere = told.elsewhere ∙ ap (λ (o : OverflowLists). slice_set o.masks u []) same;
+}
+  where
+    valid : All (All IsRecord) (packs_in t (it.units u))
+    valid = λ k d low. All-weaker (λ r. IsRecord r × Contains t.active r.tid) IsRecord (λ r is. is.0) (get_or (packs_in t (it.units u)) k d)
+        (packs_all t.active (records_of (it.units u).log) IsRecord
+        (all_records (it.units u).log (λ k d low. ((what.mirrors.laid.each u what.low).log.each k d low).records.valid)) k d low)
+
 -- once the tables have it there
 pub merged_there : (places : ℕ) (it : Layout) (t : Tables) (u p g serial n : ℕ) (after : Tables)
     (c z : Chart) → n ≡ length (packs_in t (it.units u))
-    → IsMoved (with_next (taken t p) g) after u p n → serial + n ≤ after.next
+    → IsMoved (with_next (taken t p) g) after u p n
+    → TellsPacks t after u g (packs_in t (it.units u)) → serial + n ≤ after.next
     → IsWritten places c z it t u p g serial → IsMergedUnit places c z it t u after
-merged_there places it t u p g serial n after c z used moved more is =
+merged_there places it t u p g serial n after c z used moved tells more is =
     let follows = tables_follow_filling places c is.filled it t after u p is.head is.pieces serial
     is.may
     (subst (λ (k : ℕ). IsMoved (with_next (taken t p) k) after u p
     (length (packs_in t (it.units u)))) (sym is.generation_is)
     (subst (λ (k : ℕ). IsMoved (with_next (taken t p) g) after u p k) used moved))
+    (packs_are_told t (with_next (taken t p) is.head.generation) after (it.units u) u p is.head is.pieces serial is.may.twelve
+    (tells.generation_is ∙ ap (slice_set t.places.generations u) (sym is.generation_is)) tells.home tells.elsewhere)
     (omega (arith, more, used)) in record {
       place = p;
       head = is.head;
@@ -159,11 +192,12 @@ module _ (places : ℕ) (m : Map) (it : Layout) (t : Tables) (u p g serial n : �
 
   -- the merge was done
   pub merged_steps : (after : Tables) → u < places - 4 → n ≡ length (packs_in t (it.units u))
-      → IsMoved (with_next (taken t p) g) after u p n → serial + n ≤ after.next
+      → IsMoved (with_next (taken t p) g) after u p n
+      → TellsPacks t after u g (packs_in t (it.units u)) → serial + n ≤ after.next
       → KeepsThroughout {T = Unit {0}} {E = ChipFault} places m (Rewrites p (241 + n))
       (λ done c y. IsWritten places c y it t u p g serial) (IsUnsealed p) h (Ok tt) old new
       → StepsMerging {T = Unit {0}} places m it t u after h (Ok tt) old new
-  merged_steps after low used moved more did = record {
+  merged_steps after low used moved tells more did = record {
     added = did.added;
     history = did.history;
     each_moment = did.each_moment;
@@ -176,7 +210,7 @@ module _ (places : ℕ) (m : Map) (it : Layout) (t : Tables) (u p g serial n : �
     ends = λ done. record {
       rests = (did.ends tt).0;
       unit = merged_there places it t u p g serial n after (now h) (now (adds_all did.added h))
-          used moved more (did.ends tt).1;
+          used moved tells more (did.ends tt).1;
       tidy = clean h.story tidy;
     };
   }

@@ -5,17 +5,18 @@ use Rattle.std.proofs.lemmas.Bool.{cases_Bool, cases_eq}
 use Rattle.std.proofs.lemmas.List.{get_or-set_same, get_or-map, get_or-set_other, length-map, length-set, set-set}
 use Rattle.std.proofs.lemmas.List.Elements.{Contains-get_or}
 use Rattle.ipl_meaning.specs.Mirrors.{AreApart}
-use Rattle.ipl_meaning.specs.Tables.{Places, IsFree, Status, OverflowLists, Tables, overflow_places, place_of, with_written}
+use Rattle.ipl_meaning.specs.Tables.{Places, IsFree, Status, OverflowLists, Tables, overflow_places, place_of, with_written, with_masks}
 use Rattle.ipl_meaning.specs.TableSteps.{IsMoved, with_next}
 use Rattle.overflow.specs.Laws.{DropsMove}
 use Rattle.overflow.specs.Lists.{IsSoundOverflow, after_drop, places_left, listed}
+use Rattle.unit_directory.specs.Directory.{no_masks}
 use Rattle.merge_rules.specs.Packs.{among}
 use Rattle.merge_rules.proofs.PacksLemmas.{among_contains, contains_among}
-use Rattle.selective_merge.specs.Moving.{places_moved, Frees, NoneIsLostBut}
+use Rattle.selective_merge.specs.Moving.{places_moved, Frees, NoneIsLostBut, TellsUnit}
 
 -- ---- the directory
 
-module _ (it : Places) (u p i : ℕ) (d : Places) (is : d ≡ places_moved it u p i) where
+module _ (it : Places) (u p generation i : ℕ) (d : Places) (is : d ≡ places_moved it u p generation i) where
   pub moved_unit : u < length it.current → u < length d.current
   moved_unit low =
       omega (arith, low, ap (λ (x : Places). length x.current) is, length-set it.current u p)
@@ -28,7 +29,7 @@ module _ (it : Places) (u p i : ℕ) (d : Places) (is : d ≡ places_moved it u 
   moved_left low few = omega (arith, few, written_there low)
 
   pub moved_more : (next : Places) → u < length it.written → next ≡ with_written d u
-      → next ≡ places_moved it u p (i + 1)
+      → next ≡ places_moved it u p generation (i + 1)
   moved_more next low then_is =
       let logs : slice_set d.written u (slice_index d.written u + 1)
       ≡ slice_set it.written u (i + 1) =
@@ -38,10 +39,10 @@ module _ (it : Places) (u p i : ℕ) (d : Places) (is : d ≡ places_moved it u 
       ∙ ap (λ (x : Places). record x {
         written = slice_set d.written u (slice_index d.written u + 1);
       }) is
-      ∙ ap (λ (l : List ℕ). record (places_moved it u p i) { written = l }) logs
+      ∙ ap (λ (l : List ℕ). record (places_moved it u p generation i) { written = l }) logs
 
-  pub moved_all : (n : ℕ) → u < length it.current → i ≡ n → d ≡ places_moved it u p n
-  moved_all n low same = is ∙ ap (places_moved it u p) same
+  pub moved_all : (n : ℕ) → u < length it.current → i ≡ n → d ≡ places_moved it u p generation n
+  moved_all n low same = is ∙ ap (places_moved it u p generation) same
 
 -- ---- the tables
 
@@ -70,9 +71,10 @@ other_default (x ∷ l) zero d within = refl
 other_default (x ∷ l) (suc i) d within = other_default l i d (omega (arith, within))
 
 -- as many places as before
-pub in_use_moved : (it : Places) (u p used : ℕ) (d : Places) → d ≡ places_moved it u p used
+pub in_use_moved : (it : Places) (u p generation used : ℕ) (d : Places)
+    → d ≡ places_moved it u p generation used
     → length d.in_use ≡ length it.in_use
-in_use_moved it u p used d is = ap (λ (x : Places). length x.in_use) is
+in_use_moved it u p generation used d is = ap (λ (x : Places). length x.in_use) is
     ∙ length-set it.in_use (slice_index it.current u) false
 
 -- an overflow place that is left is one of the chip's
@@ -92,10 +94,39 @@ left_within drops it u left i n sound is sized = case (get_or left i None) refl
         sym (get_or-map place_of it.in_use j (0, 0) q less) ∙ same in
         omega (arith, there, placed, sized)
 
+-- with other masks it is the same
+pub frees_masked : (before after last : Places) (o : Option ℕ) (u : ℕ) (masks : List ℕ)
+    → last ≡ with_masks after u masks → Frees before after o → Frees before last o
+frees_masked before after last o u masks same is = rw same (record {
+  current = is.current;
+  written = is.written;
+  generations = is.generations;
+  all = is.all;
+  free = is.free;
+  still = is.still;
+  gone = is.gone;
+  count = is.count;
+})
+
+-- the generation of a unit that moved, and its masks
+pub unit_told : (before after : Tables) (one two last : Places) (u p generation used : ℕ) (masks : List ℕ)
+    (left right : Option ℕ) → one ≡ places_moved before.places u p generation used
+    → Frees one two left → Frees two last right → two.masks ≡ one.masks → last.masks ≡ two.masks
+    → after.places ≡ with_masks last u masks → after.overflow ≡ after_drop before.overflow u
+    → TellsUnit before after u generation masks
+unit_told before after one two last u p generation used masks left right home first second here there is dropped = record {
+  generation_is = ap (λ (x : Places). x.generations) is ∙ second.generations ∙ first.generations
+      ∙ ap (λ (x : Places). x.generations) home;
+  home = ap (λ (x : Places). x.masks) is
+      ∙ ap (λ (l : List (List ℕ)). slice_set l u masks) (there ∙ here ∙ ap (λ (x : Places). x.masks) home)
+      ∙ set-set before.places.masks u no_masks masks;
+  elsewhere = ap (λ (o : OverflowLists). o.masks) dropped;
+}
+
 -- what is so once a unit moved: the home first, then the overflow places that are left
-pub record HasMovedTo (t after : Tables) (u p used : ℕ) (one two : Places)
+pub record HasMovedTo (t after : Tables) (u p generation used : ℕ) (one two : Places)
     (left : List (Option ℕ)) : Type 0 where
-  pub home : one ≡ places_moved t.places u p used
+  pub home : one ≡ places_moved t.places u p generation used
   pub dropped : after.overflow ≡ after_drop t.overflow u
   pub left_is : listed left ≡ places_left t.overflow u
   pub first : Frees one two (get_or left 0 None)
@@ -105,8 +136,8 @@ pub record HasMovedTo (t after : Tables) (u p used : ℕ) (one two : Places)
   pub active : after.active ≡ t.active
   pub few : length after.overflow.in_use ≤ 2
 
-module _ (drops : DropsMove) (t after : Tables) (u p used : ℕ) (one two : Places)
-    (left : List (Option ℕ)) (is : HasMovedTo t after u p used one two left) where
+module _ (drops : DropsMove) (t after : Tables) (u p generation used : ℕ) (one two : Places)
+    (left : List (Option ℕ)) (is : HasMovedTo t after u p generation used one two left) where
   current_is : after.places.current ≡ slice_set t.places.current u p
   current_is = is.second.current ∙ is.first.current ∙ ap (λ (x : Places). x.current) is.home
 

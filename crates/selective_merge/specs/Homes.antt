@@ -1,17 +1,17 @@
 -- Where a unit is moved from, what is read of it, and why it isn't merged.
-use Rattle.std.specs.Prelude.{ℕ, ◌≡◌, ◌≢◌, ◌⊎◌, Bool, List, Option, Result, MatchResult, if◌then◌else◌}
+use Rattle.std.specs.Prelude.{ℕ, ◌≡◌, ◌≢◌, ◌⊎◌, Bool, List, Option, Result, Ok, MatchResult, slice_index, if◌then◌else◌}
 use Rattle.ipl_base.specs.declared.limits.TheConstants.{PAGES}
 use Rattle.chip_trait.specs.Told.{Told, Rose}
 use Rattle.ipl_base.specs.declared.fault.ChipFault.{ChipFault}
 use Rattle.ipl_base.specs.declared.fault.ChipFault.TheVariants.{ReadFault, Stopped, Damaged, Malformed}
 use Rattle.ipl_format.specs.Record.{Record}
 use Rattle.ipl_meaning.specs.Layout.{Shape, records_of}
-use Rattle.ipl_meaning.specs.Tables.{Places, OverflowLists}
+use Rattle.ipl_meaning.specs.Tables.{Places, OverflowLists, Tables}
 use Rattle.ipl_meaning.specs.Values.{counts_for}
 use Rattle.unit_log.specs.Live.{OfMirrored}
 use Rattle.unit_log.specs.Looks.{IsLogRead}
 use Rattle.merge_rules.specs.Packs.{among}
-use Rattle.merge_rules.specs.Pages.{IsBaseSpotBelow}
+use Rattle.merge_rules.specs.Pages.{IsBaseSpotBelow, IsFew}
 use Rattle.merge_rules.specs.Moved.{Source}
 use Rattle.selective_merge.specs.declared.home.Home.{Home}
 
@@ -46,6 +46,12 @@ pub record IsHomeOf (home : Home) (it : Shape) (u : ℕ) (log : List Record) : T
 abbrev pub Learns : Places → OverflowLists → ℕ → Told → Result Home ChipFault → List Record → Type 0
 Learns directory overflow u told result log = OfMirrored told directory overflow
     (λ it. MatchResult result (λ home. IsHomeOf home (it.units u) u log) (λ fault. fault ≡ ReadFault))
+
+-- what was read of the unit is this, by tables that are still so
+pub record IsLearnt (t : Tables) (u : ℕ) (told : Told) (home : Home) (log : List Record) : Type 0 where
+  pub learns : Learns t.places t.overflow u told (Ok home) log
+  pub place : home.place ≡ slice_index t.places.current u
+  pub few : IsFew home.pieces
 
 -- ---- causes
 

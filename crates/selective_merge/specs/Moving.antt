@@ -1,5 +1,5 @@
 -- The tables of a store, and a unit that moves.
-use Rattle.std.specs.Prelude.{ℕ, ◌≡◌, ◌≢◌, ◌⊎◌, ◌<◌, ◌≤◌, length, slice_set, Contains, Option, Some}
+use Rattle.std.specs.Prelude.{ℕ, ◌≡◌, ◌≢◌, ◌⊎◌, ◌<◌, ◌≤◌, length, List, [], slice_set, Contains, Option, Some}
 use Rattle.ipl_meaning.specs.Tables.{Places, IsFree, Tables, overflow_places}
 use Rattle.unit_directory.specs.Directory.{after_replace}
 use Rattle.unit_directory.specs.Free.{free_count}
@@ -16,19 +16,27 @@ tables_of parts = record {
   active = parts.active;
 }
 
--- the unit has the place, so many log sectors of it are written, and the old place is free
-abbrev pub places_moved : Places → ℕ → ℕ → ℕ → Places
-places_moved it u p used = record (after_replace it u p) { written = slice_set it.written u used }
+-- the unit has the place and the generation, so many log sectors of it are written, and the old place is free
+abbrev pub places_moved : Places → ℕ → ℕ → ℕ → ℕ → Places
+places_moved it u p generation used =
+    record (after_replace it u p generation) { written = slice_set it.written u used }
 
 -- the place, where there is one, is free and was perhaps before; and the rest is the same
 pub record Frees (before after : Places) (place : Option ℕ) : Type 0 where
   pub current : after.current ≡ before.current
   pub written : after.written ≡ before.written
+  pub generations : after.generations ≡ before.generations
   pub all : length after.in_use ≡ length before.in_use
   pub free : (q : ℕ) → IsFree after q → IsFree before q ⊎ (place ≡ Some q)
   pub still : (q : ℕ) → IsFree before q → IsFree after q
   pub gone : (q : ℕ) → place ≡ Some q → q < length before.in_use → IsFree after q
   pub count : free_count before.in_use ≤ free_count after.in_use
+
+-- the unit has this generation, and its log sectors at home name these pages; it has none elsewhere
+pub record TellsUnit (before after : Tables) (u generation : ℕ) (masks : List ℕ) : Type 0 where
+  pub generation_is : after.places.generations ≡ slice_set before.places.generations u generation
+  pub home : after.places.masks ≡ slice_set before.places.masks u masks
+  pub elsewhere : after.overflow.masks ≡ slice_set before.overflow.masks u []
 
 -- each place in use is a unit's, the status place or an overflow place, but for one
 abbrev pub NoneIsLostBut : ℕ → ℕ → Tables → Type 0

@@ -1,7 +1,9 @@
--- Records packed into log sectors, one after another.
-use Rattle.std.specs.Prelude.{ℕ, ◌≡◌, Bool, List, [], ◌∷◌, ◌++◌, not, ◌&&◌}
+-- Records packed into log sectors, one after another, and which pages these name.
+use Rattle.std.specs.Prelude.{ℕ, zero, suc, ◌≡◌, Bool, List, [], ◌∷◌, ◌++◌, not, ◌&&◌}
 use Rattle.std.specs.List.{list_any}
 use Rattle.ipl_format.specs.Record.{Record, SpellsLog}
+use Rattle.log_records.specs.Reading.{records_of}
+use Rattle.ipl_meaning.specs.Masks.{mask_of}
 use Rattle.ipl_meaning.specs.Last.{pack, pack_after, carried}
 use Rattle.ipl_meaning.specs.Values.{counts_for}
 use Rattle.merge_rules.specs.Packs.{payloads_of}
@@ -32,3 +34,9 @@ pub record IsAdded (closed : List (List ℕ)) (full : List Record) (r : Record)
   pub spelled : SpellsLog last next
   pub same : (rest : List Record) → after ++ payloads_of (pack_open next rest)
       ≡ closed ++ payloads_of (pack_open full (r ∷ rest))
+
+-- which pages the log sectors with these payloads name, of n log sectors; those behind them name none
+abbrev pub masks_of_payloads : ℕ → List (List ℕ) → List ℕ
+masks_of_payloads zero payloads = []
+masks_of_payloads (suc n) [] = 0 ∷ masks_of_payloads n []
+masks_of_payloads (suc n) (payload ∷ payloads) = mask_of (records_of payload) ∷ masks_of_payloads n payloads

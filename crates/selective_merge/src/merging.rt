@@ -14,7 +14,7 @@ ghost use Rattle.merge_rules.specs.Faults.{pages_fault, fault_with, TellsTheFaul
 ghost use Rattle.merge_rules.specs.Known.{KnowsPlaces};
 ghost use Rattle.merge_rules.specs.Pages.{IsFew};
 ghost use Rattle.merge_rules.specs.Packs.{among, packs_of, payloads_of};
-ghost use Rattle.selective_merge.specs.Homes.{from_home, MoveCause, MergeCause};
+ghost use Rattle.selective_merge.specs.Homes.{from_home, IsLearnt, MoveCause, MergeCause};
 ghost use Rattle.selective_merge.specs.Moving.{tables_of, Holds};
 ghost use Rattle.selective_merge.specs.Merging.{
   CarriesFew,
@@ -33,6 +33,7 @@ use crate::Parts;
 use crate::carry::pack_carried;
 use crate::home::Home;
 use crate::learning::learn;
+use crate::packs::masks_of;
 use crate::parts::move_unit;
 use crate::places::write_unit;
 use chip_trait::Chip;
@@ -91,6 +92,7 @@ fn merge_packed<C: Chip>(
     let generation = parts.counter.draw();
     let payloads = parts.scratch.packs.payloads();
     let used = payloads.len() as u32;
+    let masks = masks_of(payloads);
     match write_unit(
         chip,
         home,
@@ -103,7 +105,7 @@ fn merge_packed<C: Chip>(
         &mut parts.counter,
     ) {
         Ok(()) => {
-            move_unit(parts, unit, place, used);
+            move_unit(parts, unit, place, generation, used, masks);
             Ok(())
         }
         Err(fault) => {
@@ -166,6 +168,60 @@ fn merge_known<C: Chip>(
         });
     }
     merge_packed(chip, parts, unit, home)
+}
+
+/// Merges a unit that `learn` read into the scratch memory, and of which nothing changed since: it
+/// leaves what `merge` leaves, and reads its pages alone.
+pub fn merge_learnt<C: Chip>(
+    chip: &mut C,
+    parts: &mut Parts,
+    unit: u32,
+    home: &Home,
+) -> Result<(), ChipFault>
+    requires known { KnowsPlaces (C.told chip.old).places (tables_of parts.old) }
+    requires unit { unit + 4 < (C.told chip.old).places }
+    requires left { parts.old.counter + 13 < 2 ^ 64 }
+    requires learnt { IsLearnt (tables_of parts.old) unit (C.told chip.old) home.now
+        parts.old.scratch.log }
+
+    // What the chip holds then, and what a power cut leaves.
+    ensures tells { ChartsThroughout
+        (λ done. Merges (C.told chip.old).places unit (tables_of parts.old) (tables_of parts.new))
+        (StaysMirrored (C.told chip.old).places (tables_of parts.old) (tables_of parts.new))
+        result (C.told chip.old) (C.told chip.new) }
+    ensures steps { MergesInSteps (C.told chip.old).places unit
+        (tables_of parts.old) (tables_of parts.new) (C.told chip.old) result (C.told chip.new) }
+    ensures few { OfContents (C.told chip.old) (λ x. (it : Layout)
+        → Mirrors (C.told chip.old).places (chart_of x) it (tables_of parts.old)
+        → CarriesFew (slice_index parts.old.directory.current unit)
+        (carried_count (among parts.old.active) (it.units unit).log) result) }
+    ensures spares { OnOk result (SparesUsed parts.old.directory
+        (C.told chip.old) (C.told chip.new)) }
+
+    // Why it fails over what the chip holds: where the unit's pages read well and few log sectors
+    // would be carried, only where a call of the chip failed.
+    ensures fault { TellsMergeFault (C.told chip.old).places (tables_of parts.old) unit result
+        (C.told chip.old) }
+    ensures complete { CompletesMerge (C.told chip.old).places (tables_of parts.old) unit result
+        (C.told chip.old) }
+
+    // What the tables have, whatever the chip tells.
+    ensures room { OnOk result (slice_index parts.new.directory.written unit ≤ 12) }
+    ensures holds { Holds (C.told chip.old).places (tables_of parts.old) (tables_of parts.new) }
+    ensures free { free_count parts.old.directory.in_use ≤ free_count parts.new.directory.in_use }
+    ensures drawn { OnOk result (parts.new.counter
+        ≡ parts.old.counter + 1 + slice_index parts.new.directory.written unit) }
+    ensures draws { (parts.old.counter ≤ parts.new.counter)
+        × (parts.new.counter ≤ parts.old.counter + 13) }
+    ensures costs { Spends (ErasesFor parts.old.directory
+        (slice_index parts.new.directory.current unit) (is_ok result))
+        (C.told chip.old) (C.told chip.new) }
+    ensures tidy { Tidies (tables_of parts.old) result (tables_of parts.new)
+        (C.told chip.old) (C.told chip.new) }
+    ensures accounts { Accounts (MergeCause (slice_index parts.old.directory.current unit)
+        (spots_in parts.old.overflow unit)) result (C.told chip.old) (C.told chip.new) }
+{
+    merge_known(chip, parts, unit, home)
 }
 
 /// Merges a unit: it is written to a place that was free, with the records of committed numbers

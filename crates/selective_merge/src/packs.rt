@@ -4,12 +4,13 @@ ghost use Rattle.std.specs.Bool.{OnTrue, OnFalse};
 ghost use Rattle.ipl_format.specs.Record.{SpellsLog, IsRecord, Record as LogRecord};
 ghost use Rattle.log_records.specs.View.{record_of};
 ghost use Rattle.merge_rules.specs.Packs.{payloads_of};
-ghost use Rattle.selective_merge.specs.Packing.{pack_open, IsAdded};
+ghost use Rattle.selective_merge.specs.Packing.{pack_open, IsAdded, masks_of_payloads};
 
 use ipl_base::OutOfMemory;
 use log_records::{Payload, Record, put};
 use std::alloc::Global;
 use std::mem::replace;
+use unit_log::mask_of;
 
 /// The most log sectors that a merge carries.
 const MOST: usize = 12;
@@ -101,4 +102,17 @@ impl Packs {
         }
         self.close()
     }
+}
+
+/// Which pages the records of each of these payloads name, at most 12: bit p is page p's. Behind them
+/// stand log sectors that name none.
+pub fn masks_of(payloads: &[Payload]) -> [u16; 15]
+    requires { length payloads.now ≤ 12 }
+    ensures { result ≡ masks_of_payloads 15 payloads.now }
+{
+    let mut masks = [0; 15];
+    for i in 0..payloads.len() {
+        masks[i] = mask_of(&payloads[i]);
+    }
+    masks
 }

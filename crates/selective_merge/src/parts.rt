@@ -1,10 +1,10 @@
 //! The tables of a store, as a merge needs them.
-ghost use Rattle.std.specs.Prelude.{◌≡◌, ◌≢◌, ◌<◌, ◌≤◌, ◌+◌, AllPairs, IfSome, length, slice_index};
+ghost use Rattle.std.specs.Prelude.{◌≡◌, ◌≢◌, ◌<◌, ◌≤◌, ◌+◌, AllPairs, IfSome, [], length, slice_index, slice_set};
 ghost use Rattle.ipl_meaning.specs.Mirrors.{AreApart, NoneIsLost};
 ghost use Rattle.ipl_meaning.specs.Tables.{IsFree, overflow_places};
 ghost use Rattle.ipl_meaning.specs.TableSteps.{IsMoved};
 ghost use Rattle.unit_directory.specs.Free.{free_count};
-ghost use Rattle.selective_merge.specs.Moving.{tables_of, places_moved, Frees, NoneIsLostBut};
+ghost use Rattle.selective_merge.specs.Moving.{tables_of, places_moved, Frees, NoneIsLostBut, TellsUnit};
 
 use crate::{Active, MergeScratch};
 use ipl_base::Counter;
@@ -24,17 +24,17 @@ pub struct Parts {
     pub scratch: MergeScratch,
 }
 
-/// Makes a place that was taken a unit's, with so many log sectors written there, at most 15. Its
-/// old place is free.
-fn move_home(directory: &mut Directory, unit: u32, place: u32, used: u32)
+/// Makes a place that was taken a unit's, with a header of this generation and so many log sectors
+/// written there, at most 15. Its old place is free.
+fn move_home(directory: &mut Directory, unit: u32, place: u32, generation: u64, used: u32)
     requires unit { unit < length directory.old.current }
     requires place { place < length directory.old.in_use }
     requires another { place ≢ slice_index directory.old.current unit }
     requires few { used ≤ 15 }
-    ensures { directory.new ≡ places_moved directory.old unit place used }
+    ensures { directory.new ≡ places_moved directory.old unit place generation used }
 {
     directory.facts();
-    directory.replace(unit, place);
+    directory.replace(unit, place, generation);
     for _i in 0..used {
         directory.used_log(unit);
     }
@@ -43,7 +43,8 @@ fn move_home(directory: &mut Directory, unit: u32, place: u32, used: u32)
 /// Gives a place of the chip back, where there is one.
 fn free_one(directory: &mut Directory, place: Option<u32>)
     requires { IfSome place (λ p. p < length directory.old.in_use) }
-    ensures { Frees directory.old directory.new place }
+    ensures frees { Frees directory.old directory.new place }
+    ensures masks { directory.new.masks ≡ directory.old.masks }
 {
     directory_laws();
     if let Some(place) = place {
@@ -51,9 +52,17 @@ fn free_one(directory: &mut Directory, place: Option<u32>)
     }
 }
 
-/// The unit stands at a place that was taken, with so many log sectors written there, at most 12.
-/// Its old place is free, and so are overflow places that no list names any more.
-pub fn move_unit(parts: &mut Parts, unit: u32, place: u32, used: u32)
+/// The unit stands at a place that was taken, with a header of this generation and so many log sectors
+/// written there, at most 12, which name these pages. Its old place is free, and so are overflow
+/// places that no list names any more.
+pub fn move_unit(
+    parts: &mut Parts,
+    unit: u32,
+    place: u32,
+    generation: u64,
+    used: u32,
+    masks: [u16; 15],
+)
     requires overflow { length parts.old.overflow.spots + 4 ≡ length parts.old.directory.in_use }
     requires unit { unit < length parts.old.directory.current }
     requires place { place < length parts.old.directory.in_use }
@@ -61,6 +70,7 @@ pub fn move_unit(parts: &mut Parts, unit: u32, place: u32, used: u32)
     requires few { used ≤ 12 }
     ensures moved { AllPairs AreApart (overflow_places (tables_of parts.old))
         → IsMoved (tables_of parts.old) (tables_of parts.new) unit place used }
+    ensures told { TellsUnit (tables_of parts.old) (tables_of parts.new) unit generation masks }
     ensures stands { slice_index parts.new.directory.current unit ≡ place }
     ensures room { slice_index parts.new.directory.written unit ≡ used }
     ensures lost { NoneIsLostBut place (length parts.old.directory.in_use) (tables_of parts.old)
@@ -73,9 +83,10 @@ pub fn move_unit(parts: &mut Parts, unit: u32, place: u32, used: u32)
     directory_laws();
     parts.directory.facts();
     parts.overflow.facts();
-    move_home(&mut parts.directory, unit, place, used);
+    move_home(&mut parts.directory, unit, place, generation, used);
     let left = parts.overflow.drop_unit(unit);
     parts.overflow.facts();
     free_one(&mut parts.directory, left[0]);
     free_one(&mut parts.directory, left[1]);
+    parts.directory.set_masks(unit, masks);
 }

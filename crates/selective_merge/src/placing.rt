@@ -6,7 +6,7 @@ ghost use Rattle.unit_io.specs.Costs.{Spends};
 ghost use Rattle.unit_io.specs.ReadsAt.{ReadsAt};
 ghost use Rattle.steps.specs.Steps.{Tidies};
 ghost use Rattle.merge_rules.specs.Known.{KnowsPlaces};
-ghost use Rattle.selective_merge.specs.Homes.{MergeCause};
+ghost use Rattle.selective_merge.specs.Homes.{IsLearnt, MergeCause};
 ghost use Rattle.selective_merge.specs.Merging.{Merges, StaysMirrored, MergesInSteps, FailsAsMerge, CompletesMerge};
 ghost use Rattle.selective_merge.specs.Moving.{tables_of, Holds};
 ghost use Rattle.selective_merge.specs.Placing.{IsElsewhere, IsPlaced, MakesRoom, MakesRoomInSteps};
@@ -15,20 +15,29 @@ ghost use Rattle.selective_merge.specs.Spending.{ErasesFree};
 ghost use Rattle.selective_merge.specs.Throughout.{ChartsThroughout};
 
 use crate::Parts;
-use crate::merging::merge;
+use crate::home::Home;
+use crate::learning::learn;
+use crate::merging::merge_learnt;
 use crate::overflowing::open_overflow;
-use crate::spots::{OverflowChoice, count_carried, home_spot, overflow_choice};
+use crate::spots::{OverflowChoice, home_spot, overflow_choice, packed_count};
 use chip_trait::Chip;
 use ipl_base::{ChipFault, Spot};
 
 /// The most carried sectors with which a unit is merged rather than given an overflow sector.
 const THRESHOLD: u32 = 7;
 
-/// Merges the unit, and answers its first clean log sector.
-fn merged_spot<C: Chip>(chip: &mut C, parts: &mut Parts, unit: u32) -> Result<Spot, ChipFault>
+/// Merges the unit that was read, and answers its first clean log sector.
+fn merged_spot<C: Chip>(
+    chip: &mut C,
+    parts: &mut Parts,
+    unit: u32,
+    home: &Home,
+) -> Result<Spot, ChipFault>
     requires known { KnowsPlaces (C.told chip.old).places (tables_of parts.old) }
     requires unit { unit + 4 < (C.told chip.old).places }
     requires left { parts.old.counter + 13 < 2 ^ 64 }
+    requires learnt { IsLearnt (tables_of parts.old) unit (C.told chip.old) home.now
+        parts.old.scratch.log }
     ensures tells { ChartsThroughout
         (λ spot. Merges (C.told chip.old).places unit (tables_of parts.old) (tables_of parts.new))
         (StaysMirrored (C.told chip.old).places (tables_of parts.old) (tables_of parts.new))
@@ -48,18 +57,26 @@ fn merged_spot<C: Chip>(chip: &mut C, parts: &mut Parts, unit: u32) -> Result<Sp
     ensures accounts { Accounts (MergeCause (slice_index parts.old.directory.current unit)
         (spots_in parts.old.overflow unit)) result (C.told chip.old) (C.told chip.new) }
 {
-    merge(chip, parts, unit)?;
+    merge_learnt(chip, parts, unit, home)?;
     match home_spot(parts, unit) {
         Some(spot) => Ok(spot),
         None => unreachable!("a merge leaves three log sectors clean"),
     }
 }
 
-/// An overflow sector where one is to be had, else the first clean one of the merged unit.
-fn elsewhere<C: Chip>(chip: &mut C, parts: &mut Parts, unit: u32) -> Result<Spot, ChipFault>
+/// An overflow sector where one is to be had, else the first clean one of the merged unit, which was
+/// read.
+fn elsewhere<C: Chip>(
+    chip: &mut C,
+    parts: &mut Parts,
+    unit: u32,
+    home: &Home,
+) -> Result<Spot, ChipFault>
     requires known { KnowsPlaces (C.told chip.old).places (tables_of parts.old) }
     requires unit { unit + 4 < (C.told chip.old).places }
     requires left { parts.old.counter + 13 < 2 ^ 64 }
+    requires learnt { IsLearnt (tables_of parts.old) unit (C.told chip.old) home.now
+        parts.old.scratch.log }
     ensures tells { ChartsThroughout
         (MakesRoom IsElsewhere (C.told chip.old).places unit
         (tables_of parts.old) (tables_of parts.new))
@@ -83,7 +100,7 @@ fn elsewhere<C: Chip>(chip: &mut C, parts: &mut Parts, unit: u32) -> Result<Spot
     match overflow_choice(parts, unit) {
         OverflowChoice::Clean(spot) => Ok(spot),
         OverflowChoice::NewPlace => open_overflow(chip, parts),
-        OverflowChoice::Nothing => merged_spot(chip, parts, unit),
+        OverflowChoice::Nothing => merged_spot(chip, parts, unit, home),
     }
 }
 
@@ -93,8 +110,8 @@ fn elsewhere<C: Chip>(chip: &mut C, parts: &mut Parts, unit: u32) -> Result<Spot
 ///
 /// Whatever a power cut leaves at any moment stands for the map on which the story rested, and where
 /// no write failed, it rests on that map at the end; at most 13 numbers are drawn. It fails as `merge`
-/// does. Where a log sector is clean at home nothing is asked of the chip; else at most one place is
-/// erased, which was free, and nothing is programmed elsewhere.
+/// does. Where a log sector is clean at home nothing is asked of the chip; else the unit's header and
+/// log are read once, also where it is merged then, at most one place is erased, which was free, and nothing is programmed elsewhere.
 pub fn log_place<C: Chip>(chip: &mut C, parts: &mut Parts, unit: u32) -> Result<Spot, ChipFault>
     requires known { KnowsPlaces (C.told chip.old).places (tables_of parts.old) }
     requires unit { unit + 4 < (C.told chip.old).places }
@@ -134,16 +151,16 @@ pub fn log_place<C: Chip>(chip: &mut C, parts: &mut Parts, unit: u32) -> Result<
     if let Some(spot) = home_spot(parts, unit) {
         return Ok(spot);
     }
-    let carried = count_carried(
+    let home = learn(
         chip,
         &parts.directory,
         &parts.overflow,
-        &parts.active,
         unit,
         &mut parts.scratch,
     )?;
+    let carried = packed_count(&mut parts.scratch, &parts.active);
     if carried <= THRESHOLD {
-        return merged_spot(chip, parts, unit);
+        return merged_spot(chip, parts, unit, &home);
     }
-    elsewhere(chip, parts, unit)
+    elsewhere(chip, parts, unit, &home)
 }

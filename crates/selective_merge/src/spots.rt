@@ -61,8 +61,9 @@ pub fn overflow_choice(parts: &Parts, unit: u32) -> OverflowChoice
 }
 
 /// How many log sectors are packed of what is carried; more than 12 are counted as 13.
-fn packed_count(scratch: &mut MergeScratch, active: &Active) -> u32
-    ensures { result ≡ min 13 (length (packs_of active.now scratch.old.log)) }
+pub fn packed_count(scratch: &mut MergeScratch, active: &Active) -> u32
+    ensures count { result ≡ min 13 (length (packs_of active.now scratch.old.log)) }
+    ensures log { scratch.new.log ≡ scratch.old.log }
 {
     if pack_carried(&scratch.log, active, &mut scratch.packs) {
         scratch.packs.payloads().len() as u32

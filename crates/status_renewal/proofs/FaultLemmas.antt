@@ -25,7 +25,7 @@ use Rattle.selective_merge.specs.Spending.{SparesUsed}
 use Rattle.selective_merge.specs.Throughout.{ChartsThroughout}
 use Rattle.unit_io.specs.Leads.{IsStopped}
 use Rattle.status_renewal.specs.InPlace.{FailsInPlace}
-use Rattle.status_renewal.specs.Joins.{joined}
+use Rattle.kept_numbers.specs.Joins.{joined}
 use Rattle.status_renewal.specs.Passes.{kept_below, has_room, HasPassed, SparesUnits, IsRenewalFault, FailsAsPass}
 use Rattle.status_renewal.specs.Recovers.{IsOpeningFault}
 use Rattle.status_renewal.proofs.CompleteLemmas.{carried_none}

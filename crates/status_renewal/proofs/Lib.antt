@@ -1,5 +1,3 @@
-pub mod JoinLemmas
-pub mod KeepsLemmas
 pub mod ReadyLemmas
 pub mod ChainLemmas
 pub mod PlaceLemmas
@@ -8,6 +6,7 @@ pub mod PassLemmas
 pub mod PreserveLemmas
 pub mod KnownLemmas
 pub mod TellingLemmas
+pub mod FoundLemmas
 pub mod RenewLemmas
 pub mod CauseLemmas
 pub mod RestLemmas

@@ -123,6 +123,8 @@ module _ (takes : UsesTake) (gives_back : DisusesGiveBack) (places p : ℕ) (d :
       renewed = record {
         current = ap (λ (e : Places). e.current) (places_then t has);
         written = ap (λ (e : Places). e.written) (places_then t has);
+        generations = ap (λ (e : Places). e.generations) (places_then t has);
+        masks = ap (λ (e : Places). e.masks) (places_then t has);
         all = ap (λ (e : Places). length e.in_use) (places_then t has)
             ∙ length-set (slice_set t.places.in_use p true) status.place false;
         free = λ q free_then. elim (then_free q free_then) [

@@ -12,7 +12,7 @@ use Rattle.unit_io.specs.Charts.{Charts}
 use Rattle.unit_io.specs.Leads.{IsStopped}
 use Rattle.status_renewal.specs.Passes.{HasPassed, HasRenewed, TellsChart, PassEnds}
 use Rattle.status_renewal.specs.Renewed.{with_tables, MayRenew, Renews}
-use Rattle.status_renewal.proofs.KeepsLemmas.{kept_numbers_keep, kept_numbers_are_exact}
+use Rattle.kept_numbers.proofs.KeepsLemmas.{kept_numbers_keep, kept_numbers_are_exact}
 use Rattle.status_renewal.proofs.ReadyLemmas.{kept_numbers_are_old}
 
 module _ (places : ℕ) (c : Chart) (it : Layout) (t : Tables) (kept : List ℕ) (mid : Told)

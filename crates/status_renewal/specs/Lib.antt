@@ -1,5 +1,3 @@
-pub mod Joins
-pub mod Keeps
 pub mod Ready
 pub mod Chains
 pub mod Renewed

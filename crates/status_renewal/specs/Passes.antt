@@ -23,8 +23,8 @@ use Rattle.txn_status.specs.Status.{room_of}
 use Rattle.unit_io.specs.Costs.{Costs, is_erased}
 use Rattle.unit_io.specs.Leads.{IsSteady}
 use Rattle.unit_io.specs.Reads.{OfContents}
-use Rattle.status_renewal.specs.Joins.{joined}
-use Rattle.status_renewal.specs.Keeps.{IsLoggedBelow, KeepsBelow}
+use Rattle.kept_numbers.specs.Joins.{joined}
+use Rattle.kept_numbers.specs.Keeps.{IsLoggedBelow, KeepsBelow}
 
 -- ---- which numbers are kept
 
@@ -91,6 +91,12 @@ pub record HasStopped (places : ℕ) (c : Chart) (it : Layout) (t after : Tables
 -- the chip tells contents whose chart is so
 abbrev pub TellsChart : (Chart → Type 0) → Told → Type 0
 TellsChart F new = (y : Contents) × (new.contents ≡ Some y) × F (chart_of y)
+
+-- where the tables mirror what the chip holds, exactly the committed numbers that a live record
+-- has are kept
+abbrev pub KeepsAll : ℕ → Tables → List ℕ → Told → Type 0
+KeepsAll places t kept told = OfContents told (λ x. (it : Layout)
+    → Mirrors places (chart_of x) it t → KeepsBelow (places - RESERVED_PLACES) it kept)
 
 -- over contents that are told: done, or it ended before; and where a write failed nothing is
 -- promised

@@ -1,6 +1,6 @@
 -- What an opening leaves that ends with a new status place.
-use Rattle.std.specs.Prelude.{ℕ, ◌≡◌, ◌≢◌, ◌⊎◌, ◌↔◌, ◌<◌, ◌≤◌, ◌-◌, [], true, IsTrue, is_ok, Some, None, Result, MatchResult, IfErr}
-use Rattle.ipl_base.specs.declared.limits.TheConstants.{RESERVED_PLACES}
+use Rattle.std.specs.Prelude.{ℕ, ◌≡◌, ◌≢◌, ◌⊎◌, ◌↔◌, ◌<◌, ◌≤◌, ◌-◌, [], true, IsTrue, is_ok, List, length, Contains, Some, None, Result, MatchResult, IfErr}
+use Rattle.ipl_base.specs.declared.limits.TheConstants.{RESERVED_PLACES, KEPT_NUMBERS}
 use Rattle.chip_trait.specs.Story.{Contents}
 use Rattle.chip_trait.specs.Told.{History, Told, Rose}
 use Rattle.ipl_base.specs.declared.fault.ChipFault.{ChipFault}
@@ -22,9 +22,11 @@ use Rattle.opening_rules.specs.LaidOut.{layout_in}
 use Rattle.restart.specs.Looks.{OnlyReads}
 use Rattle.steps.specs.Steps.{Settled, EndsWith, Outcome, TidyWork}
 use Rattle.txn_status.specs.Status.{room_of}
+use Rattle.unit_io.specs.Costs.{Spends}
 use Rattle.unit_io.specs.Leads.{IsSteady}
 use Rattle.unit_io.specs.Reads.{OfContents}
-use Rattle.status_renewal.specs.Keeps.{IsLoggedBelow}
+use Rattle.unit_io.specs.Unread.{ReadsEachOnce}
+use Rattle.kept_numbers.specs.Keeps.{IsLoggedBelow}
 use Rattle.status_renewal.specs.Passes.{TellsChart}
 
 -- ---- what the chip holds
@@ -76,6 +78,19 @@ CompletesOpening places result told = OfContents told (λ x. (m : Map)
     → first_fault (chart_of x) places ≡ None
     → Says places (chart_of x) (layout_in (chart_of x) places) m
     → IfErr result FailsByCallAlone)
+
+-- ---- how often it reads
+
+-- at most 3,840 numbers have each committed one that a live record of the chart has
+abbrev pub NumbersFit : ℕ → Chart → Type 0
+NumbersFit places c = (numbers : List ℕ) × (length numbers ≤ KEPT_NUMBERS)
+    × ((tid : ℕ) → IsTrue ((layout_in c places).committed tid)
+    → IsLoggedBelow (places - RESERVED_PLACES) (layout_in c places) tid → Contains numbers tid)
+
+-- over contents whose numbers fit it reads each sector at most once, whatever else it does
+abbrev pub ReadsOnceWhereFit : ℕ → Told → Told → Type 0
+ReadsOnceWhereFit places old new =
+    OfContents old (λ x. NumbersFit places (chart_of x) → Spends ReadsEachOnce old new)
 
 -- ---- what a power cut leaves
 

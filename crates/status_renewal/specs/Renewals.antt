@@ -14,7 +14,7 @@ use Rattle.number_set.specs.Numbers.{among}
 use Rattle.steps.specs.Steps.{Steps}
 use Rattle.unit_io.specs.Accounts.{Accounts}
 use Rattle.unit_io.specs.Leads.{IsSteady}
-use Rattle.status_renewal.specs.Keeps.{IsLoggedBelow}
+use Rattle.kept_numbers.specs.Keeps.{IsLoggedBelow}
 use Rattle.status_renewal.specs.Passes.{ArePassed, HasStopped, HasRenewed, RenewsTold, KeepsInSteps, RenewCause}
 
 -- ---- a story that rests on a map

@@ -1,19 +1,7 @@
-//! The laws of kept numbers, proved: a body that does nothing, and a contract that is the law.
+//! The laws of renewals, proved: a body that does nothing, and a contract that is the law.
 ghost use Rattle.status_renewal.specs.Chains.{ImagesRest, CutsMayBeOpened, CutsOfEitherMayBeOpened};
-ghost use Rattle.status_renewal.specs.Keeps.{NoneAreKept, UnitsJoin, JoinedNumbersJoin, MergedUnitsAddNothing, KeptNumbersKeep, KeptNumbersAreExact};
 ghost use Rattle.status_renewal.specs.Ready.{LayoutsSay, RestingLayoutsSay, KeptNumbersAreOld};
 ghost use Rattle.status_renewal.specs.Renewals.{PassedLogsAreSameOrCarried, ExactNumbersKeep, RenewalsRest};
-
-/// How the committed numbers of live records are kept, unit by unit, and what that comes to once
-/// all units are passed.
-pub fn keeping_laws()
-    ensures first { NoneAreKept }
-    ensures joins { UnitsJoin }
-    ensures numbers { JoinedNumbersJoin }
-    ensures merges { MergedUnitsAddNothing }
-    ensures keeps { KeptNumbersKeep }
-    ensures exact { KeptNumbersAreExact }
-{}
 
 /// What a switch to kept numbers asks for follows from what is kept and from what the chip rests on.
 pub fn ready_laws()

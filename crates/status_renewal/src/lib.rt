@@ -1,5 +1,5 @@
 //! The renewal of the status place: which committed numbers a new one keeps, and the new place in
-//! all tables; and the opening of a chip, which ends with one. It stands on `number_set` for the
+//! all tables; and the opening of a chip, which ends with one. It stands on `kept_numbers` for the
 //! numbers, on `unit_log` for the log sectors of a unit, on `selective_merge` for a unit whose numbers
 //! don't fit, on `txn_status` for the new place itself, and on `restart` for what an opening reads. A
 //! contract sees the numbers that are kept as a list in rising order, and what a call leaves as
@@ -17,19 +17,18 @@
 //! that has one was only read; or where there is none that of the first page of a unit that had to
 //! be merged and doesn't read well; where the pages say a map, only a failed call of the chip. Or
 //! tables that mirror what the chip holds then, in which all pages show what they showed; the
-//! counter is above every number found, and by how much at most. At each moment of it a power cut
+//! counter is above every number found, and by how much at most. Where the numbers that are kept
+//! are at most 3,840, each sector is read at most once (`once`). At each moment of it a power cut
 //! leaves the same map, and it is lawful after any lawful events.
 #![tactic(auto)]
 
-mod joining;
-mod kept;
 mod laws;
 mod passing;
 mod place;
 mod recovering;
 mod renewing;
 
-pub use kept::KeptNumbers;
-pub use laws::{chaining_laws, keeping_laws, ready_laws, renewal_laws};
+pub use kept_numbers::{KeptNumbers, keeping_laws};
+pub use laws::{chaining_laws, ready_laws, renewal_laws};
 pub use recovering::recover;
 pub use renewing::renew;

@@ -1,5 +1,6 @@
 //! The pass over the units, which finds the numbers that a new status place keeps.
-ghost use Rattle.std.specs.Prelude.{◌≡◌, ◌<◌, ◌≤◌, ◌+◌, ◌*◌, ◌-◌, ◌^◌, ℕ, Some, IfErr, OnOk};
+ghost use Rattle.std.specs.Prelude.{◌≡◌, ◌<◌, ◌≤◌, ◌+◌, ◌*◌, ◌-◌, ◌^◌, ℕ, Some, true, IfErr, OnOk};
+ghost use Rattle.std.specs.Bool.{OnTrue};
 ghost use Rattle.chip_trait.specs.Story.{Contents};
 ghost use Rattle.ipl_meaning.specs.Chart.{Chart, chart_of};
 ghost use Rattle.ipl_meaning.specs.Layout.{Layout};
@@ -11,12 +12,13 @@ ghost use Rattle.selective_merge.specs.Moving.{tables_of, Holds};
 ghost use Rattle.steps.specs.Steps.{Tidies};
 ghost use Rattle.unit_io.specs.Accounts.{Accounts};
 ghost use Rattle.unit_io.specs.Costs.{Spends};
+ghost use Rattle.unit_io.specs.Unread.{ReadsNothing};
 ghost use Rattle.status_renewal.specs.InPlace.{FailsInPlace, RenewalFailsInPlace};
-ghost use Rattle.status_renewal.specs.Passes.{HasPassed, PassEnds, GoesOnTelling, KeepsInSteps, SparesUnits, FailsAsPass, FailsAsRenewal, AreMergeable, CompletesRenewal, ErasesAtMost, RenewCause};
+ghost use Rattle.status_renewal.specs.Passes.{KeepsAll, HasPassed, PassEnds, GoesOnTelling, KeepsInSteps, SparesUnits, FailsAsPass, FailsAsRenewal, AreMergeable, CompletesRenewal, ErasesAtMost, RenewCause};
 
-use crate::kept::KeptNumbers;
 use chip_trait::Chip;
 use ipl_base::ChipFault;
+use kept_numbers::KeptNumbers;
 use selective_merge::{Parts, merge};
 use unit_log::read_live;
 
@@ -83,11 +85,7 @@ fn take_unit<C: Chip>(
 
 /// Finds the committed numbers that live records have, at most 3,840: unit by unit in rising order,
 /// where one whose numbers don't fit is merged.
-pub fn pass<C: Chip>(
-    chip: &mut C,
-    parts: &mut Parts,
-    kept: &mut KeptNumbers,
-) -> Result<(), ChipFault>
+fn pass<C: Chip>(chip: &mut C, parts: &mut Parts, kept: &mut KeptNumbers) -> Result<(), ChipFault>
     requires known { KnowsPlaces (C.told chip.old).places (tables_of parts.old) }
     requires left { parts.old.counter + 13 * 1024 < 2 ^ 64 }
     ensures passes { (places : ℕ) (x : Contents) (it : Layout)
@@ -122,4 +120,50 @@ pub fn pass<C: Chip>(
         take_unit(chip, parts, kept, unit)?;
     }
     Ok(())
+}
+
+/// Finds the committed numbers that live records have by a pass, unless they are found already:
+/// then it does nothing.
+pub fn find_numbers<C: Chip>(
+    chip: &mut C,
+    parts: &mut Parts,
+    kept: &mut KeptNumbers,
+    found: bool,
+) -> Result<(), ChipFault>
+    requires known { KnowsPlaces (C.told chip.old).places (tables_of parts.old) }
+    requires left { parts.old.counter + 13 * 1024 < 2 ^ 64 }
+    requires exact { found ≡ true → KeepsAll (C.told chip.old).places (tables_of parts.old) kept.old
+        (C.told chip.old) }
+    ensures passes { (places : ℕ) (x : Contents) (it : Layout)
+        → (C.told chip.old).places ≡ places → (C.told chip.old).contents ≡ Some x
+        → Mirrors places (chart_of x) it (tables_of parts.old)
+        → PassEnds places (chart_of x) it (tables_of parts.old) result (C.told chip.new)
+        (tables_of parts.new)
+        (HasPassed places (places - 4) (chart_of x) it (tables_of parts.old) kept.new
+        (C.told chip.new) (tables_of parts.new)) }
+    ensures goes_on { GoesOnTelling result (C.told chip.old) (C.told chip.new) }
+    ensures fault { FailsAsRenewal (C.told chip.old).places (tables_of parts.old) result
+        (C.told chip.old) }
+    ensures stays { RenewalFailsInPlace (C.told chip.old).places (tables_of parts.old)
+        (tables_of parts.new) result (C.told chip.old) }
+    ensures complete { CompletesRenewal (C.told chip.old).places (tables_of parts.old) result
+        (C.told chip.old) }
+    ensures steps { (places : ℕ) → (C.told chip.old).places ≡ places
+        → KeepsInSteps places (tables_of parts.old) (tables_of parts.new)
+        (C.told chip.old) result (C.told chip.new) }
+    ensures holds { Holds (C.told chip.old).places (tables_of parts.old) (tables_of parts.new) }
+    ensures draws { (parts.old.counter ≤ parts.new.counter)
+        × (parts.new.counter ≤ parts.old.counter + 13 * 1024) }
+    ensures costs { Spends (ErasesAtMost ((C.told chip.old).places - 4))
+        (C.told chip.old) (C.told chip.new) }
+    ensures tidy { Tidies (tables_of parts.old) result (tables_of parts.new)
+        (C.told chip.old) (C.told chip.new) }
+    ensures accounts { Accounts RenewCause result (C.told chip.old) (C.told chip.new) }
+    ensures unread { OnTrue found (Spends ReadsNothing (C.told chip.old) (C.told chip.new)) }
+{
+    if found {
+        kept.rises();
+        return Ok(());
+    }
+    pass(chip, parts, kept)
 }

@@ -10,6 +10,7 @@ ghost use Rattle.unit_io.specs.Accounts.{Accounts};
 ghost use Rattle.unit_io.specs.Charts.{Charts};
 ghost use Rattle.unit_io.specs.Costs.{ErasesOnce, Spends};
 ghost use Rattle.unit_io.specs.Leads.{IsStopped};
+ghost use Rattle.unit_io.specs.Unread.{ReadsNothing};
 ghost use Rattle.status_renewal.specs.Renewed.{HasTables, with_tables, MovesStatus, Renews, RenewsInSteps};
 
 use chip_trait::Chip;
@@ -64,6 +65,8 @@ pub fn renew_place<C: Chip>(
         → KnowsPlaces (C.told chip.old).places t
         → Tidies t result (with_tables t directory.new status.new counter.new)
         (C.told chip.old) (C.told chip.new) }
+    // It reads nothing.
+    ensures unread { Spends ReadsNothing (C.told chip.old) (C.told chip.new) }
     ensures accounts { Accounts IsStopped result (C.told chip.old) (C.told chip.new) }
 {
     directory_laws();

@@ -10,18 +10,21 @@ ghost use Rattle.unit_io.specs.Accounts.{Accounts};
 ghost use Rattle.unit_io.specs.Costs.{Spends};
 ghost use Rattle.unit_io.specs.Reads.{OfContents};
 ghost use Rattle.status_renewal.specs.Passes.{ErasesAtMost, HasErased};
-ghost use Rattle.status_renewal.specs.Recovers.{CompletesOpening, RecoversTold, LooksAtFaults, IsNowhere, RecoversInSteps, HoldsOpened, OpeningCause};
+ghost use Rattle.status_renewal.specs.Recovers.{CompletesOpening, RecoversTold, LooksAtFaults, ReadsOnceWhereFit, IsNowhere, RecoversInSteps, HoldsOpened, OpeningCause};
 
-use crate::kept::KeptNumbers;
-use crate::renewing::renew;
+use crate::renewing::renew_with;
 use chip_trait::Chip;
 use ipl_base::ImageFault;
+use kept_numbers::KeptNumbers;
 use restart::Scratch;
 use selective_merge::Parts;
 
 /// Opens a chip, for whose number of places the scratch memory and the tables were made: reads all
 /// that counts into the tables, and writes a new status place with the committed numbers that live
 /// records still have. No session is open.
+///
+/// The numbers are found while the log sectors are read. Only where they are more than 3,840, the
+/// logs are read again, unit by unit, since a unit whose numbers don't fit is merged.
 ///
 /// Whatever a power cut leaves at any moment stands for the map on which the story rested. It fails
 /// with the first fault of the chip, which was only read then; or where it has none, with that of a
@@ -63,6 +66,9 @@ pub fn recover<C: Chip>(
     // At most one erase a unit, and one for the status place.
     ensures costs { Spends (ErasesAtMost ((C.told chip.old).places - 3))
         (C.told chip.old) (C.told chip.new) }
+    // Where the committed numbers that live records have are at most 3,840, it reads each sector at
+    // most once, from the first header to the seal of the status place.
+    ensures once { ReadsOnceWhereFit (C.told chip.old).places (C.told chip.old) (C.told chip.new) }
     // Done, the status place is a new one, which was erased.
     ensures renewed { OnOk result (Spends (HasErased parts.new.status.place)
         (C.told chip.old) (C.told chip.new)) }
@@ -73,14 +79,15 @@ pub fn recover<C: Chip>(
         (C.told chip.old) (C.told chip.new) }
     ensures accounts { Accounts OpeningCause result (C.told chip.old) (C.told chip.new) }
 {
-    restart::recover(
+    let found = restart::recover(
         chip,
         scratch,
         &mut parts.directory,
         &mut parts.overflow,
         &mut parts.status,
         &mut parts.counter,
+        kept,
     )?;
-    renew(chip, parts, kept)?;
+    renew_with(chip, parts, kept, found)?;
     Ok(())
 }

@@ -1,20 +1,68 @@
 //! The renewal of the status place.
-ghost use Rattle.std.specs.Prelude.{◌≡◌, ◌<◌, ◌≤◌, ◌+◌, ◌-◌, ◌^◌, OnOk};
+ghost use Rattle.std.specs.Prelude.{◌≡◌, ◌<◌, ◌≤◌, ◌+◌, ◌-◌, ◌^◌, true, OnOk};
+ghost use Rattle.std.specs.Bool.{OnTrue};
 ghost use Rattle.merge_rules.specs.Known.{KnowsPlaces};
 ghost use Rattle.selective_merge.specs.Moving.{tables_of};
 ghost use Rattle.steps.specs.Steps.{Tidies};
 ghost use Rattle.unit_io.specs.Accounts.{Accounts};
 ghost use Rattle.unit_io.specs.Costs.{Spends};
+ghost use Rattle.unit_io.specs.Unread.{ReadsNothing};
 ghost use Rattle.status_renewal.specs.InPlace.{RenewalFailsInPlace};
-ghost use Rattle.status_renewal.specs.Passes.{RenewsTold, HoldsRenewed, KeepsInSteps, FailsAsRenewal, CompletesRenewal, ErasesAtMost, HasErased, RenewCause};
+ghost use Rattle.status_renewal.specs.Passes.{KeepsAll, RenewsTold, HoldsRenewed, KeepsInSteps, FailsAsRenewal, CompletesRenewal, ErasesAtMost, HasErased, RenewCause};
 
-use crate::kept::KeptNumbers;
-use crate::passing::pass;
+use crate::passing::find_numbers;
 use crate::place::renew_place;
 use chip_trait::Chip;
 use ipl_base::ChipFault;
+use kept_numbers::KeptNumbers;
 use merge_rules::known_laws;
 use selective_merge::Parts;
+
+/// Writes a new status place as `renew` does, but without a pass where the numbers are found
+/// already: then it reads nothing.
+pub(crate) fn renew_with<C: Chip>(
+    chip: &mut C,
+    parts: &mut Parts,
+    kept: &mut KeptNumbers,
+    found: bool,
+) -> Result<(), ChipFault>
+    requires known { KnowsPlaces (C.told chip.old).places (tables_of parts.old) }
+    requires left { parts.old.counter + 2 ^ 14 < 2 ^ 64 }
+    requires exact { found ≡ true → KeepsAll (C.told chip.old).places (tables_of parts.old) kept.old
+        (C.told chip.old) }
+    ensures tells { RenewsTold (C.told chip.old).places (tables_of parts.old) (tables_of parts.new)
+        (C.told chip.old) result (C.told chip.new) }
+    ensures steps { KeepsInSteps (C.told chip.old).places (tables_of parts.old)
+        (tables_of parts.new) (C.told chip.old) result (C.told chip.new) }
+    ensures fault { FailsAsRenewal (C.told chip.old).places (tables_of parts.old) result
+        (C.told chip.old) }
+    ensures stays { RenewalFailsInPlace (C.told chip.old).places (tables_of parts.old)
+        (tables_of parts.new) result (C.told chip.old) }
+    ensures complete { CompletesRenewal (C.told chip.old).places (tables_of parts.old) result
+        (C.told chip.old) }
+    ensures holds { HoldsRenewed (C.told chip.old).places (tables_of parts.old) result
+        (tables_of parts.new) }
+    ensures draws { (parts.old.counter ≤ parts.new.counter)
+        × (parts.new.counter ≤ parts.old.counter + 2 ^ 14) }
+    ensures costs { Spends (ErasesAtMost ((C.told chip.old).places - 3))
+        (C.told chip.old) (C.told chip.new) }
+    ensures renewed { OnOk result (Spends (HasErased parts.new.status.place)
+        (C.told chip.old) (C.told chip.new)) }
+    ensures tidy { Tidies (tables_of parts.old) result (tables_of parts.new)
+        (C.told chip.old) (C.told chip.new) }
+    ensures accounts { Accounts RenewCause result (C.told chip.old) (C.told chip.new) }
+    ensures unread { OnTrue found (Spends ReadsNothing (C.told chip.old) (C.told chip.new)) }
+{
+    find_numbers(chip, parts, kept, found)?;
+    known_laws();
+    renew_place(
+        chip,
+        &mut parts.directory,
+        &mut parts.status,
+        &mut parts.counter,
+        kept.as_slice(),
+    )
+}
 
 /// Writes a new status place with the committed numbers that live records still have, at most 3,840.
 /// They are found unit by unit; a unit whose numbers don't fit any more is merged, and has no record
@@ -64,13 +112,5 @@ pub fn renew<C: Chip>(
         (C.told chip.old) (C.told chip.new) }
     ensures accounts { Accounts RenewCause result (C.told chip.old) (C.told chip.new) }
 {
-    pass(chip, parts, kept)?;
-    known_laws();
-    renew_place(
-        chip,
-        &mut parts.directory,
-        &mut parts.status,
-        &mut parts.counter,
-        kept.as_slice(),
-    )
+    renew_with(chip, parts, kept, false)
 }

@@ -40,6 +40,19 @@ pub(crate) fn written(alloc: Global, chip: &MemChip, from: usize) -> Result<Vec<
     Ok(writes)
 }
 
+/// The places and sectors that the events of a chip from this one on read, in order.
+pub(crate) fn read(alloc: Global, chip: &MemChip, from: usize) -> Result<Vec<(u32, u32)>, Fail> {
+    let mut reads = Vec::new(alloc);
+    for (number, event) in chip.events().iter().enumerate() {
+        if let Event::Read(place, sector) = event {
+            if from <= number {
+                reads.push((*place, *sector))?;
+            }
+        }
+    }
+    Ok(reads)
+}
+
 /// The places that were erased, in order.
 pub(crate) fn erased(alloc: Global, chip: &MemChip) -> Result<Vec<u32>, Fail> {
     let mut places = Vec::new(alloc);

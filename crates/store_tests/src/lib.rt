@@ -18,6 +18,8 @@ mod frames;
 #[cfg(test)]
 mod new_places;
 #[cfg(test)]
+mod reads;
+#[cfg(test)]
 mod refusals;
 #[cfg(test)]
 mod reopenings;

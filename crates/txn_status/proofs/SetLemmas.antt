@@ -18,6 +18,8 @@ mirrors_looks_at_the_set places c it t numbers same mirrors = record {
     logs = was.logs;
     all = was.all;
     current = was.current;
+    heads = was.heads;
+    generation = was.generation;
     not_home = was.not_home;
     not_status = was.not_status;
     not_overflow = was.not_overflow;
@@ -41,5 +43,12 @@ mirrors_looks_at_the_set places c it t numbers same mirrors = record {
   };
   numbers = let was = mirrors.numbers in
       record { above = was.above; below = was.below; once = was.once; waits = was.waits };
+  masks = let was = mirrors.masks in record {
+    units = was.units;
+    lists = was.lists;
+    sectors = was.sectors;
+    home = was.home;
+    elsewhere = was.elsewhere;
+  };
   counted_clean = mirrors.counted_clean;
 }

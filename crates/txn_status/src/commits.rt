@@ -6,6 +6,7 @@ ghost use Rattle.unit_io.specs.Leads.{IsStopped};
 ghost use Rattle.unit_io.specs.Costs.{ProgramsAt, Spends};
 ghost use Rattle.unit_io.specs.Charts.{Charts, Gains};
 ghost use Rattle.unit_io.specs.Spots.{Programs, IsSpot};
+ghost use Rattle.unit_io.specs.Unread.{ReadsNothing};
 ghost use Rattle.txn_status.specs.Commits.{commit_bytes, commit_sector};
 ghost use Rattle.txn_status.specs.Writing.{LeadsCommit, LeadsPart};
 
@@ -100,6 +101,7 @@ pub fn write_part<C: Chip>(
     ensures costs { Spends (ProgramsAt spot.place 1 0 6) (C.told chip.old) (C.told chip.new) }
     ensures tidy { Spends (Programs spot.place (IsSpot spot.sector) (is_ok result))
         (C.told chip.old) (C.told chip.new) }
+    ensures unread { Spends ReadsNothing (C.told chip.old) (C.told chip.new) }
     ensures accounts { Accounts IsStopped result (C.told chip.old) (C.told chip.new) }
 {
     let payload = payload_of(numbers);

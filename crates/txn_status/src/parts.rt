@@ -5,6 +5,7 @@ ghost use Rattle.unit_io.specs.Leads.{IsStopped};
 ghost use Rattle.unit_io.specs.Costs.{ProgramsAt, Spends};
 ghost use Rattle.unit_io.specs.Charts.{Charts};
 ghost use Rattle.unit_io.specs.Spots.{Programs, IsSpot};
+ghost use Rattle.unit_io.specs.Unread.{ReadsNothing};
 ghost use Rattle.txn_status.specs.Commits.{part_of};
 ghost use Rattle.txn_status.specs.Status.{parts_of};
 ghost use Rattle.txn_status.specs.Switching.{HasParts, IsPartSpot};
@@ -59,6 +60,7 @@ pub fn write_parts<C: Chip>(
     ensures costs { Spends (ProgramsAt place 64 0 6) (C.told chip.old) (C.told chip.new) }
     ensures tidy { Spends (Programs place (IsPartSpot (parts_of numbers.now)) (is_ok result))
         (C.told chip.old) (C.told chip.new) }
+    ensures unread { Spends ReadsNothing (C.told chip.old) (C.told chip.new) }
     ensures accounts { Accounts IsStopped result (C.told chip.old) (C.told chip.new) }
 {
     let count = part_count(numbers);
@@ -89,6 +91,7 @@ pub fn seal_status<C: Chip>(
     ensures costs { Spends (ProgramsAt place 1 2 2) (C.told chip.old) (C.told chip.new) }
     ensures tidy { Spends (Programs place (IsSpot 0) (is_ok result))
         (C.told chip.old) (C.told chip.new) }
+    ensures unread { Spends ReadsNothing (C.told chip.old) (C.told chip.new) }
     ensures accounts { Accounts IsStopped result (C.told chip.old) (C.told chip.new) }
 {
     let mut payload = [0; 4];

@@ -8,6 +8,7 @@ ghost use Rattle.unit_io.specs.Leads.{IsStopped};
 ghost use Rattle.unit_io.specs.Costs.{ProgramsAt, ErasesOnce, Spends};
 ghost use Rattle.unit_io.specs.Charts.{Charts};
 ghost use Rattle.unit_io.specs.Spots.{Programs, Rewrites, IsSpot};
+ghost use Rattle.unit_io.specs.Unread.{ReadsNothing};
 ghost use Rattle.unit_io.specs.Reads.{OfContents};
 ghost use Rattle.unit_io.specs.ReadsAt.{ReadsAt, ReadsOnce, IsCauseAt};
 ghost use Rattle.ipl_format.specs.Whole.{IsWhole};
@@ -260,6 +261,8 @@ impl Status {
         // Whatever the chip holds, each sector is programmed once, and those behind are clean then.
         ensures tidy { Spends (Rewrites place (1 + parts_of kept.now) (is_ok result))
             (C.told chip.old) (C.told chip.new) }
+        // It reads nothing.
+        ensures unread { Spends ReadsNothing (C.told chip.old) (C.told chip.new) }
         ensures accounts { Accounts IsStopped result (C.told chip.old) (C.told chip.new) }
     {
         let generation = counter.draw();

@@ -1,26 +1,41 @@
 -- What the calls on a directory make of it, and what always holds.
-use Rattle.std.specs.Prelude.{ℕ, ◌≡◌, ◌<◌, ◌≤◌, ◌+◌, ◌-◌, true, false, nat_lt, length, slice_index, slice_set, replicate, Option, Some, None, if◌then◌else◌}
+use Rattle.std.specs.Prelude.{ℕ, ◌≡◌, ◌<◌, ◌≤◌, ◌+◌, ◌-◌, true, false, nat_lt, List, length, slice_index, slice_set, replicate, Option, Some, None, if◌then◌else◌}
 use Rattle.ipl_base.specs.declared.limits.TheConstants.{RESERVED_PLACES, FIRST_LOG_SECTOR, LOG_SECTORS}
 use Rattle.ipl_base.specs.Places.{IsGeometry}
-use Rattle.ipl_meaning.specs.Tables.{Places, with_use}
+use Rattle.ipl_meaning.specs.Tables.{Places, with_use, masks_in}
 
--- no place is in use, each unit has place 0, and no log sector is known clean
+-- a place none of whose log sectors names a page
+abbrev pub no_masks : List ℕ
+no_masks = replicate LOG_SECTORS 0
+
+-- no place is in use, each unit has place 0 and generation 0, and no log sector is known clean, nor names a page
 abbrev pub empty_places : ℕ → Places
 empty_places places = record {
   current = replicate (places - RESERVED_PLACES) 0;
   in_use = replicate places false;
   written = replicate (places - RESERVED_PLACES) LOG_SECTORS;
+  generations = replicate (places - RESERVED_PLACES) 0;
+  masks = replicate (places - RESERVED_PLACES) no_masks;
 }
 
--- the place is in use and the unit's, and no log sector of it is known clean; the unit's old place stays as it was
-abbrev pub after_adopt : Places → ℕ → ℕ → Places
-after_adopt it u p = record (with_use it p true) { current = slice_set it.current u p; written = slice_set it.written u LOG_SECTORS }
+-- the place is in use and the unit's, of this generation, and no log sector of it is known clean, nor names a page; the
+-- unit's old place stays as it was
+abbrev pub after_adopt : Places → ℕ → ℕ → ℕ → Places
+after_adopt it u p generation = record (with_use it p true) {
+  current = slice_set it.current u p;
+  written = slice_set it.written u LOG_SECTORS;
+  generations = slice_set it.generations u generation;
+  masks = slice_set it.masks u no_masks;
+}
 
--- the place is the unit's, its log sectors are known clean, and the unit's old place is free
-abbrev pub after_replace : Places → ℕ → ℕ → Places
-after_replace it u p = record (with_use it (slice_index it.current u) false) {
+-- the place is the unit's, of this generation, its log sectors are known clean and name no page, and the unit's old place
+-- is free
+abbrev pub after_replace : Places → ℕ → ℕ → ℕ → Places
+after_replace it u p generation = record (with_use it (slice_index it.current u) false) {
   current = slice_set it.current u p;
   written = slice_set it.written u 0;
+  generations = slice_set it.generations u generation;
+  masks = slice_set it.masks u no_masks;
 }
 
 -- the first log sector of the unit that is known clean, if there is one
@@ -35,3 +50,6 @@ pub record IsSoundDirectory (it : Places) : Type 0 where
   pub logs : length it.written ≡ length it.current
   pub within : (u : ℕ) → u < length it.current → slice_index it.current u < length it.in_use
   pub few : (u : ℕ) → u < length it.current → slice_index it.written u ≤ LOG_SECTORS
+  pub heads : length it.generations ≡ length it.current
+  pub masks : length it.masks ≡ length it.current
+  pub sectors : (u : ℕ) → u < length it.current → length (masks_in it u) ≡ LOG_SECTORS

@@ -33,9 +33,9 @@ DisusesGiveBack = (it : Places) (p : ℕ) → p < length it.in_use → GivesBack
 
 -- a place that a unit adopts is taken
 abbrev pub AdoptsTake : Type 0
-AdoptsTake = (it : Places) (u p : ℕ) → Takes it (after_adopt it u p) p
+AdoptsTake = (it : Places) (u p generation : ℕ) → Takes it (after_adopt it u p generation) p
 
 -- a unit whose place is replaced gives its old one back
 abbrev pub ReplacesGiveBack : Type 0
-ReplacesGiveBack = (it : Places) (u p : ℕ) → slice_index it.current u < length it.in_use
-    → GivesBack it (after_replace it u p) (slice_index it.current u)
+ReplacesGiveBack = (it : Places) (u p generation : ℕ) → slice_index it.current u < length it.in_use
+    → GivesBack it (after_replace it u p generation) (slice_index it.current u)

@@ -1,6 +1,6 @@
 //! The directory of units.
-ghost use Rattle.std.specs.Prelude.{◌≡◌, ◌≢◌, ◌+◌, ◌<◌, ◌≤◌, ℕ, Some, length, slice_index, IfOk, IfSome, IfNone, true, false};
-ghost use Rattle.ipl_meaning.specs.Tables.{IsFree, with_use, with_written};
+ghost use Rattle.std.specs.Prelude.{◌≡◌, ◌≢◌, ◌+◌, ◌-◌, ◌<◌, ◌≤◌, ℕ, Some, length, slice_index, IfOk, IfSome, IfNone, true, false};
+ghost use Rattle.ipl_meaning.specs.Tables.{IsFree, with_use, with_written, with_mask, with_masks, masks_in};
 ghost use Rattle.unit_directory.specs.Free.{first_free, free_count};
 ghost use Rattle.unit_directory.specs.Directory.{empty_places, after_adopt, after_replace, next_log, IsSoundDirectory};
 
@@ -9,15 +9,21 @@ use std::alloc::Global;
 use std::marker::Model;
 
 /// Which place is current for each unit, which places are in use, and how many of the 15 log sectors
-/// of each unit's place, from the first on, count as written: the others are known clean. A contract
-/// sees the three as lists, by unit, by place and by unit; there are 5 to 1028 places, and four units
-/// fewer, always the same. Memory is taken by `new` alone.
+/// of each unit's place, from the first on, count as written: the others are known clean. The
+/// generation that the header there has; and for each of these 15, which pages its records name, as a
+/// mask. A contract sees them as lists, by unit, by place, and by unit and sector; there are 5 to 1028
+/// places, and four units fewer, always the same. Memory is taken by `new` alone.
 #[derive(Drop)]
 pub struct Directory {
     current: Vec<u32>,
     in_use: Vec<bool>,
     written: Vec<u32>,
+    generations: Vec<u64>,
+    masks: Vec<[u16; 15]>,
 }
+
+/// A place none of whose log sectors names a page.
+const NO_MASKS: [u16; 15] = [0; 15];
 
 impl Model for Directory {
     ghost use Rattle.ipl_meaning.specs.Tables.{Places};
@@ -29,12 +35,16 @@ impl Model for Directory {
       current = d.current.items;
       in_use = d.in_use.items;
       written = d.written.items;
+      generations = d.generations.items;
+      masks = d.masks.items;
     } };
 
     ghost invariant = { λ d. IsSoundDirectory (record {
       current = d.current.items;
       in_use = d.in_use.items;
       written = d.written.items;
+      generations = d.generations.items;
+      masks = d.masks.items;
     }) };
 }
 
@@ -48,10 +58,17 @@ impl Directory {
         let current = vec![in alloc; 0; units]?;
         let in_use = vec![in alloc; false; places]?;
         let written = vec![in alloc; LOG_SECTORS; units]?;
+        let generations = vec![in alloc; 0; units]?;
+        let mut masks = Vec::with_capacity(alloc, units)?;
+        for _ in 0..units {
+            masks.push_reserved(NO_MASKS);
+        }
         Ok(Directory {
             current,
             in_use,
             written,
+            generations,
+            masks,
         })
     }
 
@@ -62,6 +79,10 @@ impl Directory {
         self.current.fill(0);
         self.in_use.fill(false);
         self.written.fill(LOG_SECTORS);
+        self.generations.fill(0);
+        for masks in self.masks.iter_mut() {
+            *masks = NO_MASKS;
+        }
     }
 
     /// What always holds: the chip has 5 to 1028 places, all but four have a unit, each unit has a
@@ -127,30 +148,43 @@ impl Directory {
         self.in_use[place as usize] = false;
     }
 
-    /// Makes a place the unit's, as one that was found on a chip: it is in use, and none of its log
-    /// sectors is known clean. The unit's old place stays as it is.
-    pub fn adopt(&mut self, unit: u32, place: u32)
+    /// The generation that the header of a unit has.
+    pub fn generation(&self, unit: u32) -> u64
+        requires { unit < length self.now.current }
+        ensures { result ≡ slice_index self.now.generations unit }
+    {
+        self.generations[unit as usize]
+    }
+
+    /// Makes a place the unit's, as one that was found on a chip with a header of this generation: it is
+    /// in use, and none of its log sectors is known clean. The unit's old place stays as it is.
+    pub fn adopt(&mut self, unit: u32, place: u32, generation: u64)
         requires unit { unit < length self.old.current }
         requires place { place < length self.old.in_use }
-        ensures { self.new ≡ after_adopt self.old unit place }
+        ensures { self.new ≡ after_adopt self.old unit place generation }
     {
         self.current[unit as usize] = place;
         self.in_use[place as usize] = true;
         self.written[unit as usize] = LOG_SECTORS;
+        self.generations[unit as usize] = generation;
+        self.masks[unit as usize] = NO_MASKS;
     }
 
-    /// Makes a place the unit's, as one that was taken and erased before: all its log sectors are
-    /// known clean. The unit's old place, which is another one, is free then.
-    pub fn replace(&mut self, unit: u32, place: u32)
+    /// Makes a place the unit's, as one that was taken and erased before and has a header of this
+    /// generation: all its log sectors are known clean. The unit's old place, which is another one, is
+    /// free then.
+    pub fn replace(&mut self, unit: u32, place: u32, generation: u64)
         requires unit { unit < length self.old.current }
         requires place { place < length self.old.in_use }
         requires another { place ≢ slice_index self.old.current unit }
-        ensures { self.new ≡ after_replace self.old unit place }
+        ensures { self.new ≡ after_replace self.old unit place generation }
     {
         let old = self.current[unit as usize];
         self.current[unit as usize] = place;
         self.in_use[old as usize] = false;
         self.written[unit as usize] = 0;
+        self.generations[unit as usize] = generation;
+        self.masks[unit as usize] = NO_MASKS;
     }
 
     /// The first log sector of the unit's place that is known clean, 241 to 255, if there is one.
@@ -177,6 +211,37 @@ impl Directory {
         ensures { self.new ≡ with_written self.old unit }
     {
         self.written[unit as usize] += 1;
+    }
+
+    /// Which pages the records of a log sector at the unit's place (241 to 255) name: bit p is page
+    /// p's. A sector that isn't live has none.
+    pub fn mask(&self, unit: u32, sector: u32) -> u16
+        requires unit { unit < length self.now.current }
+        requires least { 241 ≤ sector }
+        requires most { sector ≤ 255 }
+        ensures { result ≡ slice_index (masks_in self.now unit) (sector - 241) }
+    {
+        let masks = &self.masks[unit as usize];
+        masks[(sector - FIRST_LOG_SECTOR) as usize]
+    }
+
+    /// Sets which pages the records of a log sector at the unit's place (241 to 255) name.
+    pub fn set_mask(&mut self, unit: u32, sector: u32, mask: u16)
+        requires unit { unit < length self.old.current }
+        requires least { 241 ≤ sector }
+        requires most { sector ≤ 255 }
+        ensures { self.new ≡ with_mask self.old unit sector mask }
+    {
+        let masks = &mut self.masks[unit as usize];
+        masks[(sector - FIRST_LOG_SECTOR) as usize] = mask;
+    }
+
+    /// Sets which pages the records of each of the 15 log sectors at the unit's place name.
+    pub fn set_masks(&mut self, unit: u32, masks: [u16; 15])
+        requires { unit < length self.old.current }
+        ensures { self.new ≡ with_masks self.old unit masks }
+    {
+        self.masks[unit as usize] = masks;
     }
 }
 

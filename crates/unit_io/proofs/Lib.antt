@@ -15,3 +15,4 @@ pub mod CostLemmas
 pub mod SparesLemmas
 pub mod TidyLemmas
 pub mod OnceLemmas
+pub mod UnreadLemmas

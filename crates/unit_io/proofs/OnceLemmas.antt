@@ -15,7 +15,7 @@ use Rattle.unit_io.proofs.ReadsAtLemmas.{none_added, history_then}
 
 -- ---- counts of reads
 
-reads_joined : (later earlier : Story) (p s : ℕ)
+pub reads_joined : (later earlier : Story) (p s : ℕ)
     → reads_of (later ++ earlier) p s ≡ reads_of later p s + reads_of earlier p s
 reads_joined [] earlier p s = omega arith
 reads_joined (Read q t ∷ later) earlier p s =

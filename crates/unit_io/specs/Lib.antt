@@ -8,4 +8,5 @@ pub mod Faults
 pub mod Laws
 pub mod Plain
 pub mod ReadsAt
+pub mod Unread
 pub mod Costs

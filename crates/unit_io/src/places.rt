@@ -13,6 +13,7 @@ ghost use Rattle.ipl_meaning.specs.Rests.{now, StoryRests};
 ghost use Rattle.ipl_meaning.specs.Steps.{IsIdle};
 ghost use Rattle.unit_io.specs.Accounts.{Accounts};
 ghost use Rattle.unit_io.specs.Leads.{IsSteady, KeepsMap, SwitchesMap, IsStopped};
+ghost use Rattle.unit_io.specs.Unread.{ReadsNothing};
 ghost use Rattle.unit_io.specs.Spots.{Clears, Programs, IsSpot};
 ghost use Rattle.unit_io.specs.Costs.{ErasesOnce, ProgramsAt, Spends};
 ghost use Rattle.unit_io.specs.Charts.{Charts, Spares, IsCleared, Gains};
@@ -37,6 +38,7 @@ pub fn begin_unit<C: Chip>(chip: &mut C, place: u32) -> Result<(), ChipFault>
     ensures spares { OnOk result (Spares place (C.told chip.old) (C.told chip.new)) }
     ensures costs { Spends (ErasesOnce place 1 (is_ok result)) (C.told chip.old) (C.told chip.new) }
     ensures tidy { Spends (Clears place (is_ok result)) (C.told chip.old) (C.told chip.new) }
+    ensures unread { Spends ReadsNothing (C.told chip.old) (C.told chip.new) }
     ensures accounts { Accounts IsStopped result (C.told chip.old) (C.told chip.new) }
 {
     erase(chip, place)?;
@@ -58,6 +60,7 @@ fn add_header<C: Chip>(chip: &mut C, place: u32, bytes: &[u8; 512]) -> Result<()
     ensures costs { (said : Sector) → sector_in bytes.now ≡ Some said
         → Spends (ProgramsAt place 1 1 said.kind) (C.told chip.old) (C.told chip.new) }
     ensures tidy { Spends (Programs place (IsSpot 0) (is_ok result)) (C.told chip.old) (C.told chip.new) }
+    ensures unread { Spends ReadsNothing (C.told chip.old) (C.told chip.new) }
     ensures accounts { Accounts IsStopped result (C.told chip.old) (C.told chip.new) }
 {
     program(chip, place, 0, bytes)?;
@@ -83,6 +86,7 @@ pub fn seal<C: Chip>(chip: &mut C, place: u32, head: &Head, payload: &[u8]) -> R
     ensures spares { OnOk result (Spares place (C.told chip.old) (C.told chip.new)) }
     ensures costs { Spends (ProgramsAt place 1 2 head.now.kind) (C.told chip.old) (C.told chip.new) }
     ensures tidy { Spends (Programs place (IsSpot 0) (is_ok result)) (C.told chip.old) (C.told chip.new) }
+    ensures unread { Spends ReadsNothing (C.told chip.old) (C.told chip.new) }
     ensures accounts { Accounts IsStopped result (C.told chip.old) (C.told chip.new) }
 {
     let mut bytes = [0; 512];

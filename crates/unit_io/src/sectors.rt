@@ -11,6 +11,7 @@ ghost use Rattle.ipl_meaning.specs.Rests.{now, StoryRests};
 ghost use Rattle.ipl_meaning.specs.Steps.{MayLog};
 ghost use Rattle.unit_io.specs.Accounts.{Accounts};
 ghost use Rattle.unit_io.specs.Leads.{IsSteady, KeepsMap, IsStopped};
+ghost use Rattle.unit_io.specs.Unread.{ReadsNothing};
 ghost use Rattle.unit_io.specs.Spots.{Programs, IsSpot};
 ghost use Rattle.unit_io.specs.Costs.{ProgramsAt, Spends};
 ghost use Rattle.unit_io.specs.Charts.{Charts, Spares, Gains};
@@ -41,6 +42,7 @@ pub(crate) fn program_aside<C: Chip>(
     ensures costs { (said : Sector) → sector_in bytes.now ≡ Some said
         → Spends (ProgramsAt place 1 0 said.kind) (C.told chip.old) (C.told chip.new) }
     ensures tidy { Spends (Programs place (IsSpot sector) (is_ok result)) (C.told chip.old) (C.told chip.new) }
+    ensures unread { Spends ReadsNothing (C.told chip.old) (C.told chip.new) }
     ensures accounts { Accounts IsStopped result (C.told chip.old) (C.told chip.new) }
 {
     program(chip, place, sector, bytes)

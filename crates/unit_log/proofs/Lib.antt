@@ -6,3 +6,6 @@ pub mod FoundLemmas
 pub mod SpotLemmas
 pub mod LiveLemmas
 pub mod MirroredLemmas
+pub mod PagedLemmas
+pub mod ChooseLemmas
+pub mod CountLemmas

@@ -17,7 +17,7 @@ use Rattle.unit_log.proofs.KeptLemmas.{contains_here, contains_there, lists_same
 use Rattle.unit_log.proofs.FoundLemmas.{IsFound, gathered_from, gathered_has, found_from, found_kept, kept_says}
 use Rattle.unit_log.proofs.SpotLemmas.{Apart, spots_has, spots_are, map_has, map_from, map_rises, home_apart, pairs_apart, apart_append, pair_same}
 
-serial_has : (serial : ℕ) (kept : List LogSector) → has_serial serial kept ≡ true
+pub serial_has : (serial : ℕ) (kept : List LogSector) → has_serial serial kept ≡ true
     → (z : LogSector) × Contains kept z × (z.serial ≡ serial)
 serial_has serial [] told = absurd (cc told)
 serial_has serial (x ∷ kept) told =
@@ -34,7 +34,7 @@ same_kept e sector z is same =
     ap (λ (x : Sector). record { serial = x.serial; payload = x.payload }) is ∙ sym same
 
 -- two entries with one serial are one
-one_entry : (log : List Entry) (e f : Entry) → AllPairs IsBelow log → Contains log e
+pub one_entry : (log : List Entry) (e f : Entry) → AllPairs IsBelow log → Contains log e
     → Contains log f → e.sector.serial ≡ f.sector.serial → e ≡ f
 one_entry log e f rise (i, in_i, is) (j, in_j, also) same = elim (cases_eq i j) [
   | inl equal ↦ sym is ∙ get_or_default log i e f in_i ∙ ap (λ (k : ℕ). get_or log k f) equal ∙ also

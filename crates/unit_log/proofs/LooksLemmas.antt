@@ -9,6 +9,7 @@ use Rattle.unit_io.specs.Accounts.{Accounts}
 use Rattle.unit_io.specs.Reads.{Asked, IsReadFault}
 use Rattle.unit_io.specs.ReadsAt.{ReadsAt, IsCauseAt}
 use Rattle.unit_io.proofs.ReadsAtLemmas.{at_then, at_wider, at_asked}
+use Rattle.unit_log.specs.Paged.{IsPageLogRead}
 use Rattle.unit_log.specs.Looks.{IsAt, IsFrom, IsListed, IsLogRead, LooksAt}
 
 -- ---- one sector
@@ -109,3 +110,12 @@ module _ (home place : ℕ) (own spots : List (ℕ × ℕ)) (at : place ≡ home
   at_log p s (inl is) = at_header p s is
   at_log p s (inr (inl is)) = at_home p s is
   at_log p s (inr (inr is)) = at_listed p s is
+
+-- where a page's log is read
+pub at_page_header : (home place : ℕ) (spots : List (ℕ × ℕ)) → place ≡ home
+    → (p s : ℕ) → IsAt place 0 p s → IsPageLogRead home spots p s
+at_page_header home place spots at p s is = inl (is.0 ∙ at, is.1)
+
+pub at_page_listed : (home : ℕ) (own spots : List (ℕ × ℕ)) → own ≡ spots
+    → (p s : ℕ) → IsListed own p s → IsPageLogRead home spots p s
+at_page_listed home own spots same p s is = inr (subst (λ (l : List (ℕ × ℕ)). Contains l (p, s)) same is)

@@ -7,7 +7,10 @@ use Rattle.overflow.specs.Lists.{spots_in}
 use Rattle.unit_log.specs.declared.scratch.LogSector.{LogSector}
 use Rattle.unit_log.specs.Kept.{kept_of, gathered, HasUnfit, AreRising}
 use Rattle.unit_log.specs.Live.{log_spots, AreMirrored, HasHead}
+use Rattle.ipl_meaning.specs.Masks.{of_page}
+use Rattle.unit_log.specs.Paged.{page_spots}
 use Rattle.unit_log.proofs.LiveLemmas.{log_gathered, none_unfit}
+use Rattle.unit_log.proofs.PagedLemmas.{page_none_unfit, page_gathered, page_count}
 
 module _ (places place u : ℕ) (c : Chart) (it : Layout) (t : Tables) (directory : Places)
     (overflow : OverflowLists)
@@ -84,3 +87,38 @@ module _ (places place u : ℕ) (c : Chart) (it : Layout) (t : Tables) (director
         all
         ∙ log_gathered places c it t u end are.mirrors within (end_from next some none end_at)
         (end_most next range end_at) (subst AreRising all rise)
+
+  -- ---- the log sectors of a page
+
+  module _ (page : ℕ) (spots : List (ℕ × ℕ)) (generation : ℕ)
+      (same : generation ≡ (it.units u).head.generation)
+      (spots_is : spots ≡ page_spots directory overflow u page) where
+    abbrev own : List (ℕ × ℕ)
+    own = page_spots t.places t.overflow u page
+
+    own_is : spots ≡ own
+    own_is = spots_is
+        ∙ ap₂ (λ (d : Places) (o : OverflowLists). page_spots d o u page) (sym are.directory_is) (sym are.overflow_is)
+
+    -- none of them is unfit
+    pub no_unfit_page : HasUnfit c u generation spots [] → ⊥
+    no_unfit_page unfit =
+        page_none_unfit places c it t u page are.mirrors within
+        (subst (λ (l : List (ℕ × ℕ)). HasUnfit c u (it.units u).head.generation l []) own_is
+        (subst (λ (g : ℕ). HasUnfit c u g spots []) same unfit))
+
+    -- and what they are gathered into are those of the log that have a record of the page
+    pub page_read : (kept : List LogSector) → kept ≡ gathered c u generation spots [] → AreRising kept
+        → kept ≡ map kept_of (of_page page (it.units u).log)
+    page_read kept is rise =
+        let all = is ∙ ap (λ (g : ℕ). gathered c u g spots []) same
+        ∙ ap (λ (l : List (ℕ × ℕ)). gathered c u (it.units u).head.generation l []) own_is in
+        all ∙ page_gathered places c it t u page are.mirrors within (subst AreRising all rise)
+
+    -- as many
+    pub page_size : (kept : List LogSector) → kept ≡ gathered c u generation spots [] → AreRising kept
+        → length (page_spots directory overflow u page) ≡ length (of_page page (it.units u).log)
+    page_size kept is rise =
+        let all = is ∙ ap (λ (g : ℕ). gathered c u g spots []) same
+        ∙ ap (λ (l : List (ℕ × ℕ)). gathered c u (it.units u).head.generation l []) own_is in
+        ap length (sym spots_is ∙ own_is) ∙ page_count places c it t u page are.mirrors within (subst AreRising all rise)

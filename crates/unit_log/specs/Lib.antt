@@ -1,3 +1,4 @@
 pub mod Kept
 pub mod Looks
 pub mod Live
+pub mod Paged

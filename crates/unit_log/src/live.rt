@@ -1,17 +1,20 @@
 //! The live log sectors of a unit.
-ghost use Rattle.std.specs.Prelude.{◌≡◌, ◌<◌, ◌≤◌, ℕ, List, length, slice_index, Some, IsSomeAnd, IfOk, IfSome, MatchResult, All};
+ghost use Rattle.std.specs.Prelude.{◌≡◌, ◌<◌, ◌≤◌, ◌+◌, ℕ, List, length, slice_index, Some, IsSomeAnd, IfOk, IfSome, OnOk, MatchResult, All};
 ghost use Rattle.chip_trait.specs.Told.{Told};
 ghost use Rattle.ipl_base.specs.declared.fault.ChipFault.TheVariants.{ReadFault};
 ghost use Rattle.ipl_format.specs.Header.{SpellsDataHeader};
 ghost use Rattle.ipl_format.specs.Sector.{Sector};
 ghost use Rattle.ipl_meaning.specs.Chart.{chart_of};
+ghost use Rattle.ipl_meaning.specs.Masks.{of_page};
 ghost use Rattle.overflow.specs.Lists.{spots_in};
 ghost use Rattle.unit_io.specs.Kinds.{sector_named};
 ghost use Rattle.unit_io.specs.Reads.{OfContents};
 ghost use Rattle.unit_log.specs.Live.{IsLive, OfMirrored, HasHead, SaysHead, IsHeaded};
 ghost use Rattle.unit_log.specs.Looks.{IsAt, IsLogRead, LooksAt};
+ghost use Rattle.unit_log.specs.Paged.{page_spots, IsLiveOf, IsPageLogRead, AddsAtMost};
 
-use crate::reading::read_sectors;
+use crate::pages::page_spots;
+use crate::reading::{read_listed, read_sectors};
 use crate::scratch::Scratch;
 use chip_trait::Chip;
 use ipl_base::{ChipFault, SECTORS};
@@ -63,6 +66,7 @@ fn read_header<C: Chip>(chip: &mut C, place: u32, unit: u32) -> Result<UnitHead,
         IsHeaded (chart_of x) place unit r)) }
     ensures few { IfOk result (λ r. All (λ n. n ≤ 16) r.pieces) }
     ensures looks { LooksAt (IsAt place 0) result (C.told chip.old) (C.told chip.new) }
+    ensures one { AddsAtMost 1 (C.told chip.old) (C.told chip.new) }
 {
     let mut bytes = [0; 512];
     let found = read_head(chip, place, &mut bytes)?;
@@ -105,7 +109,58 @@ pub fn read_live<C: Chip>(
     scratch.clear();
     let head = read_header(chip, place, unit)?;
     let spots = overflow.list(unit);
-    read_sectors(chip, place, end, spots, unit, head.generation, scratch)?;
+    read_sectors(
+        chip,
+        place,
+        end,
+        spots.as_slice(),
+        unit,
+        head.generation,
+        scratch,
+    )?;
+    scratch.facts();
+    Ok(head)
+}
+
+/// Reads the header of a unit, and those of its live log sectors that have a record of a page (0 to
+/// 14), as the masks in the tables tell it. They are in the scratch memory then, in rising order of
+/// their serials; what was there before is gone, however the call ends. No other sector is read, and
+/// none twice.
+///
+/// Where the tables mirror what the chip holds, these are all that have one, and it fails only where
+/// a read failed. Else it may find a sector malformed, as `read_live` does.
+pub fn read_page_log<C: Chip>(
+    chip: &mut C,
+    directory: &Directory,
+    overflow: &Overflow,
+    unit: u32,
+    page: u32,
+    scratch: &mut Scratch,
+) -> Result<UnitHead, ChipFault>
+    requires unit { unit < length directory.now.current }
+    requires size { length directory.now.in_use ≡ (C.told chip.old).places }
+    requires units { length overflow.now.spots ≡ length directory.now.current }
+    requires page { page < 15 }
+    ensures exact { OfMirrored (C.told chip.old) directory.now overflow.now (λ it.
+        MatchResult result (λ head. IsLiveOf it unit page head scratch.new)
+        (λ fault. fault ≡ ReadFault)) }
+    ensures as_many { OnOk result (OfMirrored (C.told chip.old) directory.now overflow.now (λ it.
+        length (page_spots directory.now overflow.now unit page)
+        ≡ length (of_page page (it.units unit).log))) }
+    ensures few { IfOk result (λ head. All (λ n. n ≤ 16) head.pieces) }
+    ensures looks { LooksAt
+        (IsPageLogRead (slice_index directory.now.current unit)
+        (page_spots directory.now overflow.now unit page))
+        result (C.told chip.old) (C.told chip.new) }
+    ensures each { AddsAtMost (1 + length (page_spots directory.now overflow.now unit page))
+        (C.told chip.old) (C.told chip.new) }
+{
+    directory.facts();
+    let place = directory.current(unit);
+    let spots = page_spots(directory, overflow, unit, page);
+    scratch.clear();
+    let head = read_header(chip, place, unit)?;
+    read_listed(chip, spots.as_slice(), unit, head.generation, scratch)?;
     scratch.facts();
     Ok(head)
 }

@@ -7,6 +7,7 @@ ghost use Rattle.unit_io.specs.Kinds.{sector_named};
 ghost use Rattle.unit_log.specs.Kept.{kept_if, with_found, IsUnfit};
 ghost use Rattle.unit_log.specs.Live.{spots_from, log_spots, Gathers};
 ghost use Rattle.unit_log.specs.Looks.{IsAt, IsFrom, IsListed, IsLogRead, LooksAt};
+ghost use Rattle.unit_log.specs.Paged.{AddsAtMost};
 
 use crate::scratch::Scratch;
 use chip_trait::Chip;
@@ -84,6 +85,7 @@ fn read_spot<C: Chip>(
     ensures count { length scratch.new ≤ length scratch.old + 1 }
     ensures looks { LooksAt (IsAt spot.place spot.sector) result
         (C.told chip.old) (C.told chip.new) }
+    ensures one { AddsAtMost 1 (C.told chip.old) (C.told chip.new) }
 {
     let mut bytes = [0; 512];
     let found = read_log(chip, spot, &mut bytes)?;
@@ -114,8 +116,8 @@ fn read_home<C: Chip>(
     Ok(())
 }
 
-/// Reads these spots, at most 16.
-fn read_listed<C: Chip>(
+/// Reads these spots, at most 31.
+pub fn read_listed<C: Chip>(
     chip: &mut C,
     spots: &[Spot],
     unit: u32,
@@ -123,12 +125,12 @@ fn read_listed<C: Chip>(
     scratch: &mut Scratch,
 ) -> Result<(), ChipFault>
     requires within { AreWithin (C.told chip.old).places (map pair_of spots.now) }
-    requires few { length spots.now ≤ 16 }
-    requires room { length scratch.old ≤ 15 }
+    requires room { length scratch.old + length spots.now ≤ 31 }
     ensures gathers { Gathers (C.told chip.old) unit generation (map pair_of spots.now)
         scratch.old scratch.new result }
     ensures looks { LooksAt (IsListed (map pair_of spots.now)) result
         (C.told chip.old) (C.told chip.new) }
+    ensures each { AddsAtMost (length spots.now) (C.told chip.old) (C.told chip.new) }
 {
     for spot in spots {
         read_spot(chip, *spot, unit, generation, scratch)?;

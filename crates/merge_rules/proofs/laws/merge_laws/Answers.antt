@@ -1,3 +1,4 @@
+use Rattle.merge_rules.proofs.MaskedLemmas.{packs_are_told}
 use Rattle.merge_rules.proofs.MergeLemmas.{filled_places_are_ready, stands_after_filling, tables_follow_filling, merges_keep_the_last}
 use Rattle.merge_rules.proofs.laws.merge_laws.Goals as goal
 
@@ -12,3 +13,6 @@ returns-clause-tables c = tables_follow_filling
 
 pub returns-clause-last : goal.returns-clause-last
 returns-clause-last c = merges_keep_the_last
+
+pub returns-clause-told : goal.returns-clause-told
+returns-clause-told c = packs_are_told

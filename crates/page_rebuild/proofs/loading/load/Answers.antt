@@ -1,14 +1,14 @@
-use Rattle.std.proofs.Common.{◌≤◌, List, Ok, slice_index, sym, ◌∙◌, ap, subst, rules}
+use Rattle.std.proofs.Common.{◌+◌, List, Ok, length, sym, ◌∙◌, ap, subst, arith}
 use Rattle.std.proofs.lemmas.Result.{err_from_is_err_and}
 use Rattle.number_set.specs.Numbers.{among}
-use Rattle.overflow.specs.Lists.{spots_in}
 use Rattle.steps.proofs.MapLemmas.{reads_keep_tables}
 use Rattle.unit_log.specs.declared.scratch.LogSector.{LogSector}
 use Rattle.unit_log.specs.Kept.{records_kept}
-use Rattle.unit_log.specs.Looks.{IsLogRead}
+use Rattle.unit_log.specs.Paged.{page_spots, IsPageLogRead}
 use Rattle.page_rebuild.specs.Taken.{AreTaken}
 use Rattle.page_rebuild.specs.Loaded.{IsLoadRead}
-use Rattle.page_rebuild.proofs.ReadLemmas.{within, both_read, log_allowed, both_allowed}
+use Rattle.unit_log.proofs.CountLemmas.{most_then, most_wider}
+use Rattle.page_rebuild.proofs.ReadLemmas.{within, both_read, log_read, few_at, log_allowed, both_allowed}
 use Rattle.page_rebuild.proofs.ReadLemmas.{fault_told}
 use Rattle.page_rebuild.proofs.LoadedLemmas.{count_is, fault_is, loaded, page_of_map}
 use Rattle.page_rebuild.proofs.loading.load.Goals as goal
@@ -26,8 +26,13 @@ returns-in_err-header-clause-allowed g c = λ x told it t are.
 
 pub returns-in_err-header-clause-keeps : goal.returns-in_err-header-clause-keeps
 returns-in_err-header-clause-keeps g c = λ m it t h steady rests agrees.
-    reads_keep_tables (IsLogRead _ _) _ m it t h c.from_residual.result
-    (g.C.Chip.told c.args.chip.now) (g.C.Chip.told c.read_live.new.chip) steady rests agrees
+    reads_keep_tables (IsPageLogRead _ _) _ m it t h c.from_residual.result
+    (g.C.Chip.told c.args.chip.now) (g.C.Chip.told c.read_page_log.new.chip) steady rests agrees
+    c.in_err-header.ensures.looks.reads
+
+pub returns-in_err-header-clause-reads : goal.returns-in_err-header-clause-reads
+returns-in_err-header-clause-reads g c =
+    log_read (page_spots c.args.directory.now c.args.overflow.now c.args.unit c.args.page) c.args.page
     c.in_err-header.ensures.looks.reads
 
 -- ---- the base page isn't read
@@ -39,7 +44,7 @@ returns-in_err-read_base-clause-fault g c = λ x told it t are.
     c.from_residual-in_err-read_base.ensures.1 in
     let told_then = c.in_ok-header.ensures.looks.reads.contents ∙ told in
     let live = c.in_ok-header.ensures.exact x told it t are.mirrored in
-    let is = fault_is are c.requires.unit c.current-place.ensures.place live x c.args.page in
+    let is = fault_is are c.requires.unit c.current-place.ensures.place c.args.page live x in
     rw e.1 (λ other. fault_told (sym is)
     (c.in_err-read_base.ensures.exact x told_then (λ same. other (e.2 ∙ same))) e.2)
 
@@ -47,13 +52,13 @@ pub returns-in_err-read_base-clause-allowed : goal.returns-in_err-read_base-clau
 returns-in_err-read_base-clause-allowed g c = λ x told it t are.
     let live = c.in_ok-header.ensures.exact x told it t are.mirrored in
     both_allowed are c.requires.unit c.args.page c.current-place.ensures.place
-    (count_is are c.requires.unit c.current-place.ensures.place live c.args.page)
+    (count_is are c.requires.unit c.current-place.ensures.place c.args.page live)
     c.in_ok-header.ensures.looks.reads c.in_err-read_base.ensures.reads
 
 pub returns-in_err-read_base-clause-reads : goal.returns-in_err-read_base-clause-reads
 returns-in_err-read_base-clause-reads g c =
-    let few : slice_index c.in_ok-header.header.pieces c.args.page ≤ 16 = search rules in
-    both_read (spots_in c.args.overflow.now c.args.unit) c.args.page
+    let few = few_at c.in_ok-header.header.pieces c.args.page c.in_ok-header.ensures.few in
+    both_read (page_spots c.args.directory.now c.args.overflow.now c.args.unit c.args.page) c.args.page
     c.current-place.ensures.place few c.in_ok-header.ensures.looks.reads
     c.in_err-read_base.ensures.reads
 
@@ -69,20 +74,20 @@ returns-in_err-read_base-clause-keeps g c = λ m it t h steady rests agrees.
 pub returns-clause-fault : goal.returns-clause-fault
 returns-clause-fault g c = λ x told it t are.
     let live = c.in_ok-header.ensures.exact x told it t are.mirrored in
-    sym (fault_is are c.requires.unit c.current-place.ensures.place live x c.args.page)
+    sym (fault_is are c.requires.unit c.current-place.ensures.place c.args.page live x)
     ∙ c.in_ok-read_base.ensures.exact x (c.in_ok-header.ensures.looks.reads.contents ∙ told)
 
 pub returns-clause-allowed : goal.returns-clause-allowed
 returns-clause-allowed g c = λ x told it t are.
     let live = c.in_ok-header.ensures.exact x told it t are.mirrored in
     both_allowed are c.requires.unit c.args.page c.current-place.ensures.place
-    (count_is are c.requires.unit c.current-place.ensures.place live c.args.page)
+    (count_is are c.requires.unit c.current-place.ensures.place c.args.page live)
     c.in_ok-header.ensures.looks.reads c.in_ok-read_base.ensures.reads
 
 pub returns-clause-reads : goal.returns-clause-reads
 returns-clause-reads g c =
-    let few : slice_index c.in_ok-header.header.pieces c.args.page ≤ 16 = search rules in
-    both_read (spots_in c.args.overflow.now c.args.unit) c.args.page
+    let few = few_at c.in_ok-header.header.pieces c.args.page c.in_ok-header.ensures.few in
+    both_read (page_spots c.args.directory.now c.args.overflow.now c.args.unit c.args.page) c.args.page
     c.current-place.ensures.place few c.in_ok-header.ensures.looks.reads
     c.in_ok-read_base.ensures.reads
 
@@ -99,7 +104,7 @@ returns-clause-loads g c = λ x told it t are.
     subst (λ (l : List LogSector). AreTaken (among c.args.status.now.numbers)
     (among c.args.active.now) c.args.page (records_kept l) c.read_base.new.frame
     c.take_sectors.new.frame) c.sectors.ensures.sectors c.take_sectors.ensures in
-    loaded are c.requires.unit c.current-place.ensures.place live c.args.page c.args.active.now
+    loaded are c.requires.unit c.current-place.ensures.place c.args.page live c.args.active.now
     (c.in_ok-read_base.ensures.page x (c.in_ok-header.ensures.looks.reads.contents ∙ told))
     (c.in_ok-read_base.ensures.pending ∙ ap (λ f. f.pending) c.empty.ensures) taken
 
@@ -107,3 +112,11 @@ pub returns-clause-stands : goal.returns-clause-stands
 returns-clause-stands g c = λ x told it t are m stands.
     page_of_map are.mirrored.mirrors.laid (within are c.requires.unit) c.requires.page stands
     (returns-clause-loads g c x told it t are)
+
+pub returns-clause-count : goal.returns-clause-count
+returns-clause-count g c = λ x told it t are.
+    let spots = page_spots c.args.directory.now c.args.overflow.now c.args.unit c.args.page in
+    most_wider (1 + length spots + 16) _ (g.C.Chip.told c.args.chip.now) (g.C.Chip.told c.read_base.new.chip)
+    (omega (arith, c.in_ok-header.ensures.as_many x told it t are.mirrored))
+    (most_then (1 + length spots) 16 (g.C.Chip.told c.args.chip.now) (g.C.Chip.told c.read_page_log.new.chip)
+    (g.C.Chip.told c.read_base.new.chip) c.read_page_log.ensures.each c.read_base.ensures.count)

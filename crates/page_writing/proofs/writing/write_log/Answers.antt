@@ -1,25 +1,26 @@
-use Rattle.std.proofs.Common.{◌+◌, ℕ, Ok, Err, refl, subst, arith}
+use Rattle.std.proofs.Common.{◌+◌, ℕ, slice_index, Ok, Err, refl, subst, arith}
 use Rattle.std.proofs.lemmas.Result.{err_from_is_err_and}
 use Rattle.ipl_format.specs.Sector.{Sector}
 use Rattle.ipl_meaning.specs.TableSteps.{with_next}
 use Rattle.selective_merge.specs.Moving.{tables_of}
-use Rattle.page_writing.specs.Writing.{IsAfterLog, IsLogOf}
+use Rattle.page_writing.specs.Writing.{mask_by, IsAfterLog, IsLogOf}
 use Rattle.page_writing.proofs.LogLemmas.{log_told, log_steps}
 use Rattle.page_writing.proofs.SpotLemmas.{spot_within, spot_drawn, drawn_before, known_drawn, holds_drawn, log_holds}
 use Rattle.page_writing.proofs.SpendLemmas.{log_uses}
 use Rattle.page_writing.proofs.TidyLemmas.{logs_tidily, fails_tidily}
+use Rattle.page_writing.proofs.writing.write_log.Given.{Over}
 use Rattle.page_writing.proofs.writing.write_log.Goals as goal
 
 pub program_log-requires-clause-place : goal.program_log-requires-clause-place
 program_log-requires-clause-place g c =
     (spot_within (g.C.Chip.told c.args.chip.now).places (tables_of c.args.parts.now) c.args.unit
-    c.args.at.spot.place c.args.at.spot.sector c.requires.known.suits c.requires.unit
+    c.args.at.place c.args.at.sector c.requires.known.suits c.requires.unit
     c.facts.ensures c.facts-2.ensures c.requires.spot).0
 
 pub program_log-requires-clause-sector : goal.program_log-requires-clause-sector
 program_log-requires-clause-sector g c =
     (spot_within (g.C.Chip.told c.args.chip.now).places (tables_of c.args.parts.now) c.args.unit
-    c.args.at.spot.place c.args.at.spot.sector c.requires.known.suits c.requires.unit
+    c.args.at.place c.args.at.sector c.requires.known.suits c.requires.unit
     c.facts.ensures c.facts-2.ensures c.requires.spot).1
 
 pub use_spot-requires-clause-known : goal.use_spot-requires-clause-known
@@ -29,8 +30,15 @@ use_spot-requires-clause-known g c =
 
 pub use_spot-requires-clause-spot : goal.use_spot-requires-clause-spot
 use_spot-requires-clause-spot g c =
-    spot_drawn (tables_of c.args.parts.now) c.draw.new.self c.args.unit c.args.at.spot.place
-    c.args.at.spot.sector c.requires.spot
+    spot_drawn (tables_of c.args.parts.now) c.draw.new.self c.args.unit c.args.at.place
+    c.args.at.sector c.requires.spot
+
+-- the spot is used, with the mask of the payload
+used : (g : Over) (c : goal.After-use_spot g) → IsAfterLog (with_next (tables_of c.args.parts.now) c.draw.new.self)
+    (tables_of c.use_spot.new.parts) c.args.unit c.args.at.place c.args.at.sector (mask_by c.args.payload.now) c.draw.new.self
+used g c = subst (λ (m : ℕ). IsAfterLog (with_next (tables_of c.args.parts.now) c.draw.new.self)
+    (tables_of c.use_spot.new.parts) c.args.unit c.args.at.place c.args.at.sector m c.draw.new.self)
+    c.mask_of-mask.ensures c.use_spot.ensures
 
 pub returns-in_err-program_log-clause-steps : goal.returns-in_err-program_log-clause-steps
 returns-in_err-program_log-clause-steps g c =
@@ -43,14 +51,14 @@ returns-in_err-program_log-clause-steps g c =
       kind = 5;
       version = 1;
       unit = c.args.unit;
-      generation = at.generation;
+      generation = c.generation.result;
       serial = c.draw.result;
       payload = payload;
     } in
-    let is : IsLogOf c.args.unit at.generation t.next payload sector = record {
+    let is : IsLogOf c.args.unit (slice_index t.places.generations c.args.unit) t.next payload sector = record {
       kind = refl;
       of_unit = refl;
-      of_generation = refl;
+      of_generation = c.generation.ensures;
       serial_is = c.draw.ensures.drawn;
       payload_is = refl;
     } in
@@ -76,21 +84,21 @@ returns-clause-steps g c =
       kind = 5;
       version = 1;
       unit = u;
-      generation = at.generation;
+      generation = c.generation.result;
       serial = c.draw.result;
       payload = payload;
     } in
-    let is : IsLogOf u at.generation t.next payload sector = record {
+    let is : IsLogOf u (slice_index t.places.generations u) t.next payload sector = record {
       kind = refl;
       of_unit = refl;
-      of_generation = refl;
+      of_generation = c.generation.ensures;
       serial_is = c.draw.ensures.drawn;
       payload_is = refl;
     } in
-    let tables : IsAfterLog t after u at.spot.place at.spot.sector (t.next + 1) =
-    drawn_before t after c.draw.new.self u at.spot.place at.spot.sector (t.next + 1)
-    (subst (λ (n : ℕ). IsAfterLog (with_next t c.draw.new.self) after u at.spot.place
-    at.spot.sector n) c.draw.ensures.next c.use_spot.ensures) in
+    let tables : IsAfterLog t after u at.place at.sector (mask_by payload) (t.next + 1) =
+    drawn_before t after c.draw.new.self u at.place at.sector (mask_by c.args.payload.now) (t.next + 1)
+    (subst (λ (n : ℕ). IsAfterLog (with_next t c.draw.new.self) after u at.place
+    at.sector (mask_by c.args.payload.now) n) c.draw.ensures.next (used g c)) in
     let says = c.in_ok-program_log.ensures in
     log_steps old.places u at payload t after sector old (g.C.Chip.told c.program_log.new.chip)
     (omega (arith, c.requires.unit)) is (Ok tt) c.requires.spot tables says.keeps
@@ -108,22 +116,22 @@ returns-clause-tells g c =
       kind = 5;
       version = 1;
       unit = u;
-      generation = at.generation;
+      generation = c.generation.result;
       serial = c.draw.result;
       payload = payload;
     } in
-    let is : IsLogOf u at.generation t.next payload sector = record {
+    let is : IsLogOf u (slice_index t.places.generations u) t.next payload sector = record {
       kind = refl;
       of_unit = refl;
-      of_generation = refl;
+      of_generation = c.generation.ensures;
       serial_is = c.draw.ensures.drawn;
       payload_is = refl;
     } in
-    let tables : IsAfterLog t after u at.spot.place at.spot.sector (t.next + 1) =
-    drawn_before t after c.draw.new.self u at.spot.place at.spot.sector (t.next + 1)
-    (subst (λ (n : ℕ). IsAfterLog (with_next t c.draw.new.self) after u at.spot.place
-    at.spot.sector n) c.draw.ensures.next c.use_spot.ensures) in
-    let holds = log_holds old.places t u at.spot.place at.spot.sector (t.next + 1)
+    let tables : IsAfterLog t after u at.place at.sector (mask_by payload) (t.next + 1) =
+    drawn_before t after c.draw.new.self u at.place at.sector (mask_by c.args.payload.now) (t.next + 1)
+    (subst (λ (n : ℕ). IsAfterLog (with_next t c.draw.new.self) after u at.place
+    at.sector (mask_by c.args.payload.now) n) c.draw.ensures.next (used g c)) in
+    let holds = log_holds old.places t u at.place at.sector (mask_by payload) (t.next + 1)
     c.requires.known after tables in
     log_told old.places u at payload t after sector old (g.C.Chip.told c.program_log.new.chip)
     (omega (arith, c.requires.unit)) is tables holds.known.none_lost
@@ -135,20 +143,20 @@ returns-clause-holds g c =
     let u = c.args.unit in
     let t = tables_of c.args.parts.now in
     let after = tables_of c.use_spot.new.parts in
-    log_holds (g.C.Chip.told c.args.chip.now).places t u at.spot.place at.spot.sector (t.next + 1)
+    log_holds (g.C.Chip.told c.args.chip.now).places t u at.place at.sector (mask_by c.args.payload.now) (t.next + 1)
     c.requires.known after
-    (drawn_before t after c.draw.new.self u at.spot.place at.spot.sector (t.next + 1)
-    (subst (λ (n : ℕ). IsAfterLog (with_next t c.draw.new.self) after u at.spot.place
-    at.spot.sector n) c.draw.ensures.next c.use_spot.ensures))
+    (drawn_before t after c.draw.new.self u at.place at.sector (mask_by c.args.payload.now) (t.next + 1)
+    (subst (λ (n : ℕ). IsAfterLog (with_next t c.draw.new.self) after u at.place
+    at.sector (mask_by c.args.payload.now) n) c.draw.ensures.next (used g c)))
 
 pub returns-in_err-program_log-clause-tidy : goal.returns-in_err-program_log-clause-tidy
 returns-in_err-program_log-clause-tidy g c =
     let e = err_from_is_err_and c.from_residual.result c.from_residual.ensures.1 in
     let old = g.C.Chip.told c.args.chip.now in
     let t = tables_of c.args.parts.now in
-    let spot = c.args.at.spot in
+    let spot = c.args.at in
     let says = c.in_err-program_log.ensures in
-    rw e.1 (fails_tidily old.places t t c.args.unit spot.place spot.sector c.draw.new.self
+    rw e.1 (fails_tidily old.places t t c.args.unit spot.place spot.sector 0 c.draw.new.self
     c.requires.known c.requires.unit (Unit {0}) e.0 old (g.C.Chip.told c.program_log.new.chip)
     c.requires.spot says.accounts.cause.1 says.tidy)
 
@@ -158,11 +166,11 @@ returns-clause-tidy g c =
     let t = tables_of c.args.parts.now in
     let after = tables_of c.use_spot.new.parts in
     let u = c.args.unit in
-    let spot = c.args.at.spot in
+    let spot = c.args.at in
     let next = c.draw.new.self in
-    logs_tidily old.places t after u spot.place spot.sector next c.requires.known c.requires.unit
+    logs_tidily old.places t after u spot.place spot.sector (mask_by c.args.payload.now) next c.requires.known c.requires.unit
     (Unit {0}) (Ok tt) old (g.C.Chip.told c.program_log.new.chip) c.facts.ensures.logs
-    (drawn_before t after next u spot.place spot.sector next c.use_spot.ensures)
+    (drawn_before t after next u spot.place spot.sector (mask_by c.args.payload.now) next (used g c))
     c.in_ok-program_log.ensures.tidy
 
 -- ---- what counts as written then
@@ -175,6 +183,6 @@ returns-in_err-program_log-clause-uses g c =
 pub returns-clause-uses : goal.returns-clause-uses
 returns-clause-uses g c =
     let next = c.draw.new.self in
-    let at = c.args.at.spot in
+    let at = c.args.at in
     log_uses (with_next (tables_of c.args.parts.now) next) (tables_of c.use_spot.new.parts)
-    c.args.unit at.place at.sector next c.use_spot.ensures
+    c.args.unit at.place at.sector c.mask_of-mask.result next c.use_spot.ensures

@@ -1,19 +1,20 @@
-use Rattle.std.proofs.Common.{ℕ, Result, Ok, Err, ◌∙◌, subst}
+use Rattle.std.proofs.Common.{ℕ, Result, Ok, Err, ◌∙◌, subst, arith}
 use Rattle.std.proofs.lemmas.Result.{err_from_is_err_and}
 use Rattle.chip_trait.proofs.CountsLemmas.{counts_then}
 use Rattle.unit_io.specs.Charts.{Charts}
 use Rattle.selective_merge.specs.Moving.{tables_of, Holds}
 use Rattle.page_writing.specs.Writing.{WritesLog, WritesLogInSteps}
 use Rattle.page_writing.proofs.CauseLemmas.{stopped_cause}
-use Rattle.page_writing.proofs.InPlaceLemmas.{in_place_as, in_place_stopped}
+use Rattle.page_writing.proofs.InPlaceLemmas.{in_place_as, in_place_stopped, unplaced_stays}
+use Rattle.page_writing.proofs.FoundLemmas.{found_told, unplaced_told, found_steps, unplaced_steps}
 use Rattle.page_writing.proofs.OutLemmas.{out_told, out_steps, stopped_told}
-use Rattle.page_writing.proofs.SpendLemmas.{unplaced_costs, placed_costs}
+use Rattle.page_writing.proofs.SpendLemmas.{unplaced_costs, placed_costs, room_costs}
 use Rattle.page_writing.proofs.SpotLemmas.{holds_then}
 use Rattle.merge_rules.proofs.FaultLemmas.{fault_as, fault_stopped}
 use Rattle.selective_merge.proofs.CompleteLemmas.{fails_complete}
 use Rattle.ipl_base.specs.declared.fault.ChipFault.{ChipFault}
 use Rattle.steps.proofs.TablesLemmas.{tables_then}
-use Rattle.page_writing.specs.declared.rooms.LogSpot.{LogSpot}
+use Rattle.ipl_base.specs.declared.spot.Spot.{Spot}
 use Rattle.page_writing.proofs.writing.write_out.Goals as goal
 
 -- ---- no room was found
@@ -21,20 +22,31 @@ use Rattle.page_writing.proofs.writing.write_out.Goals as goal
 pub returns-in_err-at-clause-tells : goal.returns-in_err-at-clause-tells
 returns-in_err-at-clause-tells g c =
     let e = err_from_is_err_and c.from_residual.result c.from_residual.ensures.1 in
-    rw e.1 (λ soft. c.in_err-at.ensures.tells (λ same. soft (e.2 ∙ same)))
+    let says = c.in_err-at.ensures in
+    let old = g.C.Chip.told c.args.chip.now in
+    rw e.1 (λ soft. unplaced_told old.places c.args.unit (tables_of c.args.parts.now)
+    (tables_of c.log_place.new.parts) old (g.C.Chip.told c.log_place.new.chip)
+    says.holds.known.none_lost says.holds.active (says.tells (λ same. soft (e.2 ∙ same))))
 
 pub returns-in_err-at-clause-steps : goal.returns-in_err-at-clause-steps
 returns-in_err-at-clause-steps g c =
     let e = err_from_is_err_and c.from_residual.result c.from_residual.ensures.1 in
+    let says = c.in_err-at.ensures in
+    let old = g.C.Chip.told c.args.chip.now in
     rw (e.1, e.2) (λ m it records h steady rests agrees payload_of.
-    c.in_err-at.ensures.steps m it h steady rests agrees)
+    unplaced_steps old.places c.args.unit (tables_of c.args.parts.now)
+    (tables_of c.log_place.new.parts) old (g.C.Chip.told c.log_place.new.chip)
+    says.holds.known.none_lost says.holds.active c.in_err-at.field-0.0 says.steps m it h steady rests
+    agrees)
 
 pub returns-in_err-at-clause-costs : goal.returns-in_err-at-clause-costs
 returns-in_err-at-clause-costs g c =
     let e = err_from_is_err_and c.from_residual.result c.from_residual.ensures.1 in
-    rw e.1 (unplaced_costs e.0 (tables_of c.args.parts.now) (tables_of c.find_room.new.parts)
-    c.args.unit (g.C.Chip.told c.args.chip.now) (g.C.Chip.told c.find_room.new.chip)
-    c.in_err-at.ensures.costs)
+    rw e.1 (unplaced_costs e.0 (tables_of c.args.parts.now) (tables_of c.log_place.new.parts)
+    c.args.unit (g.C.Chip.told c.args.chip.now) (g.C.Chip.told c.log_place.new.chip)
+    (room_costs _ (tables_of c.args.parts.now) (tables_of c.log_place.new.parts) c.args.unit
+    (g.C.Chip.told c.args.chip.now) (g.C.Chip.told c.log_place.new.chip)
+    c.in_err-at.ensures.home c.in_err-at.ensures.costs))
 
 pub returns-in_err-at-clause-accounts : goal.returns-in_err-at-clause-accounts
 returns-in_err-at-clause-accounts g c =
@@ -58,15 +70,17 @@ returns-in_err-write_log-clause-steps g c =
     let e = err_from_is_err_and c.from_residual-in_err-write_log.result
     c.from_residual-in_err-write_log.ensures.1 in
     let old = g.C.Chip.told c.args.chip.now in
-    let mid = g.C.Chip.told c.find_room.new.chip in
+    let mid = g.C.Chip.told c.log_place.new.chip in
     let new = g.C.Chip.told c.write_log.new.chip in
-    let between = tables_of c.find_room.new.parts in
+    let between = tables_of c.log_place.new.parts in
     let after = tables_of c.write_log.new.parts in
     let at = c.in_ok-at.at in
     let found = c.in_ok-at.ensures in
     rw (e.1, e.2) (out_steps old.places c.args.unit at c.args.payload.now
     (tables_of c.args.parts.now) between after old mid new (Err c.in_err-write_log.field-0.0)
-    found.accounts.counts found.steps
+    found.accounts.counts
+    (found_steps old.places c.args.unit (tables_of c.args.parts.now) between old mid
+    found.holds.known.none_lost found.holds.active at found.steps)
     (subst (λ (n : ℕ). WritesLogInSteps n c.args.unit at c.args.payload.now between after mid
     (Err c.in_err-write_log.field-0.0) new) found.accounts.counts.places
     c.in_err-write_log.ensures.steps))
@@ -74,7 +88,7 @@ returns-in_err-write_log-clause-steps g c =
 pub returns-in_err-write_log-clause-holds : goal.returns-in_err-write_log-clause-holds
 returns-in_err-write_log-clause-holds g c =
     let old = g.C.Chip.told c.args.chip.now in
-    let between = tables_of c.find_room.new.parts in
+    let between = tables_of c.log_place.new.parts in
     let after = tables_of c.write_log.new.parts in
     let found = c.in_ok-at.ensures in
     holds_then old.places (tables_of c.args.parts.now) between after found.holds
@@ -86,23 +100,26 @@ returns-in_err-write_log-clause-costs g c =
     let e = err_from_is_err_and c.from_residual-in_err-write_log.result
     c.from_residual-in_err-write_log.ensures.1 in
     let says = c.in_err-write_log.ensures in
-    rw e.1 (placed_costs (Err e.0) (tables_of c.args.parts.now) (tables_of c.find_room.new.parts)
-    (tables_of c.write_log.new.parts) c.args.unit c.in_ok-at.at.spot.place
-    (g.C.Chip.told c.args.chip.now) (g.C.Chip.told c.find_room.new.chip)
-    (g.C.Chip.told c.write_log.new.chip) c.in_ok-at.ensures.costs says.costs says.uses)
+    rw e.1 (placed_costs (Err e.0) (tables_of c.args.parts.now) (tables_of c.log_place.new.parts)
+    (tables_of c.write_log.new.parts) c.args.unit c.in_ok-at.at.place
+    (g.C.Chip.told c.args.chip.now) (g.C.Chip.told c.log_place.new.chip)
+    (g.C.Chip.told c.write_log.new.chip)
+    (room_costs _ (tables_of c.args.parts.now) (tables_of c.log_place.new.parts) c.args.unit
+    (g.C.Chip.told c.args.chip.now) (g.C.Chip.told c.log_place.new.chip)
+    c.in_ok-at.ensures.home c.in_ok-at.ensures.costs) says.costs says.uses)
 
 pub returns-in_err-write_log-clause-accounts : goal.returns-in_err-write_log-clause-accounts
 returns-in_err-write_log-clause-accounts g c =
     let e = err_from_is_err_and c.from_residual-in_err-write_log.result
     c.from_residual-in_err-write_log.ensures.1 in
     let old = g.C.Chip.told c.args.chip.now in
-    let mid = g.C.Chip.told c.find_room.new.chip in
+    let mid = g.C.Chip.told c.log_place.new.chip in
     let new = g.C.Chip.told c.write_log.new.chip in
     let found = c.in_ok-at.ensures.accounts in
     let says = c.in_err-write_log.ensures.accounts in
     rw (e.1, e.2) (record {
       counts = counts_then old mid new found.counts says.counts;
-      cause = stopped_cause (tables_of c.args.parts.now) c.args.unit _
+      cause = stopped_cause (tables_of c.args.parts.now) c.args.unit
           c.in_err-write_log.field-0.0 old mid new found.counts says.cause;
     })
 
@@ -111,35 +128,39 @@ returns-in_err-write_log-clause-accounts g c =
 pub returns-clause-tells : goal.returns-clause-tells
 returns-clause-tells g c =
     let old = g.C.Chip.told c.args.chip.now in
-    let mid = g.C.Chip.told c.find_room.new.chip in
+    let mid = g.C.Chip.told c.log_place.new.chip in
     let new = g.C.Chip.told c.write_log.new.chip in
-    let between = tables_of c.find_room.new.parts in
+    let between = tables_of c.log_place.new.parts in
     let after = tables_of c.write_log.new.parts in
     let at = c.in_ok-at.at in
     let found = c.in_ok-at.ensures in
     out_told old.places c.args.unit at c.args.payload.now (tables_of c.args.parts.now) between after
-    old mid new found.tells
+    old mid new
+    (found_told old.places c.args.unit (tables_of c.args.parts.now) between old mid
+    found.holds.known.none_lost found.holds.active at found.tells)
     (subst (λ (n : ℕ). Charts (WritesLog n c.args.unit at c.args.payload.now between after) mid new)
     found.accounts.counts.places c.in_ok-write_log.ensures.tells)
 
 pub returns-clause-steps : goal.returns-clause-steps
 returns-clause-steps g c =
     let old = g.C.Chip.told c.args.chip.now in
-    let mid = g.C.Chip.told c.find_room.new.chip in
+    let mid = g.C.Chip.told c.log_place.new.chip in
     let new = g.C.Chip.told c.write_log.new.chip in
-    let between = tables_of c.find_room.new.parts in
+    let between = tables_of c.log_place.new.parts in
     let after = tables_of c.write_log.new.parts in
     let at = c.in_ok-at.at in
     let found = c.in_ok-at.ensures in
     out_steps old.places c.args.unit at c.args.payload.now (tables_of c.args.parts.now) between
-    after old mid new (Ok tt) found.accounts.counts found.steps
+    after old mid new (Ok tt) found.accounts.counts
+    (found_steps old.places c.args.unit (tables_of c.args.parts.now) between old mid
+    found.holds.known.none_lost found.holds.active at found.steps)
     (subst (λ (n : ℕ). WritesLogInSteps n c.args.unit at c.args.payload.now between after mid
     (Ok tt) new) found.accounts.counts.places c.in_ok-write_log.ensures.steps)
 
 pub returns-clause-holds : goal.returns-clause-holds
 returns-clause-holds g c =
     let old = g.C.Chip.told c.args.chip.now in
-    let between = tables_of c.find_room.new.parts in
+    let between = tables_of c.log_place.new.parts in
     let after = tables_of c.write_log.new.parts in
     let found = c.in_ok-at.ensures in
     holds_then old.places (tables_of c.args.parts.now) between after found.holds
@@ -149,15 +170,18 @@ returns-clause-holds g c =
 pub returns-clause-costs : goal.returns-clause-costs
 returns-clause-costs g c =
     let says = c.in_ok-write_log.ensures in
-    placed_costs (Ok tt) (tables_of c.args.parts.now) (tables_of c.find_room.new.parts)
-    (tables_of c.write_log.new.parts) c.args.unit c.in_ok-at.at.spot.place
-    (g.C.Chip.told c.args.chip.now) (g.C.Chip.told c.find_room.new.chip)
-    (g.C.Chip.told c.write_log.new.chip) c.in_ok-at.ensures.costs says.costs says.uses
+    placed_costs (Ok tt) (tables_of c.args.parts.now) (tables_of c.log_place.new.parts)
+    (tables_of c.write_log.new.parts) c.args.unit c.in_ok-at.at.place
+    (g.C.Chip.told c.args.chip.now) (g.C.Chip.told c.log_place.new.chip)
+    (g.C.Chip.told c.write_log.new.chip)
+    (room_costs _ (tables_of c.args.parts.now) (tables_of c.log_place.new.parts) c.args.unit
+    (g.C.Chip.told c.args.chip.now) (g.C.Chip.told c.log_place.new.chip)
+    c.in_ok-at.ensures.home c.in_ok-at.ensures.costs) says.costs says.uses
 
 pub returns-clause-accounts : goal.returns-clause-accounts
 returns-clause-accounts g c =
     record {
-      counts = counts_then (g.C.Chip.told c.args.chip.now) (g.C.Chip.told c.find_room.new.chip)
+      counts = counts_then (g.C.Chip.told c.args.chip.now) (g.C.Chip.told c.log_place.new.chip)
           (g.C.Chip.told c.write_log.new.chip) c.in_ok-at.ensures.accounts.counts
           c.in_ok-write_log.ensures.accounts.counts;
       cause = tt;
@@ -196,9 +220,9 @@ returns-in_err-write_log-clause-tidy g c =
     c.from_residual-in_err-write_log.ensures.1 in
     let found = c.in_ok-at.ensures in
     let failed : Result (Unit {0}) ChipFault = Err e.0 in
-    rw e.1 (tables_then LogSpot ChipFault (tables_of c.args.parts.now)
-    (tables_of c.find_room.new.parts) (tables_of c.write_log.new.parts) c.in_ok-at.at failed
-    (g.C.Chip.told c.args.chip.now) (g.C.Chip.told c.find_room.new.chip)
+    rw e.1 (tables_then Spot ChipFault (tables_of c.args.parts.now)
+    (tables_of c.log_place.new.parts) (tables_of c.write_log.new.parts) c.in_ok-at.at failed
+    (g.C.Chip.told c.args.chip.now) (g.C.Chip.told c.log_place.new.chip)
     (g.C.Chip.told c.write_log.new.chip) found.accounts.counts found.tidy
     c.in_err-write_log.ensures.tidy)
 
@@ -206,9 +230,9 @@ pub returns-clause-tidy : goal.returns-clause-tidy
 returns-clause-tidy g c =
     let found = c.in_ok-at.ensures in
     let done : Result (Unit {0}) ChipFault = Ok tt in
-    tables_then LogSpot ChipFault (tables_of c.args.parts.now) (tables_of c.find_room.new.parts)
+    tables_then Spot ChipFault (tables_of c.args.parts.now) (tables_of c.log_place.new.parts)
     (tables_of c.write_log.new.parts) c.in_ok-at.at done (g.C.Chip.told c.args.chip.now)
-    (g.C.Chip.told c.find_room.new.chip) (g.C.Chip.told c.write_log.new.chip)
+    (g.C.Chip.told c.log_place.new.chip) (g.C.Chip.told c.write_log.new.chip)
     found.accounts.counts found.tidy c.in_ok-write_log.ensures.tidy
 
 -- ---- the unit is where it was
@@ -216,8 +240,12 @@ returns-clause-tidy g c =
 pub returns-in_err-at-clause-stays : goal.returns-in_err-at-clause-stays
 returns-in_err-at-clause-stays g c = λ x told it mirrors.
     let e = err_from_is_err_and c.from_residual.result c.from_residual.ensures.1 in
-    rw e.1 (in_place_as (tables_of c.args.parts.now) c.args.unit (tables_of c.find_room.new.parts)
-    e.0 c.in_err-at.field-0.0 e.2 (c.in_err-at.ensures.stays x told it mirrors))
+    rw e.1 (in_place_as (tables_of c.args.parts.now) c.args.unit (tables_of c.log_place.new.parts)
+    e.0 c.in_err-at.field-0.0 e.2
+    (unplaced_stays (tables_of c.args.parts.now) c.args.unit (tables_of c.log_place.new.parts)
+    (g.C.Chip.told c.args.chip.now).places (g.C.Chip.told c.args.chip.now)
+    (g.C.Chip.told c.log_place.new.chip) c.in_err-at.field-0.0 (omega (arith, c.requires.unit))
+    c.in_err-at.ensures.tells x told it mirrors))
 
 pub returns-in_err-write_log-clause-stays : goal.returns-in_err-write_log-clause-stays
 returns-in_err-write_log-clause-stays g c = λ x told it mirrors.

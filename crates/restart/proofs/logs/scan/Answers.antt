@@ -1,17 +1,44 @@
-use Rattle.std.proofs.Common.{◌≡◌, ◌∙◌, ◌*◌, ℕ, Some, length, subst, arith, ◌+◌}
+use Rattle.std.proofs.Common.{rules, refl, ◌≡◌, ◌∙◌, ◌*◌, ℕ, Some, length, subst, arith, ◌+◌}
+use Rattle.std.proofs.lemmas.Grind.{common_steps}
 use Rattle.std.proofs.lemmas.Result.{err_from_is_err_and}
 use Rattle.ipl_meaning.specs.Chart.{chart_of}
 use Rattle.ipl_base.specs.First.{first_below}
 use Rattle.opening_rules.specs.First.{at}
 use Rattle.opening_rules.specs.Faults.{log_fault}
 use Rattle.restart.specs.Notes.{AreSized}
-use Rattle.restart.proofs.LookLemmas.{reads_then, looks_then}
-use Rattle.restart.proofs.LogLemmas.{respelled}
-use Rattle.restart.proofs.OnceLemmas.{one_place_more, logs_once}
+use Rattle.restart.specs.Masked.{mask_by}
+use Rattle.restart.proofs.LookLemmas.{reads_none, reads_then, looks_then}
+use Rattle.restart.proofs.FillLemmas.{places_then}
+use Rattle.restart.proofs.LogLemmas.{at_low, respelled}
+use Rattle.restart.proofs.CollectedLemmas.{kept_first}
+use Rattle.restart.proofs.MaskedLemmas.{masked_first}
+use Rattle.unit_io.proofs.OnceLemmas.{once_none}
+use Rattle.restart.proofs.OnceLemmas.{InPlacesBelow, one_place_more, logs_once}
 use Rattle.restart.proofs.logs.scan.Goals as goal
 
-pub returns-in_err-greatest-clause-looks : goal.returns-in_err-greatest-clause-looks
-returns-in_err-greatest-clause-looks g c = looks_then c.scan_place.result c.from_residual.result c.loop-place.invariant.reads c.scan_place.ensures.looks c.in_err-greatest.was c.from_residual.ensures.1
+pub returns-in_err-gathered-clause-looks : goal.returns-in_err-gathered-clause-looks
+returns-in_err-gathered-clause-looks g c = looks_then c.scan_place.result c.from_residual.result c.loop-place.invariant.reads c.scan_place.ensures.looks c.in_err-gathered.was c.from_residual.ensures.1
+
+pub loop-place-init : goal.loop-place-init
+loop-place-init g c =
+    let told = g.C.Chip.told c.args.chip.now in
+    let heads = at c.args.heads.now in
+    let current = at c.args.current.now in record {
+      reads = reads_none told;
+      once = once_none (InPlacesBelow heads current 0) told;
+      scanned = λ x holds. record {
+        noted = grind (arith, common_steps);
+        masked = masked_first heads current (mask_by heads current (chart_of x)) (length c.args.overflow.now.spots) (length c.args.current.now) c.args.directory.now c.reset.new.self
+            (λ u winner is. at_low c.args.current.now u winner is) c.requires.blank c.reset.ensures;
+        collected = kept_first c.args.status.now.numbers heads current (chart_of x) c.clear-2.new.self c.clear-2.ensures;
+        number = refl;
+        fine = refl;
+        whole = λ p s small low spot. absurd (omega (arith, low));
+      };
+      roomy = grind (arith, common_steps);
+      sized = grind (arith, common_steps);
+      places = search rules;
+    }
 
 pub loop-place-preserved : goal.loop-place-preserved
 loop-place-preserved g c =
@@ -19,25 +46,26 @@ loop-place-preserved g c =
       reads = reads_then same c.scan_place.ensures.looks.reads;
       once = one_place_more (at c.args.heads.now) (at c.args.current.now) c.loop-place.place (g.C.Chip.told c.args.chip.now) (g.C.Chip.told c.loop-place.chip) (g.C.Chip.told c.scan_place.new.chip)
           c.loop-place.invariant.once c.scan_place.ensures.once;
-      scanned = λ x told. c.in_ok-greatest.ensures.scanned x (same.contents ∙ told) c.args.least (c.loop-place.invariant.scanned x told);
-      roomy = c.in_ok-greatest.ensures.roomy;
+      scanned = λ x told. c.in_ok-gathered.ensures.scanned x (same.contents ∙ told) c.args.least (c.loop-place.invariant.scanned x told);
+      roomy = c.in_ok-gathered.ensures.roomy;
       sized = subst (λ (n : ℕ). AreSized (length c.args.current.now) n c.scan_place.new.noted c.scan_place.new.overflow) c.requires.heads c.scan_place.ensures.sized;
+      places = places_then c.loop-place.invariant.places c.scan_place.ensures.places;
     }
 
-pub returns-in_err-greatest-clause-fault : goal.returns-in_err-greatest-clause-fault
-returns-in_err-greatest-clause-fault g c =
+pub returns-in_err-gathered-clause-fault : goal.returns-in_err-gathered-clause-fault
+returns-in_err-gathered-clause-fault g c =
     let e = err_from_is_err_and c.from_residual.result c.from_residual.ensures.1 in
     let same = c.loop-place.invariant.reads in
     let all : length c.args.heads.now * 256 ≡ c.args.geometry * 256 = omega (arith, c.requires.heads) in
     rw (e.1, e.2) (λ x told image.
-    subst (λ (n : ℕ). first_below (log_fault (at c.args.heads.now) (at c.args.current.now) (chart_of x)) n ≡ Some c.in_err-greatest.field-0.0) all
-    (c.in_err-greatest.ensures.fault x (same.contents ∙ told) c.args.least (c.loop-place.invariant.scanned x told) image))
+    subst (λ (n : ℕ). first_below (log_fault (at c.args.heads.now) (at c.args.current.now) (chart_of x)) n ≡ Some c.in_err-gathered.field-0.0) all
+    (c.in_err-gathered.ensures.fault x (same.contents ∙ told) c.args.least (c.loop-place.invariant.scanned x told) image))
 
 pub returns-clause-scanned : goal.returns-clause-scanned
 returns-clause-scanned g c = λ x told. respelled (c.loop-place.invariant.scanned x told) (omega arith)
 
-pub returns-in_err-greatest-clause-once : goal.returns-in_err-greatest-clause-once
-returns-in_err-greatest-clause-once g c =
+pub returns-in_err-gathered-clause-once : goal.returns-in_err-gathered-clause-once
+returns-in_err-gathered-clause-once g c =
     let heads = at c.args.heads.now in
     let current = at c.args.current.now in
     let old = g.C.Chip.told c.args.chip.now in

@@ -3,6 +3,7 @@ use Rattle.unit_io.specs.Reads.{OfContents}
 use Rattle.opening_rules.specs.First.{at}
 use Rattle.restart.specs.Looks.{OnlyReads}
 use Rattle.restart.specs.Notes.{AreSized, IsRoomy}
+use Rattle.restart.specs.Masked.{SamePlaces}
 use Rattle.restart.specs.Scanned.{IsScanned}
 use Rattle.unit_io.specs.ReadsAt.{ReadsOnce}
 use Rattle.restart.proofs.OnceLemmas.{InPlacesBelow}
@@ -13,7 +14,8 @@ invariant-loop-place g l =
     let told = g.C.Chip.told in record {
       reads : OnlyReads (told l.fn.chip) (told l.chip);
       once : ReadsOnce (InPlacesBelow (at l.heads) (at l.current) l.place) (told l.fn.chip) (told l.chip);
-      scanned : OfContents (told l.fn.chip) (λ x. IsScanned x (at l.heads) (at l.current) l.least (l.place * 256) l.noted l.overflow l.greatest);
+      scanned : OfContents (told l.fn.chip) (λ x. IsScanned x (at l.heads) (at l.current) l.status.numbers l.least (l.place * 256) l.noted l.directory l.overflow l.numbers l.gathered.fits l.gathered.greatest);
       roomy : IsRoomy (at l.current) (l.place * 256) l.noted l.overflow;
       sized : AreSized (length l.current) l.fn.geometry l.noted l.overflow;
+      places : SamePlaces l.fn.directory l.directory;
     }

@@ -2,12 +2,13 @@ use Rattle.std.proofs.Common.{◌≡◌, ◌∙◌, ◌+◌, ◌*◌, ℕ, subst
 use Rattle.opening_rules.specs.First.{at}
 use Rattle.restart.specs.Notes.{IsRoomy}
 use Rattle.restart.proofs.LookLemmas.{reads_then, looks_then}
+use Rattle.restart.proofs.FillLemmas.{places_then}
 use Rattle.restart.proofs.LogLemmas.{respelled}
 use Rattle.restart.proofs.OnceLemmas.{one_sector_more, place_once}
 use Rattle.restart.proofs.logs.scan_place.Goals as goal
 
-pub returns-in_err-greatest-clause-looks : goal.returns-in_err-greatest-clause-looks
-returns-in_err-greatest-clause-looks g c = looks_then c.scan_sector.result c.from_residual.result c.loop-sector.invariant.reads c.scan_sector.ensures.looks c.in_err-greatest.was c.from_residual.ensures.1
+pub returns-in_err-gathered-clause-looks : goal.returns-in_err-gathered-clause-looks
+returns-in_err-gathered-clause-looks g c = looks_then c.scan_sector.result c.from_residual.result c.loop-sector.invariant.reads c.scan_sector.ensures.looks c.in_err-gathered.was c.from_residual.ensures.1
 
 pub loop-sector-preserved : goal.loop-sector-preserved
 loop-sector-preserved g c =
@@ -15,14 +16,15 @@ loop-sector-preserved g c =
       reads = reads_then same c.scan_sector.ensures.looks.reads;
       once = one_sector_more (at c.args.heads.now) (at c.args.current.now) c.args.place c.loop-sector.sector (g.C.Chip.told c.args.chip.now) (g.C.Chip.told c.loop-sector.chip)
           (g.C.Chip.told c.scan_sector.new.chip) c.loop-sector.invariant.once c.scan_sector.ensures.once;
-      scanned = λ x told base start. respelled (c.in_ok-greatest.ensures.scanned x (same.contents ∙ told) base (c.loop-sector.invariant.scanned x told base start)) (omega arith);
+      scanned = λ x told base start. respelled (c.in_ok-gathered.ensures.scanned x (same.contents ∙ told) base (c.loop-sector.invariant.scanned x told base start)) (omega arith);
       roomy = let one : c.args.place * 256 + c.loop-sector.sector + 1 ≡ c.args.place * 256 + (c.loop-sector.sector + 1) = omega arith in
-          subst (λ (k : ℕ). IsRoomy (at c.args.current.now) k c.scan_sector.new.noted c.scan_sector.new.overflow) one c.in_ok-greatest.ensures.roomy;
+          subst (λ (k : ℕ). IsRoomy (at c.args.current.now) k c.scan_sector.new.noted c.scan_sector.new.overflow) one c.in_ok-gathered.ensures.roomy;
       sized = c.scan_sector.ensures.sized;
+      places = places_then c.loop-sector.invariant.places c.scan_sector.ensures.places;
     }
 
-pub returns-in_err-greatest-clause-once : goal.returns-in_err-greatest-clause-once
-returns-in_err-greatest-clause-once g c =
+pub returns-in_err-gathered-clause-once : goal.returns-in_err-gathered-clause-once
+returns-in_err-gathered-clause-once g c =
     let heads = at c.args.heads.now in
     let current = at c.args.current.now in
     let old = g.C.Chip.told c.args.chip.now in

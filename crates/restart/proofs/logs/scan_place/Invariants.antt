@@ -3,6 +3,7 @@ use Rattle.unit_io.specs.Reads.{OfContents}
 use Rattle.opening_rules.specs.First.{at}
 use Rattle.restart.specs.Looks.{OnlyReads}
 use Rattle.restart.specs.Notes.{AreSized, IsRoomy}
+use Rattle.restart.specs.Masked.{SamePlaces}
 use Rattle.restart.specs.Scanned.{IsScanned}
 use Rattle.unit_io.specs.ReadsAt.{ReadsOnce}
 use Rattle.restart.proofs.OnceLemmas.{InPlaceBelow}
@@ -13,8 +14,9 @@ invariant-loop-sector g l =
     let told = g.C.Chip.told in record {
       reads : OnlyReads (told l.fn.chip) (told l.chip);
       once : ReadsOnce (InPlaceBelow (at l.heads) (at l.current) l.place l.sector) (told l.fn.chip) (told l.chip);
-      scanned : OfContents (told l.fn.chip) (λ x. (base : ℕ) → IsScanned x (at l.heads) (at l.current) base (l.place * 256) l.fn.noted l.fn.overflow l.least
-          → IsScanned x (at l.heads) (at l.current) base (l.place * 256 + l.sector) l.noted l.overflow l.greatest);
+      scanned : OfContents (told l.fn.chip) (λ x. (base : ℕ) → IsScanned x (at l.heads) (at l.current) l.status.numbers base (l.place * 256) l.fn.noted l.fn.directory l.fn.overflow l.fn.numbers l.fn.before.fits l.fn.before.greatest
+          → IsScanned x (at l.heads) (at l.current) l.status.numbers base (l.place * 256 + l.sector) l.noted l.directory l.overflow l.numbers l.gathered.fits l.gathered.greatest);
       roomy : IsRoomy (at l.current) (l.place * 256 + l.sector) l.noted l.overflow;
       sized : AreSized (length l.current) (length l.heads) l.noted l.overflow;
+      places : SamePlaces l.fn.directory l.directory;
     }

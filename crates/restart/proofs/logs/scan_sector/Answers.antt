@@ -1,5 +1,6 @@
-use Rattle.std.proofs.Common.{◌∙◌, None, sym, arith, refl}
+use Rattle.std.proofs.Common.{◌∙◌, ◌+◌, ◌*◌, None, sym, arith, refl}
 use Rattle.std.proofs.lemmas.Result.{err_from_is_err_and}
+use Rattle.ipl_meaning.specs.Chart.{chart_of}
 use Rattle.opening_rules.specs.First.{at}
 use Rattle.opening_rules.specs.Live.{kept, is_log}
 use Rattle.unit_io.specs.Kinds.{sector_named}
@@ -7,42 +8,52 @@ use Rattle.restart.proofs.LookLemmas.{reads_none, asked_reads, looks_missed, loo
 use Rattle.restart.proofs.LogLemmas.{scanned_more, fault_found, none_seen, read_seen}
 use Rattle.unit_io.proofs.OnceLemmas.{once_none, once_asked}
 use Rattle.restart.proofs.OnceLemmas.{InSector}
+use Rattle.restart.specs.Masked.{mask_by}
+use Rattle.restart.proofs.MaskedLemmas.{masked_none}
 use Rattle.restart.proofs.logs.scan_sector.Goals as goal
 
 pub returns-then-not-may_hold_log-clause-scanned : goal.returns-then-not-may_hold_log-clause-scanned
 returns-then-not-may_hold_log-clause-scanned g c = λ x told least so_far.
     let none = sym c.may_hold_log.ensures ∙ c.if-not-may_hold_log.true in
-    scanned_more x (at c.args.heads.now) (at c.args.current.now) least c.args.spot.place c.args.spot.sector c.requires.sector None (none_seen x (at c.args.heads.now) (at c.args.current.now) c.args.spot.place c.args.spot.sector none)
-    c.args.noted.now c.args.overflow.now c.args.greatest so_far c.args.noted.now c.args.overflow.now c.args.greatest (λ marks noted. refl) (λ marks noted. noted) (omega arith) (λ spot. let no = sym spot ∙ none in cc)
+    scanned_more x (at c.args.heads.now) (at c.args.current.now) c.args.status.now.numbers least c.args.spot.place c.args.spot.sector c.requires.sector None
+    (none_seen x (at c.args.heads.now) (at c.args.current.now) c.args.spot.place c.args.spot.sector none)
+    c.args.noted.now c.args.directory.now c.args.overflow.now c.args.numbers.now c.args.gathered.fits c.args.gathered.greatest so_far
+    c.args.noted.now c.args.directory.now c.args.overflow.now c.args.numbers.now c.args.gathered.fits c.args.gathered.greatest (λ marks noted. refl) (λ marks noted. noted)
+    (λ is masked. masked_none (at c.args.heads.now) (at c.args.current.now) (mask_by (at c.args.heads.now) (at c.args.current.now) (chart_of x)) (c.args.spot.place * 256 + c.args.spot.sector) c.args.directory.now c.args.overflow.now is masked)
+    (λ found are. are) (omega arith) (λ spot. let no = sym spot ∙ none in cc)
 
 pub returns-in_err-found-clause-looks : goal.returns-in_err-found-clause-looks
 returns-in_err-found-clause-looks g c =
     looks_weaker c.from_residual.result (looks_missed c.args.spot.place c.args.spot.sector c.read_sector.result c.from_residual.result (reads_none (g.C.Chip.told c.args.chip.now))
     c.read_sector.ensures.asks c.read_sector.ensures.accounts c.in_err-found.was c.from_residual.ensures.1)
 
-pub returns-in_err-greatest-clause-looks : goal.returns-in_err-greatest-clause-looks
-returns-in_err-greatest-clause-looks g c =
-    looks_found c.from_residual-in_err-greatest.result _ (asked_reads c.args.spot.place c.args.spot.sector c.read_sector.result c.read_sector.ensures.asks c.read_sector.ensures.accounts.counts)
-    c.in_err-greatest.ensures.image c.from_residual-in_err-greatest.ensures.1
+pub returns-in_err-gathered-clause-looks : goal.returns-in_err-gathered-clause-looks
+returns-in_err-gathered-clause-looks g c =
+    looks_found c.from_residual-in_err-gathered.result _ (asked_reads c.args.spot.place c.args.spot.sector c.read_sector.result c.read_sector.ensures.asks c.read_sector.ensures.accounts.counts)
+    c.in_err-gathered.ensures.image c.from_residual-in_err-gathered.ensures.1
 
 pub returns-clause-looks : goal.returns-clause-looks
 returns-clause-looks g c = looks_done _ (asked_reads c.args.spot.place c.args.spot.sector c.read_sector.result c.read_sector.ensures.asks c.read_sector.ensures.accounts.counts)
 
-pub returns-in_err-greatest-clause-fault : goal.returns-in_err-greatest-clause-fault
-returns-in_err-greatest-clause-fault g c =
-    let e = err_from_is_err_and c.from_residual-in_err-greatest.result c.from_residual-in_err-greatest.ensures.1 in
+pub returns-in_err-gathered-clause-fault : goal.returns-in_err-gathered-clause-fault
+returns-in_err-gathered-clause-fault g c =
+    let e = err_from_is_err_and c.from_residual-in_err-gathered.result c.from_residual-in_err-gathered.ensures.1 in
     let spot = sym c.may_hold_log.ensures ∙ c.if-not-may_hold_log.false in
     rw (e.1, e.2) (λ x told least so_far image.
-    fault_found x (at c.args.heads.now) (at c.args.current.now) least c.args.spot.place c.args.spot.sector c.requires.sector (kept is_log (sector_named c.read_sector.new.into c.in_ok-found.found))
+    fault_found x (at c.args.heads.now) (at c.args.current.now) c.args.status.now.numbers least c.args.spot.place c.args.spot.sector c.requires.sector (kept is_log (sector_named c.read_sector.new.into c.in_ok-found.found))
     (read_seen x (at c.args.heads.now) (at c.args.current.now) c.args.spot.place c.args.spot.sector _ spot (c.in_ok-found.ensures.exact x told))
-    c.args.noted.now c.args.overflow.now c.args.greatest so_far _ c.in_err-greatest.field-0.0 c.requires.place (λ marks noted. c.in_err-greatest.ensures.fault marks noted image))
+    c.args.noted.now c.args.directory.now c.args.overflow.now c.args.numbers.now c.args.gathered.fits c.args.gathered.greatest so_far _ c.in_err-gathered.field-0.0 c.requires.place (λ marks noted. c.in_err-gathered.ensures.fault marks noted image))
 
 pub returns-clause-scanned : goal.returns-clause-scanned
 returns-clause-scanned g c = λ x told least so_far.
     let spot = sym c.may_hold_log.ensures ∙ c.if-not-may_hold_log.false in
-    scanned_more x (at c.args.heads.now) (at c.args.current.now) least c.args.spot.place c.args.spot.sector c.requires.sector (kept is_log (sector_named c.read_sector.new.into c.in_ok-found.found))
+    scanned_more x (at c.args.heads.now) (at c.args.current.now) c.args.status.now.numbers least c.args.spot.place c.args.spot.sector c.requires.sector (kept is_log (sector_named c.read_sector.new.into c.in_ok-found.found))
     (read_seen x (at c.args.heads.now) (at c.args.current.now) c.args.spot.place c.args.spot.sector _ spot (c.in_ok-found.ensures.exact x told))
-    c.args.noted.now c.args.overflow.now c.args.greatest so_far c.take_found.new.noted c.take_found.new.overflow c.in_ok-greatest.greatest c.in_ok-greatest.ensures.fault c.in_ok-greatest.ensures.noted c.in_ok-greatest.ensures.number
+    c.args.noted.now c.args.directory.now c.args.overflow.now c.args.numbers.now c.args.gathered.fits c.args.gathered.greatest so_far
+    c.take_found.new.noted c.take_found.new.directory c.take_found.new.overflow c.take_found.new.numbers c.in_ok-gathered.gathered.fits c.in_ok-gathered.gathered.greatest
+    c.in_ok-gathered.ensures.fault c.in_ok-gathered.ensures.noted
+    (λ is masked. c.in_ok-gathered.ensures.masked (mask_by (at c.args.heads.now) (at c.args.current.now) (chart_of x)) is masked)
+    c.in_ok-gathered.ensures.collected c.in_ok-gathered.ensures.number
     (λ spot_again. c.in_ok-found.ensures.whole x told)
 
 pub returns-then-not-may_hold_log-clause-once : goal.returns-then-not-may_hold_log-clause-once
@@ -57,8 +68,8 @@ returns-in_err-found-clause-once g c =
     (g.C.Chip.told c.read_sector.new.chip)
     ((refl, refl), sym c.may_hold_log.ensures ∙ c.if-not-may_hold_log.false) c.read_sector.ensures.asks
 
-pub returns-in_err-greatest-clause-once : goal.returns-in_err-greatest-clause-once
-returns-in_err-greatest-clause-once g c =
+pub returns-in_err-gathered-clause-once : goal.returns-in_err-gathered-clause-once
+returns-in_err-gathered-clause-once g c =
     once_asked (InSector (at c.args.heads.now) (at c.args.current.now) c.args.spot.place c.args.spot.sector)
     c.args.spot.place c.args.spot.sector c.read_sector.result (g.C.Chip.told c.args.chip.now)
     (g.C.Chip.told c.read_sector.new.chip)

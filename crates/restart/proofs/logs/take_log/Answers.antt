@@ -6,8 +6,12 @@ use Rattle.opening_rules.specs.First.{at, with_one}
 use Rattle.opening_rules.specs.Live.{mark_of, is_overflow_place}
 use Rattle.opening_rules.specs.Faults.{TellsImageFault, log_test}
 use Rattle.opening_rules.proofs.TellsLemmas.{tells_exit}
+use Rattle.opened_tables.specs.Found.{mask_of_sector}
+use Rattle.kept_numbers.specs.Joins.{joined}
+use Rattle.restart.specs.Collected.{records_at, AreKept}
 use Rattle.restart.specs.Notes.{IsNoted}
-use Rattle.restart.proofs.LogLemmas.{unit_low, serial_fits, roomy_more, sized_more, noted_live, none_live, some_live}
+use Rattle.restart.proofs.LogLemmas.{live_low, unit_low, spot_sector, serial_fits, roomy_more, sized_more, noted_live, none_live, some_live}
+use Rattle.restart.proofs.MaskedLemmas.{masked_none, masked_live}
 use Rattle.restart.proofs.logs.take_log.Goals as goal
 
 pub check_log-requires-clause-unit : goal.check_log-requires-clause-unit
@@ -35,27 +39,27 @@ add-requires-clause-few c =
     serial_fits (at c.args.heads.now) (at c.args.current.now) c.args.spot.place c.args.spot.sector c.requires.sector (sector_of c.args.head.now c.args.payload.now) c.requires.spot
     (sym (c.is_live.ensures c.args.payload.now) ∙ c.if-is_live.true) c.args.noted.now c.args.overflow.now c.requires.roomy c.in_ok-check_log.ensures.room
 
-pub returns-in_ok-check_log-clause-roomy : goal.returns-in_ok-check_log-clause-roomy
-returns-in_ok-check_log-clause-roomy c =
+pub returns-then-is_live-clause-roomy : goal.returns-then-is_live-clause-roomy
+returns-then-is_live-clause-roomy c =
     let sector = sector_of c.args.head.now c.args.payload.now in
     let live = sym (c.is_live.ensures c.args.payload.now) ∙ c.if-is_live.true in
     roomy_more (at c.args.heads.now) (at c.args.current.now) c.args.spot.place c.args.spot.sector c.requires.sector sector c.requires.spot live
-    c.args.noted.now c.args.overflow.now c.requires.roomy c.in_ok-check_log.ensures.room c.add.new.self c.list_log.new.overflow c.args.head.now.serial c.args.spot.place c.add.ensures
-    (unit_low (at c.args.heads.now) c.args.current.now c.args.spot.place (length c.args.heads.now) sector c.args.noted.now c.args.overflow.now live c.requires.sized).1 c.list_log.ensures
+    c.args.noted.now c.args.overflow.now c.requires.roomy c.in_ok-check_log.ensures.room c.add.new.self c.list_log.new.overflow c.args.head.now.serial c.args.spot.place c.pages_of-mask.result c.add.ensures
+    (unit_low (at c.args.heads.now) c.args.current.now c.args.spot.place (length c.args.heads.now) sector c.args.noted.now c.args.overflow.now live c.requires.sized).1 c.list_log.ensures.listed
 
-pub returns-in_ok-check_log-clause-noted : goal.returns-in_ok-check_log-clause-noted
-returns-in_ok-check_log-clause-noted c = λ marks noted.
+pub returns-then-is_live-clause-noted : goal.returns-then-is_live-clause-noted
+returns-then-is_live-clause-noted c = λ marks noted.
     let sector = sector_of c.args.head.now c.args.payload.now in
     let live = sym (c.is_live.ensures c.args.payload.now) ∙ c.if-is_live.true in
-    noted_live (at c.args.heads.now) (at c.args.current.now) c.args.spot.place c.args.spot.sector c.requires.sector sector
+    noted_live (at c.args.heads.now) (at c.args.current.now) c.args.spot.place c.args.spot.sector c.pages_of-mask.result c.requires.sector sector
     c.args.noted.now c.add.new.self c.args.overflow.now c.list_log.new.overflow marks live
     (unit_low (at c.args.heads.now) c.args.current.now c.args.spot.place (length c.args.heads.now) sector c.args.noted.now c.args.overflow.now live c.requires.sized).1
-    c.add.ensures c.list_log.ensures noted
+    c.add.ensures c.list_log.ensures.listed noted
 
-pub returns-in_ok-check_log-clause-sized : goal.returns-in_ok-check_log-clause-sized
-returns-in_ok-check_log-clause-sized c =
-    sized_more _ _ c.args.head.now.unit c.args.head.now.serial c.args.spot.place c.args.spot.place c.args.spot.sector (is_overflow_place (at c.args.heads.now c.args.spot.place))
-    c.args.noted.now c.add.new.self c.args.overflow.now c.list_log.new.overflow c.add.ensures c.list_log.ensures c.requires.sized
+pub returns-then-is_live-clause-sized : goal.returns-then-is_live-clause-sized
+returns-then-is_live-clause-sized c =
+    sized_more _ _ c.args.head.now.unit c.args.head.now.serial c.args.spot.place c.args.spot.place c.args.spot.sector c.pages_of-mask.result (is_overflow_place (at c.args.heads.now c.args.spot.place))
+    c.args.noted.now c.add.new.self c.args.overflow.now c.list_log.new.overflow c.add.ensures c.list_log.ensures.listed c.requires.sized
 
 pub returns-in_err-check_log-clause-fault : goal.returns-in_err-check_log-clause-fault
 returns-in_err-check_log-clause-fault c = λ marks noted.
@@ -63,18 +67,49 @@ returns-in_err-check_log-clause-fault c = λ marks noted.
     (sym (some_live (at c.args.heads.now) (at c.args.current.now) c.args.spot.place (sector_of c.args.head.now c.args.payload.now) (sym (c.is_live.ensures c.args.payload.now) ∙ c.if-is_live.true)))
     (tells_exit c.from_residual.result _ c.in_err-check_log.field-0.0 c.from_residual.ensures.1 (c.in_err-check_log.ensures.fault marks noted))
 
-pub returns-in_ok-check_log-clause-fault : goal.returns-in_ok-check_log-clause-fault
-returns-in_ok-check_log-clause-fault c = λ marks noted.
+pub returns-then-is_live-clause-fault : goal.returns-then-is_live-clause-fault
+returns-then-is_live-clause-fault c = λ marks noted.
     ap (log_test (at c.args.heads.now) marks (c.args.spot.place * 256 + c.args.spot.sector))
     (some_live (at c.args.heads.now) (at c.args.current.now) c.args.spot.place (sector_of c.args.head.now c.args.payload.now) (sym (c.is_live.ensures c.args.payload.now) ∙ c.if-is_live.true))
     ∙ c.in_ok-check_log.ensures.fault marks noted
 
-pub returns-else-is_live-clause-fault : goal.returns-else-is_live-clause-fault
-returns-else-is_live-clause-fault c = λ marks noted.
+pub returns-clause-fault : goal.returns-clause-fault
+returns-clause-fault c = λ marks noted.
     ap (log_test (at c.args.heads.now) marks (c.args.spot.place * 256 + c.args.spot.sector))
     (none_live (at c.args.heads.now) (at c.args.current.now) c.args.spot.place (sector_of c.args.head.now c.args.payload.now) (sym (c.is_live.ensures c.args.payload.now) ∙ c.if-is_live.false))
 
-pub returns-else-is_live-clause-noted : goal.returns-else-is_live-clause-noted
-returns-else-is_live-clause-noted c = λ marks noted.
+pub returns-clause-noted : goal.returns-clause-noted
+returns-clause-noted c = λ marks noted.
     subst (λ (o : Option Sector). IsNoted c.args.noted.now c.args.overflow.now (with_one marks (option_map (mark_of (at c.args.heads.now) (c.args.spot.place * 256 + c.args.spot.sector)) o)))
     (sym (none_live (at c.args.heads.now) (at c.args.current.now) c.args.spot.place (sector_of c.args.head.now c.args.payload.now) (sym (c.is_live.ensures c.args.payload.now) ∙ c.if-is_live.false))) noted
+
+pub list_log-requires-clause-home : goal.list_log-requires-clause-home
+list_log-requires-clause-home c = λ home.
+    spot_sector (at c.args.heads.now) (at c.args.current.now) c.args.spot.place c.args.spot.sector (sector_of c.args.head.now c.args.payload.now) c.requires.spot
+    (sym (c.is_live.ensures c.args.payload.now) ∙ c.if-is_live.true) home
+
+pub returns-then-is_live-clause-masked : goal.returns-then-is_live-clause-masked
+returns-then-is_live-clause-masked c = λ found is so_far.
+    let sector = sector_of c.args.head.now c.args.payload.now in
+    let live = sym (c.is_live.ensures c.args.payload.now) ∙ c.if-is_live.true in
+    masked_live (at c.args.heads.now) (at c.args.current.now) found c.args.spot.place c.args.spot.sector c.requires.sector sector c.requires.spot live
+    c.args.directory.now c.args.overflow.now (length c.args.current.now) c.pages_of-mask.result c.facts.ensures c.facts-then-is_live.ensures c.requires.units
+    c.requires.sized.listed_units (live_low (at c.args.heads.now) c.args.current.now c.args.spot.place sector live) c.pages_of-mask.ensures is so_far
+    c.list_log.new.directory c.list_log.new.overflow c.list_log.ensures.masked c.list_log.ensures.listed
+
+pub returns-clause-masked : goal.returns-clause-masked
+returns-clause-masked c = λ found is so_far.
+    let none = none_live (at c.args.heads.now) (at c.args.current.now) c.args.spot.place (sector_of c.args.head.now c.args.payload.now) (sym (c.is_live.ensures c.args.payload.now) ∙ c.if-is_live.false) in
+    masked_none (at c.args.heads.now) (at c.args.current.now) found (c.args.spot.place * 256 + c.args.spot.sector) c.args.directory.now c.args.overflow.now
+    (λ u. is u ∙ ap (mask_of_sector u) none) so_far
+
+pub returns-then-is_live-clause-collected : goal.returns-then-is_live-clause-collected
+returns-then-is_live-clause-collected c = λ found are.
+    subst (λ (o : Option Sector). AreKept (joined c.args.status.now.numbers (records_at o) found) c.collect.result c.collect.new.numbers)
+    (sym (some_live (at c.args.heads.now) (at c.args.current.now) c.args.spot.place (sector_of c.args.head.now c.args.payload.now) (sym (c.is_live.ensures c.args.payload.now) ∙ c.if-is_live.true)))
+    (c.collect.ensures found are)
+
+pub returns-clause-collected : goal.returns-clause-collected
+returns-clause-collected c = λ found are.
+    subst (λ (o : Option Sector). AreKept (joined c.args.status.now.numbers (records_at o) found) c.args.fits c.args.numbers.now)
+    (sym (none_live (at c.args.heads.now) (at c.args.current.now) c.args.spot.place (sector_of c.args.head.now c.args.payload.now) (sym (c.is_live.ensures c.args.payload.now) ∙ c.if-is_live.false))) are

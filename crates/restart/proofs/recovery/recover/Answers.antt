@@ -1,4 +1,4 @@
-use Rattle.std.proofs.Common.{◌∙◌, ℕ, OnOk, subst}
+use Rattle.std.proofs.Common.{◌∙◌, ℕ, OnOk, IfOk, subst}
 use Rattle.ipl_meaning.specs.Chart.{chart_of}
 use Rattle.ipl_meaning.specs.Mirrors.{Mirrors}
 use Rattle.unit_io.specs.Reads.{OfContents}
@@ -7,6 +7,7 @@ use Rattle.opening_rules.specs.LaidOut.{layout_in}
 use Rattle.merge_rules.specs.Known.{KnowsPlaces}
 use Rattle.opened_tables.specs.Opened.{AreOpened, tables_of}
 use Rattle.restart.specs.Bytes.{ReadsBytes}
+use Rattle.restart.specs.Collected.{AreCollected}
 use Rattle.restart.proofs.recovery.recover.Goals as goal
 
 pub returns-clause-fault : goal.returns-clause-fault
@@ -33,3 +34,8 @@ returns-clause-mirrors g c =
 pub returns-clause-bytes : goal.returns-clause-bytes
 returns-clause-bytes g c =
     subst (λ (n : ℕ). ReadsBytes n (g.C.Chip.told c.args.chip.now) c.open.result) (c.scratch.view_is ∙ c.requires.scratch) c.open.ensures.bytes
+
+pub returns-clause-collected : goal.returns-clause-collected
+returns-clause-collected g c =
+    subst (λ (n : ℕ). IfOk c.open.result (λ fits. OfContents (g.C.Chip.told c.args.chip.now) (λ x. AreCollected n (chart_of x) fits c.open.new.numbers)))
+    (c.scratch.view_is ∙ c.requires.scratch) c.open.ensures.collected

@@ -12,7 +12,7 @@ use Rattle.selective_merge.proofs.FewLemmas.{packs_few}
 use Rattle.selective_merge.proofs.SpendLemmas.{for_unit, for_nobody}
 use Rattle.selective_merge.proofs.MovingLemmas.{moved_from}
 use Rattle.selective_merge.proofs.HeldLemmas.{given_back, taken_but, held_back, held_moved, home_used, more_free}
-use Rattle.selective_merge.proofs.MergedLemmas.{to_merge, many_packs, merged_there, merged_steps, merge_failed, stays_mirrored}
+use Rattle.selective_merge.proofs.MergedLemmas.{to_merge, many_packs, tells_packs, merged_there, merged_steps, merge_failed, stays_mirrored}
 use Rattle.selective_merge.proofs.CompleteLemmas.{used_spared}
 use Rattle.selective_merge.proofs.TidyLemmas.{moves_tidily, gives_back_tidily}
 use Rattle.selective_merge.proofs.merging.merge_packed.Goals as goal
@@ -85,6 +85,8 @@ returns-in-Ok-clause-steps g c = λ m it h steady rests agrees source.
       c.draw-generation.ensures.next,
       c.in-Ok.ensures.draws.0,
     )) moved)
+    (tells_packs places (now h) it t _ after u p drawn serial from payloads c.masks_of-masks.result what
+    c.masks_of-masks.ensures c.move_unit.ensures.told c.take_free-place.ensures.taken refl)
     (omega (arith, c.in-Ok.ensures.drawn, c.move_unit.ensures.counter))
     (c.in-Ok.ensures.writes m it t u h steady rests what)
 
@@ -130,6 +132,8 @@ returns-in-Ok-clause-tells g c = λ x told.
             c.draw-generation.ensures.next,
             c.in-Ok.ensures.draws.0,
           )) moved)
+          (tells_packs places (chart_of x) it t _ after u p drawn serial from payloads c.masks_of-masks.result what
+          c.masks_of-masks.ensures c.move_unit.ensures.told c.take_free-place.ensures.taken refl)
           (omega (arith, c.in-Ok.ensures.drawn, c.move_unit.ensures.counter))
           (written it t u what),
     )

@@ -10,21 +10,21 @@ loop-i-init c = record {
 }
 
 pub used_log-requires-clause-unit : goal.used_log-requires-clause-unit
-used_log-requires-clause-unit c = moved_unit _ c.args.unit c.args.place _ _ c.loop-i.invariant.moved
+used_log-requires-clause-unit c = moved_unit _ c.args.unit c.args.place _ _ _ c.loop-i.invariant.moved
     c.requires.unit
 
 pub used_log-requires-clause-left : goal.used_log-requires-clause-left
-used_log-requires-clause-left c = moved_left _ c.args.unit c.args.place _ _ c.loop-i.invariant.moved
+used_log-requires-clause-left c = moved_left _ c.args.unit c.args.place _ _ _ c.loop-i.invariant.moved
     c.loop-i.invariant.logs (omega (arith, c.requires.few))
 
 pub loop-i-preserved : goal.loop-i-preserved
 loop-i-preserved c =
     record {
-      moved = moved_more _ c.args.unit c.args.place _ _ c.loop-i.invariant.moved _
+      moved = moved_more _ c.args.unit c.args.place _ _ _ c.loop-i.invariant.moved _
           c.loop-i.invariant.logs c.used_log.ensures;
       logs = c.loop-i.invariant.logs;
     }
 
 pub returns : goal.returns
-returns c = moved_all _ c.args.unit c.args.place _ _ c.loop-i.invariant.moved c.args.used
+returns c = moved_all _ c.args.unit c.args.place _ _ _ c.loop-i.invariant.moved c.args.used
     c.requires.unit (omega arith)

@@ -5,23 +5,23 @@ use Rattle.selective_merge.proofs.SpendLemmas.{frees_for}
 use Rattle.merge_rules.proofs.FaultLemmas.{fault_as}
 use Rattle.selective_merge.proofs.placing.merged_spot.Goals as goal
 
-pub returns-in_err-merge-clause-steps : goal.returns-in_err-merge-clause-steps
-returns-in_err-merge-clause-steps g c = λ m it h steady rests agrees.
+pub returns-in_err-merge_learnt-clause-steps : goal.returns-in_err-merge_learnt-clause-steps
+returns-in_err-merge_learnt-clause-steps g c = λ m it h steady rests agrees.
     let e = err_from_is_err_and c.from_residual.result c.from_residual.ensures.1 in
-    rw e.1 (c.in_err-merge.ensures.steps m it h steady rests agrees)
+    rw e.1 (c.in_err-merge_learnt.ensures.steps m it h steady rests agrees)
 
-pub returns-in_err-merge-clause-tells : goal.returns-in_err-merge-clause-tells
-returns-in_err-merge-clause-tells g c =
+pub returns-in_err-merge_learnt-clause-tells : goal.returns-in_err-merge_learnt-clause-tells
+returns-in_err-merge_learnt-clause-tells g c =
     let e = err_from_is_err_and c.from_residual.result c.from_residual.ensures.1 in
-    rw e.1 (λ soft. c.in_err-merge.ensures.tells (λ same. soft (e.2 ∙ same)))
+    rw e.1 (λ soft. c.in_err-merge_learnt.ensures.tells (λ same. soft (e.2 ∙ same)))
 
-pub returns-in_err-merge-clause-costs : goal.returns-in_err-merge-clause-costs
-returns-in_err-merge-clause-costs g c =
+pub returns-in_err-merge_learnt-clause-costs : goal.returns-in_err-merge_learnt-clause-costs
+returns-in_err-merge_learnt-clause-costs g c =
     frees_for (tables_of c.args.parts.now).places _ false (g.C.Chip.told c.args.chip.now)
-    (g.C.Chip.told c.merge.new.chip) c.in_err-merge.ensures.costs
+    (g.C.Chip.told c.merge_learnt.new.chip) c.in_err-merge_learnt.ensures.costs
 
-pub returns-in_err-merge-clause-fault : goal.returns-in_err-merge-clause-fault
-returns-in_err-merge-clause-fault g c = λ x told it mirrors.
+pub returns-in_err-merge_learnt-clause-fault : goal.returns-in_err-merge_learnt-clause-fault
+returns-in_err-merge_learnt-clause-fault g c = λ x told it mirrors.
     let e = err_from_is_err_and c.from_residual.result c.from_residual.ensures.1 in
-    rw e.1 (fault_as _ e.0 c.in_err-merge.field-0.0 e.2
-    (c.in_err-merge.ensures.fault x told it mirrors))
+    rw e.1 (fault_as _ e.0 c.in_err-merge_learnt.field-0.0 e.2
+    (c.in_err-merge_learnt.ensures.fault x told it mirrors))

@@ -11,6 +11,6 @@ returns-in_err-learn-clause-exact g c = λ x told it t are.
 
 pub returns-clause-exact : goal.returns-clause-exact
 returns-clause-exact g c = λ x told it t are.
-    c.packed_count.ensures
+    c.packed_count.ensures.count
     ∙ ap (λ (log : List Record). min 13 (length (packs_of c.args.active.now log)))
     (c.in_ok-learn.ensures.learns x told it t are).log_is

@@ -10,11 +10,11 @@ use Rattle.selective_merge.specs.Moving.{tables_of, Holds}
 use Rattle.selective_merge.specs.Throughout.{ChartsThroughout}
 use Rattle.steps.specs.Steps.{RestsAgreeing}
 use Rattle.unit_log.specs.Kept.{records_kept}
-use Rattle.status_renewal.specs.Joins.{joined}
+use Rattle.kept_numbers.specs.Joins.{joined}
 use Rattle.status_renewal.specs.Passes.{HasPassed, PassEnds}
 use Rattle.status_renewal.proofs.CauseLemmas.{read_cause, merge_accounts, accounts_then}
 use Rattle.status_renewal.proofs.CostLemmas.{reads_erase, merge_erases, reads_then_erase}
-use Rattle.status_renewal.proofs.JoinLemmas.{too_many}
+use Rattle.kept_numbers.proofs.JoinLemmas.{too_many}
 use Rattle.status_renewal.proofs.PassLemmas.{passed_read, passed_joined, merge_ends, stopped_from}
 use Rattle.status_renewal.proofs.UnitLemmas.{records_are_logged}
 use Rattle.status_renewal.proofs.PreserveLemmas.{reads_preserve, steps_preserve, read_then}

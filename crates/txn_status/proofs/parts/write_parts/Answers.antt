@@ -11,6 +11,7 @@ use Rattle.txn_status.specs.Writing.{LeadsPart, KeepsParts}
 use Rattle.txn_status.proofs.KeptLemmas.{keeps_none, keeps_more, keeps_failed, told_none, told_more}
 use Rattle.unit_io.specs.Costs.{ProgramsAt}
 use Rattle.unit_io.proofs.CostLemmas.{spends_none, spends_at_then, spends_at_most, nothing_at}
+use Rattle.unit_io.proofs.UnreadLemmas.{unread_none, unread_then}
 use Rattle.txn_status.proofs.TidyLemmas.{tidy_parts_none, tidy_parts_more, tidy_parts}
 use Rattle.txn_status.proofs.parts.write_parts.Goals as goal
 
@@ -38,6 +39,7 @@ loop-i-init g c =
       tells = told_none c.args.place c.args.generation c.args.counter.now c.args.numbers.now told;
       costs = spends_none (ProgramsAt c.args.place 0 0 6) told (nothing_at c.args.place 0 0 6);
       tidy = tidy_parts_none c.args.place told;
+      unread = unread_none told;
       counts = counts_none told;
       drawn = omega arith;
     }
@@ -65,6 +67,7 @@ loop-i-preserved g c =
           w.tells);
       costs = spends_at_then c.args.place i 1 0 0 6 old mid new so.costs w.costs;
       tidy = tidy_parts_more c.args.place i true old mid new so.tidy w.tidy;
+      unread = unread_then old mid new so.unread w.unread;
       counts = counts_then old mid new so.counts w.accounts.counts;
       drawn = omega (arith, c.draw-serial.ensures.next, so.drawn);
     }
@@ -132,3 +135,9 @@ pub returns-clause-tidy : goal.returns-clause-tidy
 returns-clause-tidy g c =
     tidy_parts c.args.place c.loop-i.i (parts_of c.args.numbers.now) true true _ _
     (omega (arith, c.part_count-count.ensures.parts)) c.loop-i.invariant.tidy
+
+pub returns-in_err-write_part-clause-unread : goal.returns-in_err-write_part-clause-unread
+returns-in_err-write_part-clause-unread g c =
+    unread_then (g.C.Chip.told c.args.chip.now) (g.C.Chip.told c.loop-i.chip)
+    (g.C.Chip.told c.write_part.new.chip) c.loop-i.invariant.unread
+    c.in_err-write_part.ensures.unread

@@ -7,6 +7,7 @@ use Rattle.unit_io.specs.Leads.{IsSteady}
 use Rattle.unit_io.specs.Costs.{ProgramsAt, Spends}
 use Rattle.unit_io.specs.Charts.{Charts}
 use Rattle.unit_io.specs.Spots.{Programs}
+use Rattle.unit_io.specs.Unread.{ReadsNothing}
 use Rattle.txn_status.specs.Status.{parts_of}
 use Rattle.txn_status.specs.Switching.{HasParts, IsPartSpot}
 use Rattle.txn_status.specs.Writing.{KeepsParts}
@@ -22,6 +23,7 @@ pub record AreWritten (first t : Told) (place generation serial : ℕ) (numbers 
   pub tells : Charts (HasParts place generation serial numbers n) first t
   pub costs : Spends (ProgramsAt place n 0 6) first t
   pub tidy : Spends (Programs place (IsPartSpot n) true) first t
+  pub unread : Spends ReadsNothing first t
   pub counts : Counts first t
   pub drawn : counter ≡ serial + n
 

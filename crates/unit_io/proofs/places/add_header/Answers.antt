@@ -8,6 +8,7 @@ use Rattle.unit_io.proofs.TidyLemmas.{tidy_programmed, tidy_then_waits}
 use Rattle.std.proofs.Common.{true, false}
 use Rattle.std.specs.Prelude.{is_ok}
 use Rattle.unit_io.specs.Spots.{IsSpot}
+use Rattle.unit_io.proofs.UnreadLemmas.{unread_programmed, unread_waited, unread_then}
 use Rattle.unit_io.proofs.places.add_header.Goals as goal
 
 pub returns-in_err-program-clause-leads : goal.returns-in_err-program-clause-leads
@@ -57,3 +58,16 @@ pub returns-clause-tidy : goal.returns-clause-tidy
 returns-clause-tidy g c =
     tidy_then_waits c.args.place (IsSpot 0) true (is_ok c.barrier.result) _ (g.C.Chip.told c.program.new.chip) _ c.barrier.result
     (tidy_programmed c.args.place 0 _ true _ _ (Ok tt) c.in_ok-program.ensures.did) c.barrier.ensures.did
+
+pub returns-in_err-program-clause-unread : goal.returns-in_err-program-clause-unread
+returns-in_err-program-clause-unread g c =
+    unread_programmed c.args.place 0 c.args.bytes.now c.program.result (g.C.Chip.told c.args.chip.now) (g.C.Chip.told c.program.new.chip)
+    c.program.ensures.did
+
+pub returns-clause-unread : goal.returns-clause-unread
+returns-clause-unread g c =
+    let old = g.C.Chip.told c.args.chip.now in
+    let mid = g.C.Chip.told c.program.new.chip in
+    let new = g.C.Chip.told c.barrier.new.chip in
+    unread_then old mid new (unread_programmed c.args.place 0 c.args.bytes.now c.program.result old mid c.program.ensures.did)
+    (unread_waited c.barrier.result mid new c.barrier.ensures.did)

@@ -6,6 +6,7 @@ use Rattle.std.specs.Prelude.{is_ok}
 use Rattle.unit_io.proofs.CostLemmas.{spends_once_at_most, spends_once_then, spends_erased, spends_barred}
 use Rattle.unit_io.proofs.SparesLemmas.{spares_behind, spares_erased, spares_waited}
 use Rattle.unit_io.proofs.TidyLemmas.{tidy_broken, tidy_begun}
+use Rattle.unit_io.proofs.UnreadLemmas.{unread_erased, unread_waited, unread_then}
 use Rattle.unit_io.proofs.places.begin_unit.Goals as goal
 
 pub returns-in_err-erase-clause-keeps : goal.returns-in_err-erase-clause-keeps
@@ -56,3 +57,15 @@ returns-in_err-erase-clause-tidy g c =
 
 pub returns-clause-tidy : goal.returns-clause-tidy
 returns-clause-tidy g c = tidy_begun c.args.place _ (g.C.Chip.told c.erase.new.chip) _ c.barrier.result c.in_ok-erase.ensures.did c.barrier.ensures.did
+
+pub returns-in_err-erase-clause-unread : goal.returns-in_err-erase-clause-unread
+returns-in_err-erase-clause-unread g c =
+    unread_erased c.args.place c.erase.result (g.C.Chip.told c.args.chip.now) (g.C.Chip.told c.erase.new.chip) c.erase.ensures.did
+
+pub returns-clause-unread : goal.returns-clause-unread
+returns-clause-unread g c =
+    let old = g.C.Chip.told c.args.chip.now in
+    let mid = g.C.Chip.told c.erase.new.chip in
+    let new = g.C.Chip.told c.barrier.new.chip in
+    unread_then old mid new (unread_erased c.args.place c.erase.result old mid c.erase.ensures.did)
+    (unread_waited c.barrier.result mid new c.barrier.ensures.did)

@@ -9,6 +9,7 @@ use Rattle.unit_io.proofs.SparesLemmas.{spares_behind, spares_waited}
 use Rattle.unit_io.proofs.TidyLemmas.{tidy_halted, tidy_waits_then}
 use Rattle.std.specs.Prelude.{is_ok}
 use Rattle.unit_io.specs.Spots.{IsSpot}
+use Rattle.unit_io.proofs.UnreadLemmas.{unread_waited, unread_then}
 use Rattle.unit_io.proofs.places.seal.Goals as goal
 
 pub returns-in_err-barrier-clause-leads : goal.returns-in_err-barrier-clause-leads
@@ -60,3 +61,14 @@ pub returns-clause-tidy : goal.returns-clause-tidy
 returns-clause-tidy g c =
     tidy_waits_then c.args.place (IsSpot 0) (is_ok c.add_header.result) _ (g.C.Chip.told c.barrier.new.chip) _ c.in_ok-barrier.ensures.did
     c.add_header.ensures.tidy
+
+pub returns-in_err-barrier-clause-unread : goal.returns-in_err-barrier-clause-unread
+returns-in_err-barrier-clause-unread g c =
+    unread_waited c.barrier.result (g.C.Chip.told c.args.chip.now) (g.C.Chip.told c.barrier.new.chip) c.barrier.ensures.did
+
+pub returns-clause-unread : goal.returns-clause-unread
+returns-clause-unread g c =
+    let old = g.C.Chip.told c.args.chip.now in
+    let mid = g.C.Chip.told c.barrier.new.chip in
+    unread_then old mid (g.C.Chip.told c.add_header.new.chip) (unread_waited c.barrier.result old mid c.barrier.ensures.did)
+    c.add_header.ensures.unread

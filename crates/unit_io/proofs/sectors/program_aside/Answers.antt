@@ -4,6 +4,7 @@ use Rattle.unit_io.proofs.CostLemmas.{spends_programmed}
 use Rattle.unit_io.proofs.SparesLemmas.{spares_programmed}
 use Rattle.unit_io.proofs.TidyLemmas.{tidy_programmed}
 use Rattle.std.specs.Prelude.{is_ok}
+use Rattle.unit_io.proofs.UnreadLemmas.{unread_programmed}
 use Rattle.unit_io.proofs.sectors.program_aside.Goals as goal
 
 pub returns-clause-aside : goal.returns-clause-aside
@@ -23,3 +24,8 @@ returns-clause-spares g c =
 
 pub returns-clause-tidy : goal.returns-clause-tidy
 returns-clause-tidy g c = tidy_programmed c.args.place c.args.sector c.args.bytes.now (is_ok c.program.result) _ _ _ c.program.ensures.did
+
+pub returns-clause-unread : goal.returns-clause-unread
+returns-clause-unread g c =
+    unread_programmed c.args.place c.args.sector c.args.bytes.now c.program.result (g.C.Chip.told c.args.chip.now)
+    (g.C.Chip.told c.program.new.chip) c.program.ensures.did

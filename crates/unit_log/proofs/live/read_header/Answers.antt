@@ -3,6 +3,7 @@ use Rattle.std.proofs.lemmas.Result.{err_from_is_err_and}
 use Rattle.ipl_meaning.specs.Chart.{chart_of}
 use Rattle.unit_log.proofs.HeadLemmas.{head_named, head_stands}
 use Rattle.unit_log.proofs.LooksLemmas.{looks_read, looks_missed}
+use Rattle.unit_log.proofs.CountLemmas.{most_read, most_missed}
 use Rattle.unit_log.proofs.live.read_header.Goals as goal
 
 pub returns-in_err-found-clause-looks : goal.returns-in_err-found-clause-looks
@@ -45,3 +46,18 @@ returns-in-Some-clause-header g c = λ x told.
           (sym (c.in_ok-found.ensures.exact x told) ∙ found.1);
       says = found.2;
     }
+
+pub returns-in_err-found-clause-one : goal.returns-in_err-found-clause-one
+returns-in_err-found-clause-one g c =
+    most_missed c.args.place 0 (g.C.Chip.told c.args.chip.now)
+    (g.C.Chip.told c.read_head.new.chip) c.in_err-found.ensures.asks
+
+pub returns-in-Some-clause-one : goal.returns-in-Some-clause-one
+returns-in-Some-clause-one g c =
+    most_read c.args.place 0 (g.C.Chip.told c.args.chip.now)
+    (g.C.Chip.told c.read_head.new.chip) c.in_ok-found.ensures.asks
+
+pub returns-in-None-clause-one : goal.returns-in-None-clause-one
+returns-in-None-clause-one g c =
+    most_read c.args.place 0 (g.C.Chip.told c.args.chip.now)
+    (g.C.Chip.told c.read_head.new.chip) c.in_ok-found.ensures.asks

@@ -23,7 +23,7 @@ read_sectors-requires-clause-within g c =
       c.in_ok-head.ensures.looks.reads.counts.places,
     ) in
     subst (λ l. AreWithin (g.C.Chip.told c.read_header.new.chip).places l)
-    (sym c.list-spots.ensures.spots)
+    (sym (ap (map pair_of) c.as_slice.ensures.value ∙ c.list-spots.ensures.spots))
     (subst (λ n. AreWithin n spots) size c.list-spots.ensures.within)
 
 -- ---- reads
@@ -45,33 +45,33 @@ returns-in_err-read_sectors-clause-looks g c =
     err_from_is_err_and c.from_residual-in_err-read_sectors.result
     c.from_residual-in_err-read_sectors.ensures.1 in
     let spots = spots_in c.args.overflow.now c.args.unit in
-    let own = map pair_of c.list-spots.result.now in
+    let own = map pair_of c.as_slice.result.now in
     let home = slice_index c.args.directory.now.current c.args.unit in
     let place = c.current-place.result in
     looks_failed (IsLogRead place own) (IsLogRead home spots)
-    (at_log home place own spots c.current-place.ensures.place c.list-spots.ensures.spots)
+    (at_log home place own spots c.current-place.ensures.place (ap (map pair_of) c.as_slice.ensures.value ∙ c.list-spots.ensures.spots))
     _ e.0 _ (g.C.Chip.told c.args.chip.now) (g.C.Chip.told c.read_header.new.chip)
     (g.C.Chip.told c.read_sectors.new.chip) e.1 e.2
     (at_wider (IsAt place 0) (IsLogRead home spots) (g.C.Chip.told c.args.chip.now)
     (g.C.Chip.told c.read_header.new.chip)
-    (at_header home place own spots c.current-place.ensures.place c.list-spots.ensures.spots)
+    (at_header home place own spots c.current-place.ensures.place (ap (map pair_of) c.as_slice.ensures.value ∙ c.list-spots.ensures.spots))
     c.in_ok-head.ensures.looks.reads) c.in_err-read_sectors.ensures.looks
 
 pub returns-clause-looks : goal.returns-clause-looks
 returns-clause-looks g c =
     let spots = spots_in c.args.overflow.now c.args.unit in
-    let own = map pair_of c.list-spots.result.now in
+    let own = map pair_of c.as_slice.result.now in
     let home = slice_index c.args.directory.now.current c.args.unit in
     let place = c.current-place.result in
     record {
       reads =
           reads_then (IsLogRead place own) (IsLogRead home spots)
-          (at_log home place own spots c.current-place.ensures.place c.list-spots.ensures.spots)
+          (at_log home place own spots c.current-place.ensures.place (ap (map pair_of) c.as_slice.ensures.value ∙ c.list-spots.ensures.spots))
           (g.C.Chip.told c.args.chip.now) (g.C.Chip.told c.read_header.new.chip)
           (g.C.Chip.told c.read_sectors.new.chip)
           (at_wider (IsAt place 0) (IsLogRead home spots) (g.C.Chip.told c.args.chip.now)
           (g.C.Chip.told c.read_header.new.chip)
-          (at_header home place own spots c.current-place.ensures.place c.list-spots.ensures.spots)
+          (at_header home place own spots c.current-place.ensures.place (ap (map pair_of) c.as_slice.ensures.value ∙ c.list-spots.ensures.spots))
           c.in_ok-head.ensures.looks.reads) c.in_ok-read_sectors.ensures.looks.reads;
       cause = tt;
     }
@@ -106,12 +106,12 @@ returns-in_err-read_sectors-clause-exact g c = λ x told it t are.
           (chart_of x) it t c.args.directory.now c.args.overflow.now are c.requires.unit
           c.current-place.ensures.place
           c.next_log.result c.unwrap_or-end.result
-          (map pair_of c.list-spots.result.now) c.in_ok-head.head.generation head.0
+          (map pair_of c.as_slice.result.now) c.in_ok-head.head.generation head.0
           c.next_log.ensures.some c.next_log.ensures.none c.next_log.ensures.in_range
-          c.unwrap_or-end.ensures c.list-spots.ensures.spots
+          c.unwrap_or-end.ensures (ap (map pair_of) c.as_slice.ensures.value ∙ c.list-spots.ensures.spots)
           (subst (HasUnfit (chart_of x) c.args.unit c.in_ok-head.head.generation
           (log_spots c.current-place.result c.unwrap_or-end.result
-          (map pair_of c.list-spots.result.now))) c.clear.ensures unfit))
+          (map pair_of c.as_slice.result.now))) c.clear.ensures unfit))
     ])
 
 pub returns-clause-exact : goal.returns-clause-exact
@@ -125,7 +125,7 @@ returns-clause-exact g c = λ x told it t are.
     c.in_ok-read_sectors.ensures.gathers x (c.in_ok-head.ensures.looks.reads.contents ∙ told)
     ∙ ap (gathered (chart_of x) c.args.unit c.in_ok-head.head.generation
     (log_spots c.current-place.result c.unwrap_or-end.result
-    (map pair_of c.list-spots.result.now))) c.clear.ensures in
+    (map pair_of c.as_slice.result.now))) c.clear.ensures in
     record {
       generation = head.0;
       pieces = head.1;
@@ -134,9 +134,9 @@ returns-clause-exact g c = λ x told it t are.
           (chart_of x) it t c.args.directory.now c.args.overflow.now are c.requires.unit
           c.current-place.ensures.place
           c.next_log.result c.unwrap_or-end.result
-          (map pair_of c.list-spots.result.now) c.in_ok-head.head.generation head.0
+          (map pair_of c.as_slice.result.now) c.in_ok-head.head.generation head.0
           c.next_log.ensures.some c.next_log.ensures.none c.next_log.ensures.in_range
-          c.unwrap_or-end.ensures c.list-spots.ensures.spots
+          c.unwrap_or-end.ensures (ap (map pair_of) c.as_slice.ensures.value ∙ c.list-spots.ensures.spots)
           c.read_sectors.new.scratch all c.facts-2.ensures.rising;
     }
 

@@ -1,8 +1,9 @@
-use Rattle.std.proofs.Common.{◌+◌, map, get_or, arith}
+use Rattle.std.proofs.Common.{◌+◌, length, map, get_or, arith}
 use Rattle.std.proofs.lemmas.Result.{err_from_is_err_and}
 use Rattle.ipl_base.specs.declared.spot.Spot.{Spot}
 use Rattle.overflow.specs.Lists.{pair_of}
 use Rattle.unit_log.specs.Looks.{IsListed}
+use Rattle.unit_log.proofs.CountLemmas.{most_none, most_then, most_wider}
 use Rattle.unit_log.proofs.GatherLemmas.{read_none, read_more, read_fails, looks_fails, rest_of, listed_step, is_listed, listed_within}
 use Rattle.unit_log.proofs.reading.read_listed.Goals as goal
 
@@ -11,6 +12,7 @@ loop-spot-init g c = record {
   read =
       read_none (IsListed (map pair_of c.args.spots.now)) c.args.unit c.args.generation
       (map pair_of c.args.spots.now) c.args.scratch.now (g.C.Chip.told c.args.chip.now);
+  added = most_none (g.C.Chip.told c.args.chip.now);
   count = omega arith;
 }
 
@@ -31,6 +33,8 @@ loop-spot-preserved g c =
           (is_listed spots i (record { place = 0; sector = 0 }) c.loop-spot-test.true)
           so_far.read
           c.in_ok-read_spot.ensures.gathers c.in_ok-read_spot.ensures.looks.reads;
+      added = most_then i 1 (g.C.Chip.told c.args.chip.now) (g.C.Chip.told c.loop-spot.chip)
+          (g.C.Chip.told c.read_spot.new.chip) so_far.added c.read_spot.ensures.one;
       count = omega (arith, so_far.count, c.read_spot.ensures.count);
     }
 
@@ -52,7 +56,6 @@ read_spot-requires-clause-room g c =
       arith,
       c.loop-spot.invariant.count,
       c.requires.room,
-      c.requires.few,
       c.loop-spot-test.true,
     )
 
@@ -85,3 +88,11 @@ returns-in_err-read_spot-clause-looks g c =
     (is_listed spots i (record { place = 0; sector = 0 }) c.loop-spot-test.true)
     c.loop-spot.invariant.read
     _ e.0 _ e.1 e.2 c.in_err-read_spot.ensures.looks
+
+pub returns-in_err-read_spot-clause-each : goal.returns-in_err-read_spot-clause-each
+returns-in_err-read_spot-clause-each g c =
+    let i = c.loop-spot.spot-index in
+    most_wider (i + 1) (length c.args.spots.now) (g.C.Chip.told c.args.chip.now) (g.C.Chip.told c.read_spot.new.chip)
+    (omega (arith, c.loop-spot-test.true))
+    (most_then i 1 (g.C.Chip.told c.args.chip.now) (g.C.Chip.told c.loop-spot.chip)
+    (g.C.Chip.told c.read_spot.new.chip) c.loop-spot.invariant.added c.read_spot.ensures.one)

@@ -13,7 +13,7 @@ read_home-requires-clause-room g c = omega (arith, ap length c.requires.none)
 
 pub read_listed-requires-clause-room : goal.read_listed-requires-clause-room
 read_listed-requires-clause-room g c =
-    omega (arith, ap length c.requires.none, c.read_home.ensures.count)
+    omega (arith, ap length c.requires.none, c.read_home.ensures.count, c.requires.few)
 
 pub read_listed-requires-clause-within : goal.read_listed-requires-clause-within
 read_listed-requires-clause-within g c =

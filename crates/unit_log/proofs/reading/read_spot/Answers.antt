@@ -1,5 +1,6 @@
 use Rattle.std.proofs.lemmas.Result.{err_from_is_err_and}
 use Rattle.unit_log.proofs.LooksLemmas.{looks_read, looks_missed}
+use Rattle.unit_log.proofs.CountLemmas.{most_read, most_missed}
 use Rattle.unit_log.proofs.GatherLemmas.{spot_gathers, spot_missed}
 use Rattle.unit_log.proofs.reading.read_spot.Goals as goal
 
@@ -28,3 +29,13 @@ returns-clause-looks g c =
     looks_read c.args.spot.place c.args.spot.sector _ c.take_found.result
     (g.C.Chip.told c.args.chip.now) (g.C.Chip.told c.read_log.new.chip)
     c.in_ok-found.ensures.asks c.in_ok-found.ensures.accounts c.take_found.ensures.fault
+
+pub returns-in_err-found-clause-one : goal.returns-in_err-found-clause-one
+returns-in_err-found-clause-one g c =
+    most_missed c.args.spot.place c.args.spot.sector (g.C.Chip.told c.args.chip.now)
+    (g.C.Chip.told c.read_log.new.chip) c.in_err-found.ensures.asks
+
+pub returns-clause-one : goal.returns-clause-one
+returns-clause-one g c =
+    most_read c.args.spot.place c.args.spot.sector (g.C.Chip.told c.args.chip.now)
+    (g.C.Chip.told c.read_log.new.chip) c.in_ok-found.ensures.asks

@@ -2,7 +2,7 @@ use Rattle.std.proofs.Common.{◌≡◌, ◌+◌, [], ◌∷◌, ◌++◌, ◌<�
 use Rattle.std.specs.List.{refill}
 use Rattle.std.proofs.lemmas.List.{get_or_read}
 use Rattle.ipl_meaning.specs.Tables.{OverflowLists}
-use Rattle.overflow.specs.Lists.{first_of, clean_behind, spots_in}
+use Rattle.overflow.specs.Lists.{first_of, clean_behind, spots_in, masks_at}
 use Rattle.overflow.proofs.FillLemmas.{refilled}
 use Rattle.overflow.proofs.SoundLemmas.{sound_after}
 use Rattle.overflow.proofs.overflow.Overflow.add.Goals as goal
@@ -12,6 +12,7 @@ invariant_of-self c =
     let inside = c.self.inside in
     let it : OverflowLists = record {
       spots = inside.spots.items;
+      masks = inside.masks.items;
       in_use = map first_of inside.in_use.items;
     } in
     let u = c.args.unit in
@@ -37,4 +38,8 @@ invariant_of-self c =
     c.push.ensures ∙ ap (λ l. l ++ (s.place, s.sector) ∷ [])
     (get_or_read inside.spots.items u c.index_mut-list.result.now low
     c.index_mut-list.ensures.value []) in
-    sound_after it u s.place s.sector _ _ c.self.invariant low few place c.requires.sector list places
+    let masks : c.push-2.new.self ≡ masks_at it u ++ c.args.mask ∷ [] =
+    c.push-2.ensures ∙ ap (λ l. l ++ c.args.mask ∷ [])
+    (get_or_read inside.masks.items u c.index_mut-masks.result.now (omega (arith, low, c.self.invariant.lists))
+    c.index_mut-masks.ensures.value []) in
+    sound_after it u s.place s.sector c.args.mask _ _ _ c.self.invariant low few place c.requires.sector list masks places

@@ -9,9 +9,10 @@ pub invariant_of-self : goal.invariant_of-self
 invariant_of-self c =
     let it : OverflowLists = record {
       spots = c.self.inside.spots.items;
+      masks = c.self.inside.masks.items;
       in_use = map first_of c.self.inside.in_use.items;
     } in
-    sound_left it c.args.unit _ _ c.self.invariant c.clear.ensures
+    sound_left it c.args.unit _ _ _ c.self.invariant c.clear.ensures c.clear-2.ensures
     (c.keep_named.ensures.named
     ∙ ap (λ (l : List (List (ℕ × ℕ))). filter (is_kept l) it.in_use)
     (c.deref-2.ensures.value ∙ ap (set c.self.inside.spots.items c.args.unit) c.clear.ensures))

@@ -7,3 +7,10 @@ invariant-loop-spots l = record {
   cleared : take l.spots-index l.spots-items ≡ replicate l.spots-index [];
   long : length l.spots-items ≡ length l.initial.spots-items;
 }
+
+-- and the first have no masks
+abbrev pub invariant-loop-masks : goal.invariant-loop-masks
+invariant-loop-masks l = record {
+  cleared : take l.masks-index l.masks-items ≡ replicate l.masks-index [];
+  long : length l.masks-items ≡ length l.initial.masks-items;
+}

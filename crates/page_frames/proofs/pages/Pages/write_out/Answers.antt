@@ -1,4 +1,4 @@
-use Rattle.std.proofs.Common.{refl, sym, slice_index, Ok, Err}
+use Rattle.std.proofs.Common.{refl, sym, Ok, Err}
 use Rattle.std.proofs.lemmas.Result.{err_from_is_err_and}
 use Rattle.page_frames.specs.declared.pages.Pages.{Pages}
 use Rattle.page_frames.specs.Pages.{frames_in}
@@ -25,7 +25,7 @@ returns-in_err-write_out-clause-upholds g c =
     let is = c.in_err-write_out.ensures in
     let e = err_from_is_err_and c.from_residual.result c.from_residual.ensures.1 in
     rw (e.1, e.2) (out_failed c.args.unit c.args.page
-    (slice_index c.write_out.new.parts.directory.current c.args.unit) c.log_payload-payload.result
+    c.log_payload-payload.result
     c.args.self.now (record { parts = c.write_out.new.parts; pool = c.args.self.now.pool })
     c.in_err-write_out.field-0.0 (g.C.Chip.told c.args.chip.now) (g.C.Chip.told c.write_out.new.chip)
     c.requires.ready refl (c.if-not-has_records.ensures.some refl) c.log_payload-payload.ensures is.tells
@@ -46,7 +46,7 @@ returns-in_err-write_out-clause-asks g c =
 pub returns-clause-upholds : goal.returns-clause-upholds
 returns-clause-upholds g c =
     let is = c.in_ok-write_out.ensures in
-    out_done c.args.unit c.args.page (slice_index c.write_out.new.parts.directory.current c.args.unit)
+    out_done c.args.unit c.args.page
     c.log_payload-payload.result c.args.self.now
     (record { parts = c.write_out.new.parts; pool = c.clear_log.new.pool })
     (g.C.Chip.told c.args.chip.now) (g.C.Chip.told c.write_out.new.chip) c.requires.ready

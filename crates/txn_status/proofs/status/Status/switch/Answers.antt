@@ -13,6 +13,7 @@ use Rattle.txn_status.proofs.SwitchLemmas.{AreLong}
 use Rattle.txn_status.proofs.SwitchedLemmas.{erase_failed, parts_failed, switched_in_steps, switches_told}
 use Rattle.unit_io.proofs.CostLemmas.{spends_once_at_most, spends_once_then}
 use Rattle.unit_io.proofs.TidyLemmas.{tidy_begun_only}
+use Rattle.unit_io.proofs.UnreadLemmas.{unread_then}
 use Rattle.txn_status.proofs.TidyLemmas.{tidy_parts_only, tidy_switched}
 use Rattle.txn_status.proofs.status.Status.switch.Goals as goal
 
@@ -232,3 +233,27 @@ returns-clause-tidy g c =
     (g.C.Chip.told c.write_parts.new.chip) (g.C.Chip.told c.seal_status.new.chip)
     c.in_ok-begin_unit.ensures.tidy c.in_ok-write_parts.ensures.tidy
     c.in_ok-seal_status.ensures.tidy
+
+pub returns-in_err-write_parts-clause-unread : goal.returns-in_err-write_parts-clause-unread
+returns-in_err-write_parts-clause-unread g c =
+    unread_then (g.C.Chip.told c.args.chip.now) (g.C.Chip.told c.begin_unit.new.chip)
+    (g.C.Chip.told c.write_parts.new.chip) c.in_ok-begin_unit.ensures.unread
+    c.in_err-write_parts.ensures.unread
+
+pub returns-in_err-seal_status-clause-unread : goal.returns-in_err-seal_status-clause-unread
+returns-in_err-seal_status-clause-unread g c =
+    let old = g.C.Chip.told c.args.chip.now in
+    let mid = g.C.Chip.told c.write_parts.new.chip in
+    unread_then old mid (g.C.Chip.told c.seal_status.new.chip)
+    (unread_then old (g.C.Chip.told c.begin_unit.new.chip) mid
+    c.in_ok-begin_unit.ensures.unread c.in_ok-write_parts.ensures.unread)
+    c.in_err-seal_status.ensures.unread
+
+pub returns-clause-unread : goal.returns-clause-unread
+returns-clause-unread g c =
+    let old = g.C.Chip.told c.args.chip.now in
+    let mid = g.C.Chip.told c.write_parts.new.chip in
+    unread_then old mid (g.C.Chip.told c.seal_status.new.chip)
+    (unread_then old (g.C.Chip.told c.begin_unit.new.chip) mid
+    c.in_ok-begin_unit.ensures.unread c.in_ok-write_parts.ensures.unread)
+    c.in_ok-seal_status.ensures.unread

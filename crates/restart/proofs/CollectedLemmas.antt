@@ -1,0 +1,72 @@
+-- The committed numbers of live log records, as these are found one after another.
+use Rattle.std.proofs.Common.{◌≡◌, ◌<◌, ◌≤◌, ◌+◌, ◌*◌, ℕ, Bool, true, false, List, [], length, Option, refl, ◌∙◌, ap, subst, arith, add-one}
+use Rattle.std.specs.Prelude.{◌↔◌, IsTrue}
+use Rattle.std.specs.Bool.{OnTrue}
+use Rattle.ipl_format.specs.Record.{Record}
+use Rattle.ipl_format.specs.Sector.{Sector}
+use Rattle.ipl_meaning.specs.Chart.{Chart}
+use Rattle.number_set.proofs.NumberLemmas.{with_numbers_grow}
+use Rattle.kept_numbers.specs.Joins.{committed_in, joined}
+use Rattle.kept_numbers.proofs.JoinLemmas.{too_many}
+use Rattle.opening_rules.specs.Chosen.{KeptHeader, Winner}
+use Rattle.opening_rules.specs.Live.{kept, seen, is_live, live_at}
+use Rattle.opening_rules.proofs.ScanLemmas.{live_here}
+use Rattle.restart.specs.Collected.{records_at, numbers_below, AreKept}
+
+-- ---- one sector more
+
+numbers_step : (committed : List ℕ) (heads : ℕ → Option KeptHeader) (current : ℕ → Option Winner)
+    (c : Chart) (k : ℕ) → numbers_below committed heads current c (k + 1)
+    ≡ joined committed (records_at (live_at heads current c k)) (numbers_below committed heads current c k)
+unfolding numbers_below
+numbers_step committed heads current c k = rw add-one refl
+
+pub numbers_more : (committed : List ℕ) (heads : ℕ → Option KeptHeader) (current : ℕ → Option Winner)
+    (c : Chart) (p s : ℕ) → s < 256 → (o : Option Sector) → o ≡ seen heads current c p s
+    → numbers_below committed heads current c (p * 256 + s + 1)
+    ≡ joined committed (records_at (kept (is_live heads current p) o)) (numbers_below committed heads current c (p * 256 + s))
+numbers_more committed heads current c p s below o is =
+    numbers_step committed heads current c (p * 256 + s)
+    ∙ ap (λ (x : Option Sector). joined committed (records_at x) (numbers_below committed heads current c (p * 256 + s)))
+    (live_here heads current c p s below o is)
+
+-- ---- what is kept
+
+-- at first none are found
+pub kept_first : (committed : List ℕ) (heads : ℕ → Option KeptHeader) (current : ℕ → Option Winner)
+    (c : Chart) (numbers : List ℕ) → numbers ≡ [] → AreKept (numbers_below committed heads current c 0) true numbers
+unfolding numbers_below
+kept_first committed heads current c numbers none = record {
+  all = none;
+  few = omega arith;
+  more = tt;
+}
+
+-- where they didn't fit, they are more with others too
+pub kept_over : (committed : List ℕ) (records : List Record) (found numbers : List ℕ) (fits : Bool)
+    → fits ≡ false → AreKept found fits numbers → AreKept (joined committed records found) false numbers
+kept_over committed records found numbers fits none are =
+    let before : AreKept found false numbers = subst (λ (b : Bool). AreKept found b numbers) none are in
+    let grow = with_numbers_grow (committed_in committed records) found in record {
+      all = tt;
+      few = tt;
+      more = omega (arith, before.more, grow);
+    }
+
+-- where they fitted, the numbers of these records join them, or don't fit
+pub kept_joined : (committed : List ℕ) (records : List Record) (found old new : List ℕ) (before fits : Bool)
+    → before ≡ true → AreKept found before old → (IsTrue fits ↔ (length (joined committed records old) ≤ 3840))
+    → OnTrue fits (new ≡ joined committed records old) → AreKept (joined committed records found) fits new
+kept_joined committed records found old new before true all are tells joins =
+    let same : old ≡ found = (subst (λ (b : Bool). AreKept found b old) all are).all in record {
+      all = joins ∙ ap (joined committed records) same;
+      few = subst (λ (l : List ℕ). length (joined committed records l) ≤ 3840) same (tells.0 refl);
+      more = tt;
+    }
+kept_joined committed records found old new before false all are tells joins =
+    let same : old ≡ found = (subst (λ (b : Bool). AreKept found b old) all are).all in record {
+      all = tt;
+      few = tt;
+      more = subst (λ (l : List ℕ). 3840 < length (joined committed records l)) same
+          (too_many false (length (joined committed records old)) tells refl);
+    }

@@ -1,0 +1,38 @@
+//! The committed numbers of live log records are collected.
+ghost use Rattle.std.specs.Prelude.{◌≡◌, ◌≤◌, ℕ, List, true, length};
+ghost use Rattle.log_records.specs.Reading.{records_of};
+ghost use Rattle.kept_numbers.specs.Joins.{joined};
+ghost use Rattle.opening_rules.specs.Payloads.{is_log_payload};
+ghost use Rattle.restart.specs.Collected.{AreKept};
+
+use kept_numbers::KeptNumbers;
+use log_records::Payload;
+use txn_status::Status;
+
+/// What was found in log sectors so far, beside what the tables have.
+#[derive(Clone, Copy)]
+pub(crate) struct Gathered {
+    /// The greatest number.
+    pub(crate) greatest: u64,
+    /// Whether the committed numbers of live records, which are kept, were at most 3,840.
+    pub(crate) fits: bool,
+}
+
+/// The committed numbers of a live log sector join those that are kept, where all of them fitted so
+/// far. Answers whether all do still.
+pub(crate) fn collect(
+    numbers: &mut KeptNumbers,
+    status: &Status,
+    payload: &[u8],
+    fits: bool,
+) -> bool
+    requires list { is_log_payload payload.now ≡ true }
+    requires fits { length payload.now ≤ 480 }
+    ensures { (found : List ℕ) → AreKept found fits numbers.old
+        → AreKept (joined status.now.numbers (records_of payload.now) found) result numbers.new }
+{
+    if !fits {
+        return false;
+    }
+    numbers.add(&Payload::of(payload), status)
+}

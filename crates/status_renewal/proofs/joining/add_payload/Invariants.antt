@@ -1,7 +1,0 @@
-use Rattle.log_records.specs.Reading.{records_of}
-use Rattle.status_renewal.proofs.JoinLemmas.{AreLeft}
-use Rattle.status_renewal.proofs.joining.add_payload.Given as goal
-
-abbrev pub invariant-loop-logged : goal.invariant-loop-logged
-invariant-loop-logged l = AreLeft l.status.numbers (records_of l.logged-iterator)
-    (records_of l.payload) l.set l.fn.set

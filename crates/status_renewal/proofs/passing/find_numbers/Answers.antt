@@ -1,0 +1,62 @@
+use Rattle.std.proofs.Common.{◌-◌, ◌∙◌, Ok, refl, sym, subst, arith}
+use Rattle.std.proofs.lemmas.Bool.{OnTrue_from, false≢true}
+use Rattle.chip_trait.proofs.CountsLemmas.{counts_none}
+use Rattle.ipl_meaning.specs.Chart.{chart_of}
+use Rattle.ipl_meaning.specs.Mirrors.{Mirrors}
+use Rattle.kept_numbers.specs.Keeps.{KeepsBelow}
+use Rattle.selective_merge.specs.Moving.{tables_of}
+use Rattle.steps.proofs.MapLemmas.{nothing_keeps}
+use Rattle.unit_io.specs.Costs.{Spends}
+use Rattle.unit_io.specs.Unread.{ReadsNothing}
+use Rattle.unit_io.proofs.UnreadLemmas.{unread_none}
+use Rattle.status_renewal.proofs.CostLemmas.{erases_none, erases_more}
+use Rattle.status_renewal.proofs.FoundLemmas.{passed_all}
+use Rattle.status_renewal.proofs.TellingLemmas.{goes_on_same}
+use Rattle.status_renewal.proofs.TidyLemmas.{tidies_none}
+use Rattle.status_renewal.proofs.passing.find_numbers.Goals as goal
+
+pub returns-then-found-clause-passes : goal.returns-then-found-clause-passes
+returns-then-found-clause-passes g c = λ places x it same is mirrors.
+    passed_all places x it (tables_of c.args.parts.now) mirrors c.args.kept.now
+    c.rises.ensures.rising c.rises.ensures.few
+    (subst (λ n. KeepsBelow (n - 4) it c.args.kept.now) same
+    (c.requires.exact c.if-found.true x is it
+    (subst (λ n. Mirrors n (chart_of x) it (tables_of c.args.parts.now)) (sym same) mirrors)))
+    (g.C.Chip.told c.args.chip.now) is
+
+pub returns-then-found-clause-goes_on : goal.returns-then-found-clause-goes_on
+returns-then-found-clause-goes_on g c =
+    let told = g.C.Chip.told c.args.chip.now in goes_on_same (Ok tt) told told refl
+
+pub returns-then-found-clause-steps : goal.returns-then-found-clause-steps
+returns-then-found-clause-steps g c = λ places same m it h steady rests agrees.
+    nothing_keeps places m (tables_of c.args.parts.now) h (g.C.Chip.told c.args.chip.now) steady
+    rests
+
+pub returns-then-found-clause-holds : goal.returns-then-found-clause-holds
+returns-then-found-clause-holds g c =
+    record { active = refl; status = refl; known = c.requires.known }
+
+pub returns-then-found-clause-costs : goal.returns-then-found-clause-costs
+returns-then-found-clause-costs g c =
+    let told = g.C.Chip.told c.args.chip.now in
+    erases_more 0 (told.places - 4) told told (omega arith) (erases_none told)
+
+pub returns-then-found-clause-tidy : goal.returns-then-found-clause-tidy
+returns-then-found-clause-tidy g c =
+    tidies_none (tables_of c.args.parts.now) (g.C.Chip.told c.args.chip.now)
+
+pub returns-then-found-clause-accounts : goal.returns-then-found-clause-accounts
+returns-then-found-clause-accounts g c =
+    record { counts = counts_none (g.C.Chip.told c.args.chip.now); cause = tt }
+
+pub returns-then-found-clause-unread : goal.returns-then-found-clause-unread
+returns-then-found-clause-unread g c =
+    let told = g.C.Chip.told c.args.chip.now in
+    OnTrue_from c.args.found (Spends ReadsNothing told told) (λ is. unread_none told)
+
+pub returns-clause-unread : goal.returns-clause-unread
+returns-clause-unread g c =
+    OnTrue_from c.args.found
+    (Spends ReadsNothing (g.C.Chip.told c.args.chip.now) (g.C.Chip.told c.pass.new.chip))
+    (λ is. absurd (false≢true (sym c.if-found.false ∙ is)))

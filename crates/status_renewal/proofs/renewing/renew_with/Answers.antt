@@ -1,0 +1,216 @@
+use Rattle.std.proofs.Common.{◌+◌, ◌-◌, ◌∙◌, ℕ, List, Some, Err, OnOk, refl, sym, ap, subst, arith}
+use Rattle.std.proofs.lemmas.Result.{err_from_is_err_and, on_ok_weaker}
+use Rattle.ipl_meaning.specs.Chart.{chart_of}
+use Rattle.ipl_meaning.specs.Rests.{now}
+use Rattle.ipl_meaning.specs.Tables.{Status}
+use Rattle.unit_directory.specs.Free.{first_free}
+use Rattle.merge_rules.specs.Known.{KnowsPlaces}
+use Rattle.selective_merge.specs.Moving.{tables_of}
+use Rattle.steps.specs.Steps.{NoOtherEnd}
+use Rattle.txn_status.specs.Switching.{RestsSwitched}
+use Rattle.unit_io.specs.Charts.{Charts}
+use Rattle.status_renewal.specs.Passes.{HasPassed, ErasesAtMost}
+use Rattle.status_renewal.specs.Renewed.{with_tables, Renews, RenewsInSteps}
+use Rattle.status_renewal.proofs.CostLemmas.{erases_more, erases_then, place_erases, renewed_then}
+use Rattle.status_renewal.proofs.PreserveLemmas.{passed_then, steps_preserve}
+use Rattle.status_renewal.proofs.RenewLemmas.{may_renew, renew_ends, status_ends}
+use Rattle.status_renewal.proofs.CompleteLemmas.{written_alone}
+use Rattle.status_renewal.proofs.TellingLemmas.{goes_on_then, goes_on_where, renews_told}
+use Rattle.status_renewal.proofs.FaultLemmas.{pass_written, place_written}
+use Rattle.status_renewal.proofs.TidyLemmas.{tidies_then}
+use Rattle.status_renewal.proofs.FoundLemmas.{unread_both}
+use Rattle.status_renewal.proofs.renewing.renew_with.Goals as goal
+
+pub returns-in_err-find_numbers-clause-tells : goal.returns-in_err-find_numbers-clause-tells
+returns-in_err-find_numbers-clause-tells g c =
+    let old = g.C.Chip.told c.args.chip.now in
+    let e = err_from_is_err_and c.from_residual.result c.from_residual.ensures.1 in
+    rw (e.1 ∙ ap Err e.2) (renews_told old.places (tables_of c.args.parts.now)
+    (tables_of c.find_numbers.new.parts) old (Err c.in_err-find_numbers.field-0.0)
+    (g.C.Chip.told c.find_numbers.new.chip) c.in_err-find_numbers.ensures.goes_on
+    (λ x it told mirrors. c.in_err-find_numbers.ensures.passes old.places x it refl told mirrors))
+
+pub returns-in_err-find_numbers-clause-steps : goal.returns-in_err-find_numbers-clause-steps
+returns-in_err-find_numbers-clause-steps g c = λ m it h steady rests agrees.
+    let e = err_from_is_err_and c.from_residual.result c.from_residual.ensures.1 in
+    rw (e.1 ∙ ap Err e.2) (c.in_err-find_numbers.ensures.steps (g.C.Chip.told c.args.chip.now).places refl
+    m it h steady rests agrees)
+
+pub renew_place-requires-clause-free : goal.renew_place-requires-clause-free
+renew_place-requires-clause-free g c = c.known_laws.ensures.free
+    (g.C.Chip.told c.args.chip.now).places (tables_of c.find_numbers.new.parts)
+    c.in_ok-find_numbers.ensures.holds.known
+
+pub returns-clause-tells : goal.returns-clause-tells
+returns-clause-tells g c =
+    let old = g.C.Chip.told c.args.chip.now in
+    let mid = g.C.Chip.told c.find_numbers.new.chip in
+    let new = g.C.Chip.told c.renew_place.new.chip in
+    let t = tables_of c.args.parts.now in
+    let between = tables_of c.find_numbers.new.parts in
+    let kept = c.as_slice.result.now in
+    let directory = c.renew_place.new.directory in
+    let status = c.renew_place.new.status in
+    let drawn = c.renew_place.new.counter in
+    let renews = subst (λ n. OnOk c.renew_place.result (Charts (Renews n between.places
+    between.status between.next kept directory status drawn) mid new))
+    c.find_numbers.ensures.accounts.counts.places c.renew_place.ensures.tells in
+    let cause = c.renew_place.ensures.accounts.cause in
+    renews_told old.places t (with_tables between directory status drawn) old c.renew_place.result
+    new
+    (goes_on_then c.renew_place.result old mid new c.in_ok-find_numbers.ensures.goes_on
+    (goes_on_where (Renews old.places between.places between.status between.next kept directory
+    status drawn) c.renew_place.result mid new renews cause))
+    (λ x it told mirrors. renew_ends old.places (chart_of x) it t kept mid between
+    (subst (λ (k : List ℕ). HasPassed old.places (old.places - 4) (chart_of x) it t k mid between)
+    (sym c.as_slice.ensures.numbers)
+    (c.in_ok-find_numbers.ensures.passes old.places x it refl told mirrors))
+    directory status drawn new c.renew_place.result renews cause)
+
+pub returns-clause-steps : goal.returns-clause-steps
+returns-clause-steps g c = λ m it h steady rests agrees.
+    let old = g.C.Chip.told c.args.chip.now in
+    let mid = g.C.Chip.told c.find_numbers.new.chip in
+    let new = g.C.Chip.told c.renew_place.new.chip in
+    let t = tables_of c.args.parts.now in
+    let between = tables_of c.find_numbers.new.parts in
+    let kept = c.as_slice.result.now in
+    let directory = c.renew_place.new.directory in
+    let status = c.renew_place.new.status in
+    let drawn = c.renew_place.new.counter in
+    let after = with_tables between directory status drawn in
+    passed_then old.places m h it t between after old mid new c.renew_place.result
+    (old.places - 4) kept c.find_numbers.ensures.accounts.counts steady
+    agrees
+    (λ x told mirrors. subst (λ (k : List ℕ). HasPassed old.places (old.places - 4) (chart_of x)
+    it t k mid between) (sym c.as_slice.ensures.numbers)
+    (c.in_ok-find_numbers.ensures.passes old.places x it refl told mirrors))
+    (c.in_ok-find_numbers.ensures.steps old.places refl m it h steady rests agrees)
+    (λ k was there resting agreeing. steps_preserve old.places m k between after
+    (λ done j. RestsSwitched old.places m was.now after status.place between.next kept j)
+    NoOtherEnd c.renew_place.result mid new (λ v j is. is.stands.rests) (λ j none. absurd none)
+    (subst (λ n. RenewsInSteps n between.places between.status between.next kept directory status
+    drawn c.renew_place.result mid new) c.find_numbers.ensures.accounts.counts.places
+    c.renew_place.ensures.steps m was.now between k there
+    (record { places_is = refl; status_is = refl; next_is = refl }) resting agreeing
+    (may_renew old.places (now h) it t kept mid between was)))
+
+pub returns-in_err-find_numbers-clause-holds : goal.returns-in_err-find_numbers-clause-holds
+returns-in_err-find_numbers-clause-holds g c =
+    let holds = c.find_numbers.ensures.holds in
+    let e = err_from_is_err_and c.from_residual.result c.from_residual.ensures.1 in
+    rw (e.1 ∙ ap Err e.2) (record {
+      active = holds.active;
+      known = holds.known;
+      ends = holds.status;
+    })
+
+pub returns-clause-holds : goal.returns-clause-holds
+returns-clause-holds g c =
+    let between = tables_of c.find_numbers.new.parts in
+    let after = with_tables between c.renew_place.new.directory c.renew_place.new.status
+    c.renew_place.new.counter in
+    let holds = c.in_ok-find_numbers.ensures.holds in
+    let places = c.find_numbers.ensures.accounts.counts.places in record {
+      active = holds.active;
+      known = subst (λ n. KnowsPlaces n after) places (c.renew_place.ensures.known between
+          (record { places_is = refl; status_is = refl; next_is = refl })
+          (subst (λ n. KnowsPlaces n between) (sym places) holds.known));
+      ends = status_ends c.renew_place.result between.places c.renew_place.new.directory
+          c.args.parts.now.status between.status c.renew_place.new.status
+          c.renew_place.ensures.room
+          c.renew_place.ensures.same holds.status;
+    }
+
+pub returns-in_err-find_numbers-clause-costs : goal.returns-in_err-find_numbers-clause-costs
+returns-in_err-find_numbers-clause-costs g c =
+    let old = g.C.Chip.told c.args.chip.now in
+    erases_more (old.places - 4) (old.places - 3) old (g.C.Chip.told c.find_numbers.new.chip)
+    (omega arith) c.find_numbers.ensures.costs
+
+pub returns-clause-costs : goal.returns-clause-costs
+returns-clause-costs g c =
+    let old = g.C.Chip.told c.args.chip.now in
+    let mid = g.C.Chip.told c.find_numbers.new.chip in
+    let new = g.C.Chip.told c.renew_place.new.chip in
+    let one = c.renew_place.ensures.costs in
+    erases_more (old.places - 4 + 1) (old.places - 3) old new
+    (omega (arith, c.requires.known.suits.units))
+    (erases_then (old.places - 4) 1 old mid new c.find_numbers.ensures.costs
+    (place_erases one.0 _ mid new one.2))
+
+pub returns-clause-renewed : goal.returns-clause-renewed
+returns-clause-renewed g c =
+    let old = g.C.Chip.told c.args.chip.now in
+    let one = c.renew_place.ensures.costs in
+    renewed_then (ErasesAtMost (old.places - 4)) one.0 c.renew_place.new.status.place
+    (first_free c.find_numbers.new.parts.directory.in_use) old (g.C.Chip.told c.find_numbers.new.chip)
+    (g.C.Chip.told c.renew_place.new.chip) c.renew_place.result c.find_numbers.ensures.costs one.1
+    (on_ok_weaker c.renew_place.result
+    (λ moved. moved.lowest ∙ ap Some (sym (ap (λ (s : Status). s.place) moved.status_is)))
+    c.renew_place.ensures.moved) one.2
+
+pub returns-in_err-find_numbers-clause-complete : goal.returns-in_err-find_numbers-clause-complete
+returns-in_err-find_numbers-clause-complete g c = λ x told it mirrors all.
+    let e = err_from_is_err_and c.from_residual.result c.from_residual.ensures.1 in
+    rw (e.1 ∙ ap Err e.2) (c.in_err-find_numbers.ensures.complete x told it mirrors all)
+
+pub returns-clause-complete : goal.returns-clause-complete
+returns-clause-complete g c = λ x told it mirrors all.
+    written_alone (g.C.Chip.told c.find_numbers.new.chip) (g.C.Chip.told c.renew_place.new.chip)
+    c.renew_place.result c.renew_place.ensures.accounts.cause
+
+pub renew_place-requires-clause-placed : goal.renew_place-requires-clause-placed
+renew_place-requires-clause-placed g c =
+    let known = c.in_ok-find_numbers.ensures.holds.known in
+    omega (arith, known.status_placed, c.find_numbers.ensures.accounts.counts.places)
+
+pub returns-in_err-find_numbers-clause-fault : goal.returns-in_err-find_numbers-clause-fault
+returns-in_err-find_numbers-clause-fault g c = λ x told it mirrors.
+    let e = err_from_is_err_and c.from_residual.result c.from_residual.ensures.1 in
+    rw (e.1 ∙ ap Err e.2) (c.in_err-find_numbers.ensures.fault x told it mirrors)
+
+pub returns-clause-fault : goal.returns-clause-fault
+returns-clause-fault g c = λ x told it mirrors.
+    pass_written (g.C.Chip.told c.args.chip.now).places x it (tables_of c.args.parts.now)
+    (g.C.Chip.told c.find_numbers.new.chip) (g.C.Chip.told c.renew_place.new.chip) c.renew_place.result
+    c.renew_place.ensures.accounts.cause
+
+pub returns-in_err-find_numbers-clause-tidy : goal.returns-in_err-find_numbers-clause-tidy
+returns-in_err-find_numbers-clause-tidy g c =
+    let e = err_from_is_err_and c.from_residual.result c.from_residual.ensures.1 in
+    rw (e.1 ∙ ap Err e.2) c.in_err-find_numbers.ensures.tidy
+
+pub returns-clause-tidy : goal.returns-clause-tidy
+returns-clause-tidy g c =
+    let between = tables_of c.find_numbers.new.parts in
+    tidies_then (tables_of c.args.parts.now) between
+    (with_tables between c.renew_place.new.directory c.renew_place.new.status
+    c.renew_place.new.counter) c.renew_place.result (g.C.Chip.told c.args.chip.now)
+    (g.C.Chip.told c.find_numbers.new.chip) (g.C.Chip.told c.renew_place.new.chip)
+    c.find_numbers.ensures.accounts.counts c.in_ok-find_numbers.ensures.tidy
+    (c.renew_place.ensures.tidy between
+    (record { places_is = refl; status_is = refl; next_is = refl })
+    (subst (λ n. KnowsPlaces n between) (sym c.find_numbers.ensures.accounts.counts.places)
+    c.in_ok-find_numbers.ensures.holds.known))
+
+pub returns-in_err-find_numbers-clause-stays : goal.returns-in_err-find_numbers-clause-stays
+returns-in_err-find_numbers-clause-stays g c = λ x told it mirrors.
+    let e = err_from_is_err_and c.from_residual.result c.from_residual.ensures.1 in
+    rw (e.1 ∙ ap Err e.2) (c.in_err-find_numbers.ensures.stays x told it mirrors)
+
+pub returns-clause-stays : goal.returns-clause-stays
+returns-clause-stays g c = λ x told it mirrors.
+    place_written (g.C.Chip.told c.args.chip.now).places x it (tables_of c.args.parts.now)
+    (with_tables (tables_of c.find_numbers.new.parts) c.renew_place.new.directory c.renew_place.new.status
+    c.renew_place.new.counter)
+    (g.C.Chip.told c.find_numbers.new.chip) (g.C.Chip.told c.renew_place.new.chip) c.renew_place.result
+    c.renew_place.ensures.accounts.cause
+
+pub returns-in_err-find_numbers-clause-unread : goal.returns-in_err-find_numbers-clause-unread
+returns-in_err-find_numbers-clause-unread g c = c.in_err-find_numbers.ensures.unread
+
+pub returns-clause-unread : goal.returns-clause-unread
+returns-clause-unread g c =
+    unread_both c.args.found (g.C.Chip.told c.args.chip.now) (g.C.Chip.told c.find_numbers.new.chip)
+    (g.C.Chip.told c.renew_place.new.chip) c.find_numbers.ensures.unread c.renew_place.ensures.unread
