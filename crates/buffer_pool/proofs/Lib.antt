@@ -4,6 +4,7 @@ pub mod SoundLemmas
 pub mod RoomLemmas
 pub mod LentLemmas
 pub mod BufferLemmas
+pub mod UseLemmas
 pub mod CallerLemmas
 pub mod CountLemmas
 pub mod HoldingLemmas

@@ -5,3 +5,4 @@ pub mod Lending
 pub mod Laws
 pub mod Holding
 pub mod HoldingLaws
+pub mod Uses

@@ -33,6 +33,16 @@ pub record CountsUse (old new : PoolView) : Type 0 where
   pub limit : new.limit ≡ old.limit
   pub clock : new.clock ≡ min (old.clock + 1) 18446744073709551615
 
+-- a use came before this time, or the clock was at its last number, at which it stays
+pub record IsBefore (used now : ℕ) : Type 0 where
+  pub past : used ≤ now
+  pub apart : now < 18446744073709551615 → used < now
+
+-- all uses of buffers did
+abbrev pub AreBefore : Slab Buffer → ℕ → Type 0
+AreBefore buffers now = (key : ℕ) (buffer : Buffer) → get buffers key ≡ Some buffer
+    → IsBefore buffer.used now
+
 -- ---- which buffer has a page
 
 -- the buffer under a key has the page
@@ -83,12 +93,14 @@ pub record IsIndexed (index : List (ℕ × ℕ)) (buffers : Slab Buffer) : Type 
   pub pages : (key : ℕ) (buffer : Buffer) → get buffers key ≡ Some buffer → buffer.page < PAGES
   pub len : length index ≡ slab_len buffers
 
--- the buffers keep to the limit, their room is reserved, and the index is theirs
+-- the buffers keep to the limit, their room is reserved, the index is theirs, and the clock counted
+-- their uses
 pub record IsSound (p : Inside) : Type 0 where
   pub holds : slab_len p.buffers ≤ p.limit
   pub reserved : p.limit ≤ p.buffers.capacity
   pub few : p.limit ≤ FRAMES
   pub indexed : IsIndexed p.index p.buffers
+  pub counted : AreBefore p.buffers p.clock
 
 -- ---- what calls ask and do
 
@@ -111,6 +123,10 @@ new_buffer unit page clock = record {
 -- one more pin, set now
 abbrev pub with_pin : ℕ → Buffer → Buffer
 with_pin clock buffer = record buffer { pins = buffer.pins + 1; used = clock }
+
+-- used now
+abbrev pub with_use : ℕ → Buffer → Buffer
+with_use clock buffer = record buffer { used = clock }
 
 -- one pin fewer
 abbrev pub without_pin : Buffer → Buffer

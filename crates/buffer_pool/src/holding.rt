@@ -2,6 +2,7 @@
 ghost use Rattle.std.specs.Prelude.{◌≡◌, ◌<◌, ◌+◌, ◌↔◌, Some, IsTrue, cond};
 ghost use Rattle.slab.specs.Slab.{slab_len};
 ghost use Rattle.buffer_pool.specs.Pools.{IsThere, CountsUse};
+ghost use Rattle.buffer_pool.specs.Uses.{IsUsedLast};
 ghost use Rattle.buffer_pool.specs.Holding.{pinned_count, is_pinned, IsHeld, IsAtRest, HoldsPage, ReleasesPage};
 
 use crate::pool::{Buffer, Pin, Pool, drop_pin};
@@ -38,6 +39,7 @@ impl Pool {
         ensures holds { HoldsPage self.old self.new unit page }
         ensures len { slab_len self.new.buffers ≡ slab_len self.old.buffers }
         ensures counts { CountsUse self.old self.new }
+        ensures last { IsUsedLast self.new unit page }
         ensures order { self.new.order ≡ self.old.order }
         ensures rest { IsAtRest self.old → pinned_count self.old.buffers + 1 < self.old.limit
             → IsAtRest self.new }

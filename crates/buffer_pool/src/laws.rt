@@ -1,6 +1,7 @@
 //! Laws of the pool, proved: a body that does nothing, and a contract that is the law.
 ghost use Rattle.buffer_pool.specs.Laws.{BuffersAreTold, PinnedStay, BringsAddABuffer, EvictsTakeABuffer, PinsChangeABuffer, LoansChangeABuffer};
 ghost use Rattle.buffer_pool.specs.HoldingLaws.{NothingKeepsPins, BothKeepPins, KeptPinsAreAsMany, KeptPinsRest, PinsGivenBackAreKept, PagesBroughtKeepPins, EvictionsKeepPins, ChangesKeepPins, LoansKeepPins, EmptyPoolsRest, PagesAtRestMayBePinned, ARestingPoolHasRoom};
+ghost use Rattle.buffer_pool.specs.Uses.{ChangesKeepUses, LoansKeepUses, BringsCountNoOther, ChangesCountNoOther, EvictionsCountNoUse, KeptUsesAreLast, VictimsAreUsedFirst};
 
 /// A page has one buffer at most, so the buffers are a function of unit and page, and each call changes
 /// it at one page. And a pinned page stays in its frame.
@@ -28,4 +29,17 @@ pub fn holding_laws()
     ensures empty { EmptyPoolsRest }
     ensures may_pin { PagesAtRestMayBePinned }
     ensures room { ARestingPoolHasRoom }
+{}
+
+/// A pin given back and what is written through a loan count no use, so the page that was used last is
+/// still; a page that is brought in, pinned or touched, or that leaves, is no use of another. The page
+/// that is offered to leave is the one used longest ago of those that aren't held.
+pub fn use_laws()
+    ensures changes { ChangesKeepUses }
+    ensures loans { LoansKeepUses }
+    ensures brings { BringsCountNoOther }
+    ensures touches { ChangesCountNoOther }
+    ensures evicts { EvictionsCountNoUse }
+    ensures last { KeptUsesAreLast }
+    ensures victims { VictimsAreUsedFirst }
 {}

@@ -3,9 +3,10 @@ ghost use Rattle.std.specs.Prelude.{◌≡◌, ◌≢◌, ◌<◌, ◌≤◌, �
 ghost use Rattle.std.specs.Borrow.{sem};
 ghost use Rattle.slab.specs.Slab.{get, slab_len, Updates};
 ghost use Rattle.buffer_pool.specs.declared.pool.Buffer.{Buffer as BufferFields};
-ghost use Rattle.buffer_pool.specs.Pools.{HasPage, IsThere, IsAbsent, MayLeave, MayPin, Changes, CountsUse, IsPinned, IsSoundPool, new_buffer, with_pin, without_pin};
+ghost use Rattle.buffer_pool.specs.Pools.{HasPage, IsThere, IsAbsent, MayLeave, MayPin, Changes, CountsUse, IsPinned, IsSoundPool, new_buffer, with_pin, with_use, without_pin};
 ghost use Rattle.buffer_pool.specs.Rooms.{IsRoom, IsOldest, AreAllPinned};
 ghost use Rattle.buffer_pool.specs.Lending.{LendsFrame, LendsLog};
+ghost use Rattle.buffer_pool.specs.Uses.{IsUsedLast, UsesPage};
 
 use crate::index::{PageIndex, page_number};
 use crate::room::{Oldest, Room, older};
@@ -42,7 +43,7 @@ pub struct Pool {
     // The page of each buffer, with the buffer's key, so that a page is found without a look at each.
     pub(crate) index: PageIndex,
     limit: usize,
-    // How many uses there were: a use is a page brought in or pinned.
+    // How many uses there were: a use is a page brought in, pinned or touched.
     clock: u64,
 }
 
@@ -116,8 +117,8 @@ impl Pool {
         }
     }
 
-    /// Brings a page (0 to 14 of a unit) into a free frame, which is empty then, and pins it. The page
-    /// is in no frame.
+    /// Brings a page (0 to 14 of a unit) into a free frame, which is empty then, and pins it, which
+    /// counts as a use. The page is in no frame.
     pub fn bring(&mut self, unit: u32, page: u32) -> Pin
         requires page { page < 15 }
         requires free { slab_len self.old.buffers < self.old.limit }
@@ -128,6 +129,7 @@ impl Pool {
             (Some (new_buffer unit page self.old.clock)) }
         ensures len { slab_len self.new.buffers ≡ slab_len self.old.buffers + 1 }
         ensures counts { CountsUse self.old self.new }
+        ensures last { IsUsedLast self.new unit page }
     {
         let used = self.clock;
         self.clock = used.saturating_add(1);
@@ -163,7 +165,7 @@ impl Pool {
         }
     }
 
-    /// Pins a page that is in a frame.
+    /// Pins a page that is in a frame, which counts as a use.
     pub fn pin(&mut self, unit: u32, page: u32) -> Pin
         requires page { page < 15 }
         requires there { IsThere self.old.buffers unit page }
@@ -174,6 +176,7 @@ impl Pool {
             (with_pin self.old.clock) }
         ensures len { slab_len self.new.buffers ≡ slab_len self.old.buffers }
         ensures counts { CountsUse self.old self.new }
+        ensures last { IsUsedLast self.new unit page }
         ensures order { self.new.order ≡ self.old.order }
     {
         match self.find(unit, page) {
@@ -182,6 +185,23 @@ impl Pool {
                 self.clock = used.saturating_add(1);
                 add_pin(&mut self.buffers, key, used);
                 Pin { key, unit, page }
+            }
+            None => unreachable!("the page is in a frame"),
+        }
+    }
+
+    /// Counts a use of a page that is in a frame, and changes nothing else.
+    pub fn touch(&mut self, unit: u32, page: u32)
+        requires page { page < 15 }
+        requires there { IsThere self.old.buffers unit page }
+        ensures uses { UsesPage self.old self.new unit page }
+        ensures last { IsUsedLast self.new unit page }
+    {
+        match self.find(unit, page) {
+            Some(key) => {
+                let used = self.clock;
+                self.clock = used.saturating_add(1);
+                use_buffer(&mut self.buffers, key, used);
             }
             None => unreachable!("the page is in a frame"),
         }
@@ -270,6 +290,16 @@ impl Pool {
         }
         oldest
     }
+}
+
+// The buffer under a key is used now.
+fn use_buffer(buffers: &mut Slab<Buffer>, key: usize, now: u64)
+    requires { IsSome (get buffers.old key) }
+    ensures changes { Changes buffers.old buffers.new key (with_use now) }
+    ensures len { slab_len buffers.new ≡ slab_len buffers.old }
+    ensures capacity { buffers.new.capacity ≡ buffers.old.capacity }
+{
+    buffers[key].used = now;
 }
 
 // Counts one more pin on the buffer under a key, which is used now.

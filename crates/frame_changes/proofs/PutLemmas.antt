@@ -16,9 +16,11 @@ use Rattle.buffer_pool.specs.Pools.{PoolView, HasPage, IsAbsent, AreOnce, with_b
 use Rattle.buffer_pool.specs.Lending.{changed_at, with_frame, with_log}
 use Rattle.buffer_pool.specs.Laws.{buffer_of}
 use Rattle.buffer_pool.specs.Holding.{KeepsPins}
+use Rattle.buffer_pool.specs.Uses.{used_of}
 use Rattle.buffer_pool.proofs.LentLemmas.{changed_is}
 use Rattle.buffer_pool.proofs.BufferLemmas.{changes_stay_once, buffer_absent}
 use Rattle.buffer_pool.proofs.HoldingLemmas.{both_keep, loans_keep}
+use Rattle.buffer_pool.proofs.UseLemmas.{loans_keep_uses}
 use Rattle.pending_writes.specs.Frames.{Frame, Frames, logs_of, with_frame_at, IsWrittenFrame, IsCommittedFrame, IsAbortedFrame}
 use Rattle.store_steps.specs.Views.{frame_of}
 use Rattle.store_steps.proofs.ViewLemmas.{settled_frames_are_committed, dropped_frames_are_aborted, changed_frames_are_written}
@@ -158,6 +160,11 @@ module _ (p : PoolView) (u page key : ℕ) (once : AreOnce p.buffers)
   pub frame_pins : (f : FrameView) → KeepsPins p (with_frame_under p key f)
   frame_pins f = loans_keep p key (with_frame f) some_there (λ b. ((refl, refl), refl))
 
+  pub frame_uses : (f : FrameView) → used_of (with_frame_under p key f) ≡ used_of p
+  frame_uses f =
+      loans_keep_uses p key (with_frame f) once some_there
+      (λ b. record { page = (refl, refl); used = refl })
+
   -- the records are
   pub log_changes : (R : Frame → Frame → Type 0) (log : List Record)
       → R (frame_in has.buffer) (frame_of has.buffer.frame log)
@@ -172,6 +179,11 @@ module _ (p : PoolView) (u page key : ℕ) (once : AreOnce p.buffers)
 
   pub log_pins : (log : List Record) → KeepsPins p (with_log_under p key log)
   log_pins log = loans_keep p key (with_log log) some_there (λ b. ((refl, refl), refl))
+
+  pub log_uses : (log : List Record) → used_of (with_log_under p key log) ≡ used_of p
+  log_uses log =
+      loans_keep_uses p key (with_log log) once some_there
+      (λ b. record { page = (refl, refl); used = refl })
 
   -- both are
   pub both_change : (R : Frame → Frame → Type 0) (f : FrameView) (log : List Record)
@@ -203,6 +215,13 @@ module _ (p : PoolView) (u page key : ℕ) (once : AreOnce p.buffers)
       let mid = with_frame_under p key f in
       both_keep p mid (with_log_under mid key log) (frame_pins f)
       (loans_keep mid key (with_log log) (some_then f) (λ b. ((refl, refl), refl)))
+
+  pub both_uses : (f : FrameView) (log : List Record)
+      → used_of (with_log_under (with_frame_under p key f) key log) ≡ used_of p
+  both_uses f log =
+      loans_keep_uses (with_frame_under p key f) key (with_log log) (once_then f) (some_then f)
+      (λ b. record { page = (refl, refl); used = refl })
+      ∙ frame_uses f
 
   -- ---- what was written
 

@@ -1,6 +1,7 @@
 //! The end of a session, in the frames of the names that it wrote.
 ghost use Rattle.std.specs.Prelude.{◌≡◌, ◌<◌, map};
 ghost use Rattle.buffer_pool.specs.Holding.{KeepsPins};
+ghost use Rattle.buffer_pool.specs.Uses.{used_of};
 ghost use Rattle.pending_writes.specs.Frames.{IsCommittedFrame, IsAbortedFrame};
 ghost use Rattle.frame_changes.specs.Views.{frames_of};
 ghost use Rattle.store_steps.specs.NamedFrames.{NamedFramesChange};
@@ -15,6 +16,7 @@ pub fn settle_names(pool: &mut Pool, names: &[Name], tid: u64)
     ensures settled { NamedFramesChange (IsCommittedFrame tid) (map (λ n. n.0) names.now)
         (frames_of pool.old) (frames_of pool.new) }
     ensures pins { KeepsPins pool.old pool.new }
+    ensures uses { used_of pool.new ≡ used_of pool.old }
     ensures order { pool.new.order ≡ pool.old.order }
 {
     for name in names {
@@ -28,6 +30,7 @@ pub fn drop_names(pool: &mut Pool, names: &[Name], tid: u64)
     ensures dropped { NamedFramesChange (IsAbortedFrame tid) (map (λ n. n.0) names.now)
         (frames_of pool.old) (frames_of pool.new) }
     ensures pins { KeepsPins pool.old pool.new }
+    ensures uses { used_of pool.new ≡ used_of pool.old }
     ensures order { pool.new.order ≡ pool.old.order }
 {
     for name in names {
@@ -40,6 +43,7 @@ fn settle_home(pool: &mut Pool, name: Name, tid: u64)
     ensures changes { OnlyPageChanges (IsCommittedFrame tid) (frames_of pool.old)
         (frames_of pool.new) name.0 }
     ensures pins { KeepsPins pool.old pool.new }
+    ensures uses { used_of pool.new ≡ used_of pool.old }
     ensures order { pool.new.order ≡ pool.old.order }
 {
     pool.facts();
@@ -54,6 +58,7 @@ fn drop_home(pool: &mut Pool, name: Name, tid: u64)
     ensures changes { OnlyPageChanges (IsAbortedFrame tid) (frames_of pool.old)
         (frames_of pool.new) name.0 }
     ensures pins { KeepsPins pool.old pool.new }
+    ensures uses { used_of pool.new ≡ used_of pool.old }
     ensures order { pool.new.order ≡ pool.old.order }
 {
     pool.facts();

@@ -6,7 +6,8 @@
 //!
 //! Proved, by its calls, `buffer_laws`: a put changes the frame of its page by its record and no
 //! other; the end of a session makes its changes values, or drops them and its records, in the
-//! frames of the names' pages; a slot's value is that of the frame; all pins and holds are kept.
+//! frames of the names' pages; a slot's value is that of the frame; all pins and holds are kept, and
+//! no use of a page is counted.
 #![tactic(auto)]
 
 mod ends;

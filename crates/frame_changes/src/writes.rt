@@ -3,6 +3,7 @@ ghost use Rattle.std.specs.Prelude.{◌≡◌, ◌<◌, ◌↔◌, IsSome, IsTru
 ghost use Rattle.ipl_format.specs.Record.{SpellsLog};
 ghost use Rattle.log_records.specs.View.{record_of};
 ghost use Rattle.buffer_pool.specs.Holding.{KeepsPins};
+ghost use Rattle.buffer_pool.specs.Uses.{used_of};
 ghost use Rattle.pending_writes.specs.Frames.{IsWrittenFrame, logs_of};
 ghost use Rattle.frame_changes.specs.Views.{frames_of};
 ghost use Rattle.frame_changes.specs.Changes.{FrameChanges, IsClearedFrame, MayPut};
@@ -31,6 +32,7 @@ pub fn put_record(pool: &mut Pool, unit: u32, rec: &Record)
     ensures put { FrameChanges (IsWrittenFrame (record_of rec.now)) (frames_of pool.old)
         (frames_of pool.new) unit rec.now.page }
     ensures pins { KeepsPins pool.old pool.new }
+    ensures uses { used_of pool.new ≡ used_of pool.old }
     ensures order { pool.new.order ≡ pool.old.order }
 {
     pool.facts();
@@ -64,6 +66,7 @@ pub fn clear_log(pool: &mut Pool, unit: u32, page: u32)
     ensures cleared { FrameChanges IsClearedFrame (frames_of pool.old) (frames_of pool.new) unit
         page }
     ensures pins { KeepsPins pool.old pool.new }
+    ensures uses { used_of pool.new ≡ used_of pool.old }
     ensures order { pool.new.order ≡ pool.old.order }
 {
     pool.facts();

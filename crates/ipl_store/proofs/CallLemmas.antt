@@ -9,6 +9,7 @@ use Rattle.ipl_base.specs.declared.fault.StoreFault.{StoreFault}
 use Rattle.ipl_base.specs.declared.fault.StoreFault.TheVariants.{Down, Spent, Chip}
 use Rattle.ipl_rules.specs.State.{State}
 use Rattle.buffer_pool.specs.Holding.{KeepsPins}
+use Rattle.buffer_pool.specs.Uses.{IsUsedLast}
 use Rattle.store_trait.specs.Keeping.{LAST_NUMBER}
 use Rattle.chip_trait.specs.Story.{Contents}
 use Rattle.ipl_meaning.specs.Chart.{Chart, chart_of}
@@ -30,11 +31,12 @@ use Rattle.store_steps.proofs.LeadLemmas.{keepers_lead_still}
 use Rattle.page_frames.specs.declared.pages.Pages.{Pages}
 use Rattle.page_frames.specs.Complete.{Completes}
 use Rattle.page_frames.specs.Faulty.{FailsByPage, TellsFaults}
-use Rattle.page_frames.specs.Pages.{tables_in, IsFramed, KeepsFramed, PageCause, Upholds}
+use Rattle.page_frames.specs.Pages.{tables_in, IsFramed, KeepsFramed, KeepsFramedFor, PageCause, Upholds}
 use Rattle.transactions.specs.declared.transactions.Transactions.{Transactions}
 use Rattle.transactions.specs.Turns.{memory_in, IsInOrder, Turns, TurnsInMemory}
 use Rattle.ipl_store.specs.declared.store.Store.{Store}
 use Rattle.ipl_store.specs.Calls.{memory_of_store, view_of, counter_of, IsMade, IsSound, early_fault, entry_fault, down_fault, is_stopped, EndsAs, IsOfTheChip, EndsFor, KeepsHolds, Calls}
+use Rattle.ipl_store.specs.Shown.{IsUsedLastIn}
 
 -- ---- before anything is done
 
@@ -353,6 +355,15 @@ kept_framed old new t kept rest framed =
     subst (λ (it : Transactions). KeepsFramed old.transactions.pages it.pages)
     (sym (ap (λ (s : Store). s.transactions) rest)) framed
 
+-- and one that leaves its frame for a page
+pub kept_for : (u page : ℕ) (old new : Store) (t : Transactions) (kept : List ℕ)
+    → new ≡ record old { transactions = t; kept = kept; down = new.down }
+    → KeepsFramedFor u page old.transactions.pages t.pages
+    → KeepsFramedFor u page old.transactions.pages new.transactions.pages
+kept_for u page old new t kept rest framed =
+    subst (λ (it : Transactions). KeepsFramedFor u page old.transactions.pages it.pages)
+    (sym (ap (λ (s : Store). s.transactions) rest)) framed
+
 -- a page that the work leaves in a frame
 pub ended_framed : (u page : ℕ) (old new : Store) (t : Transactions) (kept : List ℕ)
     (done : Result (Unit {0}) ChipFault) (result : Result (Unit {0}) StoreFault)
@@ -363,6 +374,17 @@ ended_framed u page old new t kept done result rest ends framed =
     done_ends (IsFramed new.transactions.pages u page) done old.down new.down result ends
     (subst (λ (it : Transactions). OnOk done (IsFramed it.pages u page))
     (sym (ap (λ (s : Store). s.transactions) rest)) framed)
+
+-- and as the one used last
+pub ended_used : (u page : ℕ) (old new : Store) (t : Transactions) (kept : List ℕ)
+    (done : Result (Unit {0}) ChipFault) (result : Result (Unit {0}) StoreFault)
+    → new ≡ record old { transactions = t; kept = kept; down = new.down }
+    → EndsAs done old.down result new.down → OnOk done (IsUsedLast t.pages.pool u page)
+    → OnOk result (IsUsedLastIn new u page)
+ended_used u page old new t kept done result rest ends used =
+    done_ends (IsUsedLastIn new u page) done old.down new.down result ends
+    (subst (λ (it : Transactions). OnOk done (IsUsedLast it.pages.pool u page))
+    (sym (ap (λ (s : Store). s.transactions) rest)) used)
 
 -- ---- a call that keeps each state, and then one in memory
 

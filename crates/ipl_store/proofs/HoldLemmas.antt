@@ -11,12 +11,12 @@ use Rattle.record_locks.proofs.CallLemmas.{passed}
 use Rattle.slab.specs.Slab.{Slab}
 use Rattle.buffer_pool.specs.declared.pool.Buffer.{Buffer}
 use Rattle.buffer_pool.specs.Pools.{PoolView, IsThere}
-use Rattle.buffer_pool.specs.Holding.{pinned_count, IsHeld, KeepsPins}
+use Rattle.buffer_pool.specs.Holding.{is_pinned, pinned_count, IsHeld, KeepsPins}
 use Rattle.buffer_pool.specs.Laws.{buffer_of, TellsBuffers}
 use Rattle.pending_writes.specs.Frames.{Frames}
 use Rattle.store_steps.specs.Advances.{memory_of, LeadsTo}
 use Rattle.frame_changes.specs.Views.{frame_in}
-use Rattle.page_frames.specs.Pages.{tables_in, frames_in}
+use Rattle.page_frames.specs.Pages.{tables_in, frames_in, KeepsFramed}
 use Rattle.ipl_store.specs.declared.store.Store.{Store}
 use Rattle.ipl_store.specs.Calls.{memory_of_store, is_held, bad_page, holds_full, not_held, refuses_hold, refuses_release, KeepsHolds, Calls}
 use Rattle.ipl_store.specs.Shown.{HoldsAlso, IsRepooled}
@@ -78,6 +78,22 @@ holds_then old mid new u page keeps also v q =
         | inr this ↦ (also v q).1 (inr this)
       ],
     )
+
+-- pages stay in their frames where the pool alone changed
+pub repooled_framed : (old new : Store) → IsRepooled old new
+    → KeepsFramed old.transactions.pages new.transactions.pages
+repooled_framed old new is u page there =
+    subst (λ (f : Frames). IsSome (f u page)) (sym is.frames) there
+
+-- a page that is held is in a frame
+pub held_framed : (pool : PoolView) (u page : ℕ) → is_held pool u page ≡ true
+    → IsSome (option_map frame_in (buffer_of pool.buffers u page))
+held_framed pool u page held = by_buffer (buffer_of pool.buffers u page) refl held
+  where
+    by_buffer : (o : Option Buffer) → buffer_of pool.buffers u page ≡ o → is_pinned o ≡ true
+        → IsSome (option_map frame_in o)
+    by_buffer None is pinned = absurd (false≢true pinned)
+    by_buffer (Some b) is pinned = refl
 
 -- a page that is held already
 pub holds_again : (store : Store) (u page : ℕ)

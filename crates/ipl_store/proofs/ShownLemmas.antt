@@ -19,10 +19,12 @@ use Rattle.store_steps.proofs.AdvanceLemmas.{answers_advance}
 use Rattle.store_steps.proofs.ViewLemmas.{frames_tell_state}
 use Rattle.record_locks.specs.Held.{number_of}
 use Rattle.page_ops.specs.Pending.{seen_by}
+use Rattle.buffer_pool.specs.Uses.{IsUsedLast}
 use Rattle.buffer_pool.proofs.HoldingLemmas.{nothing_keeps, both_keep}
 use Rattle.page_frames.specs.declared.pages.Pages.{Pages}
-use Rattle.page_frames.specs.Pages.{tables_in, frames_in, IsFramed, KeepsFramed}
+use Rattle.page_frames.specs.Pages.{tables_in, frames_in, IsFramed, KeepsFramedFor}
 use Rattle.page_frames.proofs.AskLemmas.{one_of_none}
+use Rattle.page_frames.proofs.UseLemmas.{none_leaves}
 use Rattle.page_frames.proofs.SpendLemmas.{nothing_spent, logs_of_reads}
 use Rattle.transactions.specs.declared.transactions.Transactions.{Transactions}
 use Rattle.transactions.specs.Costs.{AsksToWrite}
@@ -114,6 +116,7 @@ looks_as early next n old before v new after did = record {
   };
   holds = did.holds;
   framed = subst IsSome (sym did.names.there) refl;
+  used = did.used;
   stays = did.stays;
 }
 
@@ -142,6 +145,7 @@ looks_fail {U} early next n old before fault new after did = record {
   };
   holds = did.holds;
   framed = tt;
+  used = tt;
   stays = did.stays;
 }
 
@@ -163,6 +167,7 @@ let_in_fetches early next n old before result new after none did = record {
   calls = let_in_calls early next 14 old before result new after none did.calls;
   holds = did.holds;
   names = did.names;
+  used = did.used;
   stays = did.stays;
 }
 
@@ -174,7 +179,8 @@ refused_fetches early next n store told fault is sound = record {
   calls = calls_refused early next 14 store told (Err fault) fault is refl sound;
   holds = nothing_keeps store.transactions.pages.pool;
   names = tt;
-  stays = λ room u page is. is;
+  used = tt;
+  stays = none_leaves (home_of n).unit (home_of n).page store.transactions.pages;
 }
 
 -- which asks nothing
@@ -219,6 +225,7 @@ failed_fetches early next n old before fault new after none did = record {
   calls = failed_calls early next 14 old before fault new after none did.calls;
   holds = did.holds;
   names = tt;
+  used = tt;
   stays = did.stays;
 }
 
@@ -239,5 +246,8 @@ shared_fetches early next n old mid t before after none did turns same = record 
         ∙ did.names.there;
     tells = did.names.tells;
   };
-  stays = λ room. subst (KeepsFramed old.transactions.pages) (sym same) (did.stays room);
+  used = subst (λ (p : Pages). IsUsedLast p.pool (home_of n).unit (home_of n).page) (sym same)
+      did.used;
+  stays = subst (KeepsFramedFor (home_of n).unit (home_of n).page old.transactions.pages) (sym same)
+      did.stays;
 }

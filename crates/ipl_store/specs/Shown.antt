@@ -15,6 +15,7 @@ use Rattle.unit_io.specs.Reads.{OfContents}
 use Rattle.pending_writes.specs.Frames.{Frame}
 use Rattle.buffer_pool.specs.Pools.{PoolView}
 use Rattle.buffer_pool.specs.Holding.{IsHeld, IsPage, IsAtRest}
+use Rattle.buffer_pool.specs.Uses.{IsUsedLast, UsesPage}
 use Rattle.store_steps.specs.Advances.{MemoryFits}
 use Rattle.store_steps.specs.Keeps.{View, TellsName}
 use Rattle.page_writing.specs.Spending.{ErasesAndLogs}
@@ -79,16 +80,27 @@ pub record IsRepooled (old new : Store) : Type 0 where
   pub limit : new.transactions.pages.pool.limit ≡ old.transactions.pages.pool.limit
   pub at_rest : IsAtRest new.transactions.pages.pool
 
+-- a use of the page is counted, and nothing else changes; a call that fails changes nothing
+abbrev pub HoldsAgain : Result (Unit {0}) StoreFault → ℕ → ℕ → Store → Store → Type 0
+HoldsAgain (Ok v) u page old new = (new ≡ with_pool old new.transactions.pages.pool)
+    × UsesPage old.transactions.pages.pool new.transactions.pages.pool u page
+HoldsAgain (Err e) u page old new = new ≡ old
+
+-- the page is in a frame, and the one used last
+abbrev pub IsUsedLastIn : Store → ℕ → ℕ → Type 0
+IsUsedLastIn store u page = IsUsedLast store.transactions.pages.pool u page
+
 -- ---- calls that bring a name's page into a frame
 
--- such a call; done, the frame tells the name. Where the page is in a frame or a frame is free, no
--- page leaves its frame.
+-- such a call; done, the frame tells the name, and its page is the one used last. Where the page is in
+-- a frame or a frame is free, no page leaves its frame.
 pub record Fetches (early : Option StoreFault) (next : State → State) (n : ℕ) (old : Store)
     (before : Told) (result : Result (Unit {0}) StoreFault) (new : Store) (after : Told)
     : Type 0 where
   pub calls : Calls early next 14 old before result new after
   pub holds : KeepsHolds old new
   pub names : OnOk result (FramesName n old before new)
+  pub used : OnOk result (IsUsedLastIn new (home_of n).unit (home_of n).page)
   pub stays : KeepsFramedFor (home_of n).unit (home_of n).page old.transactions.pages
       new.transactions.pages
 
@@ -108,13 +120,14 @@ abbrev pub answered : {U : Type 0} → Result (Unit {0}) StoreFault → U → Re
 answered (Ok v) found = Ok found
 answered (Err e) found = Err e
 
--- a call that lends what the frame has of the name; done, the page is in a frame, and no other page
--- leaves one where it was there before or a frame was free
+-- a call that lends what the frame has of the name; done, the page is in a frame and the one used
+-- last, and no other page leaves one where it was there before or a frame was free
 pub record Looks {T : Type 0} (early : Option StoreFault) (next : State → State) (n : ℕ)
     (old : Store) (before : Told) (result : Result T StoreFault) (new : Store) (after : Told)
     : Type 0 where
   pub calls : Calls early next 14 old before result new after
   pub holds : KeepsHolds old new
   pub framed : OnOk result (IsFramed new.transactions.pages (home_of n).unit (home_of n).page)
+  pub used : OnOk result (IsUsedLastIn new (home_of n).unit (home_of n).page)
   pub stays : KeepsFramedFor (home_of n).unit (home_of n).page old.transactions.pages
       new.transactions.pages

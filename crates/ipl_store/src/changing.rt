@@ -8,6 +8,7 @@ ghost use Rattle.store_steps.specs.Keeps.{limits_of};
 ghost use Rattle.page_frames.specs.Pages.{IsFramed, KeepsFramed, KeepsFramedFor};
 ghost use Rattle.transactions.specs.Costs.{AsksToWrite, CommitAsks};
 ghost use Rattle.ipl_store.specs.Calls.{IsSound, KeepsHolds, Calls, early_fault, entry_fault};
+ghost use Rattle.ipl_store.specs.Shown.{IsUsedLastIn};
 
 use crate::Store;
 use chip_trait::Chip;
@@ -33,6 +34,7 @@ impl Store {
         ensures holds { KeepsHolds self.old self.new }
         ensures framed { OnOk result
             (IsFramed self.new.transactions.pages (home_of n).unit (home_of n).page) }
+        ensures used { OnOk result (IsUsedLastIn self.new (home_of n).unit (home_of n).page) }
         ensures stays { KeepsFramedFor (home_of n).unit (home_of n).page
             self.old.transactions.pages self.new.transactions.pages }
         ensures asks { AsksToWrite n (Some value.now) self.old.transactions.pages
@@ -59,6 +61,7 @@ impl Store {
         ensures holds { KeepsHolds self.old self.new }
         ensures framed { OnOk result
             (IsFramed self.new.transactions.pages (home_of n).unit (home_of n).page) }
+        ensures used { OnOk result (IsUsedLastIn self.new (home_of n).unit (home_of n).page) }
         ensures stays { KeepsFramedFor (home_of n).unit (home_of n).page
             self.old.transactions.pages self.new.transactions.pages }
         ensures asks { AsksToWrite n None self.old.transactions.pages (C.told chip.old)

@@ -1,6 +1,7 @@
 //! Pages that stay in their frames.
 ghost use Rattle.std.specs.Prelude.{◌≡◌, ◌<◌, ◌≤◌, ◌+◌, true, false, None, OnOk, OnErr};
 ghost use Rattle.buffer_pool.specs.Holding.{pinned_count, IsHeld, IsAtRest};
+ghost use Rattle.buffer_pool.specs.Uses.{CountsNoOther, UsesPage};
 ghost use Rattle.store_trait.specs.Keeping.{LAST_NUMBER};
 ghost use Rattle.page_frames.specs.Pages.{IsFramed, KeepsFramed, KeepsFramedFor};
 ghost use Rattle.ipl_store.specs.Calls.{
@@ -15,18 +16,18 @@ ghost use Rattle.ipl_store.specs.Calls.{
   refuses_hold,
   refuses_release,
 };
-ghost use Rattle.ipl_store.specs.Shown.{HoldsAlso, HoldsBut, IsRepooled, AsksForPage};
+ghost use Rattle.ipl_store.specs.Shown.{HoldsAgain, HoldsAlso, HoldsBut, IsRepooled, IsUsedLastIn, AsksForPage};
 
 use crate::Store;
 use crate::refusals::is_held;
-use buffer_pool::pool_laws;
+use buffer_pool::{holding_laws, pool_laws, use_laws};
 use chip_trait::Chip;
 use frame_changes::buffer_laws;
 use ipl_base::StoreFault;
 
 impl Store {
     /// Holds a page of a unit in a frame: a `get` of a name there makes no chip call until it is
-    /// released. A second hold changes nothing.
+    /// released. A second hold counts as a use of the page, and changes nothing else.
     pub fn hold<C: Chip>(&mut self, chip: &mut C, unit: u32, page: u32) -> Result<(), StoreFault>
         requires sound { IsSound (C.told chip.old).places self.old }
         ensures calls { Calls (early_fault (entry_fault self.old)
@@ -34,16 +35,18 @@ impl Store {
             (λ state. state) 14 self.old (C.told chip.old) result self.new (C.told chip.new) }
         ensures holds { OnOk result (HoldsAlso self.old unit page self.new) }
         ensures framed { OnOk result (IsFramed self.new.transactions.pages unit page) }
+        ensures used { OnOk result (IsUsedLastIn self.new unit page) }
         ensures stays { KeepsFramedFor unit page self.old.transactions.pages
             self.new.transactions.pages }
         ensures same { OnErr result (KeepsHolds self.old self.new) }
         ensures again { is_held self.old.transactions.pages.pool unit page ≡ true
-            → (self.new ≡ self.old) × (C.told chip.new ≡ C.told chip.old) }
+            → HoldsAgain result unit page self.old self.new × (C.told chip.new ≡ C.told chip.old) }
         // Nothing where the page is in a frame, and only reads where a frame is free.
         ensures asks { AsksForPage unit page self.old (C.told chip.old) (C.told chip.new) }
     {
         self.admit(self.refuses_hold(unit, page))?;
         if is_held(&self.transactions.pages.pool, unit, page) {
+            self.use_held(unit, page);
             return Ok(());
         }
         self.bring_page(chip, unit, page)?;
@@ -83,6 +86,7 @@ impl Store {
             self.old (C.told chip.old) result self.new (C.told chip.new) }
         ensures holds { KeepsHolds self.old self.new }
         ensures framed { OnOk result (IsFramed self.new.transactions.pages unit page) }
+        ensures used { OnOk result (IsUsedLastIn self.new unit page) }
         ensures stays { KeepsFramedFor unit page self.old.transactions.pages
             self.new.transactions.pages }
         // Nothing where the page is in a frame, and only reads where a frame is free.
@@ -90,6 +94,26 @@ impl Store {
     {
         let done = self.transactions.pages.bring(chip, unit, page);
         self.end(done)
+    }
+
+    /// Counts a use of a page (0 to 14 of a unit) that is held.
+    fn use_held(&mut self, unit: u32, page: u32)
+        requires page { page < 15 }
+        requires held { IsHeld self.old.transactions.pages.pool.buffers unit page }
+        requires rest { IsAtRest self.old.transactions.pages.pool }
+        ensures uses { UsesPage self.old.transactions.pages.pool self.new.transactions.pages.pool
+            unit page }
+        ensures others { CountsNoOther unit page self.old.transactions.pages.pool
+            self.new.transactions.pages.pool }
+        ensures used { IsUsedLastIn self.new unit page }
+        ensures holds { KeepsHolds self.old self.new }
+        ensures pool { IsRepooled self.old self.new }
+    {
+        self.transactions.pages.pool.facts();
+        buffer_laws();
+        holding_laws();
+        use_laws();
+        self.transactions.pages.pool.touch(unit, page);
     }
 
     /// Holds a page (0 to 14 of a unit) that is in a frame, and isn't held, where one more may be
@@ -102,11 +126,15 @@ impl Store {
             < self.old.transactions.pages.pool.limit }
         requires rest { IsAtRest self.old.transactions.pages.pool }
         ensures holds { HoldsAlso self.old unit page self.new }
+        ensures others { CountsNoOther unit page self.old.transactions.pages.pool
+            self.new.transactions.pages.pool }
+        ensures used { IsUsedLastIn self.new unit page }
         ensures pool { IsRepooled self.old self.new }
     {
         self.transactions.pages.pool.facts();
         pool_laws();
         buffer_laws();
+        use_laws();
         self.transactions.pages.pool.hold(unit, page);
     }
 

@@ -7,16 +7,17 @@
 //! keeps it.
 //!
 //! Proved, by `Store`'s calls: a store of sessions on a chip of 5 to 1,028 places, with 2 to 64
-//! frames. Each call is refused exactly where the rules refuse it, the store is down or its
-//! numbers are used up, and nothing was done then; else it leads from each state for which memory
-//! and chip stand to the model's next one, or leaves it where it fails, and the store is down
-//! exactly where a write failed; over a chip that tells what it holds, where memory and contents
-//! show a state, it fails only where a call of the chip failed. A get lends what the session sees,
-//! and asks the chip nothing where the page is in a frame. A begin draws one number. A get, a
-//! share, a put, a delete and a hold leave the page in a frame where they are done, and where it
-//! was in one or a frame was free, no page leaves its frame; a begin, an abort, a commit, a merge
-//! and a release keep all pages in their frames. An opening gives the records for which the
-//! contents stand, with no session open, and a power cut in it leaves them.
+//! frames. Each call is refused exactly where the rules refuse it, the store is down or its numbers
+//! are used up, and nothing was done then; else it leads from each state for which memory and chip
+//! stand to the model's next one, or leaves it where it fails, and the store is down exactly where
+//! a write failed; over a chip that tells what it holds, where memory and contents show a state, it
+//! fails only where a call of the chip failed. A get lends what the session sees, and asks the chip
+//! nothing where the page is in a frame. A begin draws one number. A get, a share, a put, a delete
+//! and a hold leave the page in a frame where they are done, as the one used last; where it was in
+//! one or a frame was free, no page leaves its frame, and one that leaves isn't held and was used
+//! longest ago; a begin, an abort, a commit, a merge and a release keep all pages in their frames.
+//! An opening gives the records for which the contents stand, with no session open, and a power cut
+//! in it leaves them.
 #![tactic(auto)]
 
 mod admitting;

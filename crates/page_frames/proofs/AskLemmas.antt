@@ -1,5 +1,5 @@
 -- What calls on pages ask of the chip: one page written out, or made ready for a record.
-use Rattle.std.proofs.Common.{◌≢◌, ℕ, [], ◌∷◌, Result, Ok, inl, refl, subst, arith}
+use Rattle.std.proofs.Common.{◌≡◌, ◌≢◌, ℕ, [], ◌∷◌, Result, Ok, inl, refl, sym, subst, arith}
 use Rattle.std.specs.Prelude.{IsSome}
 use Rattle.std.proofs.lemmas.Bool.{false≢true}
 use Rattle.chip_trait.specs.Told.{Told}
@@ -8,6 +8,9 @@ use Rattle.ipl_format.specs.Record.{Record}
 use Rattle.unit_io.specs.Costs.{Costs, Spends}
 use Rattle.unit_io.proofs.CostLemmas.{costs_at_most, spends_weaker}
 use Rattle.pending_writes.specs.Frames.{logs_of}
+use Rattle.selective_merge.specs.declared.parts.Parts.{Parts}
+use Rattle.selective_merge.specs.Moving.{tables_of}
+use Rattle.selective_merge.specs.Spotting.{HasHomeSpot}
 use Rattle.frame_changes.specs.Changes.{MayPut}
 use Rattle.page_writing.specs.Spending.{ErasesAndLogs, WritingCosts}
 use Rattle.page_writing.proofs.SpendLemmas.{no_kind}
@@ -55,24 +58,25 @@ fitting_asks u r pages t = record {
   costs = logs_of_reads pages.parts.directory t t (nothing_spent t);
 }
 
--- its page is in a frame, and its records are written out
-pub framed_asks : (u : ℕ) (r : Record) (result : Result (Unit {0}) ChipFault) (old new : Pages)
-    (before after : Told) → ¬ MayPut (frames_in old) u r → IsFramed old u r.page
-    → AsksToWriteOut u r.page result old new before after → AsksToPrepare u r old before after
-framed_asks u r result old new before after full there asks = record {
+-- its page is in a frame, and its records are written out once the use is counted
+pub framed_asks : (u : ℕ) (r : Record) (result : Result (Unit {0}) ChipFault) (old used new : Pages)
+    (before after : Told) → used.parts ≡ old.parts → ¬ MayPut (frames_in old) u r
+    → IsFramed old u r.page
+    → AsksToWriteOut u r.page result used new before after → AsksToPrepare u r old before after
+framed_asks u r result old used new before after same full there asks = record {
   idle = λ may. absurd (full may);
   free = λ none free. absurd (false≢true (subst IsSome none there));
-  home = λ framed has. (asks.home has).0;
-  costs = asks.costs;
+  home = λ framed has.
+      (asks.home (subst (λ (p : Parts). HasHomeSpot (tables_of p) u) (sym same) has)).0;
+  costs = subst (λ (p : Parts). Spends (ErasesAndLogs p.directory) before after) same asks.costs;
 }
 
 -- its page is in none
 pub fetched_asks : (u : ℕ) (r : Record) (old : Pages) (before after : Told)
-    → ¬ MayPut (frames_in old) u r → ¬ IsFramed old u r.page
-    → (HasFreeFrame old → Spends (Costs 0 0 0 []) before after)
+    → ¬ IsFramed old u r.page → (HasFreeFrame old → Spends (Costs 0 0 0 []) before after)
     → Spends (ErasesAndLogs old.parts.directory) before after → AsksToPrepare u r old before after
-fetched_asks u r old before after full absent reads costs = record {
-  idle = λ may. absurd (full may);
+fetched_asks u r old before after absent reads costs = record {
+  idle = λ may. absurd (absent (subst IsSome (sym may.there) refl));
   free = λ none. reads;
   home = λ framed has. absurd (absent framed);
   costs = costs;

@@ -5,7 +5,7 @@ use Rattle.std.specs.Option.{option_map, option_map_or}
 use Rattle.std.proofs.lemmas.Bool.{cases_eq, false≢true}
 use Rattle.slab.specs.Slab.{get}
 use Rattle.buffer_pool.specs.declared.pool.Buffer.{Buffer}
-use Rattle.buffer_pool.specs.Pools.{PoolView, HasPage, IsAbsent, AreOnce, MayLeave}
+use Rattle.buffer_pool.specs.Pools.{PoolView, HasPage, IsThere, IsAbsent, AreOnce, MayLeave}
 use Rattle.buffer_pool.specs.Holding.{KeepsPins}
 use Rattle.buffer_pool.specs.Laws.{buffer_of}
 use Rattle.buffer_pool.proofs.BufferLemmas.{buffers_are_told}
@@ -30,6 +30,21 @@ pub absent_in : (p : PoolView) (u page : ℕ) → AreOnce p.buffers → frames_o
     → IsAbsent p.buffers u page
 absent_in p u page once none key has =
     none_some (frame_in has.buffer) (sym (frame_found p u page key once has) ∙ none)
+
+-- one that has a frame is in one
+pub framed_there : (p : PoolView) (u page : ℕ) → AreOnce p.buffers → IsSome (frames_of p u page)
+    → IsThere p.buffers u page
+framed_there p u page once some = by_buffer (buffer_of p.buffers u page) refl some
+  where
+    by_buffer : (o : Option Buffer) → buffer_of p.buffers u page ≡ o
+        → IsSome (option_map frame_in o) → IsThere p.buffers u page
+    by_buffer None is none = absurd (false≢true none)
+    by_buffer (Some b) is there =
+        let (key, stored, unit_is, page_is) = (buffers_are_told p.buffers once).stands u page b is in
+        record {
+          key = key;
+          has = record { buffer = b; stored = stored; unit_is = unit_is; page_is = page_is };
+        }
 
 -- a page that nothing holds is in a buffer
 abbrev pub unheld_page : (p : PoolView) (u page : ℕ) → (is : IsUnheld p u page)

@@ -2,6 +2,7 @@ pub mod FrameLemmas
 pub mod FramedLemmas
 pub mod HeldLemmas
 pub mod UpholdLemmas
+pub mod UseLemmas
 pub mod SpendLemmas
 pub mod RenewLemmas
 pub mod TableLemmas

@@ -11,6 +11,7 @@ use Rattle.ipl_meaning.specs.Tables.{Tables}
 use Rattle.unit_io.specs.Reads.{OfContents}
 use Rattle.slab.specs.Slab.{slab_len}
 use Rattle.buffer_pool.specs.Holding.{IsAtRest, KeepsPins}
+use Rattle.buffer_pool.specs.Uses.{CountsNoOther, IsUsedFirst, UsesPage}
 use Rattle.merge_rules.specs.Known.{KnowsPlaces}
 use Rattle.selective_merge.specs.Moving.{tables_of}
 use Rattle.status_renewal.specs.Passes.{RenewCause}
@@ -45,9 +46,18 @@ KeepsFramed old new = (u page : ℕ) → IsFramed old u page → IsFramed new u 
 abbrev pub HasFreeFrame : Pages → Type 0
 HasFreeFrame pages = slab_len pages.pool.buffers < pages.pool.limit
 
--- where the page is in a frame or a frame is free, pages that are in frames stay in them
-abbrev pub KeepsFramedFor : ℕ → ℕ → Pages → Pages → Type 0
-KeepsFramedFor u page old new = (IsFramed old u page ⊎ HasFreeFrame old) → KeepsFramed old new
+-- Where the page is in a frame or a frame is free, pages that are in frames stay in them. A page that
+-- leaves its frame isn't held, and of such pages none was used longer ago. No use of another page is
+-- counted.
+pub record KeepsFramedFor (u page : ℕ) (old new : Pages) : Type 0 where
+  pub stay : (IsFramed old u page ⊎ HasFreeFrame old) → KeepsFramed old new
+  pub leaves : (v q : ℕ) → IsFramed old v q → ¬ IsFramed new v q → IsUsedFirst old.pool v q
+  pub uses : CountsNoOther u page old.pool new.pool
+
+-- a use of a page in a frame is counted, and nothing else changes
+pub record OnlyUses (u page : ℕ) (old new : Pages) : Type 0 where
+  pub parts : new.parts ≡ old.parts
+  pub pool : UsesPage old.pool new.pool u page
 
 -- the page is in a frame, with no records in memory
 abbrev pub IsFresh : Pages → ℕ → ℕ → Type 0

@@ -4,7 +4,8 @@ ghost use Rattle.unit_io.specs.Accounts.{Accounts};
 ghost use Rattle.unit_io.specs.Costs.{Costs, Spends};
 ghost use Rattle.unit_io.specs.ReadsAt.{Anywhere, ReadsAt};
 ghost use Rattle.merge_rules.specs.Known.{Suits};
-ghost use Rattle.buffer_pool.specs.Holding.{KeepsPins};
+ghost use Rattle.buffer_pool.specs.Holding.{IsPage, KeepsPins};
+ghost use Rattle.buffer_pool.specs.Uses.{used_of, CountsNoOther, CountsNoUse, IsUsedFirst, IsUsedLast};
 ghost use Rattle.pending_writes.specs.Frames.{logs_of};
 ghost use Rattle.log_records.specs.View.{record_of};
 ghost use Rattle.page_writing.specs.Spending.{ErasesAndLogs};
@@ -19,8 +20,8 @@ ghost use Rattle.page_frames.specs.Pages.{
   IsFramed,
   IsFresh,
   HasFreeFrame,
-  KeepsFramed,
   KeepsFramedFor,
+  OnlyUses,
   IsReady,
   Upholds,
   LoadsFrame,
@@ -29,7 +30,7 @@ ghost use Rattle.page_frames.specs.Pages.{
 };
 
 use crate::Pages;
-use crate::frames::{free_frame, is_framed, short, take_frame};
+use crate::frames::{free_frame, is_framed, short, take_frame, use_page};
 use buffer_pool::Room;
 use chip_trait::Chip;
 use frame_changes::has_room;
@@ -49,6 +50,9 @@ impl Pages {
         ensures faults { TellsFaults self.old result (C.told chip.old) self.new }
         ensures room { OnOk result (HasFreeFrame self.new) }
         ensures absent { (u q : ℕ) → frames_in self.old u q ≡ None → frames_in self.new u q ≡ None }
+        ensures leaves { (v q : ℕ) → IsFramed self.old v q → ¬ IsFramed self.new v q
+            → IsPage unit page v q }
+        ensures uses { CountsNoUse self.old.pool self.new.pool }
         ensures status { self.new.parts.status ≡ self.old.parts.status }
         ensures costs { Spends (ErasesAndLogs self.old.parts.directory)
             (C.told chip.old) (C.told chip.new) }
@@ -70,6 +74,9 @@ impl Pages {
         ensures faults { TellsFaults self.old result (C.told chip.old) self.new }
         ensures room { OnOk result (HasFreeFrame self.new) }
         ensures absent { (u q : ℕ) → frames_in self.old u q ≡ None → frames_in self.new u q ≡ None }
+        ensures leaves { (v q : ℕ) → IsFramed self.old v q → ¬ IsFramed self.new v q
+            → IsUsedFirst self.old.pool v q }
+        ensures uses { CountsNoUse self.old.pool self.new.pool }
         ensures idle { HasFreeFrame self.old
             → (self.new ≡ self.old) × (C.told chip.new ≡ C.told chip.old) }
         ensures done { HasFreeFrame self.old → IsOk result }
@@ -100,6 +107,7 @@ impl Pages {
         ensures tables { tables_in self.new ≡ tables_in self.old }
         ensures unheld { IsUnheld self.new.pool unit page }
         ensures pins { KeepsPins self.old.pool self.new.pool }
+        ensures uses { used_of self.new.pool ≡ used_of self.old.pool }
         ensures reads { ReadsAt Anywhere (C.told chip.old) (C.told chip.new) }
         ensures accounts { Accounts PageCause result (C.told chip.old) (C.told chip.new) }
     {
@@ -133,6 +141,8 @@ impl Pages {
         ensures faults { TellsFaults self.old result (C.told chip.old) self.new }
         ensures exact { FailsAsPage (tables_in self.old) unit page result (C.told chip.old) }
         ensures brings { BringsPage result unit page (frames_in self.old) (frames_in self.new) }
+        ensures others { CountsNoOther unit page self.old.pool self.new.pool }
+        ensures used { OnOk result (IsUsedLast self.new.pool unit page) }
         ensures tables { tables_in self.new ≡ tables_in self.old }
         ensures status { self.new.parts.status ≡ self.old.parts.status }
         ensures costs { Spends (Costs 0 0 0 []) (C.told chip.old) (C.told chip.new) }
@@ -160,7 +170,8 @@ impl Pages {
         ensures exact { HasFreeFrame self.old
             → FailsAsPage (tables_in self.old) unit page result (C.told chip.old) }
         ensures fresh { OnOk result (IsFresh self.new unit page) }
-        ensures framed { HasFreeFrame self.old → KeepsFramed self.old self.new }
+        ensures used { OnOk result (IsUsedLast self.new.pool unit page) }
+        ensures framed { KeepsFramedFor unit page self.old self.new }
         ensures idle { HasFreeFrame self.old
             → Spends (Costs 0 0 0 []) (C.told chip.old) (C.told chip.new) }
         ensures status { self.new.parts.status ≡ self.old.parts.status }
@@ -172,6 +183,7 @@ impl Pages {
     }
 
     /// Brings a page into a frame, where it is in none; another page may have to leave its frame then.
+    /// It is the page used last then.
     pub fn bring<C: Chip>(&mut self, chip: &mut C, unit: u32, page: u32) -> Result<(), ChipFault>
         requires ready { IsReady (C.told chip.old).places self.old }
         requires unit { unit + 4 < (C.told chip.old).places }
@@ -183,9 +195,10 @@ impl Pages {
         ensures exact { (IsFramed self.old unit page ⊎ HasFreeFrame self.old)
             → FailsAsPage (tables_in self.old) unit page result (C.told chip.old) }
         ensures there { OnOk result (IsFramed self.new unit page) }
+        ensures used { OnOk result (IsUsedLast self.new.pool unit page) }
         ensures framed { KeepsFramedFor unit page self.old self.new }
         ensures idle { IsFramed self.old unit page
-            → (self.new ≡ self.old) × (C.told chip.new ≡ C.told chip.old) }
+            → OnlyUses unit page self.old self.new × (C.told chip.new ≡ C.told chip.old) }
         ensures free { HasFreeFrame self.old
             → Spends (Costs 0 0 0 []) (C.told chip.old) (C.told chip.new) }
         ensures status { self.new.parts.status ≡ self.old.parts.status }
@@ -193,13 +206,15 @@ impl Pages {
             (C.told chip.old) (C.told chip.new) }
     {
         if is_framed(&self.pool, unit, page) {
+            use_page(&mut self.pool, unit, page);
             return Ok(());
         }
         self.fetch(chip, unit, page)
     }
 
     /// Brings the page of a record into a frame, where the record fits behind the page's records in
-    /// memory then. Where the page is in a frame with no room for it, these are written out first.
+    /// memory then. Where the page is in a frame with no room for it, these are written out first. It is
+    /// the page used last then.
     pub fn prepare<C: Chip>(
         &mut self,
         chip: &mut C,
@@ -216,18 +231,20 @@ impl Pages {
         ensures exact { frames_in self.old unit logged.now.page ≡ None → HasFreeFrame self.old
             → FailsAsPage (tables_in self.old) unit logged.now.page result (C.told chip.old) }
         ensures room { OnOk result (MayPut (frames_in self.new) unit (record_of logged.now)) }
+        ensures used { OnOk result (IsUsedLast self.new.pool unit logged.now.page) }
         ensures framed { KeepsFramedFor unit logged.now.page self.old self.new }
         ensures status { self.new.parts.status ≡ self.old.parts.status }
         ensures asks { AsksToPrepare unit (record_of logged.now) self.old
             (C.told chip.old) (C.told chip.new) }
     {
         short(logged);
+        if !is_framed(&self.pool, unit, logged.page) {
+            return self.fetch(chip, unit, logged.page);
+        }
+        use_page(&mut self.pool, unit, logged.page);
         if has_room(&self.pool, unit, logged) {
             return Ok(());
         }
-        if is_framed(&self.pool, unit, logged.page) {
-            return self.write_out(chip, unit, logged.page);
-        }
-        self.fetch(chip, unit, logged.page)
+        self.write_out(chip, unit, logged.page)
     }
 }

@@ -5,6 +5,7 @@ ghost use Rattle.ipl_meaning.specs.Last.{size_of};
 ghost use Rattle.log_records.specs.View.{record_of};
 ghost use Rattle.page_ops.specs.Frames.{empty_frame};
 ghost use Rattle.buffer_pool.specs.Holding.{KeepsPins};
+ghost use Rattle.buffer_pool.specs.Uses.{CountsNoOther, CountsNoUse, IsUsedLast, UsesPage};
 ghost use Rattle.pending_writes.specs.Frames.{with_frame_at};
 ghost use Rattle.store_steps.specs.Views.{frame_of};
 ghost use Rattle.pending_writes.specs.Frames.{logs_of};
@@ -35,8 +36,22 @@ pub fn has_records(pool: &Pool, unit: u32, page: u32) -> bool
     }
 }
 
-/// Takes a free frame for a page (0 to 14 of a unit) that is in none. It is empty, and nothing holds the
-/// page there.
+/// Counts a use of a page (0 to 14 of a unit) that is in a frame.
+pub(crate) fn use_page(pool: &mut Pool, unit: u32, page: u32)
+    requires page { page < 15 }
+    requires there { IsSome (frames_of pool.old unit page) }
+    ensures uses { UsesPage pool.old pool.new unit page }
+    ensures others { CountsNoOther unit page pool.old pool.new }
+    ensures last { IsUsedLast pool.new unit page }
+    ensures frames { frames_of pool.new ≡ frames_of pool.old }
+    ensures pins { KeepsPins pool.old pool.new }
+{
+    pool.facts();
+    pool.touch(unit, page);
+}
+
+/// Takes a free frame for a page (0 to 14 of a unit) that is in none. It is empty, nothing holds the page
+/// there, and it is the one used last.
 pub(crate) fn take_frame(pool: &mut Pool, unit: u32, page: u32)
     requires page { page < 15 }
     requires free { slab_len pool.old.buffers < pool.old.limit }
@@ -44,6 +59,8 @@ pub(crate) fn take_frame(pool: &mut Pool, unit: u32, page: u32)
     ensures frames { frames_of pool.new
         ≡ with_frame_at (frames_of pool.old) unit page (Some (frame_of empty_frame [])) }
     ensures unheld { IsUnheld pool.new unit page }
+    ensures others { CountsNoOther unit page pool.old pool.new }
+    ensures last { IsUsedLast pool.new unit page }
     ensures pins { KeepsPins pool.old pool.new }
 {
     pool.facts();
@@ -59,6 +76,7 @@ pub(crate) fn free_frame(pool: &mut Pool, unit: u32, page: u32)
     requires empty { logs_of (frames_of pool.old) unit page ≡ [] }
     ensures frames { frames_of pool.new ≡ with_frame_at (frames_of pool.old) unit page None }
     ensures free { slab_len pool.new.buffers < pool.new.limit }
+    ensures uses { CountsNoUse pool.old pool.new }
     ensures pins { KeepsPins pool.old pool.new }
 {
     pool.facts();

@@ -1,6 +1,7 @@
 //! The records of a page, written out from its frame.
 ghost use Rattle.std.specs.Prelude.{◌≡◌, ◌<◌, ◌≤◌, ◌+◌, ◌^◌};
 ghost use Rattle.selective_merge.specs.Merging.{FailsAsMerge};
+ghost use Rattle.buffer_pool.specs.Uses.{used_of};
 ghost use Rattle.page_frames.specs.Asks.{AsksToWriteOut};
 ghost use Rattle.page_frames.specs.Complete.{Completes};
 ghost use Rattle.page_frames.specs.Faulty.{TellsFaults};
@@ -35,6 +36,7 @@ impl Pages {
         ensures frames { frames_in self.new ≡ frames_after result (frames_in self.old) unit page }
         ensures framed { KeepsFramed self.old self.new }
         ensures order { self.new.pool.order ≡ self.old.pool.order }
+        ensures uses { used_of self.new.pool ≡ used_of self.old.pool }
         ensures status { self.new.parts.status ≡ self.old.parts.status }
         ensures asks { AsksToWriteOut unit page result self.old self.new
             (C.told chip.old) (C.told chip.new) }

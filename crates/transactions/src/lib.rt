@@ -7,18 +7,17 @@
 //! failed (`Completes`), or by a page that doesn't read well (`TellsFaults`).
 //!
 //! Proved, by its calls: sessions over pages in frames: a begin, a share, a write, an abort and a
-//! commit each lead to the model's next state, or leave the state as it was where they fail;
-//! memory stays in order, the same pages are held, and a fault has its cause; over a chip that
-//! tells what it holds, where that stands for a state, a write and a commit fail only where a call
-//! of the chip failed, and where it stands for all of a state but what the pages say, also by a
-//! page that didn't read well.
-//! A commit of a session that wrote nothing asks the chip nothing; where the
-//! status place has a clean sector, one costs at most one erase and one log sector for each page
-//! in a frame that has records in memory and is that of a name the session wrote, and one commit
+//! commit each lead to the model's next state, or leave the state as it was where they fail; memory
+//! stays in order, the same pages are held, and a fault has its cause; over a chip that tells what
+//! it holds, where that stands for a state, a write and a commit fail only where a call of the chip
+//! failed, and where it stands for all of a state but what the pages say, also by a page that
+//! didn't read well. A commit of a session that wrote nothing asks the chip nothing; where the
+//! status place has a clean sector, one costs at most one erase and one log sector for each page in
+//! a frame that has records in memory and is that of a name the session wrote, and one commit
 //! sector; and no erase where each unit has as many log sectors clean at home as it has such pages.
 //! A write of a page that is in a frame costs nothing where its record fits behind those in memory,
-//! and one log sector where one is clean at its unit's home. One that is done leaves the page of its
-//! name in a frame, and every other call keeps all pages in their frames.
+//! and one log sector where one is clean at its unit's home. One that is done leaves the page of
+//! its name in a frame, as the one used last, and every other call keeps all pages in their frames.
 #![tactic(auto)]
 
 mod commits;

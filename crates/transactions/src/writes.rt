@@ -5,6 +5,7 @@ ghost use Rattle.ipl_format.specs.Record.{IsRecord, value_of};
 ghost use Rattle.log_records.specs.View.{change_of, record_of};
 ghost use Rattle.ipl_rules.specs.Operations.{after_write};
 ghost use Rattle.record_locks.specs.Locks.{refuses_write};
+ghost use Rattle.buffer_pool.specs.Uses.{IsUsedLast};
 ghost use Rattle.page_frames.specs.Complete.{Completes};
 ghost use Rattle.page_frames.specs.Faulty.{FailsAsPage, TellsFaults};
 ghost use Rattle.page_frames.specs.Pages.{tables_in, frames_in, HasFreeFrame, IsFramed, KeepsFramedFor};
@@ -19,7 +20,8 @@ use log_records::{Change, Record};
 
 impl Transactions {
     /// Puts or deletes a name of the chip for a session (0 to 31), which no lock keeps it from. The
-    /// page of the name is in a frame then, with the change pending and its record in memory.
+    /// page of the name is in a frame then, with the change pending and its record in memory, and is
+    /// the page used last.
     pub fn write<C: Chip>(
         &mut self,
         chip: &mut C,
@@ -41,6 +43,8 @@ impl Transactions {
             (home_of name.0).unit (home_of name.0).page result (C.told chip.old) }
         ensures framed { OnOk result
             (IsFramed self.new.pages (home_of name.0).unit (home_of name.0).page) }
+        ensures used { OnOk result
+            (IsUsedLast self.new.pages.pool (home_of name.0).unit (home_of name.0).page) }
         ensures stays { KeepsFramedFor (home_of name.0).unit (home_of name.0).page
             self.old.pages self.new.pages }
         ensures asks { AsksToWrite name.0 (change_of change) self.old.pages

@@ -1,6 +1,6 @@
 use Rattle.pending_writes.specs.Frames.{IsCommittedFrame}
 use Rattle.frame_changes.specs.Views.{frames_of}
-use Rattle.frame_changes.proofs.PutLemmas.{no_frame, frame_changes, frame_pins, settled, with_frame_under}
+use Rattle.frame_changes.proofs.PutLemmas.{no_frame, frame_changes, frame_pins, frame_uses, settled, with_frame_under}
 use Rattle.frame_changes.proofs.NameLemmas.{only_this, none_changes}
 use Rattle.frame_changes.proofs.ends.settle_home.Goals as goal
 
@@ -29,3 +29,9 @@ returns-in_default-clause-changes c =
     let at = c.home-at.result in
     none_changes (IsCommittedFrame c.args.tid) (frames_of p) c.args.name.0 at c.home-at.ensures.home
     (no_frame p at.unit at.page c.facts.ensures.once c.in_default.ensures.none)
+
+pub returns-in-Some-clause-uses : goal.returns-in-Some-clause-uses
+returns-in-Some-clause-uses c =
+    let at = c.home-at.result in
+    frame_uses c.args.pool.now at.unit at.page c.in-Some.key c.facts.ensures.once c.in-Some.ensures.found
+    c.settle_tid.new.self

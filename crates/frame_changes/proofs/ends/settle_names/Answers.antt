@@ -9,7 +9,7 @@ use Rattle.frame_changes.proofs.ends.settle_names.Goals as goal
 pub loop-name-init : goal.loop-name-init
 loop-name-init c =
     let p = c.args.pool.now in
-    (named_none (IsCommittedFrame c.args.tid) (commits_joined c.args.tid) (frames_of p), nothing_keeps p, refl)
+    (named_none (IsCommittedFrame c.args.tid) (commits_joined c.args.tid) (frames_of p), nothing_keeps p, refl, refl)
 
 pub loop-name-preserved : goal.loop-name-preserved
 loop-name-preserved c =
@@ -21,7 +21,8 @@ loop-name-preserved c =
           (frames_of l.pool) so.0 (commits_joined c.args.tid) (frames_of new) (record { 0 = 0 })
           c.loop-name-test.true did.changes,
       both_keep c.args.pool.now l.pool new so.1 did.pins,
-      did.order ∙ so.2,
+      did.uses ∙ so.2,
+      did.order ∙ so.3,
     )
 
 pub returns-clause-settled : goal.returns-clause-settled

@@ -1,5 +1,6 @@
 use Rattle.std.proofs.Common.{◌≡◌, take, map}
 use Rattle.buffer_pool.specs.Holding.{KeepsPins}
+use Rattle.buffer_pool.specs.Uses.{used_of}
 use Rattle.pending_writes.specs.Frames.{IsCommittedFrame}
 use Rattle.frame_changes.specs.Views.{frames_of}
 use Rattle.store_steps.specs.NamedFrames.{NamedFramesChange}
@@ -11,4 +12,5 @@ invariant-loop-name l =
     NamedFramesChange (IsCommittedFrame l.tid) (map (λ n. n.0) (take l.name-index l.names)) (frames_of l.fn.pool)
     (frames_of l.pool)
     × KeepsPins l.fn.pool l.pool
+    × (used_of l.pool ≡ used_of l.fn.pool)
     × (l.pool.order ≡ l.fn.pool.order)

@@ -1,5 +1,5 @@
 use Rattle.frame_changes.specs.Changes.{IsClearedFrame}
-use Rattle.frame_changes.proofs.PutLemmas.{none_there, log_changes, log_pins, cleared}
+use Rattle.frame_changes.proofs.PutLemmas.{none_there, log_changes, log_pins, log_uses, cleared}
 use Rattle.frame_changes.proofs.writes.clear_log.Goals as goal
 
 pub unreachable-requires : goal.unreachable-requires
@@ -18,4 +18,9 @@ returns-clause-cleared c =
 pub returns-clause-pins : goal.returns-clause-pins
 returns-clause-pins c =
     log_pins c.args.pool.now c.args.unit c.args.page c.in-Some.key c.facts.ensures.once
+    c.in-Some.ensures.found c.clear.new.self
+
+pub returns-clause-uses : goal.returns-clause-uses
+returns-clause-uses c =
+    log_uses c.args.pool.now c.args.unit c.args.page c.in-Some.key c.facts.ensures.once
     c.in-Some.ensures.found c.clear.new.self

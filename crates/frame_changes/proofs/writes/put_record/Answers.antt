@@ -1,7 +1,7 @@
 use Rattle.log_records.specs.View.{record_of}
 use Rattle.buffer_pool.specs.Lending.{with_frame}
 use Rattle.pending_writes.specs.Frames.{IsWrittenFrame}
-use Rattle.frame_changes.proofs.PutLemmas.{not_absent, both_change, both_pins, stored_then, written}
+use Rattle.frame_changes.proofs.PutLemmas.{not_absent, both_change, both_pins, both_uses, stored_then, written}
 use Rattle.frame_changes.proofs.writes.put_record.Goals as goal
 
 pub unreachable-requires : goal.unreachable-requires
@@ -32,4 +32,9 @@ returns-clause-put c =
 pub returns-clause-pins : goal.returns-clause-pins
 returns-clause-pins c =
     both_pins c.args.pool.now c.args.unit c.args.rec.now.page c.in-Some.key c.facts.ensures.once
+    c.in-Some.ensures.found c.set_pending.new.self c.push.new.self
+
+pub returns-clause-uses : goal.returns-clause-uses
+returns-clause-uses c =
+    both_uses c.args.pool.now c.args.unit c.args.rec.now.page c.in-Some.key c.facts.ensures.once
     c.in-Some.ensures.found c.set_pending.new.self c.push.new.self

@@ -1,4 +1,5 @@
 use Rattle.buffer_pool.proofs.HoldingLemmas.{evictions_keep}
+use Rattle.buffer_pool.proofs.UseLemmas.{evictions_count_no_use}
 use Rattle.frame_changes.proofs.FrameLemmas.{evictions_take_a_frame}
 use Rattle.page_frames.proofs.HeldLemmas.{unheld_page, unheld_may_leave}
 use Rattle.page_frames.proofs.frames.free_frame.Goals as goal
@@ -25,3 +26,9 @@ returns-clause-pins c =
     evictions_keep c.args.pool.now c.evict.new.self c.args.unit c.args.page key
     (unheld_may_leave c.args.pool.now c.args.unit c.args.page c.facts.ensures.once c.requires.unheld
     c.requires.empty) has did c.evict.ensures.limit
+
+pub returns-clause-uses : goal.returns-clause-uses
+returns-clause-uses c =
+    let (key, has, did) = c.evict.ensures.gone in
+    evictions_count_no_use c.args.pool.now c.evict.new.self c.args.unit c.args.page key
+    c.facts.ensures.once has did

@@ -2,6 +2,7 @@ use Rattle.std.proofs.Common.{◌≡◌, ◌+◌, Option, OnSome, ◌∙◌, sub
 use Rattle.slab.specs.Slab.{slab_len}
 use Rattle.buffer_pool.specs.declared.pool.Buffer.{Buffer}
 use Rattle.buffer_pool.proofs.SoundLemmas.{has_inside, sound_removed}
+use Rattle.buffer_pool.proofs.UseLemmas.{before_removed}
 use Rattle.buffer_pool.proofs.pool.Pool.evict.Goals as goal
 
 pub invariant_of-self : goal.invariant_of-self
@@ -16,6 +17,7 @@ invariant_of-self c =
     sound_removed p c.args.self.now c.self.invariant c.self.view_is c.try_remove.new.self
     c.remove.new.self key c.args.unit c.args.page c.page_number.result p.clock c.page_number.ensures
     c.in-Some.ensures.found took.updates c.remove.ensures.removed c.remove.ensures.len len took.capacity
+    (before_removed p.buffers c.try_remove.new.self key p.clock c.self.invariant.counted took.updates)
 
 pub unreachable-requires : goal.unreachable-requires
 unreachable-requires c = c.in-None.ensures.none c.requires.there.key c.requires.there.has

@@ -23,8 +23,8 @@ invariant_of-self c =
     let did = c.drop_pin.ensures in
     let has = has_inside p c.args.self.now c.self.invariant c.self.view_is c.args.unit c.args.page
     c.in-Some.key c.in-Some.ensures.found in
-    sound_changed p c.drop_pin.new.buffers c.in-Some.key p.clock without_pin has.buffer
-    c.self.invariant has.stored did.changes refl refl did.len did.capacity
+    sound_changed p c.drop_pin.new.buffers c.in-Some.key without_pin has.buffer
+    c.self.invariant has.stored did.changes refl refl refl did.len did.capacity
 
 pub unreachable-requires : goal.unreachable-requires
 unreachable-requires c =

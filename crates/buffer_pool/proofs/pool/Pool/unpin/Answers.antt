@@ -12,5 +12,5 @@ invariant_of-self c =
     let there = subst (λ (v : PoolView). get v.buffers key ≡ Some was) (sym c.self.view_is)
     c.requires.stored in
     let did = c.drop_pin.ensures in
-    sound_changed p c.drop_pin.new.buffers key p.clock without_pin was c.self.invariant there
-    did.changes refl refl did.len did.capacity
+    sound_changed p c.drop_pin.new.buffers key without_pin was c.self.invariant there
+    did.changes refl refl refl did.len did.capacity

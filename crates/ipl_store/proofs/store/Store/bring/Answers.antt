@@ -1,9 +1,11 @@
 use Rattle.std.proofs.Common.{None, OnOk, refl, sym, ap, subst}
+use Rattle.ipl_base.specs.Places.{home_of}
 use Rattle.ipl_base.specs.declared.spot.Home.{Home}
+use Rattle.buffer_pool.specs.Uses.{IsUsedLast}
 use Rattle.page_frames.specs.Pages.{IsFramed, KeepsFramedFor}
 use Rattle.ipl_store.specs.declared.store.Store.{Store}
 use Rattle.ipl_store.specs.Shown.{FramesName}
-use Rattle.ipl_store.proofs.CallLemmas.{pages_move, moved_calls, kept_holds, kept_framed, done_ends}
+use Rattle.ipl_store.proofs.CallLemmas.{pages_move, moved_calls, kept_holds, kept_for, done_ends, ended_used}
 use Rattle.ipl_store.proofs.ShownLemmas.{names_told}
 use Rattle.ipl_store.proofs.store.Store.bring.Goals as goal
 
@@ -32,10 +34,15 @@ returns-clause-fetches g c =
           c.bring-done.ensures.upholds.keeps
           (subst (λ (h : Home). OnOk c.bring-done.result (IsFramed pages h.unit h.page))
           c.home-home.ensures.home c.bring-done.ensures.there));
-      stays = λ room. kept_framed store c.end.new.self
+      used = ended_used (home_of c.args.n).unit (home_of c.args.n).page store c.end.new.self
+          (record store.transactions { pages = pages }) store.kept c.bring-done.result c.end.result
+          rest c.end.ensures.ends
+          (subst (λ (h : Home). OnOk c.bring-done.result (IsUsedLast pages.pool h.unit h.page))
+          c.home-home.ensures.home c.bring-done.ensures.used);
+      stays = kept_for (home_of c.args.n).unit (home_of c.args.n).page store c.end.new.self
           (record store.transactions { pages = pages }) store.kept rest
           (subst (λ (h : Home). KeepsFramedFor h.unit h.page store.transactions.pages pages)
-          c.home-home.ensures.home c.bring-done.ensures.framed room);
+          c.home-home.ensures.home c.bring-done.ensures.framed);
     }
 
 pub returns-clause-sessions : goal.returns-clause-sessions

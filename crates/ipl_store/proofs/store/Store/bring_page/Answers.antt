@@ -1,5 +1,5 @@
 use Rattle.std.proofs.Common.{None, refl}
-use Rattle.ipl_store.proofs.CallLemmas.{pages_move, moved_calls, kept_holds, kept_framed, ended_framed}
+use Rattle.ipl_store.proofs.CallLemmas.{pages_move, moved_calls, kept_holds, kept_for, ended_framed, ended_used}
 use Rattle.ipl_store.proofs.store.Store.bring_page.Goals as goal
 
 pub returns-clause-calls : goal.returns-clause-calls
@@ -30,10 +30,18 @@ returns-clause-framed g c =
     c.end.result c.end.ensures.rest c.end.ensures.ends c.bring-done.ensures.there
 
 pub returns-clause-stays : goal.returns-clause-stays
-returns-clause-stays g c = λ room.
+returns-clause-stays g c =
     let store = c.args.self.now in
-    kept_framed store c.end.new.self (record store.transactions { pages = c.bring-done.new.self })
-    store.kept c.end.ensures.rest (c.bring-done.ensures.framed room)
+    kept_for c.args.unit c.args.page store c.end.new.self
+    (record store.transactions { pages = c.bring-done.new.self }) store.kept c.end.ensures.rest
+    c.bring-done.ensures.framed
+
+pub returns-clause-used : goal.returns-clause-used
+returns-clause-used g c =
+    let store = c.args.self.now in
+    ended_used c.args.unit c.args.page store c.end.new.self
+    (record store.transactions { pages = c.bring-done.new.self }) store.kept c.bring-done.result
+    c.end.result c.end.ensures.rest c.end.ensures.ends c.bring-done.ensures.used
 
 pub returns-clause-asks : goal.returns-clause-asks
 returns-clause-asks g c = record {

@@ -5,7 +5,8 @@ use Rattle.buffer_pool.proofs.HoldingLemmas.{as_many}
 use Rattle.pending_writes.specs.Frames.{Frames}
 use Rattle.ipl_store.specs.Calls.{early_fault, entry_fault, refuses_hold}
 use Rattle.ipl_store.proofs.CallLemmas.{calls_refused, let_in, let_in_calls, idle_calls}
-use Rattle.ipl_store.proofs.HoldLemmas.{holds_then, held_before, passed_hold, repooled_calls}
+use Rattle.page_frames.proofs.UseLemmas.{none_leaves, stays_for, framed_then}
+use Rattle.ipl_store.proofs.HoldLemmas.{holds_then, holds_again, held_on, held_before, held_framed, passed_hold, repooled_calls, repooled_framed}
 use Rattle.ipl_store.proofs.ShownLemmas.{asks_nothing}
 use Rattle.ipl_store.proofs.store.Store.hold.Goals as goal
 
@@ -18,7 +19,52 @@ returns-then-is_held-clause-calls g c =
     let none : early ≡ None =
     ap (early_fault (entry_fault store)) (sym c.refuses_hold.ensures) ∙ sym c.in_ok-admit.ensures in
     let (up, few, free) = let_in store refusal none in
-    idle_calls 14 store (g.C.Chip.told c.args.chip.now) early c.requires.sound up none
+    let told = g.C.Chip.told c.args.chip.now in
+    repooled_calls early (λ state. state) 14 store told store c.use_held.new.self told none
+    c.use_held.ensures.pool (idle_calls 14 store told early c.requires.sound up none)
+
+pub use_held-requires-clause-rest : goal.use_held-requires-clause-rest
+use_held-requires-clause-rest g c =
+    let store = c.args.self.now in
+    let refusal = refuses_hold store.units store.transactions.pages.pool c.args.unit
+    c.args.page in
+    let none : early_fault (entry_fault store) refusal ≡ None =
+    ap (early_fault (entry_fault store)) (sym c.refuses_hold.ensures) ∙ sym c.in_ok-admit.ensures in
+    (c.requires.sound.order (let_in store refusal none).0).ready.rest
+
+pub use_held-requires-clause-held : goal.use_held-requires-clause-held
+use_held-requires-clause-held g c = c.if-is_held.ensures.held.0 refl
+
+pub returns-then-is_held-clause-holds : goal.returns-then-is_held-clause-holds
+returns-then-is_held-clause-holds g c =
+    let store = c.args.self.now in
+    let new = c.use_held.new.self in
+    let keeps = c.use_held.ensures.holds in
+    holds_then store new new c.args.unit c.args.page keeps
+    (holds_again new c.args.unit c.args.page (held_on store.transactions.pages.pool
+    new.transactions.pages.pool keeps c.args.unit c.args.page (c.if-is_held.ensures.held.0 refl)))
+
+pub returns-then-is_held-clause-framed : goal.returns-then-is_held-clause-framed
+returns-then-is_held-clause-framed g c =
+    repooled_framed c.args.self.now c.use_held.new.self c.use_held.ensures.pool c.args.unit
+    c.args.page (held_framed c.args.self.now.transactions.pages.pool c.args.unit c.args.page
+    (sym c.if-is_held.ensures.test))
+
+pub returns-in_err-admit-clause-again : goal.returns-in_err-admit-clause-again
+returns-in_err-admit-clause-again g c = λ held.
+    let e = err_from_is_err_and c.from_residual.result c.from_residual.ensures.1 in
+    rw e.1 (refl, refl)
+
+pub returns-then-is_held-clause-again : goal.returns-then-is_held-clause-again
+returns-then-is_held-clause-again g c = λ held.
+    ((c.use_held.ensures.pool.rest, c.use_held.ensures.uses), refl)
+
+pub returns-in_err-bring_page-clause-again : goal.returns-in_err-bring_page-clause-again
+returns-in_err-bring_page-clause-again g c = λ held.
+    absurd (false≢true (c.if-is_held.ensures.test ∙ held))
+
+pub returns-clause-again : goal.returns-clause-again
+returns-clause-again g c = λ held. absurd (false≢true (c.if-is_held.ensures.test ∙ held))
 
 pub returns-in_err-bring_page-clause-calls : goal.returns-in_err-bring_page-clause-calls
 returns-in_err-bring_page-clause-calls g c =
@@ -81,18 +127,26 @@ keep-requires-clause-few g c =
     )
 
 pub returns-in_err-admit-clause-stays : goal.returns-in_err-admit-clause-stays
-returns-in_err-admit-clause-stays g c = λ there u page is. is
+returns-in_err-admit-clause-stays g c =
+    none_leaves c.args.unit c.args.page c.args.self.now.transactions.pages
 
 pub returns-then-is_held-clause-stays : goal.returns-then-is_held-clause-stays
-returns-then-is_held-clause-stays g c = λ there u page is. is
+returns-then-is_held-clause-stays g c =
+    stays_for c.args.unit c.args.page c.args.self.now.transactions.pages
+    c.use_held.new.self.transactions.pages
+    (repooled_framed c.args.self.now c.use_held.new.self c.use_held.ensures.pool)
+    c.use_held.ensures.others
 
 pub returns-in_err-bring_page-clause-stays : goal.returns-in_err-bring_page-clause-stays
 returns-in_err-bring_page-clause-stays g c = c.in_err-bring_page.ensures.stays
 
 pub returns-clause-stays : goal.returns-clause-stays
-returns-clause-stays g c = λ there u page is.
-    subst (λ (f : Frames). IsSome (f u page)) (sym c.keep.ensures.pool.frames)
-    (c.in_ok-bring_page.ensures.stays there u page is)
+returns-clause-stays g c =
+    framed_then c.args.unit c.args.page c.args.self.now.transactions.pages
+    c.bring_page.new.self.transactions.pages c.keep.new.self.transactions.pages
+    c.in_ok-bring_page.ensures.stays
+    (repooled_framed c.bring_page.new.self c.keep.new.self c.keep.ensures.pool)
+    c.keep.ensures.others
 
 pub returns-in_err-admit-clause-calls : goal.returns-in_err-admit-clause-calls
 returns-in_err-admit-clause-calls g c =

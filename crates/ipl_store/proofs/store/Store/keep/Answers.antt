@@ -20,3 +20,10 @@ returns-clause-pool c =
       limit = c.hold.ensures.counts.limit;
       at_rest = c.hold.ensures.rest c.requires.rest c.requires.few;
     }
+
+pub returns-clause-others : goal.returns-clause-others
+returns-clause-others c =
+    let pool = c.args.self.now.transactions.pages.pool in
+    let holds = c.hold.ensures.holds in
+    c.use_laws.ensures.touches pool c.hold.new.self c.args.unit c.args.page holds.key
+    (with_pin pool.clock) c.facts.ensures.once holds.has (λ b. (refl, refl)) holds.changes

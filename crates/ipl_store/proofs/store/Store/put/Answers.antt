@@ -5,10 +5,11 @@ use Rattle.ipl_rules.specs.Operations.{after_write}
 use Rattle.ipl_rules.specs.Refusals.{refuses_put}
 use Rattle.record_locks.specs.Standing.{state_of}
 use Rattle.store_steps.specs.Keeps.{limits_of}
+use Rattle.page_frames.proofs.UseLemmas.{none_leaves}
 use Rattle.transactions.specs.Costs.{AsksToWrite}
 use Rattle.transactions.specs.Turns.{Turns}
 use Rattle.ipl_store.specs.Calls.{early_fault, entry_fault}
-use Rattle.ipl_store.proofs.CallLemmas.{calls_refused, let_in, turns_move, moved_calls, kept_holds, kept_framed, ended_framed}
+use Rattle.ipl_store.proofs.CallLemmas.{calls_refused, let_in, turns_move, moved_calls, kept_holds, kept_for, ended_framed, ended_used}
 use Rattle.ipl_store.proofs.ShownLemmas.{write_asks_nothing}
 use Rattle.ipl_store.proofs.store.Store.put.Goals as goal
 
@@ -46,11 +47,18 @@ returns-clause-framed g c = ended_framed (home_of c.args.n).unit (home_of c.args
     c.end.result c.end.ensures.rest c.end.ensures.ends c.write-done.ensures.framed
 
 pub returns-in_err-admit-clause-stays : goal.returns-in_err-admit-clause-stays
-returns-in_err-admit-clause-stays g c = λ room u page is. is
+returns-in_err-admit-clause-stays g c =
+    none_leaves (home_of c.args.n).unit (home_of c.args.n).page c.args.self.now.transactions.pages
 
 pub returns-clause-stays : goal.returns-clause-stays
-returns-clause-stays g c = λ room. kept_framed c.args.self.now c.end.new.self c.write-done.new.self
-    c.args.self.now.kept c.end.ensures.rest (c.write-done.ensures.stays room)
+returns-clause-stays g c = kept_for (home_of c.args.n).unit (home_of c.args.n).page
+    c.args.self.now c.end.new.self c.write-done.new.self c.args.self.now.kept c.end.ensures.rest
+    c.write-done.ensures.stays
+
+pub returns-clause-used : goal.returns-clause-used
+returns-clause-used g c = ended_used (home_of c.args.n).unit (home_of c.args.n).page
+    c.args.self.now c.end.new.self c.write-done.new.self c.args.self.now.kept c.write-done.result
+    c.end.result c.end.ensures.rest c.end.ensures.ends c.write-done.ensures.used
 
 pub returns-in_err-admit-clause-calls : goal.returns-in_err-admit-clause-calls
 returns-in_err-admit-clause-calls g c =

@@ -4,7 +4,7 @@ use Rattle.page_frames.proofs.BringLemmas.{brings_fresh}
 use Rattle.page_frames.proofs.SpendLemmas.{logs_then_reads}
 use Rattle.page_frames.proofs.UpholdLemmas.{upholds_then}
 use Rattle.page_frames.proofs.CompleteLemmas.{completes_then}
-use Rattle.std.proofs.Common.{sym, subst}
+use Rattle.std.proofs.Common.{IsSome, inl, inr, sym, subst}
 use Rattle.page_frames.specs.declared.pages.Pages.{Pages}
 use Rattle.page_frames.specs.Pages.{KeepsFramed}
 use Rattle.page_frames.proofs.FramedLemmas.{brings_framed}
@@ -45,16 +45,31 @@ returns-in_err-make_room-clause-complete g c =
     rw (e.1, e.2) c.in_err-make_room.ensures.complete
 
 pub returns-in_err-make_room-clause-framed : goal.returns-in_err-make_room-clause-framed
-returns-in_err-make_room-clause-framed g c = λ free.
-    subst (KeepsFramed c.args.self.now) (sym (c.in_err-make_room.ensures.idle free).0)
-    (λ u q is. is)
+returns-in_err-make_room-clause-framed g c = record {
+  stay = λ room. elim room [
+    | inl there ↦ absurd (false≢true (subst IsSome c.requires.absent there))
+    | inr free ↦ subst (KeepsFramed c.args.self.now)
+        (sym (c.in_err-make_room.ensures.idle free).0) (λ u q is. is)
+  ];
+  leaves = c.in_err-make_room.ensures.leaves;
+  uses = λ v q used apart now. c.in_err-make_room.ensures.uses v q used now;
+}
 
 pub returns-clause-framed : goal.returns-clause-framed
-returns-clause-framed g c = λ free.
-    subst (λ (pages : Pages). KeepsFramed pages c.load.new.self)
-    (c.in_ok-make_room.ensures.idle free).0
-    (brings_framed c.load.result c.args.unit c.args.page c.make_room.new.self c.load.new.self
-    c.load.ensures.brings)
+returns-clause-framed g c =
+    let mid = c.make_room.new.self in
+    let keeps = brings_framed c.load.result c.args.unit c.args.page mid c.load.new.self
+    c.load.ensures.brings in record {
+      stay = λ room. elim room [
+        | inl there ↦ absurd (false≢true (subst IsSome c.requires.absent there))
+        | inr free ↦ subst (λ (pages : Pages). KeepsFramed pages c.load.new.self)
+            (c.in_ok-make_room.ensures.idle free).0 keeps
+      ];
+      leaves = λ v q is gone.
+          c.in_ok-make_room.ensures.leaves v q is (λ there. gone (keeps v q there));
+      uses = λ v q used apart now.
+          c.in_ok-make_room.ensures.uses v q used (c.load.ensures.others v q used apart now);
+    }
 
 pub returns-clause-faults : goal.returns-clause-faults
 returns-clause-faults g c =

@@ -1,11 +1,12 @@
-use Rattle.std.proofs.Common.{refl, ◌∙◌, ap}
+use Rattle.std.proofs.Common.{ℕ, Option, refl, sym, ◌∙◌, ap}
 use Rattle.std.proofs.lemmas.Result.{err_from_is_err_and}
 use Rattle.pending_writes.specs.Frames.{Frames, logs_of}
-use Rattle.frame_changes.specs.Views.{frame_in}
+use Rattle.frame_changes.specs.Views.{frame_in, frames_of}
 use Rattle.page_frames.specs.Pages.{frames_in}
 use Rattle.page_frames.proofs.FrameLemmas.{emptied_out, emptied_none, evicted_none}
 use Rattle.page_frames.proofs.HeldLemmas.{unheld_frame}
 use Rattle.page_frames.proofs.LeaveLemmas.{leaves_unheld, leaves_upholds}
+use Rattle.page_frames.proofs.UseLemmas.{freed_page}
 use Rattle.page_frames.proofs.pages.Pages.give_up.Goals as goal
 
 pub write_out-requires-clause-unit : goal.write_out-requires-clause-unit
@@ -60,3 +61,21 @@ returns-in_err-write_out-clause-costs g c = c.in_err-write_out.ensures.asks.cost
 
 pub returns-clause-costs : goal.returns-clause-costs
 returns-clause-costs g c = c.in_ok-write_out.ensures.asks.costs
+
+pub returns-in_err-write_out-clause-leaves : goal.returns-in_err-write_out-clause-leaves
+returns-in_err-write_out-clause-leaves g c = λ v q is gone.
+    absurd (gone (c.in_err-write_out.ensures.framed v q is))
+
+pub returns-clause-leaves : goal.returns-clause-leaves
+returns-clause-leaves g c = λ v q is gone.
+    freed_page (frames_in c.write_out.new.self) (frames_of c.free_frame.new.pool) c.args.unit
+    c.args.page v q c.free_frame.ensures.frames (c.in_ok-write_out.ensures.framed v q is) gone
+
+pub returns-in_err-write_out-clause-uses : goal.returns-in_err-write_out-clause-uses
+returns-in_err-write_out-clause-uses g c = λ v q used now.
+    ap (λ (uses : ℕ → ℕ → Option ℕ). uses v q) (sym c.in_err-write_out.ensures.uses) ∙ now
+
+pub returns-clause-uses : goal.returns-clause-uses
+returns-clause-uses g c = λ v q used now.
+    ap (λ (uses : ℕ → ℕ → Option ℕ). uses v q) (sym c.in_ok-write_out.ensures.uses)
+    ∙ c.free_frame.ensures.uses v q used now

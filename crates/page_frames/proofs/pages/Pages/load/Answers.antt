@@ -1,5 +1,6 @@
 use Rattle.std.proofs.Common.{[], refl, ◌∙◌, ap, Err}
 use Rattle.buffer_pool.proofs.HoldingLemmas.{both_keep}
+use Rattle.buffer_pool.proofs.UseLemmas.{kept_uses_are_last, same_counts}
 use Rattle.page_ops.specs.Frames.{empty_frame}
 use Rattle.pending_writes.specs.Frames.{Frames, logs_of}
 use Rattle.frame_changes.specs.Views.{frames_of}
@@ -98,3 +99,20 @@ returns-in-Err-clause-faults g c =
     (record { parts = c.load_frame.new.self.parts; pool = c.free_frame.new.pool })
     (Err c.in-Err.fault) (g.C.Chip.told c.args.chip.now) c.requires.unit c.requires.page is.tables
     is.exact
+
+pub returns-in-Ok-clause-used : goal.returns-in-Ok-clause-used
+returns-in-Ok-clause-used g c =
+    kept_uses_are_last c.take_frame.new.pool c.load_frame.new.self.pool c.args.unit c.args.page
+    c.in-Ok.ensures.uses c.take_frame.ensures.last
+
+pub returns-in-Ok-clause-others : goal.returns-in-Ok-clause-others
+returns-in-Ok-clause-others g c = λ v q used apart now.
+    c.take_frame.ensures.others v q used apart
+    (same_counts c.args.unit c.args.page c.take_frame.new.pool c.load_frame.new.self.pool
+    c.in-Ok.ensures.uses v q used apart now)
+
+pub returns-in-Err-clause-others : goal.returns-in-Err-clause-others
+returns-in-Err-clause-others g c = λ v q used apart now.
+    c.take_frame.ensures.others v q used apart
+    (same_counts c.args.unit c.args.page c.take_frame.new.pool c.load_frame.new.self.pool
+    c.in-Err.ensures.uses v q used apart (c.free_frame.ensures.uses v q used now))

@@ -6,7 +6,7 @@ use Rattle.std.proofs.lemmas.Result.{on_ok_weaker}
 use Rattle.ipl_format.specs.Record.{Record}
 use Rattle.buffer_pool.specs.Lending.{with_frame}
 use Rattle.frame_changes.proofs.FrameLemmas.{loans_change_a_frame}
-use Rattle.frame_changes.proofs.PutLemmas.{stored_then, frame_pins}
+use Rattle.frame_changes.proofs.PutLemmas.{stored_then, frame_pins, frame_uses}
 use Rattle.pending_writes.specs.Frames.{with_frame_at}
 use Rattle.store_steps.specs.Views.{frame_of}
 use Rattle.page_frames.specs.Pages.{tables_in, frames_in}
@@ -74,3 +74,8 @@ pub returns-clause-exact : goal.returns-clause-exact
 returns-clause-exact g c =
     load_exact (tables_in c.args.self.now) c.args.unit c.args.page c.load.result
     (g.C.Chip.told c.args.chip.now) c.load.ensures.fault
+
+pub returns-clause-uses : goal.returns-clause-uses
+returns-clause-uses g c =
+    frame_uses c.args.self.now.pool c.args.unit c.args.page c.in-Some.key c.facts.ensures.once
+    c.in-Some.ensures.found c.load.new.frame

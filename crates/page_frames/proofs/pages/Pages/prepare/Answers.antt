@@ -1,58 +1,128 @@
+use Rattle.std.proofs.Common.{IsSome, sym, ◌∙◌, refl, subst}
+use Rattle.std.proofs.lemmas.Bool.{false≢true}
 use Rattle.std.proofs.lemmas.Result.{on_ok_weaker}
 use Rattle.log_records.specs.View.{record_of}
+use Rattle.pending_writes.specs.Frames.{Frames}
+use Rattle.frame_changes.specs.Changes.{MayPut}
+use Rattle.page_frames.specs.declared.pages.Pages.{Pages}
+use Rattle.buffer_pool.proofs.UseLemmas.{same_counts}
 use Rattle.page_frames.proofs.AskLemmas.{fitting_asks, framed_asks, fetched_asks}
 use Rattle.page_frames.proofs.BringLemmas.{fits_fresh, out_fresh}
-use Rattle.page_frames.proofs.UpholdLemmas.{upholds_none}
-use Rattle.std.proofs.Common.{inl, inr, sym, ◌∙◌}
-use Rattle.std.proofs.lemmas.Bool.{false≢true}
+use Rattle.page_frames.proofs.CompleteLemmas.{completes_then}
+use Rattle.page_frames.proofs.TellLemmas.{tells_then}
+use Rattle.page_frames.proofs.UpholdLemmas.{upholds_then}
+use Rattle.page_frames.proofs.UseLemmas.{used_upholds, used_framed, used_after, stays_for}
 use Rattle.page_frames.proofs.pages.Pages.prepare.Goals as goal
 
-pub returns-then-has_room-clause-upholds : goal.returns-then-has_room-clause-upholds
-returns-then-has_room-clause-upholds g c =
-    upholds_none 14 c.args.self.now (g.C.Chip.told c.args.chip.now) c.requires.ready
+-- ---- its page is in no frame
 
-pub returns-then-is_framed-clause-room : goal.returns-then-is_framed-clause-room
-returns-then-is_framed-clause-room g c =
-    let r = record_of c.args.logged.now in
-    on_ok_weaker c.write_out.result
-    (fits_fresh c.write_out.new.self c.args.unit r c.short.ensures)
-    (out_fresh c.write_out.result c.args.unit c.args.logged.now.page c.args.self.now
-    c.write_out.new.self (c.is_framed.ensures.0 c.if-is_framed.true) c.write_out.ensures.frames)
-
-pub returns-clause-room : goal.returns-clause-room
-returns-clause-room g c =
+pub returns-then-not-is_framed-clause-room : goal.returns-then-not-is_framed-clause-room
+returns-then-not-is_framed-clause-room g c =
     on_ok_weaker c.fetch.result
     (fits_fresh c.fetch.new.self c.args.unit (record_of c.args.logged.now) c.short.ensures)
     c.fetch.ensures.fresh
 
+pub returns-then-not-is_framed-clause-asks : goal.returns-then-not-is_framed-clause-asks
+returns-then-not-is_framed-clause-asks g c =
+    fetched_asks c.args.unit (record_of c.args.logged.now) c.args.self.now
+    (g.C.Chip.told c.args.chip.now) (g.C.Chip.told c.fetch.new.chip)
+    (λ there. false≢true (c.if-not-is_framed.ensures.1 there)) c.fetch.ensures.idle
+    c.fetch.ensures.costs
+
+-- ---- it is in one, with room for the record
+
+pub use_page-requires-clause-there : goal.use_page-requires-clause-there
+use_page-requires-clause-there g c = c.if-not-is_framed.ensures.0 refl
+
+pub returns-then-has_room-clause-upholds : goal.returns-then-has_room-clause-upholds
+returns-then-has_room-clause-upholds g c =
+    used_upholds 14 c.args.self.now c.use_page.new.pool (g.C.Chip.told c.args.chip.now)
+    c.requires.ready c.use_page.ensures.frames c.use_page.ensures.pins
+
 pub returns-then-has_room-clause-framed : goal.returns-then-has_room-clause-framed
-returns-then-has_room-clause-framed g c = λ room u q is. is
-
-pub returns-then-is_framed-clause-framed : goal.returns-then-is_framed-clause-framed
-returns-then-is_framed-clause-framed g c = λ room. c.write_out.ensures.framed
-
-pub returns-clause-framed : goal.returns-clause-framed
-returns-clause-framed g c = λ room. elim room [
-  | inl there ↦ absurd (false≢true (sym c.if-is_framed.false ∙ c.is_framed.ensures.1 there))
-  | inr free ↦ c.fetch.ensures.framed free
-]
+returns-then-has_room-clause-framed g c =
+    let old = c.args.self.now in
+    let pool = c.use_page.new.pool in
+    stays_for c.args.unit c.args.logged.now.page old (record old { pool = pool })
+    (used_framed old pool c.use_page.ensures.frames) c.use_page.ensures.others
 
 pub returns-then-has_room-clause-asks : goal.returns-then-has_room-clause-asks
 returns-then-has_room-clause-asks g c =
     fitting_asks c.args.unit (record_of c.args.logged.now) c.args.self.now
     (g.C.Chip.told c.args.chip.now)
 
-pub returns-then-is_framed-clause-asks : goal.returns-then-is_framed-clause-asks
-returns-then-is_framed-clause-asks g c =
-    framed_asks c.args.unit (record_of c.args.logged.now) c.write_out.result c.args.self.now
-    c.write_out.new.self (g.C.Chip.told c.args.chip.now) (g.C.Chip.told c.write_out.new.chip)
-    (λ may. false≢true (sym c.if-has_room.false ∙ c.has_room.ensures.1 may))
-    (c.is_framed.ensures.0 c.if-is_framed.true) c.write_out.ensures.asks
+-- ---- with none
+
+pub write_out-requires-clause-ready : goal.write_out-requires-clause-ready
+write_out-requires-clause-ready g c =
+    (used_upholds 14 c.args.self.now c.use_page.new.pool (g.C.Chip.told c.args.chip.now)
+    c.requires.ready c.use_page.ensures.frames c.use_page.ensures.pins).ready
+
+pub returns-clause-upholds : goal.returns-clause-upholds
+returns-clause-upholds g c =
+    let old = c.args.self.now in
+    let told = g.C.Chip.told c.args.chip.now in
+    let pool = c.use_page.new.pool in
+    upholds_then 0 14 old (record old { pool = pool }) c.write_out.new.self c.write_out.result told
+    told (g.C.Chip.told c.write_out.new.chip)
+    (used_upholds 0 old pool told c.requires.ready c.use_page.ensures.frames
+    c.use_page.ensures.pins) c.write_out.ensures.upholds
+
+pub returns-clause-complete : goal.returns-clause-complete
+returns-clause-complete g c =
+    let old = c.args.self.now in
+    let told = g.C.Chip.told c.args.chip.now in
+    let pool = c.use_page.new.pool in
+    completes_then old (record old { pool = pool }) c.write_out.result told told refl
+    (used_upholds 0 old pool told c.requires.ready c.use_page.ensures.frames
+    c.use_page.ensures.pins).keeps c.write_out.ensures.complete
+
+pub returns-clause-faults : goal.returns-clause-faults
+returns-clause-faults g c =
+    let old = c.args.self.now in
+    let told = g.C.Chip.told c.args.chip.now in
+    let pool = c.use_page.new.pool in
+    tells_then old (record old { pool = pool }) c.write_out.new.self c.write_out.result told told refl
+    (used_upholds 0 old pool told c.requires.ready c.use_page.ensures.frames
+    c.use_page.ensures.pins).keeps c.write_out.ensures.faults
+
+pub returns-clause-exact : goal.returns-clause-exact
+returns-clause-exact g c = λ none.
+    absurd (false≢true (subst IsSome none (c.if-not-is_framed.ensures.0 refl)))
+
+pub returns-clause-room : goal.returns-clause-room
+returns-clause-room g c =
+    let used : Pages = record c.args.self.now { pool = c.use_page.new.pool } in
+    let page = c.args.logged.now.page in
+    on_ok_weaker c.write_out.result
+    (fits_fresh c.write_out.new.self c.args.unit (record_of c.args.logged.now) c.short.ensures)
+    (out_fresh c.write_out.result c.args.unit page used c.write_out.new.self
+    (used_framed c.args.self.now c.use_page.new.pool c.use_page.ensures.frames c.args.unit page
+    (c.if-not-is_framed.ensures.0 refl)) c.write_out.ensures.frames)
+
+pub returns-clause-used : goal.returns-clause-used
+returns-clause-used g c =
+    used_after c.write_out.result c.use_page.new.pool c.write_out.new.self.pool c.args.unit
+    c.args.logged.now.page c.write_out.ensures.uses c.use_page.ensures.last
+
+pub returns-clause-framed : goal.returns-clause-framed
+returns-clause-framed g c =
+    let unit = c.args.unit in
+    let page = c.args.logged.now.page in
+    stays_for c.args.unit c.args.logged.now.page c.args.self.now c.write_out.new.self (λ v q is.
+    c.write_out.ensures.framed v q
+    (used_framed c.args.self.now c.use_page.new.pool c.use_page.ensures.frames v q is))
+    (λ v q used apart now. c.use_page.ensures.others v q used apart
+    (same_counts unit page c.use_page.new.pool c.write_out.new.self.pool c.write_out.ensures.uses v q
+    used apart now))
 
 pub returns-clause-asks : goal.returns-clause-asks
 returns-clause-asks g c =
-    fetched_asks c.args.unit (record_of c.args.logged.now) c.args.self.now
-    (g.C.Chip.told c.args.chip.now) (g.C.Chip.told c.fetch.new.chip)
-    (λ may. false≢true (sym c.if-has_room.false ∙ c.has_room.ensures.1 may))
-    (λ there. false≢true (sym c.if-is_framed.false ∙ c.is_framed.ensures.1 there))
-    c.fetch.ensures.idle c.fetch.ensures.costs
+    let old = c.args.self.now in
+    let pool = c.use_page.new.pool in
+    let r = record_of c.args.logged.now in
+    framed_asks c.args.unit r c.write_out.result old (record old { pool = pool })
+    c.write_out.new.self (g.C.Chip.told c.args.chip.now) (g.C.Chip.told c.write_out.new.chip) refl
+    (λ may. false≢true (sym c.if-has_room.false ∙ c.has_room.ensures.1
+    (subst (λ (F : Frames). MayPut F c.args.unit r) (sym c.use_page.ensures.frames) may)))
+    (c.if-not-is_framed.ensures.0 refl) c.write_out.ensures.asks

@@ -14,6 +14,10 @@ use Rattle.transactions.proofs.WriteLemmas.{put_framed, prepared_asks, was_writt
 use Rattle.std.proofs.Common.{subst}
 use Rattle.page_frames.specs.Pages.{KeepsFramedFor}
 use Rattle.page_frames.proofs.FramedLemmas.{set_framed}
+use Rattle.page_frames.proofs.UseLemmas.{framed_then}
+use Rattle.page_frames.specs.declared.pages.Pages.{Pages}
+use Rattle.buffer_pool.specs.Uses.{IsUsedLast}
+use Rattle.buffer_pool.proofs.UseLemmas.{kept_uses_are_last, same_counts}
 use Rattle.std.proofs.Common.{◌≡◌, None, Err}
 use Rattle.page_frames.specs.Pages.{tables_in, frames_in, HasFreeFrame}
 use Rattle.page_frames.specs.Faulty.{FailsAsPage}
@@ -85,13 +89,26 @@ returns-in_err-prepare-clause-stays g c =
     c.home-home.ensures.home c.in_err-prepare.ensures.framed
 
 pub returns-clause-stays : goal.returns-clause-stays
-returns-clause-stays g c = λ room u page there.
+returns-clause-stays g c =
     let at = c.home-home.result in
+    let home = home_of c.args.name.0 in
     let put = c.put_record.ensures.put in
-    set_framed at.unit at.page put.now c.prepare.new.self
-    (record { parts = c.prepare.new.self.parts; pool = c.put_record.new.pool }) put.frames u page
-    (subst (λ (h : Home). KeepsFramedFor h.unit h.page c.args.self.now.pages c.prepare.new.self)
-    c.home-home.ensures.home c.in_ok-prepare.ensures.framed room u page there)
+    let old = c.args.self.now.pages in
+    let mid = c.prepare.new.self in
+    let new : Pages = record { parts = mid.parts; pool = c.put_record.new.pool } in
+    framed_then home.unit home.page old mid new
+    (subst (λ (h : Home). KeepsFramedFor h.unit h.page old mid) c.home-home.ensures.home
+    c.in_ok-prepare.ensures.framed)
+    (set_framed at.unit at.page put.now mid new put.frames)
+    (same_counts home.unit home.page mid.pool new.pool c.put_record.ensures.uses)
+
+pub returns-clause-used : goal.returns-clause-used
+returns-clause-used g c =
+    let at = c.home-home.result in
+    let pool = c.put_record.new.pool in
+    subst (λ (h : Home). IsUsedLast pool h.unit h.page) c.home-home.ensures.home
+    (kept_uses_are_last c.prepare.new.self.pool pool at.unit at.page c.put_record.ensures.uses
+    c.in_ok-prepare.ensures.used)
 
 pub returns-in_err-prepare-clause-asks : goal.returns-in_err-prepare-clause-asks
 returns-in_err-prepare-clause-asks g c =
