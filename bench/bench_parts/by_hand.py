@@ -15,12 +15,12 @@ class Known(NamedTuple):
 
 
 FORMAT = Known("format", 0, "e0 e1 e2 e3 e4 b 0.0 1.0 b")
-# Five headers, 255 sectors of the status place, 15 log sectors; and unit 0 once more, 1 + 15.
-OPEN = Known("open", 5 + 255 + 15 + 16, "e2 b b 2.0 b")
-# The unit's header and its 15 log sectors, of which none is known clean.
-FIRST_PUT_READS = 1 + 15
-# The header; it and the log, to count what is carried; again for the merge; and the new header.
-FIRST_LOG_READS = 1 + 16 + 16 + 1
+# Five headers, 255 sectors of the status place, 15 log sectors.
+OPEN = Known("open", 5 + 255 + 15, "e2 b b 2.0 b")
+# The unit's header: the page has no base sectors, and no log sector names it.
+FIRST_PUT_READS = 1
+# The header and the 15 log sectors, to count what is carried. The merge takes what was counted.
+FIRST_LOG_READS = 1 + 15
 
 
 def transaction(name: int, put_reads: int, commit_reads: int, writes: str) -> List[Known]:
@@ -47,14 +47,14 @@ def full_status_place() -> List[Known]:
             merge = "e1 b b 1.0 b 1.241"
             known += transaction(5, FIRST_PUT_READS, FIRST_LOG_READS, f"{merge} {commit}")
         elif used > 0:
-            known += transaction(5, 0, 1, f"{place}.{241 + used} {commit}")
+            known += transaction(5, 0, 0, f"{place}.{241 + used} {commit}")
         else:
             merge = f"e{place} b {place}.1 b {place}.0 b {place}.241"
             base_reads = 0 if turn == 16 else 1
             known += transaction(5, 0, FIRST_LOG_READS + base_reads, f"{merge} {commit}")
     switch, merge = "e0 b 0.1 b 0.0 b", "e2 b 2.1 b 2.0 b 2.241"
     known += transaction(5, 0, 16 + FIRST_LOG_READS + 1, f"{switch} {merge} b 0.2 b")
-    known += transaction(5, 0, 1, "2.242 b 0.3 b")
+    known += transaction(5, 0, 0, "2.242 b 0.3 b")
     return known
 
 
@@ -74,20 +74,20 @@ def full_overflow() -> List[Known]:
         elif name == 4:
             known.append(Known(line, FIRST_LOG_READS, "e1 b b 1.0 b 1.241"))
         elif name % 4 == 0:
-            known.append(Known(line, 1, f"1.{240 + name // 4}"))
+            known.append(Known(line, 0, f"1.{240 + name // 4}"))
         else:
             known.append(Known(line, 0, ""))
-    # Page 1 comes into a frame: the header and the eight log sectors.
-    known += transaction(64, 9, 1, "1.249 b 2.1 b")
+    # Page 1 comes into a frame: the header. The eight log sectors name page 0 alone.
+    known += transaction(64, 1, 0, "1.249 b 2.1 b")
     for turn in range(2, 8):
-        known += transaction(64, 0, 1, f"1.{248 + turn} b 2.{turn} b")
-    known += transaction(64, 0, 1 + 16, "e0 b b 0.0 b 0.1 b 2.8 b")
+        known += transaction(64, 0, 0, f"1.{248 + turn} b 2.{turn} b")
+    known += transaction(64, 0, 16, "e0 b b 0.0 b 0.1 b 2.8 b")
     for turn in range(9, 24):
-        known += transaction(64, 0, 1 + 16 + turn - 8, f"0.{turn - 7} b 2.{turn} b")
+        known += transaction(64, 0, 16 + turn - 8, f"0.{turn - 7} b 2.{turn} b")
     carried = " ".join(f"3.{sector}" for sector in range(241, 249))
-    known += transaction(64, 0, 1 + 32 + 32 + 1, f"e3 b 3.17 {carried} b 3.0 b 3.249 b 2.24 b")
+    known += transaction(64, 0, 32, f"e3 b 3.17 {carried} b 3.0 b 3.249 b 2.24 b")
     known.append(Known("abort 1", 0, ""))
     for turn in range(25, 31):
-        known += transaction(64, 0, 1, f"3.{225 + turn} b 2.{turn} b")
+        known += transaction(64, 0, 0, f"3.{225 + turn} b 2.{turn} b")
     known += transaction(64, 0, FIRST_LOG_READS + 1, "e0 b 0.17 b 0.0 b 0.241 b 2.31 b")
     return known

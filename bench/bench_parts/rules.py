@@ -6,6 +6,7 @@ from __future__ import annotations
 
 from typing import Dict, List, NamedTuple, Optional, Set, Tuple
 
+from .program import Failed
 from .trace import Asked
 
 SECTORS = 256
@@ -16,6 +17,7 @@ SECTOR_PAYLOAD = 480
 MOST_CARRIED = 7
 MOST_SPOTS, MOST_OVERFLOW_PLACES = 16, 2
 NUMBERS_IN_SECTOR = 60
+MOST_KEPT = 3840
 
 Page = Tuple[int, int]
 Spot = Tuple[int, int]
@@ -59,6 +61,11 @@ class Unit:
     def log_reads(self) -> int:
         """The header and the log."""
         return 1 + self.used + len(self.spots)
+
+    def page_reads(self, page: int) -> int:
+        """The header, the log sectors that name the page, and its base sectors."""
+        naming = [sector for sector in self.log if any(record.page == page for record in sector)]
+        return 1 + len(naming) + self.pieces[page]
 
     def apply(self, committed: Set[int]) -> None:
         """The records of committed numbers become values."""
@@ -106,7 +113,7 @@ class Rules:
         self.overflow_headers: Set[int] = set()
         self.committed: Set[int] = set()
         self.sessions: Dict[int, Session] = {}
-        # The pages in frames in the order in which they came in, with their records in memory.
+        # The pages in frames, the one used longest ago first, with their records in memory.
         self.pages: Dict[Page, List[Record]] = {}
         self.drawn = 0
         # So many log sectors went to overflow places.
@@ -138,7 +145,12 @@ class Rules:
         self.barrier()
 
     def merge(self, unit: Unit) -> None:
-        self.asked.reads += unit.log_reads + sum(unit.pieces)
+        self.asked.reads += unit.log_reads
+        self.merge_learnt(unit)
+
+    def merge_learnt(self, unit: Unit) -> None:
+        """A merge of a unit whose header and log were read."""
+        self.asked.reads += sum(unit.pieces)
         packs = unit.carried(self.active)
         place = self.take_place()
         unit.apply(self.committed)
@@ -170,14 +182,11 @@ class Rules:
         return min(clean, default=None)
 
     def merged_spot(self, unit: Unit) -> Spot:
-        self.merge(unit)
-        # The new header.
-        self.asked.reads += 1
+        self.merge_learnt(unit)
         return unit.place, FIRST_LOG_SECTOR + unit.used
 
     def log_spot(self, unit: Unit) -> Spot:
         """Where a log sector goes."""
-        self.asked.reads += 1
         if unit.used < LOG_SECTORS:
             return unit.place, FIRST_LOG_SECTOR + unit.used
         self.asked.reads += unit.log_reads
@@ -201,32 +210,40 @@ class Rules:
         unit.log.append(records)
         self.pages[page] = []
 
+    def use(self, page: Page) -> None:
+        """A page that is in a frame is the one used last."""
+        self.pages[page] = self.pages.pop(page)
+
     def bring(self, page: Page) -> None:
         if page in self.pages:
+            self.use(page)
             return
         if len(self.pages) == self.frames:
             first = next(iter(self.pages))
             self.write_out(first)
             del self.pages[first]
-        unit = self.units[page[0]]
-        self.asked.reads += unit.log_reads + unit.pieces[page[1]]
+        self.asked.reads += self.units[page[0]].page_reads(page[1])
         self.pages[page] = []
 
     def change(self, session: Session, name: int, length: Optional[int]) -> None:
         page = page_of(name)
         record = Record(page[1], name % SLOTS, session.number, length)
-        if page not in self.pages:
-            self.bring(page)
-        elif size_of(self.pages[page]) + record.size > SECTOR_PAYLOAD:
+        self.bring(page)
+        if size_of(self.pages[page]) + record.size > SECTOR_PAYLOAD:
             self.write_out(page)
         self.pages[page].append(record)
         session.pages.add(page)
 
     def renew_status(self) -> None:
-        kept: Set[int] = set()
-        for unit in self.units:
-            self.asked.reads += unit.log_reads
-            kept |= {record.number for record in unit.records} & self.committed
+        self.asked.reads += sum(unit.log_reads for unit in self.units)
+        self.switch_status()
+
+    def switch_status(self) -> None:
+        """A new status place, where the log records that are live were read."""
+        live = {record.number for unit in self.units for record in unit.records}
+        kept = live & self.committed
+        if len(kept) > MOST_KEPT:
+            raise Failed("units would be merged, which these rules don't have")
         parts = -(-len(kept) // NUMBERS_IN_SECTOR)
         place = self.take_place()
         self.write(place, *range(1, 1 + parts))
@@ -242,7 +259,7 @@ class Rules:
         self.overflow = dict.fromkeys(self.overflow, SECTORS)
         whole = 1 + len(self.overflow_headers)
         self.asked.reads += self.places + 255 * whole + LOG_SECTORS * len(self.units)
-        self.renew_status()
+        self.switch_status()
 
     def commit(self, number: int) -> None:
         session = self.sessions[number]
