@@ -32,7 +32,16 @@ pub none_to_write : (u page : ℕ) (pages : Pages) (t : Told)
     → AsksToWriteOut u page (Ok tt) pages pages t t
 none_to_write u page pages t = record {
   idle = λ none. (refl, refl);
-  home = λ has. (one_of_none t, inl (record { current = refl; in_use = refl; written = refl }));
+  home = λ has. (
+    one_of_none t,
+    inl (record {
+      current = refl;
+      in_use = refl;
+      written = refl;
+      generations = refl;
+      masks = λ v i low. refl;
+    }),
+  );
   costs = logs_of_reads pages.parts.directory t t (nothing_spent t);
 }
 

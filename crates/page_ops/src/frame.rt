@@ -1,5 +1,5 @@
 //! A page in memory.
-ghost use Rattle.std.specs.Prelude.{◌≡◌, ◌≢◌, ◌≤◌, ◌<◌, ℕ, IfSome, length, option_map};
+ghost use Rattle.std.specs.Prelude.{◌≡◌, ◌≢◌, ◌≤◌, ◌<◌, ℕ, None, IfSome, length, option_map, slice_set};
 ghost use Rattle.std.specs.Borrow.{sem};
 ghost use Rattle.log_records.specs.View.{change_of};
 ghost use Rattle.page_ops.specs.Pending.{seen_by, without_pending, with_pending};
@@ -37,6 +37,16 @@ impl Frame {
         Frame {
             page: PageMap::empty(),
             pending: Default::default(),
+        }
+    }
+
+    /// Empties the frame where it stands: what is empty is looked at and not written, so that a frame
+    /// that is empty already costs no more than that.
+    pub fn clear(&mut self)
+        ensures { self.new ≡ empty_frame }
+    {
+        for slot in 0..SLOTS {
+            self.clear_at(slot);
         }
     }
 
@@ -99,6 +109,21 @@ impl Frame {
 }
 
 impl Frame {
+    /// Empties a slot and drops its pending change, where it has any.
+    fn clear_at(&mut self, slot: u32)
+        requires { slot < 64 }
+        ensures long { (length self.new.page ≡ 64) × (length self.new.pending ≡ 64) }
+        ensures page { self.new.page ≡ slice_set self.old.page slot None }
+        ensures pending { self.new.pending ≡ slice_set self.old.pending slot None }
+    {
+        if self.page.get(slot).is_some() {
+            self.page.clear(slot);
+        }
+        if self.pending[slot as usize].is_some() {
+            self.pending[slot as usize] = None;
+        }
+    }
+
     /// Drops the pending change of a slot, where it is of this number.
     fn drop_at(&mut self, slot: u32, tid: u64)
         requires { slot < 64 }

@@ -113,7 +113,7 @@ pub fn load<C: Chip>(
         (page_spots directory.now overflow.now unit page) page e
         (C.told chip.old) (C.told chip.new)) }
 {
-    *frame = Frame::empty();
+    frame.clear();
     let place = directory.current(unit);
     let header = read_page_log(chip, directory, overflow, unit, page, scratch)?;
     read_base(chip, place, unit, &header, page, frame)?;

@@ -1,18 +1,19 @@
 -- What finding room and writing a log sector cost.
-use Rattle.std.proofs.Common.{◌≡◌, ◌≤◌, ℕ, Bool, true, false, [], ◌∷◌, ◌++◌, ◌||◌, Result, Ok, Err, inl, inr, refl, sym, ◌∙◌, ap, subst, arith}
+use Rattle.std.proofs.Common.{◌≡◌, ◌≤◌, ◌<◌, ◌+◌, ◌-◌, ℕ, Bool, true, false, List, length, slice_index, slice_index_or, slice_set, [], ◌∷◌, ◌++◌, ◌||◌, Result, Ok, Err, inl, inr, refl, sym, ◌∙◌, ap, subst, arith}
 use Rattle.std.specs.List.{Contains}
-use Rattle.std.proofs.lemmas.Bool.{cases_Bool, false≢true}
+use Rattle.std.proofs.lemmas.Bool.{cases_Bool, cases_eq, cases_lt, false≢true}
+use Rattle.std.proofs.lemmas.List.{get_or-set_same, get_or-set_other, set_past}
 use Rattle.chip_trait.specs.declared.event.Event.TheVariants.{Read, Program, Erase, Barrier, Said}
 use Rattle.chip_trait.specs.Story.{Story}
 use Rattle.chip_trait.specs.Told.{Told}
 use Rattle.ipl_base.specs.declared.fault.ChipFault.{ChipFault}
-use Rattle.ipl_meaning.specs.Tables.{Places, Tables}
+use Rattle.ipl_meaning.specs.Tables.{Places, Tables, first_log, masks_in, with_mask, with_written}
 use Rattle.unit_io.specs.Costs.{Costs, ProgramsAt, Spends, erases, is_erased}
 use Rattle.unit_io.specs.ReadsAt.{ReadsAt}
 use Rattle.unit_io.proofs.CostLemmas.{costs_at_most, costs_then, erased_joined, programs_at_cost, spends_reads, spends_then, spends_weaker}
 use Rattle.selective_merge.specs.Spending.{IsLowestFree, ErasesFree}
 use Rattle.selective_merge.specs.Spotting.{HasHomeSpot}
-use Rattle.page_writing.specs.Spending.{ErasesAndLogs, UsesHome, RoomCosts, WritingCosts}
+use Rattle.page_writing.specs.Spending.{ErasesAndLogs, KeepsMasks, UsesHome, RoomCosts, WritingCosts}
 use Rattle.page_writing.specs.Writing.{IsAfterLog}
 
 -- ---- what is erased
@@ -84,6 +85,34 @@ room_costs Never t after u old new home costs = record {
 
 -- ---- the log sector, and whether it goes home
 
+-- a list that is set behind a place has there what it had
+set_behind : (l : List ℕ) (k i a : ℕ) → i < k → slice_index (slice_set l k a) i ≡ slice_index l i
+set_behind l k i a low = get_or-set_other l k i a 0 (λ same. absurd (omega (arith, low, same)))
+
+-- the masks of the unit, with another one behind those that counted
+own_masks : (it : Places) (u k i mask : ℕ) → i < k
+    → slice_index (slice_index_or (slice_set it.masks u (slice_set (masks_in it u) k mask)) u []) i
+    ≡ slice_index (masks_in it u) i
+own_masks it u k i mask low = elim (cases_lt u (length it.masks)) [
+  | inl within ↦ ap (λ (l : List ℕ). slice_index l i)
+      (get_or-set_same it.masks u (slice_set (masks_in it u) k mask) [] within)
+      ∙ set_behind (masks_in it u) k i mask low
+  | inr past ↦ ap (λ (l : List (List ℕ)). slice_index (slice_index_or l u []) i)
+      (set_past it.masks u (slice_set (masks_in it u) k mask) past)
+]
+
+-- the first log sector that didn't count gets a mask, and the others keep theirs
+masks_kept : (it : Places) (u s mask : ℕ) → s ≡ 241 + slice_index it.written u
+    → KeepsMasks it (with_mask (with_written it u) u s mask)
+masks_kept it u s mask first v i low = elim (cases_eq v u) [
+  | inl same ↦ subst (λ (w : ℕ). slice_index (masks_in (with_mask (with_written it u) u s mask) w) i
+      ≡ slice_index (masks_in it w) i) (sym same) (own_masks it u (s - 241) i mask
+      (subst (λ (w : ℕ). i < slice_index it.written w → i < s - 241) (sym same)
+      (λ few. omega (arith, first, few)) low))
+  | inr other ↦ ap (λ (l : List ℕ). slice_index l i)
+      (get_or-set_other it.masks u v (slice_set (masks_in it u) (s - 241) mask) [] other)
+]
+
 -- what counts as written then
 pub log_uses : (t after : Tables) (u p s mask next : ℕ) → IsAfterLog t after u p s mask next
     → UsesHome (Ok tt) t.places after.places u
@@ -91,11 +120,16 @@ log_uses t after u p s mask next (inl (home, is)) = inr (record {
   current = ap (λ (x : Tables). x.places.current) is;
   in_use = ap (λ (x : Tables). x.places.in_use) is;
   written = ap (λ (x : Tables). x.places.written) is;
+  generations = ap (λ (x : Tables). x.places.generations) is;
+  masks = subst (λ (x : Tables). KeepsMasks t.places x.places) (sym is)
+      (masks_kept t.places u (first_log t u) mask refl);
 })
 log_uses t after u p s mask next (inr (over, is)) = inl (record {
   current = ap (λ (x : Tables). x.places.current) is;
   in_use = ap (λ (x : Tables). x.places.in_use) is;
   written = ap (λ (x : Tables). x.places.written) is;
+  generations = ap (λ (x : Tables). x.places.generations) is;
+  masks = subst (λ (x : Tables). KeepsMasks t.places x.places) (sym is) (λ v i low. refl);
 })
 
 -- no room was found

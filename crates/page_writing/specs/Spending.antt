@@ -1,9 +1,9 @@
 -- What writing a page's records out erases and programs.
-use Rattle.std.specs.Prelude.{ℕ, ◌≡◌, ◌⊎◌, true, [], ◌∷◌, Result, Ok, Err}
+use Rattle.std.specs.Prelude.{ℕ, ◌≡◌, ◌<◌, ◌⊎◌, true, List, [], ◌∷◌, slice_index, Result, Ok, Err}
 use Rattle.chip_trait.specs.Story.{Story}
 use Rattle.chip_trait.specs.Told.{Told}
 use Rattle.ipl_base.specs.declared.fault.ChipFault.{ChipFault}
-use Rattle.ipl_meaning.specs.Tables.{Places, Tables, with_written}
+use Rattle.ipl_meaning.specs.Tables.{Places, Tables, masks_in, with_written}
 use Rattle.unit_io.specs.Costs.{Costs, Spends, is_erased}
 use Rattle.selective_merge.specs.Spending.{ErasesFree, IsLowestFree}
 use Rattle.selective_merge.specs.Spotting.{HasHomeSpot}
@@ -14,17 +14,26 @@ pub record ErasesAndLogs (before : Places) (added : Story) : Type 0 where
   pub costs : Costs 1 1 3 (5 ∷ []) added
   pub lowest : (p : ℕ) → is_erased added p ≡ true → IsLowestFree before p
 
--- each unit stands where it stood, the same places are in use, and the same log sectors count as
--- written; which pages they name may be another
-pub record AreAlike (before after : Places) : Type 0 where
+-- the log sectors at home that counted as written before name the pages that they named
+abbrev pub KeepsMasks : Places → Places → Type 0
+KeepsMasks before after = (u i : ℕ) → i < slice_index before.written u
+    → slice_index (masks_in after u) i ≡ slice_index (masks_in before u) i
+
+-- Each unit stands where it stood and under the generation that it had, the same places are in use,
+-- and of the units' log sectors at home those that are told as written count so. Those that did
+-- before name the pages that they named.
+pub record AreAlike (before after : Places) (count : List ℕ) : Type 0 where
   pub current : after.current ≡ before.current
   pub in_use : after.in_use ≡ before.in_use
-  pub written : after.written ≡ before.written
+  pub written : after.written ≡ count
+  pub generations : after.generations ≡ before.generations
+  pub masks : KeepsMasks before after
 
--- Done, each unit stands where it stood, and no other log sector counts as written than before, but
--- one more at this unit's home. Where it failed, all is as it was.
+-- Done, all is as it was, but that one more log sector may count as written at this unit's home.
+-- Where it failed, all is as it was.
 abbrev pub UsesHome : Result (Unit {0}) ChipFault → Places → Places → ℕ → Type 0
-UsesHome (Ok v) before after u = AreAlike before after ⊎ AreAlike (with_written before u) after
+UsesHome (Ok v) before after u =
+    AreAlike before after before.written ⊎ AreAlike before after (with_written before u).written
 UsesHome (Err e) before after u = after ≡ before
 
 -- What finding room costs: where a log sector is clean at the unit's home, reads alone, and the

@@ -10,8 +10,8 @@
 //! would have made more than 3,840. Not done, and no write failed, all pages show what they showed
 //! and the same numbers are committed. Over what the chip holds it fails with exactly what was
 //! wrong with a unit whose numbers don't fit, which is where it was, or where a call of the chip
-//! failed; with that alone
-//! where all units' pages read well and few log sectors of each would be carried.
+//! failed; with that alone where all units' pages read well and few log sectors of each would be
+//! carried.
 //!
 //! Proved, by `recover`: an opening that ends with a renewal: the first fault, exactly, and a chip
 //! that has one was only read; or where there is none that of the first page of a unit that had to
