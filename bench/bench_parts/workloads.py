@@ -1,12 +1,15 @@
 """The workloads of the benches: transactions as lists of puts, and their scripts."""
 from __future__ import annotations
 
+from itertools import islice
 from typing import Callable, Dict, Iterator, List, NamedTuple, TextIO
 
 UNIT_NAMES = 960
 SHORT_VALUE, LONG_VALUE = 40, 108
 # So many names of a unit may be pending.
 MOST_PENDING = 48
+# So many sessions are open at most.
+SESSIONS = 32
 
 
 class Put(NamedTuple):
@@ -89,6 +92,34 @@ def write_script(out: TextIO, transactions: Iterator[Transaction]) -> None:
         out.write("begin 0\n")
         out.writelines(f"put 0 {put.name} {put.value}\n" for put in puts)
         out.write("commit 0\n")
+
+
+def in_rounds(transactions: Iterator[Transaction]) -> Iterator[List[Transaction]]:
+    """The transactions in rounds of 32, the last of which may have fewer."""
+    while True:
+        together = list(islice(transactions, SESSIONS))
+        if not together:
+            return
+        yield together
+
+
+def write_rounds(out: TextIO, transactions: Iterator[Transaction], batches: bool) -> None:
+    """A session for each transaction of a round. They are committed one by one, or as a batch."""
+    for together in in_rounds(transactions):
+        for session, puts in enumerate(together):
+            out.write(f"begin {session}\n")
+            out.writelines(f"put {session} {put.name} {put.value}\n" for put in puts)
+        numbers = [str(session) for session in range(len(together))]
+        if batches:
+            out.write(f"commit {' '.join(numbers)}\n")
+        else:
+            out.writelines(f"commit {number}\n" for number in numbers)
+
+
+def joined(transactions: Iterator[Transaction]) -> Iterator[Transaction]:
+    """Each round of transactions as one."""
+    for together in in_rounds(transactions):
+        yield [put for puts in together for put in puts]
 
 
 def write_sql(out: TextIO, transactions: Iterator[Transaction]) -> None:

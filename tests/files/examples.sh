@@ -24,7 +24,7 @@ says_but_ok() {
 }
 
 for frames in 2 16 64; do
-    for name in first refusals sessions; do
+    for name in batch first refusals sessions; do
         says $name ram:5 --format --frames $frames
         says $name file:5:chip --format --frames $frames
     done
@@ -37,4 +37,4 @@ done
 says_but_ok readings 4000 file:5:chip --format
 ends 0 "" serial ram:5 <"$examples/serial.ipl"
 wants "the view of serial" cmp -s said "$examples/serial.out"
-echo "seven examples with 2, 16 and 64 frames, in memory and in a file, and a serial view"
+echo "eight examples with 2, 16 and 64 frames, in memory and in a file, and a serial view"

@@ -34,6 +34,8 @@ pub enum Refusal {
     HoldsFull,
     #[error("the page isn't held")]
     NotHeld,
+    #[error("session {0} is named twice")]
+    Twice(u32),
 }
 
 /// What a chip did not do, or what it held that it must not hold.

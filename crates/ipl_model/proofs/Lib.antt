@@ -4,3 +4,4 @@ mod RecordLemmas
 mod SlotLemmas
 mod LogLemmas
 mod ChangeLemmas
+mod BatchLemmas

@@ -1,5 +1,5 @@
 -- Only commits change the records.
-use Rattle.std.proofs.Common.{◌≡◌, ◌⊎◌, inl, inr, ℕ, zero, suc, Bool, true, false, cond, [], ◌∷◌, Option, Some, None, refl, ap, subst}
+use Rattle.std.proofs.Common.{◌≡◌, ◌⊎◌, inl, inr, ℕ, zero, suc, Bool, true, false, cond, [], ◌∷◌, Option, Some, None, refl}
 use Rattle.std.specs.Option.{option_map_or}
 use Rattle.std.specs.FinMap.{get, insert}
 use Rattle.ipl_base.specs.declared.fault.Refusal.{Refusal}
@@ -10,7 +10,7 @@ use Rattle.ipl_model.specs.declared.command.Command.{Command}
 use Rattle.ipl_model.specs.declared.command.Command.TheVariants as command
 use Rattle.ipl_model.specs.declared.reply.Reply.TheVariants as reply
 use Rattle.ipl_model.specs.Step.{step, refusal_of, accepted}
-use Rattle.ipl_model.specs.Laws.{OnlyCommitsChangeRecords, RecordsChangeByCommits}
+use Rattle.ipl_model.specs.Laws.{is_commit, OnlyCommitsChangeRecords, RecordsChangeByCommits}
 
 -- a session that is changed, where it is open
 sessions_alone : (state : State) (s : ℕ) (o : Option Session) (change : Session → Session)
@@ -30,7 +30,7 @@ write_keeps state s w = sessions_alone state s (get state.sessions s) (λ sessio
 
 -- the records stay, or the command is a commit
 abbrev StaysOrCommits : State → Command → State → Type 0
-StaysOrCommits state c next = (next.map ≡ state.map) ⊎ ((s : ℕ) × (c ≡ command.Commit s))
+StaysOrCommits state c next = (next.map ≡ state.map) ⊎ (is_commit c ≡ true)
 
 accepted_changes : (state : State) (c : Command) → StaysOrCommits state c (accepted state c).0
 accepted_changes state (command.Begin s) = inl refl
@@ -38,7 +38,8 @@ accepted_changes state (command.Get s n) = inl refl
 accepted_changes state (command.Share s n) = inl (share_keeps state s n)
 accepted_changes state (command.Put s n bytes) = inl (write_keeps state s (n, Some bytes))
 accepted_changes state (command.Del s n) = inl (write_keeps state s (n, None))
-accepted_changes state (command.Commit s) = inr (s, refl)
+accepted_changes state (command.Commit s) = inr refl
+accepted_changes state (command.Batch ss) = inr refl
 accepted_changes state (command.Abort s) = inl refl
 accepted_changes state (command.List a b) = inl refl
 accepted_changes state (command.Merge u) = inl refl
@@ -49,16 +50,16 @@ pub only_commits_change_records : OnlyCommitsChangeRecords
 only_commits_change_records limits state c = by_refusal (refusal_of limits state c) (accepted_changes state c)
   where
     by_refusal : (o : Option Refusal) → StaysOrCommits state c (accepted state c).0
-        → ((option_map_or (λ refusal. (state, reply.Refused refusal ∷ [])) o (accepted state c)).0.map ≡ state.map) ⊎ ((s : ℕ) × (c ≡ command.Commit s) × (o ≡ None))
+        → ((option_map_or (λ refusal. (state, reply.Refused refusal ∷ [])) o (accepted state c)).0.map ≡ state.map) ⊎ ((is_commit c ≡ true) × (o ≡ None))
     by_refusal (Some refusal) changes = inl refl
     by_refusal None (inl stays) = inl stays
-    by_refusal None (inr (s, commits)) = inr (s, commits, refl)
+    by_refusal None (inr commits) = inr (commits, refl)
 
 pub records_change_by_commits : RecordsChangeByCommits
 records_change_by_commits limits state [] zero = inl refl
 records_change_by_commits limits state [] (suc r) = inl refl
 records_change_by_commits limits state (c ∷ commands) zero = elim (only_commits_change_records limits state c) [
   | inl stays ↦ inl stays
-  | inr commits ↦ inr (commits.0, commands, ap (λ (d : Command). d ∷ commands) commits.1, subst (λ (d : Command). refusal_of limits state d ≡ None) commits.1 commits.2)
+  | inr commits ↦ inr (c, commands, refl, commits.0, commits.1)
 ]
 records_change_by_commits limits state (c ∷ commands) (suc r) = records_change_by_commits limits (step limits state c).0 commands r

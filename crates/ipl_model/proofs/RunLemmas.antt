@@ -82,6 +82,7 @@ accepted_shows state (command.Share s n) = one_shows (found_reply (see state s n
 accepted_shows state (command.Put s n bytes) = refl
 accepted_shows state (command.Del s n) = refl
 accepted_shows state (command.Commit s) = refl
+accepted_shows state (command.Batch ss) = refl
 accepted_shows state (command.Abort s) = refl
 accepted_shows state (command.List a b) =
     ap (λ (l : List (List ℕ)). begins_with [] (joined l)) (map-last (map row_reply (rows state.map a b)) reply.End) ∙ shows_later (map reply_text (map row_reply (rows state.map a b))) (reply_text reply.End) refl

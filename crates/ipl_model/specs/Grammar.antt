@@ -6,7 +6,7 @@ use Rattle.std.specs.Result.{result_ok}
 use Rattle.std.specs.Str.{bytes_eq}
 use Rattle.hex.specs.Hex.{decode_of}
 use Rattle.ipl_model.specs.declared.command.Command.{Command}
-use Rattle.ipl_model.specs.declared.command.Command.TheVariants.{Begin, Get, Share, Put, Del, Commit, Abort, List as ListRecords, Merge, Restart, Syntax}
+use Rattle.ipl_model.specs.declared.command.Command.TheVariants.{Begin, Get, Share, Put, Del, Commit, Batch, Abort, List as ListRecords, Merge, Restart, Syntax}
 use Rattle.ipl_model.specs.declared.line.Line.{Line}
 use Rattle.ipl_model.specs.declared.line.Line.TheVariants.{Skip, Do}
 
@@ -50,6 +50,21 @@ abbrev pub numbers_and_value : List (List ℕ) → Option (ℕ × ℕ × List �
 numbers_and_value (s ∷ n ∷ v ∷ []) = option_and_then (λ session. option_and_then (λ name. option_map (λ bytes. (session, name, bytes)) (value_of v)) (number_of n)) (number_of s)
 numbers_and_value words = None
 
+-- the numbers that words are, where each is one
+abbrev pub all_numbers : List (List ℕ) → Option (List ℕ)
+all_numbers [] = Some []
+all_numbers (s ∷ words) = option_and_then (λ session. option_map (λ more. session ∷ more) (all_numbers words)) (number_of s)
+
+-- the sessions that the words of a commit name: numbers, at most 32
+abbrev pub sessions_of : List (List ℕ) → Option (List ℕ)
+sessions_of words = if nat_le (length words) 32 then all_numbers words else None
+
+-- a commit of one session, or of several together
+abbrev pub commit_of : List ℕ → Command
+commit_of [] = Syntax
+commit_of (s ∷ []) = Commit s
+commit_of (s ∷ t ∷ more) = Batch (s ∷ t ∷ more)
+
 -- the command, where no words stand behind its verb
 abbrev pub alone : Command → List (List ℕ) → Command
 alone command [] = command
@@ -64,7 +79,7 @@ command_of (verb ∷ words) =
     else if bytes_eq verb (codes "share") then option_map_or (λ a. Share a.0 a.1) (two_numbers words) Syntax
     else if bytes_eq verb (codes "put") then option_map_or (λ a. Put a.0 a.1 a.2) (numbers_and_value words) Syntax
     else if bytes_eq verb (codes "del") then option_map_or (λ a. Del a.0 a.1) (two_numbers words) Syntax
-    else if bytes_eq verb (codes "commit") then option_map_or Commit (one_number words) Syntax
+    else if bytes_eq verb (codes "commit") then option_map_or commit_of (sessions_of words) Syntax
     else if bytes_eq verb (codes "abort") then option_map_or Abort (one_number words) Syntax
     else if bytes_eq verb (codes "list") then option_map_or (λ a. ListRecords a.0 a.1) (two_numbers words) Syntax
     else if bytes_eq verb (codes "merge") then option_map_or Merge (one_number words) Syntax

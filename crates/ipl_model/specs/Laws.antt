@@ -1,9 +1,9 @@
 -- Laws of runs.
-use Rattle.std.specs.Prelude.{◌≡◌, ◌⊎◌, ℕ, suc, ◌≤◌, List, [], ◌∷◌, ◌++◌, take, drop, length, Some, None}
+use Rattle.std.specs.Prelude.{◌≡◌, ◌⊎◌, ℕ, suc, ◌≤◌, Bool, true, false, List, [], ◌∷◌, ◌++◌, take, drop, length, Some, None}
 use Rattle.ipl_base.specs.declared.fault.Refusal.{Refusal}
 use Rattle.ipl_rules.specs.State.{State, Limits}
 use Rattle.ipl_model.specs.declared.command.Command.{Command}
-use Rattle.ipl_model.specs.declared.command.Command.TheVariants.{Commit}
+use Rattle.ipl_model.specs.declared.command.Command.TheVariants as command
 use Rattle.ipl_model.specs.declared.reply.Reply.TheVariants as reply
 use Rattle.ipl_model.specs.Step.{step, refusal_of}
 use Rattle.ipl_model.specs.Run.{text, after, answered}
@@ -27,14 +27,20 @@ abbrev pub RefusalsChangeNothing : Type 0
 RefusalsChangeNothing = (limits : Limits) (state : State) (c : Command) (refusal : Refusal) → refusal_of limits state c ≡ Some refusal
     → step limits state c ≡ (state, reply.Refused refusal ∷ [])
 
--- a step changes the records only where it is a commit that isn't refused
+-- a command commits sessions
+abbrev pub is_commit : Command → Bool
+is_commit (command.Commit s) = true
+is_commit (command.Batch ss) = true
+is_commit other = false
+
+-- a step changes the records only where it is a commit, of one session or of several, that isn't refused
 abbrev pub OnlyCommitsChangeRecords : Type 0
 OnlyCommitsChangeRecords = (limits : Limits) (state : State) (c : Command) → ((step limits state c).0.map ≡ state.map)
-    ⊎ ((s : ℕ) × (c ≡ Commit s) × (refusal_of limits state c ≡ None))
+    ⊎ ((is_commit c ≡ true) × (refusal_of limits state c ≡ None))
 
 -- so the records after r + 1 commands are those after r, but where the next command is such a commit
 abbrev pub RecordsChangeByCommits : Type 0
 RecordsChangeByCommits = (limits : Limits) (state : State) (commands : List Command) (r : ℕ)
     → ((after limits state commands (suc r)).map ≡ (after limits state commands r).map)
-    ⊎ ((s : ℕ) × (later : List Command) × (drop r commands ≡ Commit s ∷ later)
-    × (refusal_of limits (after limits state commands r) (Commit s) ≡ None))
+    ⊎ ((c : Command) × (later : List Command) × (drop r commands ≡ c ∷ later) × (is_commit c ≡ true)
+    × (refusal_of limits (after limits state commands r) c ≡ None))

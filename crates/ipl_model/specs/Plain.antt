@@ -1,5 +1,5 @@
 -- What the plain model stands for.
-use Rattle.std.specs.Prelude.{◌≡◌, ℕ, ◌*◌, ◌==◌, Bool, not, ◌&&◌, ◌||◌, List, [], ◌∷◌, map, reverse, find, Option, Result, Ok, Err, Vec}
+use Rattle.std.specs.Prelude.{◌≡◌, ℕ, ◌*◌, ◌==◌, ◌++◌, Bool, not, ◌&&◌, ◌||◌, List, [], ◌∷◌, map, reverse, find, Option, Result, Ok, Err, Vec}
 use Rattle.std.specs.List.{flat_map}
 use Rattle.std.specs.Option.{option_map, option_map_or}
 use Rattle.std.specs.FinMap.{empty, get, insert}
@@ -9,6 +9,7 @@ use Rattle.ipl_base.specs.declared.limits.TheConstants.{UNIT_NAMES, SESSIONS}
 use Rattle.ipl_base.specs.declared.fault.Refusal.{Refusal}
 use Rattle.ipl_rules.specs.State as rules
 use Rattle.ipl_rules.specs.Slots.{open_from, opened}
+use Rattle.ipl_rules.specs.Operations.{after_abort}
 use Rattle.ipl_rules.specs.Refusals.{first_of, not_open, conflict, writes_full, pending_full}
 use Rattle.ipl_model.specs.declared.plain_model.PlainModel.{PlainModel}
 use Rattle.ipl_model.specs.declared.plain_model.log.Write.{Write}
@@ -54,6 +55,20 @@ writes_in slot = option_map_or (λ session. session.writes) slot []
 -- all writes of open sessions
 abbrev pub all_writes : List (Option rules.Session) → List rules.Write
 all_writes slots = flat_map (λ e. e.1.writes) (open_from 0 slots)
+
+-- the writes of these sessions, the newest first; each session stands once
+abbrev pub batch_writes : rules.State → List ℕ → List rules.Write
+batch_writes state [] = []
+batch_writes state (s ∷ ss) = batch_writes state ss ++ rules.writes_of state s
+
+-- the state with these writes among the records
+abbrev pub with_records : List rules.Write → rules.State → rules.State
+with_records writes state = record state { map = rules.with_writes writes state.map }
+
+-- the state with these sessions closed
+abbrev pub with_closed : rules.State → List ℕ → rules.State
+with_closed state [] = state
+with_closed state (s ∷ ss) = with_closed (after_abort state s) ss
 
 -- the state with a name more among those that a session shares
 abbrev pub with_share : rules.State → ℕ → ℕ → rules.State

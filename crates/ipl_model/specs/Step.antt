@@ -3,8 +3,8 @@ use Rattle.std.specs.Prelude.{ℕ, List, [], ◌∷◌, ◌++◌, map, Option, S
 use Rattle.std.specs.Option.{option_map_or}
 use Rattle.ipl_base.specs.declared.fault.Refusal.{Refusal}
 use Rattle.ipl_rules.specs.State.{State, Limits, see}
-use Rattle.ipl_rules.specs.Refusals.{refuses_begin, refuses_get, refuses_share, refuses_put, refuses_del, refuses_end, refuses_list, refuses_merge}
-use Rattle.ipl_rules.specs.Operations.{after_begin, after_share, after_write, after_commit, after_abort, after_restart, rows}
+use Rattle.ipl_rules.specs.Refusals.{refuses_begin, refuses_get, refuses_share, refuses_put, refuses_del, refuses_end, refuses_batch, refuses_list, refuses_merge}
+use Rattle.ipl_rules.specs.Operations.{after_begin, after_share, after_write, after_commit, after_batch, after_abort, after_restart, rows}
 use Rattle.ipl_model.specs.declared.command.Command.{Command}
 use Rattle.ipl_model.specs.declared.command.Command.TheVariants as command
 use Rattle.ipl_model.specs.declared.reply.Reply.{Reply}
@@ -22,6 +22,7 @@ refusal_of limits state (command.Share s n) = refuses_share limits state s n
 refusal_of limits state (command.Put s n bytes) = refuses_put limits state s n bytes
 refusal_of limits state (command.Del s n) = refuses_del limits state s n
 refusal_of limits state (command.Commit s) = refuses_end limits state s
+refusal_of limits state (command.Batch ss) = refuses_batch limits state ss
 refusal_of limits state (command.Abort s) = refuses_end limits state s
 refusal_of limits state (command.List a b) = refuses_list limits a b
 refusal_of limits state (command.Merge u) = refuses_merge limits u
@@ -45,6 +46,7 @@ accepted state (command.Share s n) = (after_share state s n, found_reply (see st
 accepted state (command.Put s n bytes) = (after_write state s (n, Some bytes), reply.Ok ∷ [])
 accepted state (command.Del s n) = (after_write state s (n, None), reply.Ok ∷ [])
 accepted state (command.Commit s) = (after_commit state s, reply.Ok ∷ [])
+accepted state (command.Batch ss) = (after_batch state ss, reply.Ok ∷ [])
 accepted state (command.Abort s) = (after_abort state s, reply.Ok ∷ [])
 accepted state (command.List a b) = (state, map row_reply (rows state.map a b) ++ reply.End ∷ [])
 accepted state (command.Merge u) = (state, reply.Ok ∷ [])

@@ -1,5 +1,5 @@
 //! The commands of a script.
-ghost use Rattle.std.specs.Prelude.{◌≡◌, ◌≤◌, ℕ, List, length};
+ghost use Rattle.std.specs.Prelude.{◌≡◌, ◌≤◌, ◌<◌, ◌++◌, ◌∷◌, [], ℕ, List, length};
 
 use arrayvec::ArrayVec;
 use std::marker::Model;
@@ -40,7 +40,52 @@ impl PutBytes {
     }
 }
 
-/// One command: a session first, where it has one, then a name; a list has the first and the last name, a merge the unit.
+/// The sessions that a commit of several names, 2 to 32, in their order. A contract sees them as a list.
+#[derive(PartialEq, Eq, Debug, Drop)]
+pub struct Sessions {
+    numbers: ArrayVec<u32, 32>,
+}
+
+impl Model for Sessions {
+    ghost Value = { List ℕ };
+
+    ghost view = { λ v. v.numbers.items };
+
+    ghost invariant = { λ v. length v.numbers.items ≤ 32 };
+
+    ghost inverse = { λ xs. record { numbers = record { items = xs } } };
+}
+
+impl Sessions {
+    /// These sessions, at most 32.
+    pub fn of(numbers: &[u32]) -> Sessions
+        requires { length numbers.now ≤ 32 }
+        ensures { result ≡ numbers.now }
+    {
+        let mut items = ArrayVec::new();
+        let _ = items.try_extend_from_slice(numbers);
+        Sessions { numbers: items }
+    }
+
+    /// Puts a session behind the others, of which there are fewer than 32.
+    pub fn push(&mut self, number: u32)
+        requires { length self.old < 32 }
+        ensures { self.new ≡ self.old ++ number ∷ [] }
+    {
+        self.numbers.push(number);
+    }
+
+    /// Their numbers, at most 32.
+    pub fn numbers(&self) -> &[u32]
+        ensures value { result.now ≡ self.now }
+        ensures fits { length result.now ≤ 32 }
+    {
+        self.numbers.as_slice()
+    }
+}
+
+/// One command: a session first, where it has one, then a name; a list has the first and the last
+/// name, a merge the unit, a batch the sessions that it commits.
 /// `Syntax` stands for a line that is no command.
 #[derive(PartialEq, Eq, Debug, Drop)]
 pub enum Command {
@@ -50,6 +95,7 @@ pub enum Command {
     Put(u32, u32, PutBytes),
     Del(u32, u32),
     Commit(u32),
+    Batch(Sessions),
     Abort(u32),
     List(u32, u32),
     Merge(u32),

@@ -5,7 +5,8 @@
 //!
 //! Proved, by `run_laws`, `session_laws`: runs of the model over scripts: the number of commands
 //! answered is the greatest whose replies were said; a refused command changes nothing; only a
-//! commit that isn't refused changes the records; a restart closes all sessions and keeps them.
+//! commit that isn't refused, of one session or of several, changes the records; a restart closes
+//! all sessions and keeps them.
 //!
 //! Proved, by `PlainModel::step`: the model as a program: each step is the definition's, state and
 //! replies.
@@ -18,7 +19,7 @@ mod line;
 mod plain_model;
 mod reply;
 
-pub use command::{Command, PutBytes};
+pub use command::{Command, PutBytes, Sessions};
 pub use laws::run_laws;
 pub use laws_of_sessions::session_laws;
 pub use line::Line;

@@ -8,6 +8,7 @@ ghost use Rattle.ipl_model.specs.Step.{step};
 ghost use Rattle.ipl_rules.specs.Slots.{opened};
 ghost use Rattle.ipl_model.specs.Plain.{state_of, limits_of, limits_for, slot_of};
 
+mod batches;
 mod changes;
 mod locks;
 mod log;

@@ -1,3 +1,4 @@
+pub mod BatchLemmas
 pub mod ListLemmas
 pub mod SeenLemmas
 pub mod SlotLemmas

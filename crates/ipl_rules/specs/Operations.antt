@@ -26,6 +26,11 @@ after_write state s w = option_map_or (λ session. record state { sessions = ins
 abbrev pub after_commit : State → ℕ → State
 after_commit state s = record { map = with_writes (writes_of state s) state.map; sessions = remove state.sessions s }
 
+-- the writes of these sessions become records, one session after the other, and they are closed
+abbrev pub after_batch : State → List ℕ → State
+after_batch state [] = state
+after_batch state (s ∷ ss) = after_batch (after_commit state s) ss
+
 abbrev pub after_abort : State → ℕ → State
 after_abort state s = record state { sessions = remove state.sessions s }
 

@@ -1,9 +1,9 @@
 -- When an operation is refused: the first test of a list that holds gives the refusal.
-use Rattle.std.specs.Prelude.{ℕ, ◌==◌, ◌/◌, nat_le, nat_lt, Bool, not, ◌&&◌, ◌||◌, List, [], ◌∷◌, length, Option, Some, None, is_some, unwrap_or, if◌then◌else◌}
+use Rattle.std.specs.Prelude.{ℕ, ◌==◌, ◌/◌, nat_le, nat_lt, Bool, not, ◌&&◌, ◌||◌, List, [], ◌∷◌, length, filter, find, Option, Some, None, is_some, unwrap_or, if◌then◌else◌}
 use Rattle.ipl_base.specs.declared.limits.TheConstants.{VALUE_LEN, UNIT_NAMES, SESSION_NAMES, PENDING_NAMES}
 use Rattle.ipl_base.specs.declared.fault.Refusal.{Refusal}
-use Rattle.ipl_base.specs.declared.fault.Refusal.TheVariants.{BadSession, BadName, TooLong, AlreadyOpen, NotOpen, Conflict, WritesFull, SharesFull, PendingFull, BadUnit}
-use Rattle.std.specs.List.{list_any}
+use Rattle.ipl_base.specs.declared.fault.Refusal.TheVariants.{BadSession, BadName, TooLong, AlreadyOpen, NotOpen, Conflict, WritesFull, SharesFull, PendingFull, BadUnit, Twice}
+use Rattle.std.specs.List.{list_any, range_with_len}
 use Rattle.ipl_rules.specs.State.{State, Limits, is_open, writes_of, shared_of, last_write, written_names, holder_for_share, holder_for_write, pending}
 
 -- a test, and the refusal that it gives
@@ -57,6 +57,18 @@ shares_full state s n = (is_new_share state s n && nat_le SESSION_NAMES (length 
 abbrev pub pending_full : State → ℕ → ℕ → Test
 pending_full state s n = (is_new_write state s n && nat_le PENDING_NAMES (pending state (n / UNIT_NAMES)), PendingFull (n / UNIT_NAMES))
 
+-- the number stands twice in the list, or more often
+abbrev pub is_twice : List ℕ → ℕ → Bool
+is_twice ss s = nat_lt 1 (length (filter (λ t. t == s) ss))
+
+-- the least session that does
+abbrev pub least_twice : Limits → List ℕ → Option ℕ
+least_twice limits ss = find (is_twice ss) (range_with_len 0 limits.sessions)
+
+-- a session is named twice; the least is named
+abbrev pub twice : Option ℕ → Test
+twice least = (is_some least, Twice (unwrap_or least 0))
+
 -- ---- the operations, each with its tests in order
 
 abbrev pub refuses_begin : Limits → State → ℕ → Option Refusal
@@ -80,6 +92,11 @@ refuses_del limits state s n = first_of (bad_session limits s ∷ bad_name limit
 -- of a commit and of an abort
 abbrev pub refuses_end : Limits → State → ℕ → Option Refusal
 refuses_end limits state s = first_of (bad_session limits s ∷ not_open state s ∷ [])
+
+-- of a commit of several sessions
+abbrev pub refuses_batch : Limits → State → List ℕ → Option Refusal
+refuses_batch limits state ss = first_of ((list_any (λ s. nat_le limits.sessions s) ss, BadSession)
+    ∷ twice (least_twice limits ss) ∷ (list_any (λ s. not (is_open state s)) ss, NotOpen) ∷ [])
 
 abbrev pub refuses_list : Limits → ℕ → ℕ → Option Refusal
 refuses_list limits a b = first_of ((nat_le limits.names a || nat_le limits.names b, BadName) ∷ [])

@@ -1,8 +1,8 @@
 //! Sessions change names, and are committed.
-ghost use Rattle.std.specs.Prelude.{◌^◌, Some, None, OnOk};
+ghost use Rattle.std.specs.Prelude.{◌≤◌, ◌^◌, [], ◌∷◌, Some, None, length, OnOk};
 ghost use Rattle.ipl_base.specs.Places.{home_of};
-ghost use Rattle.ipl_rules.specs.Operations.{after_write, after_commit};
-ghost use Rattle.ipl_rules.specs.Refusals.{refuses_put, refuses_del, refuses_end};
+ghost use Rattle.ipl_rules.specs.Operations.{after_write, after_commit, after_batch};
+ghost use Rattle.ipl_rules.specs.Refusals.{refuses_put, refuses_del, refuses_end, refuses_batch};
 ghost use Rattle.record_locks.specs.Standing.{state_of};
 ghost use Rattle.store_steps.specs.Keeps.{limits_of};
 ghost use Rattle.page_frames.specs.Pages.{IsFramed, KeepsFramed, KeepsFramedFor};
@@ -83,11 +83,33 @@ impl Store {
             self.old (C.told chip.old) result self.new (C.told chip.new) }
         ensures holds { KeepsHolds self.old self.new }
         ensures framed { KeepsFramed self.old.transactions.pages self.new.transactions.pages }
-        ensures asks { CommitAsks self.old.transactions s (C.told chip.old) (C.told chip.new) }
+        ensures asks { CommitAsks self.old.transactions (s ∷ []) (C.told chip.old)
+            (C.told chip.new) }
     {
         self.admit(self.refuses_end(s))?;
         passing_laws();
-        let done = self.transactions.commit(chip, &mut self.kept, s);
+        let done = self.transactions.commit(chip, &mut self.kept, &[s]);
+        self.end(done)
+    }
+
+    /// Commits several sessions (2 to 32, each named once) together, by one commit sector: once it
+    /// answers, all their writes last, and all are closed. A power cut before leaves the writes of
+    /// all of them or of none.
+    pub fn commit_all<C: Chip>(&mut self, chip: &mut C, sessions: &[u32]) -> Result<(), StoreFault>
+        requires sound { IsSound (C.told chip.old).places self.old }
+        requires few { length sessions.now ≤ 32 }
+        ensures calls { Calls (early_fault (entry_fault self.old)
+            (refuses_batch (limits_of self.old.units) (state_of self.old.transactions.sessions)
+            sessions.now)) (λ state. after_batch state sessions.now) (2 ^ 15)
+            self.old (C.told chip.old) result self.new (C.told chip.new) }
+        ensures holds { KeepsHolds self.old self.new }
+        ensures framed { KeepsFramed self.old.transactions.pages self.new.transactions.pages }
+        ensures asks { CommitAsks self.old.transactions sessions.now (C.told chip.old)
+            (C.told chip.new) }
+    {
+        self.admit(self.refuses_batch(sessions))?;
+        passing_laws();
+        let done = self.transactions.commit(chip, &mut self.kept, sessions);
         self.end(done)
     }
 }

@@ -9,6 +9,7 @@ ghost use Rattle.ipl_rules.specs.Refusals.{
   refuses_put,
   refuses_del,
   refuses_end,
+  refuses_batch,
   refuses_merge,
 };
 ghost use Rattle.store_steps.specs.Keeps.{limits_of};
@@ -52,6 +53,14 @@ impl Store {
             return Some(Refusal::NotOpen);
         }
         None
+    }
+
+    /// Why a commit of several sessions is refused, if it is.
+    pub(crate) fn refuses_batch(&self, sessions: &[u32]) -> Option<Refusal>
+        ensures { result ≡ refuses_batch (limits_of self.now.units)
+            (state_of self.now.transactions.sessions) sessions.now }
+    {
+        self.transactions.sessions.refuses_batch(sessions)
     }
 
     /// Why a session or a name can't be meant, if they can't: there is no such one.

@@ -11,10 +11,10 @@ use std::process::Abort;
 use std::test::Fail;
 
 /// How many events a format of five places has.
-const FORMAT: usize = 9;
+pub(crate) const FORMAT: usize = 9;
 
 /// What a list says of no record, of the first run's and of the second's besides.
-const NO_RECORD: &[u8] = b"end\n";
+pub(crate) const NO_RECORD: &[u8] = b"end\n";
 
 const ONE_RECORD: &[u8] = b"5 6869\nend\n";
 
@@ -81,7 +81,7 @@ fn cut(alloc: Global, desk: &MemDesk, at: usize, left: Left) -> Result<MemChip, 
 }
 
 /// How many events there are up to the first that programs a commit sector with numbers behind the first `start`, and it.
-fn commit_end(events: &[Event], start: usize) -> usize {
+pub(crate) fn commit_end(events: &[Event], start: usize) -> usize {
     for (number, event) in events.iter().enumerate() {
         if let Event::Program(_, sector, bytes) = event {
             if number >= start && *sector > 0 && bytes[4] == Head::COMMIT {
@@ -94,7 +94,7 @@ fn commit_end(events: &[Event], start: usize) -> usize {
 
 /// Cuts a desk after each of its events, from the first `start` on, and opens what is left. It lists what there was before,
 /// and from `committed` events on, the last of which programs the commit sector, what was committed.
-fn cut_each(
+pub(crate) fn cut_each(
     rt: &impl Abort,
     alloc: Global,
     desk: &MemDesk,
@@ -116,7 +116,7 @@ fn cut_each(
 }
 
 /// How many events come before the first saying.
-fn before_the_first_saying(events: &[Event]) -> usize {
+pub(crate) fn before_the_first_saying(events: &[Event]) -> usize {
     for (number, event) in events.iter().enumerate() {
         if matches!(event, Event::Said(_)) {
             return number;

@@ -11,7 +11,7 @@ use log_records::Payload;
 use page_writing::write_out;
 use selective_merge::{Active, Parts, merge};
 use std::process::Abort;
-use store_steps::add_number;
+use store_steps::add_numbers;
 
 /// A step. A session is named by its number, which is chosen here and not drawn.
 #[derive(Clone, Copy)]
@@ -67,7 +67,7 @@ fn commit(rt: &impl Abort, chip: &mut MemChip, parts: &mut Parts, tid: u64) -> R
 {
     assert!(rt; chip.units() == PLACES && parts.counter.next() < 10_000);
     assert!(rt; parts.status.place() < PLACES && 0 < parts.status.room());
-    add_number(chip, &mut parts.status, &mut parts.counter, tid)
+    add_numbers(chip, &mut parts.status, &mut parts.counter, &[tid])
 }
 
 /// The unit is merged.

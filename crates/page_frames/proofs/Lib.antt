@@ -13,6 +13,7 @@ pub mod BringLemmas
 pub mod ChangedLemmas
 pub mod AskLemmas
 pub mod HomesLemmas
+pub mod SessionPageLemmas
 pub mod OutAllLemmas
 pub mod CompleteLemmas
 pub mod SlotMapLemmas

@@ -20,7 +20,7 @@ use Rattle.frame_changes.proofs.FrameLemmas.{frame_found}
 use Rattle.page_frames.proofs.HeldLemmas.{none_some}
 use Rattle.page_frames.specs.declared.pages.Pages.{Pages}
 use Rattle.page_frames.specs.Pages.{frames_in, KeepsFramed, IsReady, Upholds, emptied}
-use Rattle.page_frames.specs.Asks.{AsksToWriteOut}
+use Rattle.page_frames.specs.Asks.{AsksToWriteOut, AsksToWriteNamesOut}
 use Rattle.page_frames.specs.Changed.{is_home, is_on_page, changed_pages, HasHomesFor}
 use Rattle.page_frames.proofs.HomesLemmas.{SpendsHome, WroteAtHome, none_at_home, home_all, passed_at_home, written_at_home}
 use Rattle.page_frames.proofs.ChangedLemmas.{changed_below, SpendsOn, none_below, spends_passed, spends_more, spends_all}
@@ -177,7 +177,7 @@ module _ (n u page : ℕ) (names : List ℕ) (e : ChipFault) (first : Pages) (be
     (at : page_number u page ≡ slice_index_or mid.pool.order n 0)
     (so_far : IsOutBelow n names first before mid between)
     (asks : AsksToWriteOut u page (Err e) mid now between after) where
-  pub unwritten_costs : SpendsOn (changed_pages first names) before after
+  unwritten_costs : SpendsOn (changed_pages first names) before after
   unwritten_costs =
       spends_all (n + 1) names first.pool.order (frames_in first) before after
       (spends_more n u page names first.pool.order (frames_in first) (frames_in mid) before between
@@ -185,13 +185,17 @@ module _ (n u page : ℕ) (names : List ℕ) (e : ChipFault) (first : Pages) (be
       (at ∙ ap (λ (l : List ℕ). slice_index_or l n 0) so_far.order) on (so_far.still u page)
       (λ none. (asks.idle none).1) asks.costs so_far.spends)
 
-  pub unwritten_homes : u < length first.parts.directory.current → HasHomesFor first names
+  unwritten_homes : u < length first.parts.directory.current → HasHomesFor first names
       → SpendsHome (changed_pages first names) before after
   unwritten_homes low has =
       home_all (n + 1) names first.pool.order (frames_in first) before after
       (written_at_home n u page names (Err e) first before mid between now after less few
       (at ∙ ap (λ (l : List ℕ). slice_index_or l n 0) so_far.order) on low (so_far.still u page) asks
       has (so_far.homes has)).spends
+
+  pub unwritten_asks : u < length first.parts.directory.current
+      → AsksToWriteNamesOut names first before after
+  unwritten_asks low = record { costs = unwritten_costs; homes = unwritten_homes low }
 
 -- ---- pages in frames
 
@@ -285,3 +289,13 @@ names_out count names first before now after all once listed done i d within =
         (ap (λ (l : List ℕ). slice_index_or l k (page_number (home_of n).unit (home_of n).page))
         (sym done.order) ∙ at))
         (any_home names i d within)
+
+-- and what they cost
+pub names_ask : (count : ℕ) (names : List ℕ) (first : Pages) (before : Told) (now : Pages)
+    (after : Told) → IsOutBelow count names first before now after
+    → AsksToWriteNamesOut names first before after
+names_ask count names first before now after done = record {
+  costs = spends_all count names first.pool.order (frames_in first) before after done.spends;
+  homes = λ has.
+      home_all count names first.pool.order (frames_in first) before after (done.homes has).spends;
+}

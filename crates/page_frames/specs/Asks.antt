@@ -1,5 +1,5 @@
 -- What calls on pages ask of the chip.
-use Rattle.std.specs.Prelude.{ℕ, ◌≡◌, [], ◌∷◌, None, Result}
+use Rattle.std.specs.Prelude.{ℕ, ◌≡◌, ◌*◌, List, [], ◌∷◌, None, Result}
 use Rattle.chip_trait.specs.Told.{Told}
 use Rattle.ipl_base.specs.declared.fault.ChipFault.{ChipFault}
 use Rattle.ipl_format.specs.Record.{Record}
@@ -10,6 +10,7 @@ use Rattle.frame_changes.specs.Changes.{MayPut}
 use Rattle.page_writing.specs.Spending.{ErasesAndLogs, UsesHome}
 use Rattle.page_frames.specs.declared.pages.Pages.{Pages}
 use Rattle.page_frames.specs.Pages.{tables_in, frames_in, IsFramed, HasFreeFrame}
+use Rattle.page_frames.specs.Changed.{changed_pages, HasHomesFor}
 
 -- A page's records written out: nothing, and all stays as it is, where it has none in memory; where
 -- a log sector is clean at its unit's home, at most one program, of a log sector, with no erase and
@@ -31,3 +32,13 @@ pub record AsksToPrepare (u : ℕ) (r : Record) (old : Pages) (before after : To
   pub home : IsFramed old u r.page → HasHomeSpot (tables_in old) u
       → Spends (Costs 0 1 0 (5 ∷ [])) before after
   pub costs : Spends (ErasesAndLogs old.parts.directory) before after
+
+-- The records of the pages of these names written out.
+pub record AsksToWriteNamesOut (names : List ℕ) (old : Pages) (before after : Told) : Type 0 where
+  -- at most one erase for each page of theirs that has records in memory, and one log sector
+  -- outside the places that are erased
+  pub costs : Spends (Costs (changed_pages old names) (changed_pages old names)
+      (3 * changed_pages old names) (5 ∷ [])) before after
+  -- and no erase where each unit has log sectors clean at home for its pages
+  pub homes : HasHomesFor old names → Spends (Costs 0 (changed_pages old names) 0 (5 ∷ []))
+      before after

@@ -78,8 +78,7 @@ impl Pages {
             → IsUsedFirst self.old.pool v q }
         ensures uses { CountsNoUse self.old.pool self.new.pool }
         ensures idle { HasFreeFrame self.old
-            → (self.new ≡ self.old) × (C.told chip.new ≡ C.told chip.old) }
-        ensures done { HasFreeFrame self.old → IsOk result }
+            → IsOk result × (self.new ≡ self.old) × (C.told chip.new ≡ C.told chip.old) }
         ensures status { self.new.parts.status ≡ self.old.parts.status }
         ensures costs { Spends (ErasesAndLogs self.old.parts.directory)
             (C.told chip.old) (C.told chip.new) }

@@ -1,5 +1,6 @@
 -- What a store gives that fits.
 use Rattle.std.proofs.Common.{Bool, Some, not, refl, subst, sym, true, ℕ, ◌-◌, ◌<◌, ◌∙◌, ◌≡◌, ◌≤◌}
+use Rattle.std.specs.List.{Contains}
 use Rattle.std.proofs.lemmas.Bool.{not-false, not_from_true}
 use Rattle.std.proofs.lemmas.List.Elements.{Contains-append_left}
 use Rattle.ipl_rules.specs.State.{Map, State}
@@ -22,6 +23,7 @@ use Rattle.pending_writes.specs.Frames.{Frame, Frames, logs_of}
 use Rattle.pending_writes.specs.FrameLaws.{TellsSlot}
 use Rattle.pending_writes.specs.Fits.{AreSessionsOf, is_active, Fits}
 use Rattle.pending_writes.specs.FittingLaws.{SessionsAreSound, MergesAreSmall, RestingPagesSay, RestingPagesKeep, FittingFramesTell, FittingContentsTell}
+use Rattle.pending_writes.proofs.ActiveLemmas.{listed_among}
 use Rattle.pending_writes.proofs.FewLemmas.{few_are_pending}
 use Rattle.pending_writes.proofs.FrameLemmas.{frames_tell}
 
@@ -33,6 +35,11 @@ wrote_is slots state are s n is =
     let alike : not (is_among n (written_of slots s)) ≡ not (wrote state s n) =
     sym (new_write_at slots s n) ∙ new_writes_alike (state_of slots) state are.names s n in
     not-false (is_among n (written_of slots s)) (alike ∙ not_from_true (wrote state s n) is)
+
+-- what a session wrote is among the names that it holds
+pub wrote_listed : (slots : Slots) (state : State) → AreSessionsOf slots state → (s n : ℕ) → wrote state s n ≡ true
+    → Contains (written_of slots s) n
+wrote_listed slots state are s n is = listed_among (written_of slots s) n (wrote_is slots state are s n is)
 
 pub sessions_are_sound : SessionsAreSound
 sessions_are_sound slots state are = (

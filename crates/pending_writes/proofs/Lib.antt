@@ -25,5 +25,9 @@ pub mod SameLemmas
 pub mod MemoryFitLemmas
 pub mod ChipFitLemmas
 pub mod EndFitLemmas
+pub mod EmptyLemmas
+pub mod TurnLemmas
+pub mod BatchLemmas
+pub mod BatchFitLemmas
 pub mod FirstLemmas
 pub mod ListedLemmas

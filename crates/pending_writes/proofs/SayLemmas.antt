@@ -35,7 +35,7 @@ on_chip it logs tid u page slot out =
     (no_record tid page slot (logs u page) (out u page)))
 
 -- a page that shows the map shows with the number the map after the commit
-commit_shows : (units : ℕ) (c : Chart) (it : Layout) (logs : Logs) (numbers : Numbers) (state : State) (s tid : ℕ)
+pub commit_shows : (units : ℕ) (c : Chart) (it : Layout) (logs : Logs) (numbers : Numbers) (state : State) (s tid : ℕ)
     (after : ℕ → Bool) → HasPending units it logs numbers state → numbers s ≡ Some tid → IsWrittenOut logs tid
     → NumberJoins it.committed tid after
     → (u page : ℕ) → u < units → page < 15 → Shows c it.committed u (it.units u) page (page_in state.map u page)

@@ -1,5 +1,5 @@
 -- When a store's memory and a chip together stand for a state.
-use Rattle.std.specs.Prelude.{ℕ, ◌≡◌, ◌+◌, ◌-◌, ◌==◌, not, Bool, [], ◌∷◌, ◌++◌, length, filter}
+use Rattle.std.specs.Prelude.{ℕ, ◌≡◌, ◌+◌, ◌-◌, ◌==◌, not, Bool, List, [], ◌∷◌, ◌++◌, length, filter}
 use Rattle.ipl_base.specs.declared.limits.TheConstants.{RESERVED_PLACES, SESSIONS}
 use Rattle.chip_trait.specs.Story.{Contents, blank}
 use Rattle.chip_trait.specs.Told.{History}
@@ -46,6 +46,10 @@ with_active t tid = record t { next = tid + 1; active = t.active ++ tid ∷ [] }
 -- the number isn't this one
 abbrev pub is_another : ℕ → ℕ → Bool
 is_another tid n = not (n == tid)
+
+-- the number is none of these
+abbrev pub is_none_of : List ℕ → ℕ → Bool
+is_none_of tids n = not (is_among n tids)
 
 -- the session of this number is closed
 abbrev pub without_active : Tables → ℕ → Tables

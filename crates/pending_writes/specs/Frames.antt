@@ -9,7 +9,7 @@ use Rattle.ipl_meaning.specs.Layout.{Layout}
 use Rattle.ipl_meaning.specs.Last.{last_that}
 use Rattle.ipl_meaning.specs.Stands.{Shows}
 use Rattle.page_ops.specs.Pending.{Pending, Pendings, seen_by, without_pending, with_pending}
-use Rattle.pending_writes.specs.Pending.{Logs, is_other, records_at}
+use Rattle.pending_writes.specs.Pending.{Logs, Numbers, is_other, with_number, records_at}
 
 -- the change of a record, with its number
 abbrev pub pending_of : Option Record → Option Pending
@@ -84,3 +84,10 @@ ChangesSo R (Some a) (Some b) = R a b
 -- each page's frame does
 abbrev pub EachFrameChanges : (Frame → Frame → Type 0) → Frames → Frames → Type 0
 EachFrameChanges R old new = (u page : ℕ) → ChangesSo R (old u page) (new u page)
+
+-- each changes as at the commits of these sessions, one session after the other
+abbrev pub CommitInTurn : Numbers → List ℕ → Frames → Frames → Type 0
+CommitInTurn numbers [] old new = new ≡ old
+CommitInTurn numbers (s ∷ ss) old new = (between : Frames)
+    × ((tid : ℕ) → numbers s ≡ Some tid → EachFrameChanges (IsCommittedFrame tid) old between)
+    × CommitInTurn (with_number numbers s None) ss between new

@@ -1,8 +1,9 @@
 -- What each step makes of the records of open sessions.
 use Rattle.std.specs.Prelude.{ℕ, ◌≡◌, ◌≢◌, ◌↔◌, ◌⊎◌, ◌<◌, ◌≤◌, ◌-◌, ◌∷◌, ◌++◌, Bool, true, false, IsTrue, List, [], length, Some, None, All, Contains, if◌then◌else◌}
+use Rattle.std.specs.List.{list_any}
 use Rattle.ipl_base.specs.declared.limits.TheConstants.{RESERVED_PLACES, PAGES, SLOTS, PENDING_NAMES}
 use Rattle.ipl_rules.specs.State.{State, pending}
-use Rattle.ipl_rules.specs.Operations.{after_begin, after_share, after_write, after_commit, after_abort, after_restart}
+use Rattle.ipl_rules.specs.Operations.{after_begin, after_share, after_write, after_commit, after_batch, after_abort, after_restart}
 use Rattle.ipl_format.specs.Record.{Record, IsRecord}
 use Rattle.ipl_meaning.specs.Chart.{Chart}
 use Rattle.ipl_meaning.specs.Layout.{Entry, Shape, Layout, records_of}
@@ -128,6 +129,49 @@ CommitsSayWrites =
     → IsWrittenOut logs tid
     → NumberJoins it.committed tid after → Says places c it state.map
     → Says places c (with_committed it after) (after_commit state s).map
+
+-- ---- several sessions are committed together
+
+-- these sessions have no number any more
+abbrev pub without_sessions : Numbers → List ℕ → Numbers
+without_sessions numbers [] = numbers
+without_sessions numbers (s ∷ ss) = without_sessions (with_number numbers s None) ss
+
+-- the numbers join the committed ones
+abbrev pub NumbersJoin : (ℕ → Bool) → List ℕ → (ℕ → Bool) → Type 0
+NumbersJoin committed tids after =
+    (n : ℕ) → after n ≡ (if list_any (λ tid. is_number tid n) tids then true else committed n)
+
+-- the number of a session joins them, or it wrote nothing, and they stay
+abbrev pub JoinsIfWritten : State → ℕ → ℕ → (ℕ → Bool) → (ℕ → Bool) → Type 0
+JoinsIfWritten state s tid committed after =
+    NumberJoins committed tid after ⊎ (((n : ℕ) → wrote state s n ≡ false) × (after ≡ committed))
+
+-- so do the numbers of these sessions, one session after the other, all their records being on the chip
+abbrev pub JoinInTurn : Numbers → Logs → State → List ℕ → (ℕ → Bool) → (ℕ → Bool) → Type 0
+JoinInTurn numbers logs state [] committed after = after ≡ committed
+JoinInTurn numbers logs state (s ∷ ss) committed after = (tid : ℕ) × (between : ℕ → Bool) × (numbers s ≡ Some tid)
+    × IsWrittenOut logs tid × JoinsIfWritten state s tid committed between
+    × JoinInTurn (with_number numbers s None) logs (after_commit state s) ss between after
+
+-- then the records of the other sessions wait on
+abbrev pub BatchesKeepPending : Type 0
+BatchesKeepPending =
+    (units : ℕ) (it : Layout) (logs : Logs) (numbers : Numbers) (state : State) (ss : List ℕ) (after : ℕ → Bool)
+    → HasPending units it logs numbers state → StateHasOneWriter state
+    → JoinInTurn numbers logs state ss it.committed after
+    → HasPending units (with_committed it after) logs (without_sessions numbers ss) (after_batch state ss)
+
+-- and the pages say what the writes, one session after the other, make of the map
+abbrev pub BatchesSayWrites : Type 0
+BatchesSayWrites =
+    (places : ℕ) (c : Chart) (it : Layout) (logs : Logs) (numbers : Numbers) (state : State) (ss : List ℕ)
+    (after : ℕ → Bool)
+    → HasPending (places - RESERVED_PLACES) it logs numbers state → StateHasOneWriter state
+    → JoinInTurn numbers logs state ss it.committed after → Says places c it state.map
+    → Says places c (with_committed it after) (after_batch state ss).map
+
+-- ---- an abort, and a restart
 
 -- a session is aborted: its records in memory are dropped, those on the chip never count
 abbrev pub AbortsKeepPending : Type 0

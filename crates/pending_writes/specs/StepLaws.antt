@@ -1,10 +1,11 @@
 -- What each step of a store keeps: the memory and the chip stand for the state after it.
-use Rattle.std.specs.Prelude.{ℕ, ◌≡◌, ◌<◌, ◌≤◌, ◌-◌, Bool, false, [], length, Some, None, All}
+use Rattle.std.specs.Prelude.{ℕ, ◌≡◌, ◌<◌, ◌≤◌, ◌-◌, Bool, false, List, [], length, Some, None, All, Contains}
 use Rattle.ipl_base.specs.declared.limits.TheConstants.{RESERVED_PLACES, PAGES}
 use Rattle.chip_trait.specs.Told.{History}
 use Rattle.ipl_rules.specs.State.{Map, State, at_rest}
+use Rattle.ipl_rules.specs.Refusals.{is_twice}
 use Rattle.ipl_rules.specs.Operations as rules
-use Rattle.record_locks.specs.Held.{Slots, number_of, numbers_in, after_begin, after_share, after_write, after_end}
+use Rattle.record_locks.specs.Held.{Slots, number_of, numbers_in, writer_numbers, after_begin, after_share, after_write, after_end, after_batch}
 use Rattle.ipl_format.specs.Record.{Record, IsRecord}
 use Rattle.ipl_meaning.specs.Chart.{Chart}
 use Rattle.ipl_meaning.specs.Layout.{Entry, Shape, Layout, records_of}
@@ -14,9 +15,9 @@ use Rattle.ipl_meaning.specs.Steps.{KeepsPages, KeepsNumbers, with_unit, with_lo
 use Rattle.ipl_meaning.specs.Tables.{Tables}
 use Rattle.ipl_meaning.specs.Mirrors.{Mirrors, NoneIsLost}
 use Rattle.ipl_meaning.specs.Agrees.{Agrees}
-use Rattle.pending_writes.specs.Pending.{with_number, name_at, wrote, IsWrittenOut}
-use Rattle.pending_writes.specs.PendingLaws.{AreActive, NumberJoins, IsSameOrMerged}
-use Rattle.pending_writes.specs.Frames.{Frame, Frames, logs_of, with_frame_at, with_frame_log, IsFrameOf, IsWrittenFrame, IsCommittedFrame, IsAbortedFrame, EachFrameChanges}
+use Rattle.pending_writes.specs.Pending.{name_at, IsWrittenOut}
+use Rattle.pending_writes.specs.PendingLaws.{NumbersJoin, IsSameOrMerged}
+use Rattle.pending_writes.specs.Frames.{Frame, Frames, logs_of, with_frame_at, with_frame_log, IsFrameOf, IsWrittenFrame, IsAbortedFrame, EachFrameChanges, CommitInTurn}
 use Rattle.pending_writes.specs.Fits.{LocksHold, AreSessionsOf, is_active, with_active, without_active, Fits, FitsStory}
 
 -- ---- operations in memory
@@ -55,14 +56,6 @@ AbortsFit =
     → Fits places c it t frames slots state → s < length slots → number_of slots s ≡ Some tid
     → EachFrameChanges (IsAbortedFrame tid) frames after → LocksHold (after_end slots s)
     → Fits places c it (without_active t tid) after (after_end slots s) (rules.after_abort state s)
-
--- one that wrote nothing is committed without the chip
-abbrev pub EmptyCommitsFit : Type 0
-EmptyCommitsFit =
-    (places : ℕ) (c : Chart) (it : Layout) (t : Tables) (frames : Frames) (slots : Slots) (state : State) (s tid : ℕ)
-    → Fits places c it t frames slots state → s < length slots → number_of slots s ≡ Some tid
-    → ((n : ℕ) → wrote state s n ≡ false) → LocksHold (after_end slots s)
-    → Fits places c it (without_active t tid) frames (after_end slots s) (rules.after_commit state s)
 
 -- the tables have the sessions' numbers in the order of their slots
 abbrev pub SessionNumbersFit : Type 0
@@ -140,15 +133,23 @@ RenewalsFit =
     → StoryRests places state.map k → Agrees places k new after → NoneIsLost places after → after.active ≡ t.active
     → FitsStory places k new after frames slots state
 
--- a session is committed, its records being on the chip
-abbrev pub CommitsFit : Type 0
-CommitsFit =
+-- these sessions are open, and none is named twice
+pub record AreOpen (slots : Slots) (ss : List ℕ) : Type 0 where
+  pub within : (s : ℕ) → Contains ss s → s < length slots
+  pub number : (s : ℕ) → Contains ss s → (tid : ℕ) × (number_of slots s ≡ Some tid)
+  pub once : (s : ℕ) → Contains ss s → is_twice ss s ≡ false
+
+-- Sessions are committed together, none of their records being in memory: the numbers of those that wrote something are
+-- committed. The tables have then the numbers of the sessions that are open still.
+abbrev pub BatchesFit : Type 0
+BatchesFit =
     (places : ℕ) (c y : Chart) (it : Layout) (t later : Tables) (frames after : Frames) (slots : Slots) (state : State)
-    (s tid : ℕ) (committed : ℕ → Bool)
-    → Fits places c it t frames slots state → s < length slots → number_of slots s ≡ Some tid
-    → IsWrittenOut (logs_of frames) tid → NumberJoins it.committed tid committed
-    → EachFrameChanges (IsCommittedFrame tid) frames after → LocksHold (after_end slots s)
-    → Mirrors places y (with_committed it committed) later → NoneIsLost places later
-    → AreActive (with_number (number_of slots) s None) (is_active later)
+    (ss : List ℕ) (committed : ℕ → Bool)
+    → Fits places c it t frames slots state → AreOpen slots ss
+    → ((s tid : ℕ) → Contains ss s → number_of slots s ≡ Some tid → IsWrittenOut (logs_of frames) tid)
+    → NumbersJoin it.committed (writer_numbers slots ss) committed
+    → CommitInTurn (number_of slots) ss frames after → LocksHold (after_batch slots ss)
+    → Mirrors places y (with_committed it committed) later → t.next ≤ later.next → NoneIsLost places later
     → KeepsPages places c (with_committed it committed) y (with_committed it committed)
-    → Fits places y (with_committed it committed) later after (after_end slots s) (rules.after_commit state s)
+    → Fits places y (with_committed it committed) (record later { active = numbers_in (after_batch slots ss) }) after
+    (after_batch slots ss) (rules.after_batch state ss)

@@ -1,12 +1,12 @@
 //! The laws of pending writes.
-ghost use Rattle.pending_writes.specs.PendingLaws.{BeginsKeepPending, SharesKeepPending, WritesKeepPending, LogSectorsKeepPending, MergesKeepPending, SameLogsKeepPending, RenewalsKeepPending, CommitsKeepPending, CommitsSayWrites, AbortsKeepPending, RestartsLeaveNone, RecordsStayPending, RecordsAreWrites, ChangedPagesSuffice, FewArePending};
+ghost use Rattle.pending_writes.specs.PendingLaws.{BeginsKeepPending, SharesKeepPending, WritesKeepPending, LogSectorsKeepPending, MergesKeepPending, SameLogsKeepPending, RenewalsKeepPending, CommitsKeepPending, CommitsSayWrites, BatchesKeepPending, BatchesSayWrites, AbortsKeepPending, RestartsLeaveNone, RecordsStayPending, RecordsAreWrites, ChangedPagesSuffice, FewArePending};
 ghost use Rattle.pending_writes.specs.FrameLaws.{FramesTell, LoadsMakeFrames, BeginsKeepFrames, WritesKeepFrames, OtherWritesKeepFrames, LogSectorsKeepFrames, MergesKeepFrames, OtherStepsKeepFrames, CommitsKeepFrames, AbortsKeepFrames};
 ghost use Rattle.pending_writes.specs.FittingLaws.{APlaceIsFree, SessionsAreSound, MergesAreSmall, RestingPagesSay, RestingPagesKeep, FittingFramesTell, FittingContentsTell, EmptySlotsAreAtRest, FirstStoresFit};
-ghost use Rattle.pending_writes.specs.StepLaws.{BeginsFit, SharesFit, WritesFit, AbortsFit, EmptyCommitsFit, SessionNumbersFit, LoadsFit, EvictionsFit, OpeningsFit, LogSectorsFit, MergesFit, OtherStepsFit, RenewalsFit, CommitsFit};
+ghost use Rattle.pending_writes.specs.StepLaws.{BeginsFit, SharesFit, WritesFit, AbortsFit, SessionNumbersFit, LoadsFit, EvictionsFit, OpeningsFit, LogSectorsFit, MergesFit, OtherStepsFit, RenewalsFit, BatchesFit};
 
 /// After each step of a store the records on the chip and in memory say what its open sessions
-/// wrote; a commit makes of the map what the writes of its session do; and the records of open
-/// sessions are few.
+/// wrote; a commit makes of the map what the writes of its session do, and one of several sessions
+/// what theirs do one after the other; and the records of open sessions are few.
 pub fn pending_laws()
     ensures begins { BeginsKeepPending }
     ensures shares { SharesKeepPending }
@@ -17,6 +17,8 @@ pub fn pending_laws()
     ensures renewals { RenewalsKeepPending }
     ensures commits { CommitsKeepPending }
     ensures says { CommitsSayWrites }
+    ensures batches { BatchesKeepPending }
+    ensures batches_say { BatchesSayWrites }
     ensures aborts { AbortsKeepPending }
     ensures restarts { RestartsLeaveNone }
 
@@ -66,7 +68,6 @@ pub fn memory_laws()
     ensures shares { SharesFit }
     ensures writes { WritesFit }
     ensures aborts { AbortsFit }
-    ensures empty_commits { EmptyCommitsFit }
     ensures numbers { SessionNumbersFit }
     ensures loads { LoadsFit }
     ensures evictions { EvictionsFit }
@@ -79,5 +80,5 @@ pub fn chip_laws()
     ensures merges { MergesFit }
     ensures others { OtherStepsFit }
     ensures renewals { RenewalsFit }
-    ensures commits { CommitsFit }
+    ensures batches { BatchesFit }
 {}

@@ -5,3 +5,4 @@ pub mod TotalLemmas
 pub mod CallLemmas
 pub mod SameLemmas
 pub mod KeepLemmas
+pub mod BatchLemmas

@@ -33,6 +33,22 @@ shared_of slots s = option_map_or (λ h. h.shared) (held_at slots s) []
 abbrev pub is_among : ℕ → List ℕ → Bool
 is_among n names = list_any (λ k. k == n) names
 
+-- the names that these sessions wrote, one session after the other
+abbrev pub written_by : Slots → List ℕ → List ℕ
+written_by slots [] = []
+written_by slots (s ∷ ss) = written_of slots s ++ written_by slots ss
+
+-- the number of a session that wrote something
+abbrev pub writer_number : List ℕ → Option ℕ → List ℕ
+writer_number [] o = []
+writer_number (n ∷ names) None = []
+writer_number (n ∷ names) (Some number) = number ∷ []
+
+-- the numbers of those of these sessions that wrote something, in their order
+abbrev pub writer_numbers : Slots → List ℕ → List ℕ
+writer_numbers slots [] = []
+writer_numbers slots (s ∷ ss) = writer_number (written_of slots s) (number_of slots s) ++ writer_numbers slots ss
+
 -- the transaction numbers of the open sessions, in the order of their slots
 abbrev pub numbers_in : Slots → List ℕ
 numbers_in [] = []
@@ -68,3 +84,8 @@ after_write slots s n = slice_set slots s (option_map (with_written n) (held_at 
 -- the session is closed
 abbrev pub after_end : Slots → ℕ → Slots
 after_end slots s = slice_set slots s None
+
+-- these sessions are closed
+abbrev pub after_batch : Slots → List ℕ → Slots
+after_batch slots [] = slots
+after_batch slots (s ∷ ss) = after_batch (after_end slots s) ss

@@ -1,10 +1,11 @@
 -- When the calls are refused, by the tests of the rules in their order; and what holds of all sessions together.
-use Rattle.std.specs.Prelude.{◌≡◌, ℕ, ◌≤◌, ◌==◌, ◌/◌, Bool, true, [], ◌∷◌, length, Option, if◌then◌else◌}
+use Rattle.std.specs.Prelude.{◌≡◌, ℕ, ◌≤◌, ◌==◌, ◌/◌, Bool, true, List, [], ◌∷◌, length, Option, if◌then◌else◌}
 use Rattle.std.specs.List.{sum_by, count_by}
 use Rattle.std.specs.Option.{option_map_or}
 use Rattle.ipl_base.specs.declared.limits.TheConstants.{UNIT_NAMES, SESSIONS, PENDING_NAMES}
 use Rattle.ipl_base.specs.declared.fault.Refusal.{Refusal}
 use Rattle.ipl_rules.specs.State.{holder_for_share, holder_for_write, pending}
+use Rattle.ipl_rules.specs.Refusals as refusals
 use Rattle.ipl_rules.specs.Refusals.{first_of, already_open, not_open, conflict, writes_full, shares_full, pending_full}
 use Rattle.record_locks.specs.Held.{Held, Slots, written_of, is_among}
 use Rattle.record_locks.specs.Standing.{state_of}
@@ -26,6 +27,10 @@ refuses_write slots s n = first_of (not_open (state_of slots) s ∷ conflict (ho
 -- why an end is refused, if it is
 abbrev pub refuses_end : Slots → ℕ → Option Refusal
 refuses_end slots s = first_of (not_open (state_of slots) s ∷ [])
+
+-- why a commit of several sessions is refused, if it is; of the limits it looks at the number of sessions alone
+abbrev pub refuses_batch : Slots → List ℕ → Option Refusal
+refuses_batch slots ss = refusals.refuses_batch (record { sessions = SESSIONS; names = 0; units = 0 }) (state_of slots) ss
 
 -- the least other session that keeps this one from writing a name, or from sharing it
 abbrev pub holder_of : Slots → ℕ → ℕ → Bool → Option ℕ

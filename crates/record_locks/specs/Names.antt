@@ -1,14 +1,15 @@
 -- What a lock depends on: the names that sessions wrote and share, and not what was put.
-use Rattle.std.specs.Prelude.{◌≡◌, ℕ, ◌<◌, length, List, [], ◌∷◌, None, Option, replicate}
+use Rattle.std.specs.Prelude.{◌≡◌, ℕ, ◌<◌, length, List, [], ◌∷◌, Contains, None, Option, replicate}
 use Rattle.std.specs.Option.{option_map}
 use Rattle.std.specs.FinMap.{get}
 use Rattle.ipl_base.specs.declared.limits.TheConstants.{SESSIONS}
-use Rattle.ipl_rules.specs.State.{Session, State, is_open, written_names, holder_for_share, holder_for_write, pending}
+use Rattle.ipl_rules.specs.State.{Session, State, Limits, is_open, written_names, holder_for_share, holder_for_write, pending}
+use Rattle.ipl_rules.specs.Refusals as refusals
 use Rattle.ipl_rules.specs.Refusals.{first_of, already_open, not_open, conflict, writes_full, shares_full, pending_full}
 use Rattle.ipl_rules.specs.Operations as rules
-use Rattle.record_locks.specs.Held.{Slots, after_begin, after_share, after_write, after_end}
+use Rattle.record_locks.specs.Held.{Slots, after_begin, after_share, after_write, after_end, after_batch}
 use Rattle.record_locks.specs.Standing.{state_of}
-use Rattle.record_locks.specs.Locks.{refuses_begin, refuses_share, refuses_write, refuses_end}
+use Rattle.record_locks.specs.Locks.{refuses_begin, refuses_share, refuses_write, refuses_end, refuses_batch}
 
 -- the names that a session wrote, each once, and those that it shares
 abbrev pub names_of : Session → List ℕ × List ℕ
@@ -56,3 +57,15 @@ pub record KeepsNames (slots : Slots) (state : State) (s : ℕ) : Type 0 where
 -- the change of a call and that of its operation keep the names the same
 abbrev pub CallsKeepNames : Type 0
 CallsKeepNames = (slots : Slots) (state : State) (s : ℕ) → s < length slots → SameNames (state_of slots) state → KeepsNames slots state s
+
+-- ---- commits of several sessions
+
+-- sessions that have the names of a state refuse a batch as that state does
+abbrev pub BatchesRefuseAsStates : Type 0
+BatchesRefuseAsStates = (slots : Slots) (limits : Limits) (state : State) → limits.sessions ≡ SESSIONS → SameNames (state_of slots) state
+    → (ss : List ℕ) → refuses_batch slots ss ≡ refusals.refuses_batch limits state ss
+
+-- and they have its names after it
+abbrev pub BatchesKeepNames : Type 0
+BatchesKeepNames = (slots : Slots) (state : State) (ss : List ℕ) → ((s : ℕ) → Contains ss s → s < length slots)
+    → SameNames (state_of slots) state → SameNames (state_of (after_batch slots ss)) (rules.after_batch state ss)

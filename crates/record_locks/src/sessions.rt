@@ -1,10 +1,10 @@
 //! The open sessions of a store.
-ghost use Rattle.std.specs.Prelude.{◌≡◌, ◌≤◌, ◌<◌, ℕ, ◌==◌, ◌/◌, None, map, length, IfOk, OnOk, OnErr, replicate};
+ghost use Rattle.std.specs.Prelude.{◌≡◌, ◌≤◌, ◌<◌, ℕ, ◌==◌, ◌/◌, None, map, length, Contains, IfOk, OnOk, OnErr, replicate};
 ghost use Rattle.std.specs.Result.{result_err};
 ghost use Rattle.ipl_rules.specs.State.{pending};
-ghost use Rattle.record_locks.specs.Held.{number_of, written_of, shared_of, after_begin, after_share, after_write, after_end};
+ghost use Rattle.record_locks.specs.Held.{number_of, written_of, shared_of, after_begin, after_share, after_write, after_end, after_batch};
 ghost use Rattle.record_locks.specs.Standing.{state_of};
-ghost use Rattle.record_locks.specs.Locks.{refuses_begin, refuses_share, refuses_write, refuses_end, holder_of, OneWriter, FewPending};
+ghost use Rattle.record_locks.specs.Locks.{refuses_begin, refuses_share, refuses_write, refuses_end, refuses_batch, holder_of, OneWriter, FewPending};
 
 mod refusals;
 
@@ -96,7 +96,21 @@ impl Sessions {
         if !self.is_open(s) {
             return Err(Refusal::NotOpen);
         }
-        self.slots[s as usize] = None;
+        self.close(s);
+        Ok(())
+    }
+
+    /// Closes several sessions, for a commit of them together: all of them, or where that is refused
+    /// none.
+    pub fn end_all(&mut self, numbers: &[u32]) -> Result<(), Refusal>
+        ensures refusal { result_err result ≡ refuses_batch self.old numbers.now }
+        ensures ok { OnOk result (self.new ≡ after_batch self.old numbers.now) }
+        ensures err { OnErr result (self.new ≡ self.old) }
+    {
+        if let Some(refusal) = self.refuses_batch(numbers) {
+            return Err(refusal);
+        }
+        self.close_all(numbers);
         Ok(())
     }
 
@@ -165,6 +179,26 @@ impl Sessions {
         match &self.slots[s as usize] {
             Some(session) => session.shared(),
             None => &[],
+        }
+    }
+}
+
+impl Sessions {
+    /// Closes a session, if it is open.
+    fn close(&mut self, s: u32)
+        requires { s < 32 }
+        ensures { self.new ≡ after_end self.old s }
+    {
+        self.slots[s as usize] = None;
+    }
+
+    /// Closes these sessions, each that is open.
+    fn close_all(&mut self, numbers: &[u32])
+        requires { (s : ℕ) → Contains numbers.now s → s < 32 }
+        ensures { self.new ≡ after_batch self.old numbers.now }
+    {
+        for s in numbers {
+            self.close(*s);
         }
     }
 }

@@ -1,5 +1,5 @@
 -- Calls of the store are the work of their commands.
-use Rattle.std.proofs.Common.{ℕ, ◌≡◌, ◌⊎◌, inl, inr, ◌≤◌, ◌<◌, ◌+◌, arith, Bool, true, false, nat_lt, ◌∷◌, [], Option, None, Some, Result, Ok, Err, IfOk, if◌then◌else◌, refl, sym, ◌∙◌, ap, subst}
+use Rattle.std.proofs.Common.{ℕ, ◌≡◌, ◌≢◌, ◌⊎◌, inl, inr, ◌≤◌, ◌<◌, ◌+◌, arith, Bool, true, false, nat_lt, ◌∷◌, [], Option, None, Some, Result, Ok, Err, IfOk, if◌then◌else◌, refl, sym, ◌∙◌, ap, subst}
 use Rattle.std.proofs.lemmas.Bool.Decides.{nat_tests}
 use Rattle.chip_trait.specs.Told.{Told, Counts}
 use Rattle.chip_trait.proofs.CountsLemmas.{counts_none}
@@ -30,7 +30,7 @@ use Rattle.store_steps.proofs.RefusalLemmas.{refusals_answer, accepted_are_done,
 use Rattle.store_steps.proofs.KeepLemmas.{leads_are_work}
 use Rattle.store_steps.proofs.FaultLemmas.{idle_faults_are_work}
 use Rattle.ipl_store.specs.declared.store.Store.{Store}
-use Rattle.ipl_store.specs.Calls.{view_of, counter_of, IsSound, entry_fault, down_fault, early_fault, IsOfTheChip, Serves, Calls}
+use Rattle.ipl_store.specs.Calls.{view_of, counter_of, IsSound, entry_fault, down_fault, early_fault, IsOfTheChip, EndsFor, Serves, Calls}
 use Rattle.script_store.specs.declared.store.ScriptStore.{ScriptStore}
 use Rattle.script_store.specs.Keeps.{IsRunning, script_keeping, ended, answer_of, Does}
 use Rattle.script_store.proofs.KeepLemmas.{works_so, draws_few, tidy_so}
@@ -73,6 +73,45 @@ up_entry a up = subst (IsEntry a)
         → IsEntry a (if spent then Some store.Spent else None)
     by_spent true is = inr (refl, grind (arith, nat_tests, is))
     by_spent false is = inl refl
+
+-- ---- a call of a store that isn't down doesn't say that it is
+
+-- one that ends early doesn't
+early_up : (a : ScriptStore) (entry : Option StoreFault) (refusal : Option Refusal)
+    → IsEntry a entry → early_fault entry refusal ≢ Some store.Down
+early_up a entry refusal (inr (spent, late)) is =
+    let no : Some store.Spent ≡ Some store.Down =
+    ap (λ (o : Option StoreFault). early_fault o refusal) (sym spent) ∙ is in cc no
+early_up a entry refusal (inl none) is =
+    by_refusal refusal (ap (λ (o : Option StoreFault). early_fault o refusal) (sym none) ∙ is)
+  where
+    by_refusal : (r : Option Refusal) → early_fault None r ≢ Some store.Down
+    by_refusal (Some r) down = let no : Some (store.Refused r) ≡ Some store.Down = down in cc no
+    by_refusal None down = let no : None ≡ Some store.Down = down in cc no
+
+-- nor does one that was let in
+served_up : {T : Type 0} (before : Told) (result : Result T StoreFault) (new : Store)
+    (after : Told) → EndsFor before result new after → result ≢ Err store.Down
+served_up before (Ok found) new after ends is = cc is
+served_up before (Err fault) new after (e, of_chip, cause, stopped) is =
+    let same : fault ≡ store.Down = cc is in
+    let no : store.Chip e ≡ store.Down = sym of_chip ∙ same in cc no
+
+-- so none does
+pub never_down : {T : Type 0} (a : ScriptStore) (refusal : Option Refusal) (next : State → State)
+    (most : ℕ) (before : Told) (result : Result T StoreFault) (new : Store) (after : Told)
+    → a.store.down ≡ false
+    → Calls (early_fault (entry_fault a.store) refusal) next most a.store before result new after
+    → result ≢ Err store.Down
+never_down a refusal next most before result new after up calls is =
+    by_early (early_fault (entry_fault a.store) refusal) refl
+  where
+    by_early : (o : Option StoreFault) → early_fault (entry_fault a.store) refusal ≡ o → ⊥
+    by_early (Some fault) early =
+        let answer = sym (calls.refuses fault early).0 ∙ is in
+        let same : fault ≡ store.Down = cc answer in
+        early_up a (entry_fault a.store) refusal (up_entry a up) (early ∙ ap Some same)
+    by_early None early = served_up before result new after (calls.serves early).ends is
 
 -- ---- the store as it was
 

@@ -41,6 +41,7 @@ HasDone (command.Share s n) old before r new after = SaysSeen s n old before r
 HasDone (command.Put s n bytes) old before r new after = Unit {0}
 HasDone (command.Del s n) old before r new after = Unit {0}
 HasDone (command.Commit s) old before r new after = Unit {0}
+HasDone (command.Batch ss) old before r new after = Unit {0}
 HasDone (command.Abort s) old before r new after = Unit {0}
 HasDone (command.List a b) old before r new after = Unit {0}
 HasDone (command.Merge u) old before r new after = IsRefused r ⊎ HasMoved u new before after

@@ -7,7 +7,7 @@ ghost use Rattle.script_store.specs.Done.{IsRefused, HasMoved, HasNewStatus};
 use crate::ScriptStore;
 use crate::replies::reply_of;
 use chip_trait::Chip;
-use ipl_model::{PutBytes, Reply};
+use ipl_model::{PutBytes, Reply, Sessions};
 use store_trait::Fault;
 
 impl ScriptStore {
@@ -49,6 +49,19 @@ impl ScriptStore {
             (C.told chip.new) }
     {
         reply_of(self.store.commit(chip, s))
+    }
+
+    /// Commits several sessions together.
+    pub(crate) fn commit_all<C: Chip>(
+        &mut self,
+        chip: &mut C,
+        sessions: &Sessions,
+    ) -> Result<Reply, Fault>
+        requires runs { IsRunning (C.told chip.old).places self.old }
+        ensures { Does (command.Batch sessions.now) self.old (C.told chip.old) result self.new
+            (C.told chip.new) }
+    {
+        reply_of(self.store.commit_all(chip, sessions.numbers()))
     }
 
     /// Aborts a session.

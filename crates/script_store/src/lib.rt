@@ -4,11 +4,11 @@
 //! (`script_keeping`), which is how the store does.
 //!
 //! Proved, by `ScriptStore`'s methods, and its `store_trait::Store`: a begin, a get, a share, a
-//! put, a delete, a commit, an abort, a merge and a restart of the store as a run of a script uses
-//! it are the work of their commands, as the store's trait has it: wherever the power is cut, the
-//! chip stands for the records before the command or after it; done, the store keeps the model's
-//! next state, and the reply is the model's; few numbers are drawn, and a fault has its excuse and
-//! its cause. So is looking a committed record up.
+//! put, a delete, a commit, a batch, an abort, a merge and a restart of the store as a run of a
+//! script uses it are the work of their commands, as the store's trait has it: wherever the power
+//! is cut, the chip stands for the records before the command or after it; done, the store keeps
+//! the model's next state, and the reply is the model's; few numbers are drawn, and a fault has its
+//! excuse and its cause. So is looking a committed record up.
 #![tactic(auto)]
 
 mod changing;

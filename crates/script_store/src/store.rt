@@ -59,6 +59,7 @@ impl ScriptStore {
             Command::Put(s, n, bytes) => self.put(chip, *s, *n, bytes),
             Command::Del(s, n) => self.del(chip, *s, *n),
             Command::Commit(s) => self.commit(chip, *s),
+            Command::Batch(sessions) => self.commit_all(chip, sessions),
             Command::Abort(s) => self.abort(chip, *s),
             Command::List(_, _) => unreachable!("a list has more lines than one"),
             Command::Merge(unit) => self.merge(chip, *unit),

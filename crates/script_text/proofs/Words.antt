@@ -1,9 +1,10 @@
 -- The first part of a list that is cut at elements that pass a test.
-use Rattle.std.proofs.Common.{◌≡◌, ℕ, ◌+◌, ◌-◌, ◌<◌, ◌≤◌, Bool, true, false, not, cond, ltb, List, [], ◌∷◌, length, take, drop, Option, Some, None, refl, sym, ◌∙◌, ap, arith}
+use Rattle.std.proofs.Common.{◌≡◌, ℕ, ◌+◌, ◌-◌, ◌<◌, ◌≤◌, nat_le, Bool, true, false, not, cond, ltb, List, [], ◌∷◌, ◌++◌, length, take, drop, Option, Some, None, refl, sym, ◌∙◌, ap, arith}
 use Rattle.std.specs.List.{slice_split, position_or_len, onto_first}
+use Rattle.std.specs.Option.{option_map}
 use Rattle.ipl_model.specs.declared.command.Command.{Command}
 use Rattle.ipl_model.specs.declared.command.Command.TheVariants.{Syntax}
-use Rattle.ipl_model.specs.Grammar.{is_space, one_number, two_numbers, numbers_and_value, alone}
+use Rattle.ipl_model.specs.Grammar.{is_space, one_number, two_numbers, numbers_and_value, all_numbers, alone}
 use Rattle.std.proofs.lemmas.Bool.{ltb-true}
 use Rattle.std.proofs.lemmas.Bool.Decides.{nat_tests}
 use Rattle.std.proofs.lemmas.Option.{cond_some}
@@ -59,3 +60,17 @@ two_too_many w v rest = ap (λ (ws : List (List ℕ)). two_numbers (w ∷ v ∷ 
 
 pub three_too_many : (w v u rest : List ℕ) → numbers_and_value (w ∷ v ∷ u ∷ slice_split is_space rest) ≡ None
 three_too_many w v u rest = ap (λ (ws : List (List ℕ)). numbers_and_value (w ∷ v ∷ u ∷ ws)) (parts is_space rest).2
+
+-- ---- the sessions of a commit
+
+-- the sessions that these and further words name, at most 32 in all
+abbrev pub named_with : List ℕ → List (List ℕ) → Option (List ℕ)
+named_with so_far words = cond (nat_le (length so_far + length words) 32) (option_map (λ more. so_far ++ more) (all_numbers words)) None
+
+-- a word stands behind each space, so 32 sessions and a space are too many
+pub too_many : (so_far rest : List ℕ) → length so_far ≡ 32 → named_with so_far (slice_split is_space rest) ≡ None
+too_many so_far rest full =
+    let split = parts is_space rest in
+    let many : nat_le (length so_far + length (split.0 ∷ split.1)) 32 ≡ false = grind (arith, nat_tests) in
+    ap (named_with so_far) split.2
+    ∙ ap (λ (b : Bool). cond b (option_map (λ more. so_far ++ more) (all_numbers (split.0 ∷ split.1))) None) many

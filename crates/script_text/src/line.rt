@@ -1,12 +1,12 @@
 //! What a line of a script says.
 ghost use Rattle.std.specs.Prelude.{◌≡◌, ◌≤◌, length, IfSome};
-ghost use Rattle.std.specs.Option.{option_copied};
+ghost use Rattle.std.specs.Option.{option_copied, option_map_or};
 ghost use Rattle.std.specs.List.{slice_split};
-ghost use Rattle.ipl_model.specs.declared.command.Command.TheVariants.{Restart};
-ghost use Rattle.ipl_model.specs.Grammar.{is_space, words_behind, one_number, two_numbers, numbers_and_value, alone, command_of, line_of};
+ghost use Rattle.ipl_model.specs.declared.command.Command.TheVariants.{Restart, Syntax};
+ghost use Rattle.ipl_model.specs.Grammar.{is_space, words_behind, one_number, two_numbers, numbers_and_value, sessions_of, commit_of, alone, command_of, line_of};
 
 use crate::word::{first_word, value};
-use ipl_model::{Command, Line, PutBytes};
+use ipl_model::{Command, Line, PutBytes, Sessions};
 use plain_text::number;
 
 /// The number that the words behind a verb are.
@@ -57,6 +57,48 @@ fn restart(words: Option<&[u8]>) -> Command
     }
 }
 
+/// The sessions that the words of a commit name.
+fn sessions(words: &[u8]) -> Option<Sessions>
+    ensures { result ≡ sessions_of (slice_split is_space words.now) }
+{
+    let mut named = Sessions::of(&[]);
+    let mut line = words;
+    for _i in 0..32_usize {
+        let (word, rest) = first_word(line);
+        named.push(number(word)?);
+        match rest {
+            Some(rest) => line = rest,
+            None => return Some(named),
+        }
+    }
+    None
+}
+
+/// A commit of these sessions.
+fn commit_of(sessions: Sessions) -> Command
+    ensures { result ≡ commit_of sessions }
+{
+    let count = sessions.numbers().len();
+    if count == 0 {
+        return Command::Syntax;
+    }
+    if count == 1 {
+        return Command::Commit(sessions.numbers()[0]);
+    }
+    Command::Batch(sessions)
+}
+
+/// A commit of the sessions that the words behind the verb name.
+fn commit(words: Option<&[u8]>) -> Command
+    ensures { result
+        ≡ option_map_or commit_of (sessions_of (words_behind (option_copied words.entry))) Syntax }
+{
+    match words {
+        Some(words) => sessions(words).map_or(Command::Syntax, |named| commit_of(named)),
+        None => Command::Syntax,
+    }
+}
+
 /// The command that a line is.
 fn command(line: &[u8]) -> Command
     requires { length line.now ≤ 1024 }
@@ -77,7 +119,7 @@ fn command(line: &[u8]) -> Command
     } else if verb == b"del".as_slice() {
         two_numbers(words).map_or(Command::Syntax, |a| Command::Del(a.0, a.1))
     } else if verb == b"commit".as_slice() {
-        one_number(words).map_or(Command::Syntax, |s| Command::Commit(s))
+        commit(words)
     } else if verb == b"abort".as_slice() {
         one_number(words).map_or(Command::Syntax, |s| Command::Abort(s))
     } else if verb == b"list".as_slice() {

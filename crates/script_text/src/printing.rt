@@ -31,6 +31,10 @@ fn push_refusal(refusal: Refusal, out: &mut TextLine)
         Refusal::BadUnit => out.push(b"11 badunit"),
         Refusal::HoldsFull => out.push(b"12 holdsfull"),
         Refusal::NotHeld => out.push(b"13 notheld"),
+        Refusal::Twice(s) => {
+            out.push(b"15 twice ");
+            out.push_number(s);
+        }
     }
 }
 

@@ -41,7 +41,7 @@ all_fail (t ∷ tests) none = go t.0 none (all_fail tests)
     go true none rest = absurd (cc)
     go false none rest = (refl, rest none)
 
-none_holds : (tests : List Test) → Fail tests → first_of tests ≡ None
+pub none_holds : (tests : List Test) → Fail tests → first_of tests ≡ None
 none_holds [] fail = refl
 none_holds (t ∷ tests) fail = go t.0 fail.0 (none_holds tests fail.1)
   where
@@ -50,11 +50,11 @@ none_holds (t ∷ tests) fail = go t.0 fail.0 (none_holds tests fail.1)
     go false is rest = rest
 
 -- tests of the range, and others behind them
-abbrev behind : List Test → Option Refusal → Option Refusal
+abbrev pub behind : List Test → Option Refusal → Option Refusal
 behind [] rest = rest
 behind (t ∷ tests) rest = if t.0 then Some t.1 else behind tests rest
 
-range_then : (tests : List Test) (old new : Option Refusal) → behind tests old ≡ None
+pub range_then : (tests : List Test) (old new : Option Refusal) → behind tests old ≡ None
     → (old ≡ None → new ≡ None) → behind tests new ≡ None
 range_then [] old new none rest = rest none
 range_then (t ∷ tests) old new none rest = go t.0 none (λ e. range_then tests old new e rest)

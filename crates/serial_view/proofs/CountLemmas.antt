@@ -14,15 +14,15 @@ abbrev pub counted : (ℕ → Bool) → List Write → ℕ
 counted p ws = length (filter p (written_names ws))
 
 -- these writes write the name
-abbrev is_in : List Write → ℕ → Bool
+abbrev pub is_in : List Write → ℕ → Bool
 is_in ws n = is_some (last_write ws n)
 
 -- what a write adds to the count: one, where its name passes and wasn't written before
-abbrev adds : Bool → Bool → ℕ
+abbrev pub adds : Bool → Bool → ℕ
 adds was_in passes = cond was_in 0 (cond passes 1 0)
 
 -- one write more, before the others
-counted-cons : (p : ℕ → Bool) (w : Write) (ws : List Write)
+pub counted-cons : (p : ℕ → Bool) (w : Write) (ws : List Write)
     → counted p (w ∷ ws) ≡ adds (is_in ws w.0) (p w.0) + counted p ws
 counted-cons p w ws = one (is_in ws w.0) (written_names ws)
   where

@@ -2,11 +2,14 @@ pub mod CountLemmas
 pub mod SessionLemmas
 pub mod AloneLemmas
 pub mod StepLemmas
+pub mod BesideLemmas
 pub mod SessionStepLemmas
 pub mod NameLemmas
 pub mod LockLemmas
+pub mod BoundLemmas
 pub mod SinceLemmas
 pub mod TurnLemmas
+pub mod MemberLemmas
 pub mod MetLemmas
 pub mod ReplyLemmas
 pub mod ServeLemmas

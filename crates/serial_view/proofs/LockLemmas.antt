@@ -14,11 +14,14 @@ use Rattle.ipl_model.specs.declared.command.Command.{Command}
 use Rattle.ipl_model.specs.declared.command.Command.TheVariants as command
 use Rattle.ipl_model.specs.Step.{refusal_of, accepted}
 use Rattle.ipl_model.specs.Plain.{writes_in}
-use Rattle.serial_view.specs.Serial.{committer}
+use Rattle.ipl_model.specs.Laws.{is_commit}
+use Rattle.ipl_rules.specs.Operations.{after_batch, after_commit}
+use Rattle.ipl_rules.proofs.BatchLemmas.{first_or_later, batches_keep}
+use Rattle.std.specs.List.{Contains}
 use Rattle.serial_view.proofs.SessionLemmas.{Sessions, with_session, shared_too, is_unheld, is_unheld_in, write_by, same_some, none_open}
 use Rattle.serial_view.proofs.AloneLemmas.{worker, all_fail, share_tests, write_tests}
 use Rattle.serial_view.proofs.StepLemmas.{changed}
-use Rattle.serial_view.proofs.SessionStepLemmas.{own, Worked, After, how}
+use Rattle.serial_view.proofs.SessionStepLemmas.{own, Worked, After, how, still_open, closed}
 
 -- no open session writes a name that another shares
 abbrev pub Locked : Sessions → Type 0
@@ -57,7 +60,7 @@ none_found test s u y (e ∷ all) found other none =
         let apart : eq_by_cmp nat_cmp u e.0 ≡ false = grind (arith, nat_tests) in
         later (ap (λ (b : Bool). cond b (Some e.1) (es.find nat_cmp u all)) (sym apart) ∙ found) none
 
-no_other : (test : Session → Bool) (state : State) (s u : ℕ) (y : Session) → get state.sessions u ≡ Some y
+pub no_other : (test : Session → Bool) (state : State) (s u : ℕ) (y : Session) → get state.sessions u ≡ Some y
     → (s ≡ u → ⊥) → is_some (least_other test state s) ≡ false → test y ≡ false
 no_other test state s u y found other none =
     none_found test s u y (entries state.sessions) (sym (get-entries state.sessions u) ∙ found) other none
@@ -68,7 +71,7 @@ abbrev shares : Command → ℕ → Bool
 shares (command.Share s n) k = n == k
 shares other k = false
 
-abbrev writes : Command → ℕ → Bool
+abbrev pub writes : Command → ℕ → Bool
 writes (command.Put s n bytes) k = n == k
 writes (command.Del s n) k = n == k
 writes other k = false
@@ -82,7 +85,7 @@ shared_then (command.Share s n) x k e = go (is_unheld x n) e
     go false e = inl e
 shared_then other x k e = inl e
 
-written_then : (c : Command) (x : Session) (k : ℕ) → has_written x k ≡ false → writes c k ≡ false
+pub written_then : (c : Command) (x : Session) (k : ℕ) → has_written x k ≡ false → writes c k ≡ false
     → has_written (changed c x) k ≡ false
 written_then (command.Put s n bytes) x k old new =
     ap (λ (b : Bool). is_some (cond b (Some (Some bytes)) (last_write x.writes k))) new ∙ old
@@ -167,7 +170,7 @@ write_keeps state s w None = refl
 write_keeps state s w (Some x) = refl
 
 -- a command that passes, and doesn't commit, keeps the records
-pub records_kept : (state : State) (c : Command) → committer c ≡ None → (accepted state c).0.map ≡ state.map
+pub records_kept : (state : State) (c : Command) → is_commit c ≡ false → (accepted state c).0.map ≡ state.map
 records_kept state (command.Begin s) e = refl
 records_kept state (command.Get s n) e = refl
 records_kept state (command.Share s n) e =
@@ -181,6 +184,7 @@ records_kept state (command.Share s n) e =
 records_kept state (command.Put s n bytes) e = write_keeps state s (n, Some bytes) (get state.sessions s)
 records_kept state (command.Del s n) e = write_keeps state s (n, None) (get state.sessions s)
 records_kept state (command.Commit s) e = absurd (cc)
+records_kept state (command.Batch ss) e = absurd (cc)
 records_kept state (command.Abort s) e = refl
 records_kept state (command.List a b) e = refl
 records_kept state (command.Merge u) e = refl
@@ -195,34 +199,42 @@ unwritten writes m n none = get-with_writes writes m n ∙ go (last_write writes
     go None e = refl
     go (Some change) e = absurd (cc)
 
--- a commit by another session, and what it leaves of the records
-commits : (state : State) (c : Command) (s t : ℕ) → committer c ≡ Some t → own s c ≡ false
-    → ((accepted state c).0.map ≡ with_writes (writes_of state t) state.map) × (s ≡ t → ⊥)
-commits state (command.Commit k) s t e other =
-    let same = same_some k t e in
-    (ap (λ (j : ℕ). with_writes (writes_of state j) state.map) same, λ eq. not_its (same ∙ sym eq))
-  where
-    not_its : k ≡ s → ⊥
-    not_its q = let its = eq-eqb k s q in absurd (both_ways (k == s) other its)
-commits state rest s t e other = absurd (cc)
+-- a session that is open after a batch isn't among its
+pub not_named : (ss : List ℕ) (state : State) (s t : ℕ) (y : Session) → get (after_batch state ss).sessions s ≡ Some y
+    → Contains ss t → t ≡ s → ⊥
+not_named [] state s t y found at same = omega (arith, at.1)
+not_named (u ∷ ss) state s t y found at same = elim (first_or_later u ss t at) [
+  | inl here ↦
+      let open_then = still_open ss (after_commit state u) s y found in
+      let apart = (closed state u s y open_then).1 in
+      both_ways (u == s) apart (eq-eqb u s (here ∙ same))
+  | inr later ↦ not_named ss (after_commit state u) s t y found later same
+]
 
--- a command that isn't of a session keeps the records of the names that the session shares
+-- what another session of the run didn't write
+none_written : (state : State) (s t : ℕ) (y : Session) (n : ℕ) → Locked state.sessions → get state.sessions s ≡ Some y
+    → has_shared y n ≡ true → (s ≡ t → ⊥) → last_write (writes_of state t) n ≡ None
+none_written state s t y n locked found is other = by_session (get state.sessions t) refl
+  where
+    none_of : (o : Option (Option (List ℕ))) → is_some o ≡ false → o ≡ None
+    none_of None e = refl
+    none_of (Some change) e = absurd (cc)
+
+    by_session : (o : Option Session) → get state.sessions t ≡ o → last_write (writes_of state t) n ≡ None
+    by_session None at = ap (λ (o : Option Session). last_write (writes_in o) n) at
+    by_session (Some z) at =
+        ap (λ (o : Option Session). last_write (writes_in o) n) at
+        ∙ none_of (last_write z.writes n) (locked s t y z found at other n is)
+
+-- a command that leaves a session open, and isn't its, keeps the records of the names that the session shares
 pub shared_kept : (state : State) (c : Command) (s : ℕ) (y : Session) → Locked state.sessions
-    → get state.sessions s ≡ Some y → own s c ≡ false → Agree y (accepted state c).0.map state.map
-shared_kept state c s y locked found other n is = go (committer c) refl
-  where
-    go : (o : Option ℕ) → committer c ≡ o → get (accepted state c).0.map n ≡ get state.map n
-    go None e = ap (λ (m : Map). get m n) (records_kept state c e)
-    go (Some t) e = by_session (get state.sessions t) refl
-      where
-        made : (o : Option Session) → get state.sessions t ≡ o
-            → (accepted state c).0.map ≡ with_writes (writes_in o) state.map
-        made o at =
-            (commits state c s t e other).0 ∙ ap (λ (o : Option Session). with_writes (writes_in o) state.map) at
-
-        by_session : (o : Option Session) → get state.sessions t ≡ o
-            → get (accepted state c).0.map n ≡ get state.map n
-        by_session None at = ap (λ (m : Map). get m n) (made None at)
-        by_session (Some z) at =
-            ap (λ (m : Map). get m n) (made (Some z) at)
-            ∙ unwritten z.writes state.map n (locked s t y z found at (commits state c s t e other).1 n is)
+    → get state.sessions s ≡ Some y → own s c ≡ false → get (accepted state c).0.sessions s ≡ Some y
+    → Agree y (accepted state c).0.map state.map
+shared_kept state (command.Commit t) s y locked found other still n is =
+    batches_keep state (t ∷ []) n (λ u at. none_written state s u y n locked found is (λ same.
+    not_named (t ∷ []) state s u y still at (sym same)))
+shared_kept state (command.Batch ss) s y locked found other still n is =
+    batches_keep state ss n (λ u at. none_written state s u y n locked found is (λ same.
+    not_named ss state s u y still at (sym same)))
+shared_kept state rest s y locked found other still n is =
+    ap (λ (m : Map). get m n) (records_kept state rest refl)

@@ -2,7 +2,8 @@
 use Rattle.std.proofs.Common.{◌≡◌, ℕ, zero, suc, Bool, true, false, cond, not, List, [], ◌∷◌, length, take, get_or, Option, Some, None, refl, sym, ◌∙◌, ap, arith}
 use Rattle.std.specs.Prelude.{is_some}
 use Rattle.std.specs.Option.{option_map_or}
-use Rattle.std.specs.FinMap.{get, empty}
+use Rattle.std.specs.FinMap.{get, remove, empty}
+use Rattle.ipl_rules.specs.Operations.{after_commit, after_batch}
 use Rattle.std.proofs.lemmas.List.{take_all}
 use Rattle.ipl_base.specs.declared.fault.Refusal.{Refusal}
 use Rattle.ipl_rules.specs.State.{Map, Write, Session, State, Limits, at_rest}
@@ -47,6 +48,7 @@ refusal_over limits m n f (command.Share s j) = refl
 refusal_over limits m n f (command.Put s j bytes) = refl
 refusal_over limits m n f (command.Del s j) = refl
 refusal_over limits m n f (command.Commit s) = refl
+refusal_over limits m n f (command.Batch ss) = refl
 refusal_over limits m n f (command.Abort s) = refl
 refusal_over limits m n f (command.List a b) = refl
 refusal_over limits m n f (command.Merge u) = refl
@@ -65,6 +67,12 @@ write_over : (m n : Map) (f : Sessions) (s : ℕ) (w : Write) (o : Option Sessio
 write_over m n f s w None = refl
 write_over m n f s w (Some x) = refl
 
+batch_over : (a b : State) (ss : List ℕ) → a.sessions ≡ b.sessions
+    → (after_batch a ss).sessions ≡ (after_batch b ss).sessions
+batch_over a b [] e = e
+batch_over a b (s ∷ ss) e =
+    batch_over (after_commit a s) (after_commit b s) ss (ap (λ (f : Sessions). remove f s) e)
+
 sessions_over : (m n : Map) (f : Sessions) (c : Command)
     → (accepted (over m f) c).0.sessions ≡ (accepted (over n f) c).0.sessions
 sessions_over m n f (command.Begin s) = refl
@@ -73,6 +81,7 @@ sessions_over m n f (command.Share s j) = share_over m n f s j (is_unheld_in (ge
 sessions_over m n f (command.Put s j bytes) = write_over m n f s (j, Some bytes) (get f s)
 sessions_over m n f (command.Del s j) = write_over m n f s (j, None) (get f s)
 sessions_over m n f (command.Commit s) = refl
+sessions_over m n f (command.Batch ss) = batch_over (over m f) (over n f) ss refl
 sessions_over m n f (command.Abort s) = refl
 sessions_over m n f (command.List a b) = refl
 sessions_over m n f (command.Merge u) = refl

@@ -1,11 +1,13 @@
 -- Sessions that have the names of a state refuse as it does, and have the names of the state after a command.
-use Rattle.std.proofs.Common.{◌≡◌, ℕ, ◌<◌, Bool, true, false, cond, not, [], ◌∷◌, length, replicate, Option, Some, None, is_some, refl, ◌∙◌, ap, arith}
+use Rattle.std.proofs.Common.{◌≡◌, ℕ, ◌<◌, nat_le, Bool, true, false, cond, not, [], ◌∷◌, length, replicate, Option, Some, None, is_some, refl, ◌∙◌, ap, arith}
 use Rattle.std.specs.FinMap.{empty}
+use Rattle.std.specs.List.{list_any}
 use Rattle.std.proofs.lemmas.List.{length-set}
 use Rattle.ipl_base.specs.declared.fault.Refusal.{Refusal}
-use Rattle.ipl_base.specs.declared.fault.Refusal.TheVariants.{AlreadyOpen, NotOpen}
-use Rattle.ipl_rules.specs.State.{State, Limits, at_rest}
-use Rattle.ipl_rules.specs.Refusals.{first_of, bad_session, bad_name, too_long, conflict}
+use Rattle.ipl_base.specs.declared.fault.Refusal.TheVariants.{AlreadyOpen, BadSession, NotOpen}
+use Rattle.ipl_rules.specs.State.{State, Limits, is_open, at_rest}
+use Rattle.ipl_rules.specs.Refusals.{first_of, bad_session, bad_name, too_long, conflict, twice, least_twice}
+use Rattle.ipl_rules.proofs.BatchLemmas.{any_alike}
 use Rattle.ipl_model.specs.declared.command.Command.{Command}
 use Rattle.ipl_model.specs.declared.command.Command.TheVariants as command
 use Rattle.ipl_model.specs.Step.{refusal_of, accepted, step}
@@ -13,6 +15,7 @@ use Rattle.record_locks.specs.Held.{Slots}
 use Rattle.record_locks.specs.Names.{SameNames, TestsAlike, KeepsNames}
 use Rattle.record_locks.specs.Standing.{state_of}
 use Rattle.record_locks.proofs.KeepLemmas.{keeps_names}
+use Rattle.record_locks.proofs.BatchLemmas.{batch_slots, batches_keep_names}
 use Rattle.record_locks.proofs.SameLemmas.{alike}
 use Rattle.serial_view.specs.Locks.{accepts, slots_after, slots_then}
 use Rattle.serial_view.proofs.SessionStepLemmas.{has_slot}
@@ -29,6 +32,7 @@ slots_kept limits slots number c all = go (accepts limits slots c)
     kept (command.Put s n bytes) = length-set slots s _ ∙ all
     kept (command.Del s n) = length-set slots s _ ∙ all
     kept (command.Commit s) = length-set slots s _ ∙ all
+    kept (command.Batch ss) = batch_slots slots ss ∙ all
     kept (command.Abort s) = length-set slots s _ ∙ all
     kept command.Restart = refl
     kept other = all
@@ -57,6 +61,12 @@ module _ (limits : Limits) (slots : Slots) (state : State) (same : SameNames (st
       ∷ (tests s n).full_writes i ∷ (tests s n).full_unit i ∷ [])
   refuses_alike (command.Commit s) =
       λ i. first_of (bad_session limits s ∷ (not ((tests s 0).opens i), NotOpen) ∷ [])
+  refuses_alike (command.Batch ss) =
+      let opens : list_any (λ s. not (is_open (state_of slots) s)) ss ≡ list_any (λ s. not (is_open state s)) ss =
+      any_alike (λ s. not (is_open (state_of slots) s)) (λ s. not (is_open state s)) ss
+      (λ s at. ap not (tests s 0).opens) in
+      λ i. first_of ((list_any (λ s. nat_le limits.sessions s) ss, BadSession)
+      ∷ twice (least_twice limits ss) ∷ (opens i, NotOpen) ∷ [])
   refuses_alike (command.Abort s) =
       λ i. first_of (bad_session limits s ∷ (not ((tests s 0).opens i), NotOpen) ∷ [])
   refuses_alike other = refl
@@ -76,6 +86,9 @@ module _ (limits : Limits) (slots : Slots) (state : State) (same : SameNames (st
     names_kept (command.Del s n) passes =
         (keeps s (has_slot limits whole state (command.Del s n) passes)).writes n None
     names_kept (command.Commit s) passes = (keeps s (has_slot limits whole state (command.Commit s) passes)).commits
+    names_kept (command.Batch ss) passes =
+        let slot = has_slot limits whole state (command.Batch ss) passes in
+        batches_keep_names slots state ss (λ s at. omega (arith, all, slot s at)) same
     names_kept (command.Abort s) passes =
         (keeps s (has_slot limits whole state (command.Commit s) passes)).aborts
     names_kept command.Restart passes = (keeps 0 (omega arith)).restarts

@@ -1,7 +1,7 @@
 -- The table holds the serial view of the commands so far.
 use Rattle.std.proofs.Common.{◌≡◌, ◌⊎◌, inl, inr, ℕ, zero, suc, ◌+◌, ◌-◌, ◌<◌, ◌≤◌, Bool, true, false, cond, not, ◌&&◌, List, [], ◌∷◌, ◌++◌, length, map, replicate, Option, None, refl, sym, ◌∙◌, ap, subst, arith, add-one, get_or-set_other, get_or-set_same}
 use Rattle.std.specs.Prelude.{filter, is_some, slice_index, slice_index_or, slice_set, if◌then◌else◌}
-use Rattle.std.specs.List.{range_with_len, list_any}
+use Rattle.std.specs.List.{range_with_len, list_any, flat_map, Contains}
 use Rattle.std.specs.FinMap.{empty}
 use Rattle.std.proofs.lemmas.Bool.{cases_eq, eq-eqb, ne_eqb, and_left}
 use Rattle.std.proofs.lemmas.List.{length-set, get_or-replicate}
@@ -16,13 +16,15 @@ use Rattle.record_locks.specs.Names.{SameNames}
 use Rattle.record_locks.specs.Standing.{state_of}
 use Rattle.serial_view.specs.declared.locks.Locks.{Locks}
 use Rattle.serial_view.specs.declared.turn_table.TurnTable.{TurnTable}
-use Rattle.serial_view.specs.Serial.{command_at, met_at, is_accepted, session_of, committer, is_begin, is_turn, turns, committed_at, serial}
+use Rattle.serial_view.specs.Serial.{command_at, met_at, is_accepted, session_of, is_begin, is_turn, turns, committed_at, serial}
 use Rattle.serial_view.specs.Laws.{IsSerialView, picked, replies, reply_at, is_unlocked}
 use Rattle.serial_view.specs.Locks.{limits_of, accepts, slots_then}
 use Rattle.serial_view.specs.Turns.{KeptTurns, is_turn_of, turns_from, begun_after, order_after, after_refused, after_accepted, HasSlot, kept_of, RunsCommand}
 use Rattle.serial_view.proofs.SessionStepLemmas.{own, has_slot}
 use Rattle.serial_view.proofs.NameLemmas.{refuses_alike, names_go_on, slots_kept, no_names}
-use Rattle.serial_view.proofs.TurnLemmas.{turn_is, turns_on, serial_until, serial_more, serial_same, commits_turns}
+use Rattle.serial_view.proofs.TurnLemmas.{turn_is, turns_on, turns_same, serial_until, serial_more, serial_same, commits_turns, batch_turns}
+use Rattle.ipl_model.specs.Laws.{is_commit}
+use Rattle.ipl_rules.proofs.BatchLemmas.{first_in, later_in}
 use Rattle.serial_view.proofs.MetLemmas.{met_more, passes}
 use Rattle.serial_view.proofs.SerialLemmas.{leaves_the_same, replies_the_same}
 use Rattle.serial_view.proofs.FilterLemmas.{filter_alike}
@@ -38,16 +40,25 @@ record BeginsNone (c : Command) : Type 0 where
 
 -- a command commits nothing
 record CommitsNone (c : Command) : Type 0 where
-  calm : committer c ≡ None
-  same : (order : List ℕ) (turns : List (Option ℕ)) (begun : List ℕ) → order_after order turns begun c ≡ order
+  calm : is_commit c ≡ false
+  same : (order : List ℕ) (turns : List (Option ℕ)) (begun : List ℕ) (k : ℕ) → order_after order turns begun k c ≡ order
 
 begin_case : (c : Command) → BeginsNone c ⊎ ((t : ℕ) × (c ≡ command.Begin t))
 begin_case (command.Begin t) = inr (t, refl)
 begin_case other = inl (record { calm = refl; same = λ begun k. refl })
 
-commit_case : (c : Command) → CommitsNone c ⊎ ((s : ℕ) × (c ≡ command.Commit s))
-commit_case (command.Commit s) = inr (s, refl)
-commit_case other = inl (record { calm = refl; same = λ order turns begun. refl })
+commit_case : (c : Command) → CommitsNone c
+    ⊎ (((s : ℕ) × (c ≡ command.Commit s)) ⊎ ((ss : List ℕ) × (c ≡ command.Batch ss)))
+commit_case (command.Commit s) = inr (inl (s, refl))
+commit_case (command.Batch ss) = inr (inr (ss, refl))
+commit_case other = inl (record { calm = refl; same = λ order turns begun k. refl })
+
+-- two functions that agree on a list give the same there
+flat_alike : (f g : ℕ → List ℕ) (ss : List ℕ) → ((s : ℕ) → Contains ss s → f s ≡ g s) → flat_map f ss ≡ flat_map g ss
+flat_alike f g [] same = refl
+flat_alike f g (s ∷ ss) same =
+    ap (λ (l : List ℕ). l ++ flat_map f ss) (same s (first_in s ss))
+    ∙ ap (λ (l : List ℕ). g s ++ l) (flat_alike f g ss (λ t at. same t (later_in s ss t at)))
 
 module _ (limits : Limits) (commands : List Command) where
   abbrev Since : ℕ → ℕ → ℕ → Type 0
@@ -224,15 +235,45 @@ module _ (limits : Limits) (commands : List Command) where
           ∙ ap (λ (l : List ℕ). l ++ committed_at limits commands k) holds.view
           ∙ sym (serial_more limits commands k)
 
-      view_now : order_after old.order turns_now old.begun c ≡ serial_until limits commands (suc k)
+      -- and a batch what it has of each of its sessions
+      session_turns : (ss : List ℕ) → c ≡ command.Batch ss → (s : ℕ) → s < 32
+          → turns_from turns_now s (slice_index old.begun s) ≡ turns limits commands s k
+      session_turns ss is s slot =
+          let from = slice_index old.begun s in
+          let calm : is_begin c ≡ false = ap is_begin is in
+          let old_since = holds.since s slot in
+          let new_since = goes_on limits commands s k from (inl calm) old_since in
+          let turn = turn_is limits commands s k false ok (ap (own s) is) in
+          ap (λ (l : List (Option ℕ)). turns_from l s from) noted_now
+          ∙ read_off s k from (omega (arith, old_since.within))
+          ∙ sym new_since.turns_are ∙ turns_same limits commands s k turn
+
+      view_batch : (ss : List ℕ) → c ≡ command.Batch ss
+          → old.order ++ (flat_map (λ s. turns_from turns_now s (slice_index old.begun s)) ss ++ length old.turns ∷ [])
+          ≡ serial_until limits commands (suc k)
+      view_batch ss is =
+          let slots : HasSlot (command.Batch ss) = subst (λ (d : Command). HasSlot d) is
+          (has_slot limits whole (met_at limits empty commands k) c (passes limits empty commands k ok)) in
+          ap (λ (l : List ℕ). old.order ++ (l ++ length old.turns ∷ []))
+          (flat_alike (λ s. turns_from turns_now s (slice_index old.begun s)) (λ s. turns limits commands s k) ss
+          (λ s at. session_turns ss is s (slots s at)))
+          ∙ ap (λ (j : ℕ). old.order ++ (flat_map (λ s. turns limits commands s k) ss ++ j ∷ [])) at_k
+          ∙ ap (λ (l : List ℕ). old.order ++ l) (sym (batch_turns limits commands k ss ok is))
+          ∙ ap (λ (l : List ℕ). l ++ committed_at limits commands k) holds.view
+          ∙ sym (serial_more limits commands k)
+
+      view_now : order_after old.order turns_now old.begun (length old.turns) c ≡ serial_until limits commands (suc k)
       view_now = go (commit_case c)
         where
-          go : CommitsNone c ⊎ ((s : ℕ) × (c ≡ command.Commit s))
-              → order_after old.order turns_now old.begun c ≡ serial_until limits commands (suc k)
+          go : CommitsNone c ⊎ (((s : ℕ) × (c ≡ command.Commit s)) ⊎ ((ss : List ℕ) × (c ≡ command.Batch ss)))
+              → order_after old.order turns_now old.begun (length old.turns) c ≡ serial_until limits commands (suc k)
           go (inl calm) =
-              calm.same old.order turns_now old.begun ∙ holds.view
+              calm.same old.order turns_now old.begun (length old.turns) ∙ holds.view
               ∙ sym (serial_same limits commands k (inr calm.calm))
-          go (inr end) = ap (order_after old.order turns_now old.begun) end.1 ∙ view_commit end.0 end.1
+          go (inr (inl end)) =
+              ap (order_after old.order turns_now old.begun (length old.turns)) end.1 ∙ view_commit end.0 end.1
+          go (inr (inr end)) =
+              ap (order_after old.order turns_now old.begun (length old.turns)) end.1 ∙ view_batch end.0 end.1
 
       accepted_then : Goes → new ≡ after_accepted old c → Holds (suc k) next new
       unfolding begun_now turns_now

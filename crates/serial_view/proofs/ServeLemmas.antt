@@ -1,4 +1,4 @@
--- What the turns of the sessions do alone, and what was committed before: the relation that each command keeps.
+-- What the turns of the sessions do beside others, and what was committed before: the relation that each command keeps.
 use Rattle.std.proofs.Common.{◌≡◌, inl, ℕ, zero, suc, Bool, false, List, ◌++◌, map, Some, refl, sym, ◌∙◌, ap, subst}
 use Rattle.std.specs.List.{list_any}
 use Rattle.std.specs.FinMap.{get}
@@ -12,7 +12,9 @@ use Rattle.ipl_model.specs.Run.{after_all}
 use Rattle.ipl_model.proofs.RunLemmas.{after_all-append}
 use Rattle.serial_view.specs.Serial.{command_at, met_at, is_accepted, turns}
 use Rattle.serial_view.specs.Laws.{picked, replies, reply_at, is_unlocked}
-use Rattle.serial_view.proofs.SessionLemmas.{alone, none_open}
+use Rattle.serial_view.proofs.SessionLemmas.{with_session, none_open}
+use Rattle.serial_view.proofs.BesideLemmas.{Beside}
+use Rattle.serial_view.proofs.BoundLemmas.{Sole, Bounded, none_sole, none_bounded}
 use Rattle.serial_view.proofs.LockLemmas.{Locked, none_locked, Agree}
 use Rattle.serial_view.proofs.TurnLemmas.{turns_same, serial_until, serial_same}
 use Rattle.serial_view.proofs.MetLemmas.{met_refused}
@@ -63,14 +65,16 @@ module _ (limits : Limits) (commands : List Command) (m : Map) where
       ∙ ap (λ (l : List (List Reply)). told a ++ l) second
       ∙ sym (map-append (reply_at limits m commands) a b)
 
-  -- Of a state with turns of its sessions, and what was committed before: each open session's turns, run alone over any
-  -- records, leave it; they have the replies of the whole run over records that agree; and so does what was committed.
+  -- Of a state with turns of its sessions, and what was committed before: each open session's turns, run
+  -- beside any sessions that it may stand beside, leave it; they have the replies of the whole run over records that agree; and so does what was committed.
   pub record Serves (state : State) (turn : ℕ → List ℕ) (done : List ℕ) : Type 0 where
     pub locked : Locked state.sessions
-    pub runs : (s : ℕ) (x : Session) → get state.sessions s ≡ Some x → (n : Map)
-        → run (at_rest n) (turn s) ≡ alone n s x
+    pub sole : Sole state.sessions
+    pub bounded : Bounded state.sessions
+    pub runs : (s : ℕ) (x : Session) → get state.sessions s ≡ Some x → (B : State) → Beside B s x
+        → run B (turn s) ≡ with_session B s x
     pub says : (s : ℕ) (x : Session) → get state.sessions s ≡ Some x → any_unlocked (turn s) ≡ false
-        → (n : Map) → Agree x n state.map → heard (at_rest n) (turn s) ≡ told (turn s)
+        → (B : State) → Beside B s x → Agree x B.map state.map → heard B (turn s) ≡ told (turn s)
     pub all_runs : run (at_rest m) done ≡ at_rest state.map
     pub all_says : any_unlocked done ≡ false → heard (at_rest m) done ≡ told done
 
@@ -80,6 +84,8 @@ module _ (limits : Limits) (commands : List Command) (m : Map) where
   pub start : at zero
   start = record {
     locked = none_locked;
+    sole = none_sole;
+    bounded = none_bounded;
     runs = λ s x found. absurd (none_open s x found);
     says = λ s x found. absurd (none_open s x found);
     all_runs = refl;
@@ -91,11 +97,13 @@ module _ (limits : Limits) (commands : List Command) (m : Map) where
       → Serves state turn done → Serves next turn' done'
   same state next turn turn' done done' e f g old = record {
     locked = subst (λ (st : State). Locked st.sessions) (sym e) old.locked;
-    runs = λ s x found n. ap (run (at_rest n)) (f s) ∙ old.runs s x (was s x found) n;
-    says = λ s x found locks n agree.
-        ap (heard (at_rest n)) (f s)
-        ∙ old.says s x (was s x found) (ap any_unlocked (sym (f s)) ∙ locks) n
-        (subst (λ (st : State). Agree x n st.map) e agree)
+    sole = subst (λ (st : State). Sole st.sessions) (sym e) old.sole;
+    bounded = subst (λ (st : State). Bounded st.sessions) (sym e) old.bounded;
+    runs = λ s x found B free. ap (run B) (f s) ∙ old.runs s x (was s x found) B free;
+    says = λ s x found locks B free agree.
+        ap (heard B) (f s)
+        ∙ old.says s x (was s x found) (ap any_unlocked (sym (f s)) ∙ locks) B free
+        (subst (λ (st : State). Agree x B.map st.map) e agree)
         ∙ ap told (sym (f s));
     all_runs = ap (run (at_rest m)) g ∙ old.all_runs ∙ ap (λ (st : State). at_rest st.map) (sym e);
     all_says = λ locks.

@@ -106,7 +106,7 @@ remove_inserted s x = same_map nat_cmp_total nat_cmp-IsAntisymmetric _ _ (λ q.
     none true = refl
     none false = refl
 
-entries-empty : entries (empty {X = Session} {R = nat_cmp}) ≡ []
+pub entries-empty : entries (empty {X = Session} {R = nat_cmp}) ≡ []
 entries-empty = nil_from_length _ (sym (len-entries empty) ∙ len-empty nat_cmp Session)
 
 pub entries-alone : (s : ℕ) (x : Session) → entries (insert (empty {R = nat_cmp}) s x) ≡ (s, x) ∷ []

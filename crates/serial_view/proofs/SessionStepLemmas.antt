@@ -1,5 +1,5 @@
 -- What a command that passes leaves of each open session.
-use Rattle.std.proofs.Common.{◌≡◌, ◌⊎◌, inl, inr, ℕ, ◌<◌, ◌==◌, nat_le, Bool, true, false, cond, not, [], ◌∷◌, Option, Some, None, refl, sym, ◌∙◌, ap, subst, arith}
+use Rattle.std.proofs.Common.{◌≡◌, ◌⊎◌, inl, inr, ℕ, ◌<◌, ◌==◌, nat_le, Bool, true, false, cond, not, List, [], ◌∷◌, Option, Some, None, refl, sym, ◌∙◌, ap, subst, arith}
 use Rattle.std.specs.Prelude.{is_some}
 use Rattle.std.specs.Cmp.{nat_cmp_total}
 use Rattle.std.specs.Option.{option_map_or}
@@ -9,12 +9,14 @@ use Rattle.std.proofs.lemmas.Bool.{cases_eq, eq-eqb, ne_eqb, leb-false}
 use Rattle.std.proofs.lemmas.Bool.Decides.{nat_tests}
 use Rattle.ipl_rules.specs.State.{Session, State, Limits}
 use Rattle.ipl_rules.specs.Refusals.{bad_session, bad_name, too_long, already_open, not_open}
-use Rattle.ipl_rules.specs.Operations.{new_session}
+use Rattle.ipl_rules.proofs.BatchLemmas.{batches_name_once}
+use Rattle.ipl_rules.specs.Operations.{new_session, after_commit, after_batch}
 use Rattle.ipl_model.specs.declared.command.Command.{Command}
 use Rattle.ipl_model.specs.declared.command.Command.TheVariants as command
 use Rattle.ipl_model.specs.Step.{Stepped, refusal_of, accepted}
 use Rattle.serial_view.specs.Turns.{HasSlot}
-use Rattle.serial_view.specs.Serial.{session_of, committer, is_begin}
+use Rattle.serial_view.specs.Serial.{session_of, is_begin}
+use Rattle.ipl_model.specs.Laws.{is_commit}
 use Rattle.serial_view.proofs.SessionLemmas.{share_by, write_by, same_some, none_open, get_inserted, get_other}
 use Rattle.serial_view.proofs.AloneLemmas.{worker, all_fail, share_tests, write_tests}
 use Rattle.serial_view.proofs.StepLemmas.{changed, does}
@@ -48,7 +50,7 @@ worker_own rest t s e other = absurd (cc)
 
 -- a command that works at a session is its, and neither a begin nor a commit
 pub worker_commits : (c : Command) (s : ℕ) → worker c ≡ Some s
-    → (committer c ≡ None) × (is_begin c ≡ false) × (own s c ≡ true)
+    → (is_commit c ≡ false) × (is_begin c ≡ false) × (own s c ≡ true)
 worker_commits (command.Get t n) s e = (refl, refl, eq-eqb t s (same_some t s e))
 worker_commits (command.Share t n) s e = (refl, refl, eq-eqb t s (same_some t s e))
 worker_commits (command.Put t n bytes) s e = (refl, refl, eq-eqb t s (same_some t s e))
@@ -67,6 +69,21 @@ committer_open limits state s passes =
         let shut : not (is_some (get state.sessions s)) ≡ true = ap (λ (o : Option Session). not (is_some o)) is in
         absurd (cc)
     go (Some x) is e = (x, is)
+
+-- what is open after a commit was open before, as it was
+open_before : (state : State) (t s : ℕ) (y : Session) → get (remove state.sessions t) s ≡ Some y
+    → get state.sessions s ≡ Some y
+open_before state t s y found = go (eq_by_cmp nat_cmp s t) (sym (get-remove nat_cmp_total state.sessions t s) ∙ found)
+  where
+    go : (b : Bool) → cond b None (get state.sessions s) ≡ Some y → get state.sessions s ≡ Some y
+    go true e = absurd (cc)
+    go false e = e
+
+-- and so after a batch
+pub still_open : (ss : List ℕ) (state : State) (s : ℕ) (y : Session) → get (after_batch state ss).sessions s ≡ Some y
+    → get state.sessions s ≡ Some y
+still_open [] state s y found = found
+still_open (t ∷ ss) state s y found = open_before state t s y (still_open ss (after_commit state t) s y found)
 
 module _ (state : State) where
   -- where the session isn't open nothing is done
@@ -142,6 +159,7 @@ module _ (state : State) where
   how (command.Put t n bytes) s y found = how_works (command.Put t n bytes) t s y refl found
   how (command.Del t n) s y found = how_works (command.Del t n) t s y refl found
   how (command.Commit t) s y found = inl (closed t s y found)
+  how (command.Batch ss) s y found = inl (still_open ss state s y found, refl)
   how (command.Abort t) s y found = inl ((closed t s y found).0, refl)
   how (command.List a b) s y found = inl (found, refl)
   how (command.Merge u) s y found = inl (found, refl)
@@ -167,4 +185,6 @@ module _ (limits : Limits) (whole : limits.sessions ≡ 32) where
       in_range s (all_fail (bad_session limits s ∷ bad_name limits n ∷ write_tests state s n) passes).0
   has_slot state (command.Commit s) passes =
       in_range s (all_fail (bad_session limits s ∷ not_open state s ∷ []) passes).0
+  has_slot state (command.Batch ss) passes =
+      λ s at. subst (λ (k : ℕ). s < k) whole ((batches_name_once limits state ss passes).within s at)
   has_slot state other passes = tt

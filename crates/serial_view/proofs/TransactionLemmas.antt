@@ -1,18 +1,20 @@
 -- What a commit commits: all that its session did since it began, with no end between.
-use Rattle.std.proofs.Common.{◌≡◌, ◌⊎◌, inl, inr, ℕ, zero, suc, ◌+◌, ◌-◌, ◌<◌, ◌≤◌, Bool, true, false, cond, ◌&&◌, List, [], ◌∷◌, ◌++◌, Some, None, refl, sym, ◌∙◌, ap, subst, arith}
-use Rattle.std.specs.Prelude.{filter}
-use Rattle.std.specs.List.{range_with_len}
+use Rattle.std.proofs.Common.{◌≡◌, ◌⊎◌, inl, inr, ℕ, zero, suc, ◌+◌, ◌-◌, ◌<◌, ◌≤◌, Bool, true, false, cond, ◌==◌, ◌&&◌, ◌||◌, List, [], ◌∷◌, ◌++◌, Option, Some, None, refl, sym, ◌∙◌, ap, subst, arith}
+use Rattle.std.specs.Prelude.{filter, is_some}
+use Rattle.std.specs.List.{range_with_len, list_any, Contains}
 use Rattle.std.specs.FinMap.{get, empty}
-use Rattle.std.proofs.lemmas.Bool.{cases_Bool, cases_lt, and_left, and_right, eq-eqb}
+use Rattle.std.proofs.lemmas.Bool.{cases_Bool, cases_lt, and_left, and_right, eq-eqb, ne_eqb, both_ways}
 use Rattle.ipl_rules.specs.State.{Session, State, Limits}
 use Rattle.ipl_model.specs.declared.command.Command.{Command}
 use Rattle.ipl_model.specs.declared.command.Command.TheVariants as command
 use Rattle.ipl_model.specs.Step.{refusal_of, accepted}
-use Rattle.serial_view.specs.Serial.{command_at, met_at, is_accepted, is_turn, begins, committed_at}
-use Rattle.serial_view.specs.Laws.{ends, IsTransaction}
+use Rattle.serial_view.specs.Serial.{command_at, met_at, is_accepted, is_turn, begins, turns, committed_at}
+use Rattle.serial_view.specs.Laws.{ends, commits, IsTransaction, BatchesCommitTransactions}
 use Rattle.serial_view.proofs.SessionLemmas.{none_open}
 use Rattle.serial_view.proofs.SessionStepLemmas.{own, After, how, closed, worker_commits, committer_open}
-use Rattle.serial_view.proofs.TurnLemmas.{turn_is, begins_is, commits_turns}
+use Rattle.ipl_rules.proofs.BatchLemmas.{first_in, later_in, batches_name_once, any_fails}
+use Rattle.serial_view.proofs.LockLemmas.{not_named}
+use Rattle.serial_view.proofs.TurnLemmas.{turn_is, begins_is, commits_turns, batch_turns}
 use Rattle.serial_view.proofs.MetLemmas.{met_accepted, met_refused, passes}
 use Rattle.serial_view.proofs.FilterLemmas.{filter_more}
 use Rattle.serial_view.proofs.BeganLemmas.{Since, goes_on, begins_here}
@@ -21,6 +23,13 @@ use Rattle.serial_view.proofs.BeganLemmas.{Since, goes_on, begins_here}
 not_ended : (state : State) (c : Command) (s : ℕ) (y : Session) → get (accepted state c).0.sessions s ≡ Some y
     → ends s c ≡ false
 not_ended state (command.Commit t) s y found = (closed state t s y found).1
+not_ended state (command.Batch ss) s y found = none_named ss (λ t at. not_named ss state s t y found at)
+  where
+    none_named : (ss : List ℕ) → ((t : ℕ) → Contains ss t → t ≡ s → ⊥) → list_any (λ t. t == s) ss ≡ false
+    none_named [] none = refl
+    none_named (t ∷ ss) none =
+        ap (λ (b : Bool). b || list_any (λ t. t == s) ss) (ne_eqb t s (none t (first_in t ss)))
+        ∙ none_named ss (λ u at. none u (later_in t ss u at))
 not_ended state (command.Abort t) s y found = (closed state t s y found).1
 not_ended state command.Restart s y found = absurd (none_open s y found)
 not_ended state other s y found = refl
@@ -115,10 +124,48 @@ module _ (limits : Limits) (commands : List Command) where
       let o = opened last s open_is.0 open_is.1 in
       let turn = turn_is limits commands s last true ok (ap (own s) is ∙ eq-eqb s s refl) in (
         o.0,
-        record { before = o.1.before; begun = o.1.begun; committed = (ok, is); unended = o.1.unended },
+        record { before = o.1.before; begun = o.1.begun; committed = (ok, ap (commits s) is ∙ eq-eqb s s refl); unended = o.1.unended },
         commits_turns limits commands last s ok is
             ∙ ap (λ (l : List ℕ). l ++ last ∷ []) o.1.since.turns_are
             ∙ ap (λ (t : Bool). filter (is_turn limits commands s) (range_with_len o.0 (last - o.0))
             ++ cond t (last ∷ []) []) (sym turn)
             ∙ sym (filter_more (is_turn limits commands s) o.0 last (omega (arith, o.1.before))),
       )
+
+  -- so does a batch that of each of its sessions
+  pub batch_transactions : (ss : List ℕ) (last : ℕ) → is_accepted limits commands last ≡ true
+      → c last ≡ command.Batch ss → (s : ℕ) → Contains ss s → (first : ℕ) × IsTransaction limits commands s first last
+      × (turns limits commands s last ≡ filter (is_turn limits commands s) (range_with_len first (last - first)))
+  batch_transactions ss last ok is s at =
+      let passes_here = subst (λ (d : Command). refusal_of limits (met last) d ≡ None) is
+      (passes limits empty commands last ok) in
+      let names = batches_name_once limits (met last) ss passes_here in
+      let open_is = opened_by (get (met last).sessions s) refl (names.opens s at) in
+      let o = opened last s open_is.0 open_is.1 in (
+        o.0,
+        record {
+          before = o.1.before;
+          begun = o.1.begun;
+          committed = (ok, ap (commits s) is ∙ named ss at);
+          unended = o.1.unended;
+        },
+        o.1.since.turns_are,
+      )
+    where
+      opened_by : (q : Option Session) → get (met last).sessions s ≡ q → is_some (get (met last).sessions s) ≡ true
+          → (x : Session) × (get (met last).sessions s ≡ Some x)
+      opened_by None none e = (let shut : is_some (get (met last).sessions s) ≡ false = ap is_some none in absurd (cc))
+      opened_by (Some x) found e = (x, found)
+
+      named : (ss : List ℕ) → Contains ss s → list_any (λ t. t == s) ss ≡ true
+      named ss at = any_at (list_any (λ t. t == s) ss) refl
+        where
+          any_at : (b : Bool) → list_any (λ t. t == s) ss ≡ b → list_any (λ t. t == s) ss ≡ true
+          any_at true e = e
+          any_at false e =
+              let none : (s == s) ≡ false = any_fails (λ t. t == s) ss s e at in
+              absurd (both_ways (s == s) none (eq-eqb s s refl))
+
+pub batches_transactions : BatchesCommitTransactions
+batches_transactions limits commands ss last ok is =
+    (batch_turns limits commands last ss ok is, λ s at. batch_transactions limits commands ss last ok is s at)

@@ -1,14 +1,14 @@
 -- The turns of a session and the serial view, one command on.
-use Rattle.std.proofs.Common.{◌≡◌, ◌⊎◌, inl, inr, ℕ, suc, ◌+◌, Bool, true, false, cond, ◌&&◌, List, [], ◌∷◌, ◌++◌, Option, None, refl, ◌∙◌, ap, add-one}
+use Rattle.std.proofs.Common.{◌≡◌, ◌⊎◌, inl, inr, ℕ, suc, Bool, true, false, cond, ◌&&◌, List, [], ◌∷◌, ◌++◌, refl, ◌∙◌, ap, add-one}
 use Rattle.std.specs.List.{range_with_len, flat_map}
-use Rattle.std.specs.Option.{option_map_or}
 use Rattle.std.proofs.lemmas.Bool.{and_parts, and_left, and_right, eq-eqb}
 use Rattle.std.proofs.lemmas.List.{append-nil}
 use Rattle.std.proofs.lemmas.List.Concat.{flat_map-append}
 use Rattle.ipl_rules.specs.State.{Limits}
 use Rattle.ipl_model.specs.declared.command.Command.{Command}
 use Rattle.ipl_model.specs.declared.command.Command.TheVariants as command
-use Rattle.serial_view.specs.Serial.{command_at, is_accepted, committer, is_begin, is_turn, begins, turns, committed_at}
+use Rattle.serial_view.specs.Serial.{command_at, is_accepted, is_begin, is_turn, begins, turns, commits_at, committed_at}
+use Rattle.ipl_model.specs.Laws.{is_commit}
 use Rattle.serial_view.proofs.SessionStepLemmas.{own}
 use Rattle.serial_view.proofs.SinceLemmas.{upto_more, since_begun, since_on, since_same}
 
@@ -47,21 +47,28 @@ module _ (limits : Limits) (commands : List Command) where
       ∙ flat_map-append (committed_at limits commands) (range_with_len 0 k) (k ∷ [])
       ∙ ap (λ (l : List ℕ). serial_until k ++ l) (append-nil (committed_at limits commands k))
 
-  -- what a commit brings into the view, where it is accepted and of this session
-  abbrev committed : ℕ → Bool → Option ℕ → List ℕ
-  committed k accepted o = cond accepted (option_map_or (λ s. turns limits commands s (k + 1)) o []) []
+  -- what a command brings into the view, where it is accepted
+  abbrev committed : ℕ → Bool → Command → List ℕ
+  committed k accepted c = cond accepted (commits_at limits commands k c) []
 
-  commits_none : (k : ℕ) → (is_accepted limits commands k ≡ false) ⊎ (committer (command_at commands k) ≡ None)
+  not_commits : (k : ℕ) (c : Command) → is_commit c ≡ false → commits_at limits commands k c ≡ []
+  not_commits k (command.Commit s) e = absurd (cc)
+  not_commits k (command.Batch ss) e = absurd (cc)
+  not_commits k other e = refl
+
+  commits_none : (k : ℕ) → (is_accepted limits commands k ≡ false) ⊎ (is_commit (command_at commands k) ≡ false)
       → committed_at limits commands k ≡ []
-  commits_none k (inl e) = ap (λ (b : Bool). committed k b (committer (command_at commands k))) e
-  commits_none k (inr e) = ap (committed k (is_accepted limits commands k)) e ∙ go (is_accepted limits commands k)
+  commits_none k (inl e) = ap (λ (b : Bool). committed k b (command_at commands k)) e
+  commits_none k (inr e) =
+      ap (λ (l : List ℕ). cond (is_accepted limits commands k) l []) (not_commits k (command_at commands k) e)
+      ∙ go (is_accepted limits commands k)
     where
       go : (b : Bool) → cond {A = List ℕ} b [] [] ≡ []
       go true = refl
       go false = refl
 
   -- where nothing is committed the view stays
-  pub serial_same : (k : ℕ) → (is_accepted limits commands k ≡ false) ⊎ (committer (command_at commands k) ≡ None)
+  pub serial_same : (k : ℕ) → (is_accepted limits commands k ≡ false) ⊎ (is_commit (command_at commands k) ≡ false)
       → serial_until (suc k) ≡ serial_until k
   serial_same k why =
       serial_more k ∙ ap (λ (l : List ℕ). serial_until k ++ l) (commits_none k why) ∙ append-nil (serial_until k)
@@ -69,7 +76,12 @@ module _ (limits : Limits) (commands : List Command) where
   pub commits_turns : (k s : ℕ) → is_accepted limits commands k ≡ true → command_at commands k ≡ command.Commit s
       → committed_at limits commands k ≡ turns limits commands s k ++ k ∷ []
   commits_turns k s ok is =
-      ap (λ (b : Bool). committed k b (committer (command_at commands k))) ok
-      ∙ ap (λ (c : Command). committed k true (committer c)) is
+      ap (λ (b : Bool). committed k b (command_at commands k)) ok
+      ∙ ap (committed k true) is
       ∙ ap (turns limits commands s) (add-one k)
       ∙ turns_on s k (ap is_begin is) (turn_is s k true ok (ap (own s) is ∙ eq-eqb s s refl))
+
+  pub batch_turns : (k : ℕ) (ss : List ℕ) → is_accepted limits commands k ≡ true
+      → command_at commands k ≡ command.Batch ss
+      → committed_at limits commands k ≡ flat_map (λ s. turns limits commands s k) ss ++ k ∷ []
+  batch_turns k ss ok is = ap (λ (b : Bool). committed k b (command_at commands k)) ok ∙ ap (committed k true) is

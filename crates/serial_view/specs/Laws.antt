@@ -1,6 +1,6 @@
 -- The laws of the serial view.
-use Rattle.std.specs.Prelude.{◌≡◌, ℕ, ◌+◌, ◌-◌, ◌<◌, ◌==◌, Bool, true, false, not, ◌&&◌, List, [], ◌∷◌, map, filter}
-use Rattle.std.specs.List.{list_any, range_with_len}
+use Rattle.std.specs.Prelude.{◌≡◌, ℕ, ◌+◌, ◌-◌, ◌<◌, ◌==◌, Bool, true, false, not, ◌&&◌, List, [], ◌∷◌, ◌++◌, map, filter, Contains}
+use Rattle.std.specs.List.{list_any, flat_map, range_with_len}
 use Rattle.std.specs.FinMap.{empty}
 use Rattle.ipl_rules.specs.State.{Map, State, Limits, at_rest}
 use Rattle.ipl_rules.specs.Refusals.{is_new_share}
@@ -49,15 +49,22 @@ pub record IsSerialView (limits : Limits) (commands : List Command) (positions :
 -- a command ends what session s has open
 abbrev pub ends : ℕ → Command → Bool
 ends s (command.Commit t) = t == s
+ends s (command.Batch ss) = list_any (λ t. t == s) ss
 ends s (command.Abort t) = t == s
 ends s command.Restart = true
 ends s other = false
+
+-- a command commits session s, by itself or with others
+abbrev pub commits : ℕ → Command → Bool
+commits s (command.Commit t) = t == s
+commits s (command.Batch ss) = list_any (λ t. t == s) ss
+commits s other = false
 
 -- a transaction of session s: it begins at one position and is committed at another, and nothing ended it between
 pub record IsTransaction (limits : Limits) (commands : List Command) (s first last : ℕ) : Type 0 where
   pub before : first < last
   pub begun : begins limits commands s first ≡ true
-  pub committed : (is_accepted limits commands last ≡ true) × (command_at commands last ≡ command.Commit s)
+  pub committed : (is_accepted limits commands last ≡ true) × (commits s (command_at commands last) ≡ true)
   pub unended : (j : ℕ) → first < j → j < last
       → (is_accepted limits commands j && ends s (command_at commands j)) ≡ false
 
@@ -68,6 +75,15 @@ CommitsTransactions = (limits : Limits) (commands : List Command) (s last : ℕ)
     → (first : ℕ) × IsTransaction limits commands s first last
     × (committed_at limits commands last
     ≡ filter (is_turn limits commands s) (range_with_len first (last + 1 - first)))
+
+-- so does an accepted batch that of each session that it names: the view has their accepted commands, one session after
+-- the other in the order named, and then the batch
+abbrev pub BatchesCommitTransactions : Type 0
+BatchesCommitTransactions = (limits : Limits) (commands : List Command) (ss : List ℕ) (last : ℕ)
+    → is_accepted limits commands last ≡ true → command_at commands last ≡ command.Batch ss
+    → (committed_at limits commands last ≡ flat_map (λ s. turns limits commands s last) ss ++ last ∷ [])
+    × ((s : ℕ) → Contains ss s → (first : ℕ) × IsTransaction limits commands s first last
+    × (turns limits commands s last ≡ filter (is_turn limits commands s) (range_with_len first (last - first))))
 
 -- ---- which gets are unlocked
 

@@ -6,7 +6,7 @@ use Rattle.ipl_model.specs.declared.command.Command.{Command}
 use Rattle.ipl_model.specs.declared.command.Command.TheVariants as command
 use Rattle.ipl_model.specs.Step.{refusal_of}
 use Rattle.ipl_model.specs.Plain.{limits_for}
-use Rattle.record_locks.specs.Held.{Slots, after_begin, after_share, after_write, after_end}
+use Rattle.record_locks.specs.Held.{Slots, after_begin, after_share, after_write, after_end, after_batch}
 use Rattle.record_locks.specs.Standing.{state_of}
 use Rattle.serial_view.specs.declared.locks.Locks.{Locks}
 
@@ -25,6 +25,7 @@ slots_after slots number (command.Share s n) = after_share slots s n
 slots_after slots number (command.Put s n bytes) = after_write slots s n
 slots_after slots number (command.Del s n) = after_write slots s n
 slots_after slots number (command.Commit s) = after_end slots s
+slots_after slots number (command.Batch ss) = after_batch slots ss
 slots_after slots number (command.Abort s) = after_end slots s
 slots_after slots number command.Restart = replicate SESSIONS None
 slots_after slots number other = slots

@@ -1,5 +1,5 @@
 -- The serial view of a run: the transactions that were committed, each whole, in the order of their commits.
-use Rattle.std.specs.Prelude.{ℕ, ◌+◌, ◌==◌, nat_lt, Bool, false, not, ◌&&◌, List, [], length, filter, slice_index_or, Option, Some, None, is_some, if◌then◌else◌}
+use Rattle.std.specs.Prelude.{ℕ, ◌+◌, ◌==◌, nat_lt, Bool, false, not, ◌&&◌, List, [], ◌∷◌, ◌++◌, length, filter, slice_index_or, Option, Some, None, is_some, if◌then◌else◌}
 use Rattle.std.specs.List.{range_with_len, flat_map, list_any}
 use Rattle.std.specs.Option.{option_map_or}
 use Rattle.std.specs.FinMap.{empty}
@@ -34,11 +34,6 @@ session_of (command.Del s n) = Some s
 session_of (command.Commit s) = Some s
 session_of other = None
 
--- the session that a command commits
-abbrev pub committer : Command → Option ℕ
-committer (command.Commit s) = Some s
-committer other = None
-
 abbrev pub is_begin : Command → Bool
 is_begin (command.Begin s) = Bool.true
 is_begin other = false
@@ -61,11 +56,17 @@ abbrev pub turns : Limits → List Command → ℕ → ℕ → List ℕ
 turns limits commands s k =
     filter (λ j. is_turn limits commands s j && not (begins_between limits commands s j k)) (range_with_len 0 k)
 
--- the positions of the transaction that the command at position k commits; none where it commits none
+-- the positions of the transactions that this command commits at position k: of a commit its session's, and of a batch
+-- those of its sessions, in the order named, and then its own
+abbrev pub commits_at : Limits → List Command → ℕ → Command → List ℕ
+commits_at limits commands k (command.Commit s) = turns limits commands s (k + 1)
+commits_at limits commands k (command.Batch ss) = flat_map (λ s. turns limits commands s k) ss ++ k ∷ []
+commits_at limits commands k other = []
+
+-- the positions of the transactions that the command at position k commits; none where it commits none
 abbrev pub committed_at : Limits → List Command → ℕ → List ℕ
-committed_at limits commands k = if is_accepted limits commands k
-    then option_map_or (λ s. turns limits commands s (k + 1)) (committer (command_at commands k)) []
-    else []
+committed_at limits commands k =
+    if is_accepted limits commands k then commits_at limits commands k (command_at commands k) else []
 
 -- the positions of the commands of committed transactions, in the order of the commits
 abbrev pub serial : Limits → List Command → List ℕ

@@ -1,6 +1,6 @@
 -- What is kept while the view is made: whose turn each command was, where each session last began, and the view so far.
 use Rattle.std.specs.Prelude.{◌≡◌, ℕ, ◌-◌, ◌<◌, ◌==◌, Bool, false, List, [], ◌∷◌, ◌++◌, length, filter, slice_index, slice_index_or, slice_set, Option, None, if◌then◌else◌}
-use Rattle.std.specs.List.{range_with_len}
+use Rattle.std.specs.List.{range_with_len, flat_map, Contains}
 use Rattle.std.specs.Option.{option_map_or, IfSome}
 use Rattle.ipl_base.specs.declared.limits.TheConstants.{SESSIONS}
 use Rattle.ipl_model.specs.declared.command.Command.{Command}
@@ -30,10 +30,12 @@ abbrev pub begun_after : List ℕ → ℕ → Command → List ℕ
 begun_after begun k (command.Begin s) = slice_set begun s k
 begun_after begun k other = begun
 
--- the view after a command that stands last among the turns
-abbrev pub order_after : List ℕ → List (Option ℕ) → List ℕ → Command → List ℕ
-order_after order turns begun (command.Commit s) = order ++ turns_from turns s (slice_index begun s)
-order_after order turns begun other = order
+-- the view after a command at a position, the last of the turns
+abbrev pub order_after : List ℕ → List (Option ℕ) → List ℕ → ℕ → Command → List ℕ
+order_after order turns begun k (command.Commit s) = order ++ turns_from turns s (slice_index begun s)
+order_after order turns begun k (command.Batch ss) =
+    order ++ (flat_map (λ s. turns_from turns s (slice_index begun s)) ss ++ k ∷ [])
+order_after order turns begun k other = order
 
 -- a command that was refused
 abbrev pub after_refused : KeptTurns → KeptTurns
@@ -44,12 +46,13 @@ abbrev pub after_accepted : KeptTurns → Command → KeptTurns
 after_accepted t c = record {
   turns = t.turns ++ session_of c ∷ [];
   begun = begun_after t.begun (length t.turns) c;
-  order = order_after t.order (t.turns ++ session_of c ∷ []) t.begun c;
+  order = order_after t.order (t.turns ++ session_of c ∷ []) t.begun (length t.turns) c;
 }
 
--- its session, where it has one, is below 32
+-- its session, where it has one, is below 32, and so is each session of a batch
 abbrev pub HasSlot : Command → Type 0
-HasSlot c = IfSome (session_of c) (λ s. s < SESSIONS)
+HasSlot (command.Batch ss) = (s : ℕ) → Contains ss s → s < SESSIONS
+HasSlot other = IfSome (session_of other) (λ s. s < SESSIONS)
 
 -- what a table holds
 abbrev pub kept_of : TurnTable → KeptTurns

@@ -4,9 +4,10 @@
 //! the positions of its commands.
 //!
 //! Proved, by `serial_order`, its two laws: the serial view of a list of commands, exactly:
-//! committed transactions, each whole, in the order of their commits. Run by itself from any
-//! records it leaves the records of the whole run; and where it gets no name that its transaction
-//! hadn't then written or shared, it has the same replies.
+//! committed transactions, each whole, in the order of their commits, those of a batch in the order
+//! in which it names their sessions, and then the batch. Run by itself from any records it leaves
+//! the records of the whole run; and where it gets no name that its transaction hadn't then written
+//! or shared, it has the same replies.
 #![tactic(auto)]
 
 mod laws;

@@ -79,6 +79,13 @@ impl Locks {
         s < SESSIONS && self.sessions.end(s).is_ok()
     }
 
+    /// Closes several sessions, where that isn't refused.
+    fn end_all(&mut self, sessions: &[u32]) -> bool
+        ensures { TakesCommand self.old 0 (command.Batch sessions.now) self.new result }
+    {
+        self.sessions.end_all(sessions).is_ok()
+    }
+
     /// Runs one command as far as locks go, and answers whether it isn't refused. A session that it
     /// begins gets the number.
     pub fn take(&mut self, command: &Command, number: u64) -> bool
@@ -91,6 +98,7 @@ impl Locks {
             Command::Put(s, name, bytes) => self.put(*s, *name, bytes.bytes()),
             Command::Del(s, name) => self.write(*s, *name),
             Command::Commit(s) | Command::Abort(s) => self.end(*s),
+            Command::Batch(sessions) => self.end_all(sessions.numbers()),
             Command::List(a, b) => self.has_name(*a) && self.has_name(*b),
             Command::Merge(unit) => *unit < self.units,
             Command::Restart => {

@@ -29,7 +29,8 @@ fn run_command(
 }
 
 /// The positions of the commands of committed transactions that weren't refused, one transaction after
-/// the other in the order of their commits. These commands, run by themselves from any records, leave
+/// the other in the order of their commits, those of a batch in the order in which it names their
+/// sessions, and then the batch. These commands, run by themselves from any records, leave
 /// the records that the whole run leaves; and where none of them gets a name that its transaction
 /// hadn't then written or shared, each has the reply that it has in the whole run. The sessions are 0
 /// to 31, and there are 960 names for each place of the geometry but four.

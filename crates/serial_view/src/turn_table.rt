@@ -1,5 +1,6 @@
 //! What is kept of a run while its serial view is made.
-ghost use Rattle.std.specs.Prelude.{◌≡◌, ◌<◌, ◌≤◌, ◌++◌, ◌∷◌, [], ℕ, length, replicate, OnOk};
+ghost use Rattle.std.specs.Prelude.{◌≡◌, ◌<◌, ◌≤◌, ◌++◌, ◌∷◌, [], ℕ, length, replicate, slice_index, Contains, OnOk};
+ghost use Rattle.std.specs.List.{flat_map};
 ghost use Rattle.serial_view.specs.Serial.{session_of};
 ghost use Rattle.serial_view.specs.Turns.{KeptTurns, after_refused, after_accepted, is_turn_of, turns_from, HasSlot, kept_of};
 
@@ -19,6 +20,7 @@ fn session_of(command: &Command) -> Option<u32>
         | Command::Commit(s) => Some(*s),
         Command::Abort(_)
         | Command::List(_, _)
+        | Command::Batch(_)
         | Command::Merge(_)
         | Command::Restart
         | Command::Syntax => None,
@@ -48,6 +50,24 @@ fn append_turns(
         if is_turn_of(s, turns[at]) {
             order.push(at)?;
         }
+    }
+    Ok(())
+}
+
+/// Appends the positions of the turns of several sessions since they last began, one session after the other.
+fn append_batch(
+    order: &mut Vec<usize>,
+    turns: &[Option<u32>],
+    begun: &[usize; 32],
+    sessions: &[u32],
+) -> Result<(), AllocError>
+    requires { (s : ℕ) → Contains sessions.now s → s < 32 }
+    ensures { OnOk result (order.new.items ≡ order.old.items
+        ++ flat_map (λ s. turns_from turns.now s (slice_index begun.now s)) sessions.now) }
+{
+    for s in sessions {
+        let from = begun[*s as usize];
+        append_turns(order, turns, *s, from)?;
     }
     Ok(())
 }
@@ -102,6 +122,11 @@ impl TurnTable {
             Command::Commit(s) => {
                 let from = self.begun[*s as usize];
                 append_turns(&mut self.order, &self.turns, *s, from)?;
+            }
+            Command::Batch(sessions) => {
+                let order = &mut self.order;
+                append_batch(order, &self.turns, &self.begun, sessions.numbers())?;
+                order.push(at)?;
             }
             _ => {}
         }

@@ -4,9 +4,9 @@ pub mod KeeperLemmas
 pub mod LeadLemmas
 pub mod ChangeLemmas
 pub mod NamedLemmas
-pub mod SessionLemmas
-pub mod ShowLemmas
+pub mod BatchLemmas
 pub mod CommitLemmas
+pub mod SessionLemmas
 pub mod ViewLemmas
 pub mod NumberLemmas
 pub mod KeepLemmas

@@ -10,23 +10,22 @@ use Rattle.ipl_format.specs.Record.{Record}
 use Rattle.record_locks.specs.Held.{number_of, written_of}
 use Rattle.ipl_meaning.specs.Chart.{Chart}
 use Rattle.ipl_meaning.specs.Layout.{Layout, records_of}
+use Rattle.ipl_meaning.specs.Tables.{Tables}
 use Rattle.ipl_meaning.specs.Last.{last_that}
 use Rattle.ipl_meaning.specs.Values.{counts_for}
 use Rattle.page_ops.specs.Pending.{seen_by, without_pending}
-use Rattle.pending_writes.specs.Pending.{is_other, name_at, records_at, IsPending, HasOtherNumber}
-use Rattle.pending_writes.specs.Frames.{Frame, Frames, logs_of, IsCommittedFrame, IsAbortedFrame, ChangesSo, EachFrameChanges}
+use Rattle.pending_writes.specs.Pending.{Numbers, is_other, name_at, wrote, records_at, IsPending, HasPending, HasOtherNumber}
+use Rattle.pending_writes.specs.Frames.{Frame, Frames, logs_of, AreFramesOf, IsCommittedFrame, IsAbortedFrame, ChangesSo, EachFrameChanges}
 use Rattle.pending_writes.specs.Fits.{is_active}
-use Rattle.pending_writes.proofs.ActiveLemmas.{listed_among}
 use Rattle.pending_writes.proofs.ElementLemmas.{all_listed, contains_filter}
-use Rattle.pending_writes.proofs.EndFitLemmas.{all_kept}
-use Rattle.pending_writes.proofs.FitLemmas.{wrote_is}
+use Rattle.pending_writes.proofs.EmptyLemmas.{all_kept}
+use Rattle.pending_writes.proofs.FitLemmas.{wrote_listed}
 use Rattle.pending_writes.proofs.FollowLemmas.{records_are_writes}
 use Rattle.pending_writes.proofs.FrameLemmas.{seen_else, drops_else}
 use Rattle.pending_writes.proofs.LastLemmas.{counted, last_listed}
 use Rattle.pending_writes.proofs.MemoryLemmas.{valid_at}
 use Rattle.pending_writes.proofs.SameLemmas.{log_in}
-use Rattle.store_steps.specs.Advances.{Memory, MemoryFits}
-use Rattle.store_steps.specs.NamedFrames.{IsSameOr, NamedFramesChange, NamedCommitsSuffice, NamedAbortsSuffice}
+use Rattle.store_steps.specs.NamedFrames.{IsSameOr, NamedFramesChange, NamedAbortsSuffice}
 
 -- where a frame that stayed changed so too, each did
 each_changes : (R : Frame → Frame → Type 0) (names : List ℕ) (old new : Frames)
@@ -44,146 +43,144 @@ each_changes R names old new change same u page =
     by_frames (Some a) (Some b) here then (inl is) = same u page a b here then is
     by_frames (Some a) (Some b) here then (inr is) = is
 
-module _ (places : ℕ) (c : Chart) (it : Layout) (memory : Memory) (state : State) (s tid : ℕ)
-    (fits : MemoryFits places c it memory state) (mine : number_of memory.slots s ≡ Some tid)
-    (R : Frame → Frame → Type 0) (later : Frames)
-    (change : NamedFramesChange R (written_of memory.slots s) memory.frames later) (u page : ℕ)
-    (a b : Frame) (here : memory.frames u page ≡ Some a) (then : later u page ≡ Some b) where
-  abbrev records : List Record
-  records = records_at it (logs_of memory.frames) u page
+-- a session with its number, and the names among which all are that it wrote
+module _ (units : ℕ) (c : Chart) (it : Layout) (t : Tables) (frames : Frames) (numbers : Numbers)
+    (state : State) (s tid : ℕ) (names : List ℕ)
+    (has : HasPending units it (logs_of frames) numbers state)
+    (framed : AreFramesOf units c it (is_active t) frames) (mine : numbers s ≡ Some tid)
+    (named : (n : ℕ) → wrote state s n ≡ true → Contains names n) where
+  module _ (R : Frame → Frame → Type 0) (later : Frames)
+      (change : NamedFramesChange R names frames later) (u page : ℕ) (a b : Frame)
+      (here : frames u page ≡ Some a) (then : later u page ≡ Some b) where
+    abbrev records : List Record
+    records = records_at it (logs_of frames) u page
 
-  abbrev last_here : ℕ → Option Record
-  last_here slot = last_that (counts_for (is_active memory.tables) page slot) records None
+    abbrev last_here : ℕ → Option Record
+    last_here slot = last_that (counts_for (is_active t) page slot) records None
 
-  low : u < places - 4
-  low = (fits.framed.within u page a here).0
+    low : u < units
+    low = (framed.within u page a here).0
 
-  -- the page of a name that it wrote changed
-  named_here : (slot : ℕ) → slot < 64
-      → Contains (written_of memory.slots s) (name_at u page slot) → R a b
-  named_here slot less wrote_it =
-      let n = name_at u page slot in
-      let few = (fits.framed.within u page a here).1 in
-      let unit : (home_of n).unit ≡ u = omega (arith, few, less) in
-      let of_page : (home_of n).page ≡ page = omega (arith, few, less) in
-      let at_page = subst (λ (q : ℕ). ChangesSo R (memory.frames (home_of n).unit q)
-      (later (home_of n).unit q)) of_page (change.named n wrote_it) in
-      let at_both : ChangesSo R (memory.frames u page) (later u page) =
-      subst (λ (v : ℕ). ChangesSo R (memory.frames v page) (later v page)) unit at_page in
-      subst (ChangesSo R (Some a)) then
-      (subst (λ (o : Option Frame). ChangesSo R o (later u page)) here at_both)
+    -- the page of a name that it wrote changed
+    named_here : (slot : ℕ) → slot < 64 → Contains names (name_at u page slot) → R a b
+    named_here slot less wrote_it =
+        let n = name_at u page slot in
+        let few = (framed.within u page a here).1 in
+        let unit : (home_of n).unit ≡ u = omega (arith, few, less) in
+        let of_page : (home_of n).page ≡ page = omega (arith, few, less) in
+        let at_page = subst (λ (q : ℕ). ChangesSo R (frames (home_of n).unit q)
+        (later (home_of n).unit q)) of_page (change.named n wrote_it) in
+        let at_both : ChangesSo R (frames u page) (later u page) =
+        subst (λ (v : ℕ). ChangesSo R (frames v page) (later v page)) unit at_page in
+        subst (ChangesSo R (Some a)) then
+        (subst (λ (o : Option Frame). ChangesSo R o (later u page)) here at_both)
 
-  -- where a record of it is there, the page changed
-  its_page : (r : Record) → Contains records r → r.page ≡ page → r.tid ≡ tid → R a b
-  its_page r there page_is same =
-      let valid = valid_at (places - 4) it (logs_of memory.frames) (number_of memory.slots) state
-      fits.pending u page r low there in
-      let number = mine ∙ ap (λ (k : ℕ). Some k) (sym same) in
-      let n = name_at u page r.slot in
-      let is = records_are_writes (places - 4) it (logs_of memory.frames) (number_of memory.slots)
-      state s u page r fits.pending number low page_is valid there in
-      named_here r.slot valid.slot
-      (listed_among (written_of memory.slots s) n
-      (wrote_is memory.slots state fits.sessions s n is))
+    -- where a record of it is there, the page changed
+    its_page : (r : Record) → Contains records r → r.page ≡ page → r.tid ≡ tid → R a b
+    its_page r there page_is same =
+        let valid = valid_at units it (logs_of frames) numbers state has u page r low there in
+        let number = mine ∙ ap (λ (k : ℕ). Some k) (sym same) in
+        let is = records_are_writes units it (logs_of frames) numbers state s u page r has number
+        low page_is valid there in
+        named_here r.slot valid.slot (named (name_at u page r.slot) is)
 
-  -- the page changed, or the last change of a slot is another's
-  whose_slot : (slot : ℕ)
-      → R a b ⊎ ((r : Record) → last_here slot ≡ Some r → r.tid ≢ tid)
-  whose_slot slot = by_last (last_here slot) refl
+    -- the page changed, or the last change of a slot is another's
+    whose_slot : (slot : ℕ)
+        → R a b ⊎ ((r : Record) → last_here slot ≡ Some r → r.tid ≢ tid)
+    whose_slot slot = by_last (last_here slot) refl
+      where
+        by_last : (o : Option Record) → last_here slot ≡ o
+            → R a b ⊎ ((r : Record) → last_here slot ≡ Some r → r.tid ≢ tid)
+        by_last None is = inr (λ r some. absurd (none-some r (sym is ∙ some)))
+        by_last (Some q) is = elim (cases_eq q.tid tid) [
+          | inl same ↦
+              let test = counts_for (is_active t) page slot in
+              let (there, passes) = last_listed test records q is in
+              inl (its_page q there (counted (is_active t) page slot q passes).0 same)
+          | inr other ↦ inr (λ r some.
+              let both : Some q ≡ Some r = sym is ∙ some in
+              let one : q ≡ r = cc both in
+              subst (λ (k : Record). k.tid ≢ tid) one other)
+        ]
+
+    -- all records in memory are others', or the page changed
+    others_log : (R a b → a.log ≡ filter (is_other tid) a.log) → All (HasOtherNumber tid) a.log
+    others_log dropped = all_listed (HasOtherNumber tid) a.log (λ r there same.
+        let log : logs_of frames u page ≡ a.log = ap log_in here in
+        let in_memory = subst (λ (l : List Record). Contains l r) (sym log) there in
+        let is = All-contains (IsPending numbers page) (logs_of frames u page) r
+        (has.in_memory u page) in_memory in
+        let listed = Contains-append_right (records_of (it.units u).log) (logs_of frames u page) r
+        in_memory in
+        let kept = dropped (its_page r listed is.page_is same) in
+        let passes = (contains_filter (is_other tid) a.log r
+        (subst (λ (l : List Record). Contains l r) kept there)).1 in
+        let clash : true ≡ false = sym (eq-eqb r.tid tid same) ∙ not-true (eqb r.tid tid) passes in
+        cc clash)
+
+    module _ (same : b ≡ a) where
+      -- a slot with another's change keeps it
+      pending_same : (slot : ℕ) → slot < 64
+          → ((r : Record) → last_here slot ≡ Some r → r.tid ≢ tid)
+          → b.pending slot ≡ without_pending tid (a.pending slot)
+      pending_same slot less other =
+          let was = (framed.each u page a here).changes slot less in
+          ap (λ (f : Frame). f.pending slot) same ∙ was
+          ∙ sym (ap (without_pending tid) was ∙ drops_else tid (last_here slot) other)
+
+      -- and its value
+      value_same : (slot : ℕ) → slot < 64
+          → ((r : Record) → last_here slot ≡ Some r → r.tid ≢ tid)
+          → b.values slot ≡ seen_by tid (a.values slot) (a.pending slot)
+      value_same slot less other =
+          let was = (framed.each u page a here).changes slot less in
+          ap (λ (f : Frame). f.values slot) same
+          ∙ sym (ap (seen_by tid (a.values slot)) was
+          ∙ seen_else tid (a.values slot) (last_here slot) other)
+
+  -- a commit
+  pub all_settled : (later : Frames) → NamedFramesChange (IsCommittedFrame tid) names frames later
+      → EachFrameChanges (IsCommittedFrame tid) frames later
+  all_settled later change = each_changes (IsCommittedFrame tid) names frames later change committed
     where
-      by_last : (o : Option Record) → last_here slot ≡ o
-          → R a b ⊎ ((r : Record) → last_here slot ≡ Some r → r.tid ≢ tid)
-      by_last None is = inr (λ r some. absurd (none-some r (sym is ∙ some)))
-      by_last (Some q) is = elim (cases_eq q.tid tid) [
-        | inl same ↦
-            let test = counts_for (is_active memory.tables) page slot in
-            let (there, passes) = last_listed test records q is in
-            inl (its_page q there (counted (is_active memory.tables) page slot q passes).0 same)
-        | inr other ↦ inr (λ r some.
-            let both : Some q ≡ Some r = sym is ∙ some in
-            let one : q ≡ r = cc both in
-            subst (λ (k : Record). k.tid ≢ tid) one other)
-      ]
+      committed : (u page : ℕ) (a b : Frame) → frames u page ≡ Some a → later u page ≡ Some b
+          → b ≡ a → IsCommittedFrame tid a b
+      committed u page a b here then same =
+          let R = IsCommittedFrame tid in record {
+            values = λ slot less. elim (whose_slot R later change u page a b here then slot) [
+              | inl did ↦ did.values slot less
+              | inr other ↦ value_same R later change u page a b here then same slot less other
+            ];
+            pending = λ slot less. elim (whose_slot R later change u page a b here then slot) [
+              | inl did ↦ did.pending slot less
+              | inr other ↦ pending_same R later change u page a b here then same slot less other
+            ];
+            log = ap (λ (f : Frame). f.log) same;
+          }
 
-  -- all records in memory are others', or the page changed
-  others_log : (R a b → a.log ≡ filter (is_other tid) a.log) → All (HasOtherNumber tid) a.log
-  others_log dropped = all_listed (HasOtherNumber tid) a.log (λ r there same.
-      let log : logs_of memory.frames u page ≡ a.log = ap log_in here in
-      let in_memory = subst (λ (l : List Record). Contains l r) (sym log) there in
-      let is = All-contains (IsPending (number_of memory.slots) page)
-      (logs_of memory.frames u page) r (fits.pending.in_memory u page) in_memory in
-      let listed = Contains-append_right (records_of (it.units u).log)
-      (logs_of memory.frames u page) r in_memory in
-      let kept = dropped (its_page r listed is.page_is same) in
-      let passes = (contains_filter (is_other tid) a.log r
-      (subst (λ (l : List Record). Contains l r) kept there)).1 in
-      let clash : true ≡ false = sym (eq-eqb r.tid tid same) ∙ not-true (eqb r.tid tid) passes in
-      cc clash)
+  -- an abort
+  all_dropped : (later : Frames) → NamedFramesChange (IsAbortedFrame tid) names frames later
+      → EachFrameChanges (IsAbortedFrame tid) frames later
+  all_dropped later change = each_changes (IsAbortedFrame tid) names frames later change aborted
+    where
+      aborted : (u page : ℕ) (a b : Frame) → frames u page ≡ Some a → later u page ≡ Some b
+          → b ≡ a → IsAbortedFrame tid a b
+      aborted u page a b here then same =
+          let R = IsAbortedFrame tid in record {
+            values = λ slot less. ap (λ (f : Frame). f.values slot) same;
+            pending = λ slot less. elim (whose_slot R later change u page a b here then slot) [
+              | inl did ↦ did.pending slot less
+              | inr other ↦ pending_same R later change u page a b here then same slot less other
+            ];
+            log = ap (λ (f : Frame). f.log) same
+                ∙ all_kept tid a.log (others_log R later change u page a b here then
+                (λ did. sym (ap (λ (f : Frame). f.log) same) ∙ did.log));
+          }
 
-  module _ (same : b ≡ a) where
-    -- a slot with another's change keeps it
-    pending_same : (slot : ℕ) → slot < 64 → ((r : Record) → last_here slot ≡ Some r → r.tid ≢ tid)
-        → b.pending slot ≡ without_pending tid (a.pending slot)
-    pending_same slot less other =
-        let was = (fits.framed.each u page a here).changes slot less in
-        ap (λ (f : Frame). f.pending slot) same ∙ was
-        ∙ sym (ap (without_pending tid) was ∙ drops_else tid (last_here slot) other)
-
-    -- and its value
-    value_same : (slot : ℕ) → slot < 64 → ((r : Record) → last_here slot ≡ Some r → r.tid ≢ tid)
-        → b.values slot ≡ seen_by tid (a.values slot) (a.pending slot)
-    value_same slot less other =
-        let was = (fits.framed.each u page a here).changes slot less in
-        ap (λ (f : Frame). f.values slot) same
-        ∙ sym (ap (seen_by tid (a.values slot)) was
-        ∙ seen_else tid (a.values slot) (last_here slot) other)
-
--- ---- a commit
-
-pub named_commits_suffice : NamedCommitsSuffice
-named_commits_suffice places c it memory later state s tid fits mine change =
-    each_changes (IsCommittedFrame tid) (written_of memory.slots s) memory.frames later change
-    committed
-  where
-    committed : (u page : ℕ) (a b : Frame) → memory.frames u page ≡ Some a → later u page ≡ Some b
-        → b ≡ a → IsCommittedFrame tid a b
-    committed u page a b here then same = record {
-      values = λ slot less.
-          elim (whose_slot places c it memory state s tid fits mine (IsCommittedFrame tid) later
-          change u page a b here then slot) [
-            | inl did ↦ did.values slot less
-            | inr other ↦ value_same places c it memory state s tid fits mine (IsCommittedFrame tid)
-                later change u page a b here then same slot less other
-          ];
-      pending = λ slot less.
-          elim (whose_slot places c it memory state s tid fits mine (IsCommittedFrame tid) later
-          change u page a b here then slot) [
-            | inl did ↦ did.pending slot less
-            | inr other ↦ pending_same places c it memory state s tid fits mine
-                (IsCommittedFrame tid) later change u page a b here then same slot less other
-          ];
-      log = ap (λ (f : Frame). f.log) same;
-    }
-
--- ---- an abort
+-- ---- in a store's memory
 
 pub named_aborts_suffice : NamedAbortsSuffice
 named_aborts_suffice places c it memory later state s tid fits mine change =
-    each_changes (IsAbortedFrame tid) (written_of memory.slots s) memory.frames later change aborted
-  where
-    aborted : (u page : ℕ) (a b : Frame) → memory.frames u page ≡ Some a → later u page ≡ Some b
-        → b ≡ a → IsAbortedFrame tid a b
-    aborted u page a b here then same = record {
-      values = λ slot less. ap (λ (f : Frame). f.values slot) same;
-      pending = λ slot less.
-          elim (whose_slot places c it memory state s tid fits mine (IsAbortedFrame tid) later
-          change u page a b here then slot) [
-            | inl did ↦ did.pending slot less
-            | inr other ↦ pending_same places c it memory state s tid fits mine (IsAbortedFrame tid)
-                later change u page a b here then same slot less other
-          ];
-      log = ap (λ (f : Frame). f.log) same
-          ∙ all_kept tid a.log (others_log places c it memory state s tid fits mine
-          (IsAbortedFrame tid) later change u page a b here then
-          (λ did. sym (ap (λ (f : Frame). f.log) same) ∙ did.log));
-    }
+    all_dropped (places - 4) c it memory.tables memory.frames (number_of memory.slots) state s tid
+    (written_of memory.slots s) fits.pending fits.framed mine
+    (wrote_listed memory.slots state fits.sessions s) later change

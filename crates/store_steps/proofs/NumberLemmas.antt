@@ -1,9 +1,9 @@
--- The number of a session, added between two barriers.
-use Rattle.std.specs.List.{All, Contains, filter}
+-- The numbers of sessions, added between two barriers.
+use Rattle.std.specs.List.{All, Contains}
 use Rattle.std.specs.Option.{option_map}
-use Rattle.std.proofs.Common.{◌≡◌, ℕ, zero, suc, ◌<◌, ◌+◌, Bool, true, false, List, [], ◌∷◌, eqb, Result, Ok, Err, OnOk, inl, refl, sym, ◌∙◌, ap, subst, arith}
-use Rattle.std.proofs.lemmas.Bool.{eq-eqb, not-true}
-use Rattle.std.proofs.lemmas.List.Elements.{All-contains, All-filter, All-contains_itself, filter_passes}
+use Rattle.std.proofs.Common.{◌≡◌, ℕ, ◌<◌, ◌+◌, Bool, true, List, [], ◌∷◌, Result, Ok, Err, OnOk, inl, refl, sym, ◌∙◌, ap, subst}
+use Rattle.std.proofs.lemmas.Bool.{both_ways, not-true}
+use Rattle.std.proofs.lemmas.List.Elements.{All-contains, All-filter, All-contains_itself, All-weaker, filter_passes}
 use Rattle.std.proofs.lemmas.List.Kept.{AllPairs-filter}
 use Rattle.chip_trait.specs.declared.event.Event.TheVariants.{Barrier}
 use Rattle.chip_trait.specs.Story.{Story, after}
@@ -24,51 +24,45 @@ use Rattle.steps.specs.Steps.{NoOtherEnd, TidyWork, RestsAgreeing, Steps}
 use Rattle.steps.proofs.StepLemmas.{writes_are_steps, failed_writes_are_steps}
 use Rattle.steps.proofs.TidyLemmas.{tidy_none}
 use Rattle.txn_status.specs.Adding.{MayAdd, Adds, AddsInSteps, IsReadyToAdd, with_added, layout_added}
-use Rattle.pending_writes.specs.Fits.{is_another}
-use Rattle.store_steps.specs.Numbers.{AddsNumber, AddsNumberInSteps}
+use Rattle.record_locks.specs.Held.{is_among}
+use Rattle.pending_writes.specs.Fits.{is_none_of}
+use Rattle.pending_writes.proofs.ActiveLemmas.{among_listed}
+use Rattle.store_steps.specs.Numbers.{others_of, AddsNumbers, AddsNumbersInSteps}
 use Rattle.store_steps.proofs.StepLemmas.{steps_then, steps_weaker}
 
--- ---- the number of an open session may be committed
+-- ---- the numbers of open sessions may be committed
 
-pub may_add : (places : ℕ) (c : Chart) (it : Layout) (t : Tables) (tid : ℕ) → Mirrors places c it t
-    → Contains t.active tid → MayAdd t (tid ∷ []) (filter (is_another tid) t.active)
-may_add places c it t tid mirrors mine = record {
-  below = one_below;
-  open_still = All-filter (is_another tid) (Contains t.active) t.active
+pub may_add : (places : ℕ) (c : Chart) (it : Layout) (t : Tables) (tids : List ℕ)
+    → Mirrors places c it t → All (Contains t.active) tids → MayAdd t tids (others_of t tids)
+may_add places c it t tids mirrors mine = record {
+  below = All-weaker (Contains t.active) (λ n. n < t.next)
+      (λ n there. All-contains (λ n. n < t.next) t.active n mirrors.numbers.below there) tids mine;
+  open_still = All-filter (is_none_of tids) (Contains t.active) t.active
       (All-contains_itself t.active);
-  once = AllPairs-filter AreApart (is_another tid) t.active mirrors.numbers.once;
-  waits = waits_at (filter (is_another tid) t.active) (filter_passes (is_another tid) t.active);
+  once = AllPairs-filter AreApart (is_none_of tids) t.active mirrors.numbers.once;
+  waits = All-weaker (λ n. is_none_of tids n ≡ true) (λ n. ¬ Contains tids n) none_of
+      (others_of t tids) (filter_passes (is_none_of tids) t.active);
 }
   where
-    one_below : All (λ n. n < t.next) (tid ∷ [])
-    one_below zero d within = All-contains (λ n. n < t.next) t.active tid mirrors.numbers.below mine
-    one_below (suc k) d within = absurd (omega (arith, within))
-
-    is_one : (n : ℕ) → Contains (tid ∷ []) n → tid ≡ n
-    is_one n (zero, within, is) = is
-    is_one n (suc k, within, is) = absurd (omega (arith, within))
-
-    waits_at : (l : List ℕ) → All (λ n. is_another tid n ≡ true) l
-        → All (λ n. ¬ Contains (tid ∷ []) n) l
-    waits_at l passes k d within has =
-        let other = not-true (eqb _ tid) (passes k d within) in
-        let clash : true ≡ false = sym (eq-eqb _ tid (sym (is_one _ has))) ∙ other in cc clash
+    none_of : (n : ℕ) → is_none_of tids n ≡ true → ¬ Contains tids n
+    none_of n passes there =
+        both_ways (is_among n tids) (not-true (is_among n tids) passes) (among_listed tids n there)
 
 -- ---- what the chip holds
 
-pub number_adds : (places next_places : ℕ) (status : Status) (next tid : ℕ)
+pub numbers_add : (places next_places : ℕ) (status : Status) (next : ℕ) (tids : List ℕ)
     (result : Result (Unit {0}) ChipFault) (old mid new : Told) → next_places ≡ places
     → Appends Barrier old mid
-    → OnOk result (Charts (Adds next_places status next (tid ∷ [])) mid new)
-    → OnOk result (Charts (AddsNumber places status next tid) old new)
-number_adds places next_places status next tid (Err e) old mid new same did tells = tt
-number_adds places next_places status next tid (Ok v) old mid new same did tells = λ x told.
-    let (y, there, added) = subst (λ (n : ℕ). Charts (Adds n status next (tid ∷ [])) mid new) same
+    → OnOk result (Charts (Adds next_places status next tids) mid new)
+    → OnOk result (Charts (AddsNumbers places status next tids) old new)
+numbers_add places next_places status next tids (Err e) old mid new same did tells = tt
+numbers_add places next_places status next tids (Ok v) old mid new same did tells = λ x told.
+    let (y, there, added) = subst (λ (n : ℕ). Charts (Adds n status next tids) mid new) same
     tells x (did.contents ∙ ap (option_map (after Barrier)) told) in (
       y,
       there,
-      λ it t mirrors has mine. added it t (filter (is_another tid) t.active) mirrors has
-          (may_add places _ it t tid mirrors mine),
+      λ it t mirrors has mine. added it t (others_of t tids) mirrors has
+          (may_add places _ it t tids mirrors mine),
     )
 
 -- ---- the first barrier
@@ -108,47 +102,47 @@ module _ (places : ℕ) (m n : Map) (h : History) (it : Layout) (t : Tables) (ol
 
 -- ---- what a power cut leaves
 
-pub number_in_steps : (places next_places : ℕ) (status : Status) (next tid : ℕ)
+pub numbers_in_steps : (places next_places : ℕ) (status : Status) (next : ℕ) (tids : List ℕ)
     (result : Result (Unit {0}) ChipFault) (old mid new : Told) → next_places ≡ places
     → Counts old mid → Waited (Ok tt) old mid
-    → AddsInSteps next_places status next (tid ∷ []) result mid new
-    → AddsNumberInSteps places status next tid result old new
-number_in_steps places next_places status next tid result old mid new same counts did steps h it t m
-    n steady has mine agreeing says =
+    → AddsInSteps next_places status next tids result mid new
+    → AddsNumbersInSteps places status next tids result old new
+numbers_in_steps places next_places status next tids result old mid new same counts did steps h it t
+    m n steady has mine agreeing says =
     let Each = EachStandsEither places m n in
-    let active = filter (is_another tid) t.active in
+    let active = others_of t tids in
     let first = waited_steps places m n h it t old mid steady agreeing did in
     let k = adds_all first.added h in
-    let ready : IsReadyToAdd places (adds Barrier h) it t m n (tid ∷ []) active = record {
+    let ready : IsReadyToAdd places (adds Barrier h) it t m n tids active = record {
       rests = barriers_rest places m h (held_stands places m h agreeing.rests.each);
       closed = λ p s. refl;
       agrees = barriers_agree places h it t agreeing.agrees;
-      may = may_add places _ it t tid agreeing.agrees.mirrors mine;
+      may = may_add places _ it t tids agreeing.agrees.mirrors mine;
       then_says = says;
     } in
-    let second = subst (λ (p : ℕ). AddsInSteps p status next (tid ∷ []) result mid new) same steps k
+    let second = subst (λ (p : ℕ). AddsInSteps p status next tids result mid new) same steps k
     it t m n active (first.steady tt) has
-    (subst (λ (j : History). IsReadyToAdd places j it t m n (tid ∷ []) active) (sym (first.ends tt))
+    (subst (λ (j : History). IsReadyToAdd places j it t m n tids active) (sym (first.ends tt))
     ready) in
-    let after = with_added t (tid ∷ []) (1 + next) active in
+    let after = with_added t tids (1 + next) active in
     steps_then (Unit {0}) (Unit {0}) ChipFault ChipFault Each Each Each t t after
     (λ v j. j ≡ adds Barrier h) NoOtherEnd (λ v j. StoryRests places n j) NoOtherEnd h tt result old
     mid new (λ j is. is) (λ j is. is) counts first
     (steps_weaker Each Each t after
-    (λ v j. RestsAgreeing places n (layout_added it (tid ∷ [])) after j)
+    (λ v j. RestsAgreeing places n (layout_added it tids) after j)
     (λ v j. StoryRests places n j) NoOtherEnd NoOtherEnd k result mid new (λ j is. is)
     (λ v j is. is.rests) (λ j is. is) second)
 
 -- where the barrier failed
-pub no_number_in_steps : (places : ℕ) (status : Status) (next tid : ℕ) (e : ChipFault)
-    (old new : Told) → Waited (Err e) old new → IsStopped e old new
-    → AddsNumberInSteps places status next tid (Err e) old new
-no_number_in_steps places status next tid e old new did stopped h it t m n steady has mine agreeing
-    says =
-    let active = filter (is_another tid) t.active in
+pub no_numbers_in_steps : (places : ℕ) (status : Status) (next : ℕ) (tids : List ℕ)
+    (e : ChipFault) (old new : Told) → Waited (Err e) old new → IsStopped e old new
+    → AddsNumbersInSteps places status next tids (Err e) old new
+no_numbers_in_steps places status next tids e old new did stopped h it t m n steady has mine
+    agreeing says =
+    let active = others_of t tids in
     failed_writes_are_steps (Unit {0}) (Unit {0}) (EachStandsEither places m n)
     (λ done a. TidyWork (IsCountedClean t) (IsCountedClean t) (Unit {0}) a)
     (λ done k. k ≡ adds Barrier h)
-    (λ v j. StoryRests places n j) t (with_added t (tid ∷ []) (1 + next) active) h old new e e
+    (λ v j. StoryRests places n j) t (with_added t tids (1 + next) active) h old new e e
     (waited places m n h it t old new steady agreeing (Err e) did) stopped
     (λ a tidy. (tidy.silent, tidy.lawful))

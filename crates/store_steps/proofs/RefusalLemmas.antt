@@ -1,11 +1,13 @@
 -- What a store refuses, and what it knows of what it doesn't.
-use Rattle.std.proofs.Common.{◌≡◌, ℕ, ◌*◌, ◌||◌, Bool, true, false, not, nat_le, nat_lt, [], ◌∷◌, List, length, Option, Some, None, is_some, Ok, refl, sym, ◌∙◌, ap, arith}
+use Rattle.std.proofs.Common.{◌≡◌, ℕ, ◌*◌, ◌<◌, ◌==◌, ◌||◌, Bool, true, false, cond, not, nat_le, nat_lt, [], ◌∷◌, List, length, Option, Some, None, is_some, Ok, inl, inr, refl, sym, ◌∙◌, ap, subst, arith}
 use Rattle.std.specs.Option.{option_map, option_map_or}
+use Rattle.std.specs.List.{list_any}
 use Rattle.std.proofs.lemmas.Bool.{not-false}
 use Rattle.std.proofs.lemmas.Bool.Decides.{nat_tests}
 use Rattle.ipl_base.specs.declared.fault.Refusal.{Refusal}
-use Rattle.ipl_base.specs.declared.fault.Refusal.TheVariants.{BadName, AlreadyOpen, NotOpen, BadUnit}
-use Rattle.ipl_rules.specs.Refusals.{Test, first_of, bad_session, bad_name, too_long, already_open, not_open, conflict, writes_full, shares_full, pending_full}
+use Rattle.ipl_base.specs.declared.fault.Refusal.TheVariants.{BadSession, BadName, AlreadyOpen, NotOpen, BadUnit}
+use Rattle.ipl_rules.specs.Refusals.{Test, first_of, bad_session, bad_name, too_long, already_open, not_open, conflict, writes_full, shares_full, pending_full, is_twice, twice, least_twice}
+use Rattle.ipl_rules.proofs.BatchLemmas.{any_alike, batches_name_once}
 use Rattle.ipl_rules.specs.State.{State, Limits, is_open, holder_for_share, holder_for_write}
 use Rattle.ipl_model.specs.declared.command.Command.TheVariants as command
 use Rattle.ipl_model.specs.declared.reply.Reply.TheVariants as reply
@@ -17,8 +19,9 @@ use Rattle.record_locks.specs.Standing.{state_of}
 use Rattle.record_locks.proofs.CallLemmas.{passed}
 use Rattle.record_locks.proofs.SameLemmas.{alike}
 use Rattle.record_locks.proofs.StandingLemmas.{open_at}
+use Rattle.pending_writes.proofs.ElementLemmas.{contains_cons, contains_nil}
 use Rattle.store_steps.specs.Keeps.{limits_of}
-use Rattle.store_steps.specs.Refusals.{SessionsRefuse, RefusalsAnswer, AcceptedAreDone, RefusalsLead, AcceptedLead, IsOpenSession, ReachesName, PassedBegins, PassedGets, PassedShares, PassedPuts, PassedDels, PassedEnds, PassedLists, PassedMerges}
+use Rattle.store_steps.specs.Refusals.{SessionsRefuse, RefusalsAnswer, AcceptedAreDone, RefusalsLead, AcceptedLead, IsOpenSession, AreOpenSessions, ReachesName, PassedBegins, PassedGets, PassedShares, PassedPuts, PassedDels, PassedEnds, PassedBatches, PassedLists, PassedMerges}
 use Rattle.store_steps.proofs.LeadLemmas.{memory_leads, next_states_are_alike, answers_are_alike}
 
 -- ---- the sessions refuse as the state does
@@ -45,6 +48,13 @@ sessions_refuse limits slots state c are = by_command c
         ∷ (tests s n).full_writes i ∷ (tests s n).full_unit i ∷ [])
     by_command (command.Commit s) =
         λ i. first_of (bad_session limits s ∷ (not ((tests s 0).opens i), NotOpen) ∷ [])
+    by_command (command.Batch ss) =
+        let opens : list_any (λ s. not (is_open (state_of slots) s)) ss
+        ≡ list_any (λ s. not (is_open state s)) ss =
+        any_alike (λ s. not (is_open (state_of slots) s)) (λ s. not (is_open state s)) ss
+        (λ s at. ap not (tests s 0).opens) in
+        λ i. first_of ((list_any (λ s. nat_le limits.sessions s) ss, BadSession)
+        ∷ twice (least_twice limits ss) ∷ (opens i, NotOpen) ∷ [])
     by_command (command.Abort s) =
         λ i. first_of (bad_session limits s ∷ (not ((tests s 0).opens i), NotOpen) ∷ [])
     by_command (command.List a b) = refl
@@ -115,19 +125,24 @@ unnumbered : (o : Option Held) → is_some o ≡ false → option_map (λ h. h.n
 unnumbered None is = refl
 unnumbered (Some h) is = absurd (cc is)
 
--- one of the 32 that passed the test of being open
-is_open_session : (slots : Slots) (s : ℕ) (rest : List Test) → nat_le 32 s ≡ false
-    → first_of (open_tests slots s rest) ≡ None → IsOpenSession slots s
-is_open_session slots s rest low none =
-    let open_is = passed (not_open (state_of slots) s) rest none in
-    let opens : is_open (state_of slots) s ≡ true =
-    not-false (is_open (state_of slots) s) open_is.0 in
+-- one of the 32 that is open
+open_session : (slots : Slots) (s : ℕ) → s < 32 → is_open (state_of slots) s ≡ true
+    → IsOpenSession slots s
+open_session slots s low opens =
     let (tid, is) = numbered (held_at slots s) (sym (open_at slots s) ∙ opens) in record {
-      low = grind (arith, nat_tests);
+      low = low;
       number = tid;
       number_is = is;
       may_end = rw opens refl;
     }
+
+-- or that passed the test of being open
+is_open_session : (slots : Slots) (s : ℕ) (rest : List Test) → nat_le 32 s ≡ false
+    → first_of (open_tests slots s rest) ≡ None → IsOpenSession slots s
+is_open_session slots s rest low none =
+    let passes = passed (not_open (state_of slots) s) rest none in
+    open_session slots s (grind (arith, nat_tests))
+    (not-false (is_open (state_of slots) s) passes.0)
 
 pub passed_begins : PassedBegins
 passed_begins units slots s none =
@@ -141,6 +156,31 @@ pub passed_ends : PassedEnds
 passed_ends units slots s none =
     let (low, rest) = passed (bad_session (limits_of units) s) (open_tests slots s []) none in
     is_open_session slots s [] low rest
+
+pub passed_batches : PassedBatches
+passed_batches units slots ss none =
+    let passes = batches_name_once (limits_of units) (state_of slots) ss none in record {
+      opens = λ s there. open_session slots s (passes.within s there) (passes.opens s there);
+      once = passes.once;
+    }
+
+-- in a list of one no session stands twice
+once_in_one : (s t : ℕ) → is_twice (s ∷ []) t ≡ false
+once_in_one s t = by_test (s == t)
+  where
+    by_test : (b : Bool) → nat_lt 1 (length (cond b (s ∷ []) [])) ≡ false
+    by_test true = refl
+    by_test false = refl
+
+-- an open session alone
+pub one_is_open : (slots : Slots) (s : ℕ) → IsOpenSession slots s → AreOpenSessions slots (s ∷ [])
+one_is_open slots s opened = record {
+  opens = λ t there. elim (contains_cons s [] t there) [
+    | inl same ↦ subst (λ (k : ℕ). IsOpenSession slots k) same opened
+    | inr later ↦ absurd (contains_nil t later)
+  ];
+  once = λ t there. once_in_one s t;
+}
 
 -- a session and a name that passed the first tests
 passed_name : (units : ℕ) (slots : Slots) (s n : ℕ) (rest : List Test)

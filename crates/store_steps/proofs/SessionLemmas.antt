@@ -1,24 +1,31 @@
 -- What commands leave that a store does in memory alone.
 use Rattle.std.specs.FinMap.{get}
+use Rattle.std.specs.List.{All, Contains, list_any}
 use Rattle.std.specs.Option.{option_map, option_map_or}
-use Rattle.std.proofs.Common.{◌≡◌, ℕ, ◌+◌, ◌-◌, ◌<◌, ◌==◌, Bool, true, false, not, List, [], ◌∷◌, Option, Some, None, is_some, refl, ◌∙◌, ap, subst, if◌then◌else◌}
-use Rattle.std.proofs.lemmas.Bool.{cond-true, eq-eqb, both_ways}
+use Rattle.std.proofs.Common.{◌≡◌, ℕ, ◌+◌, ◌-◌, ◌<◌, ◌==◌, Bool, true, false, not, List, [], ◌∷◌, Option, Some, None, is_some, refl, sym, ◌∙◌, ap, subst, arith, if◌then◌else◌}
+use Rattle.std.proofs.lemmas.Bool.{both_ways, false_from_ne_true}
 use Rattle.ipl_base.specs.declared.fault.Refusal.TheVariants.{NotOpen}
 use Rattle.ipl_rules.specs.Operations as rules
 use Rattle.ipl_rules.specs.Refusals.{is_new_share}
-use Rattle.ipl_rules.specs.State.{Session, State, Write, last_write, with_writes, writes_of}
-use Rattle.record_locks.specs.Held.{is_among, written_of}
+use Rattle.ipl_rules.specs.State.{Session, State, Write}
+use Rattle.record_locks.specs.Held.{written_of, written_by}
 use Rattle.record_locks.specs.Held as held
 use Rattle.record_locks.proofs.StandingLemmas.{open_at}
 use Rattle.pending_writes.specs.Pending.{wrote, name_at}
 use Rattle.pending_writes.specs.Fits.{AreSessionsOf, with_active, without_active}
 use Rattle.pending_writes.specs.Frames.{with_frame_at}
-use Rattle.pending_writes.proofs.EndFitLemmas.{aborts_fit, empty_commits_fit}
-use Rattle.pending_writes.proofs.FitLemmas.{wrote_is}
+use Rattle.pending_writes.proofs.ElementLemmas.{contains_here, contains_nil, contains_there}
+use Rattle.pending_writes.proofs.EmptyLemmas.{empty_map}
+use Rattle.pending_writes.proofs.EndFitLemmas.{aborts_fit}
+use Rattle.pending_writes.proofs.FitLemmas.{wrote_listed}
 use Rattle.pending_writes.proofs.ListedLemmas.{session_numbers_fit}
 use Rattle.pending_writes.proofs.MemoryFitLemmas.{begins_fit, shares_fit, writes_fit}
+use Rattle.pending_writes.proofs.TurnLemmas.{wrote_before}
 use Rattle.store_steps.specs.Advances.{memory_of}
 use Rattle.store_steps.specs.SessionLaws.{with_numbers_of, BeginsLead, SharesLead, WritesLead, AbortsLead, EmptyCommitsLead, OpenSessionsMayEnd}
+use Rattle.store_steps.specs.Numbers.{IsOut}
+use Rattle.store_steps.proofs.BatchLemmas.{none_written, no_numbers, none_settled}
+use Rattle.store_steps.proofs.CommitLemmas.{batch_fits}
 use Rattle.store_steps.proofs.LeadLemmas.{memory_leads}
 use Rattle.store_steps.proofs.NamedLemmas.{named_aborts_suffice}
 
@@ -45,27 +52,21 @@ map_written state s w = map_with state (get state.sessions s) _ (λ x. refl)
 -- a session that holds no written name wrote nothing
 wrote_none : (slots : held.Slots) (state : State) (s : ℕ) → AreSessionsOf slots state
     → written_of slots s ≡ [] → (n : ℕ) → wrote state s n ≡ false
-wrote_none slots state s are none n = by_answer (wrote state s n) refl
-  where
-    by_answer : (b : Bool) → wrote state s n ≡ b → b ≡ false
-    by_answer false is = refl
-    by_answer true is =
-        let among : is_among n (written_of slots s) ≡ true = wrote_is slots state are s n is in
-        let nowhere = rw none at among in absurd (cc nowhere)
+wrote_none slots state s are none n = false_from_ne_true (wrote state s n) (λ is.
+    contains_nil n (subst (λ (l : List ℕ). Contains l n) none
+    (wrote_listed slots state are s n is)))
 
-no_writes : (writes : List Write) → ((n : ℕ) → is_some (last_write writes n) ≡ false)
-    → writes ≡ []
-no_writes [] none = refl
-no_writes (w ∷ older) none =
-    let here = cond-true (w.0 == w.0) (Some w.1) (last_write older w.0) (eq-eqb w.0 w.0 refl) in
-    absurd (both_ways (is_some (last_write (w ∷ older) w.0)) (none w.0) (ap is_some here))
-
--- whose commit leaves the map
-pub empty_commits_keep : (slots : held.Slots) (state : State) (s : ℕ) → AreSessionsOf slots state
-    → written_of slots s ≡ [] → (rules.after_commit state s).map ≡ state.map
-empty_commits_keep slots state s are none =
-    ap (λ (writes : List Write). with_writes writes state.map)
-    (no_writes (writes_of state s) (wrote_none slots state s are none))
+-- where none of these sessions does, their commits leave the map
+pub empty_commits_keep : (state : State) (ss : List ℕ)
+    → ((s n : ℕ) → Contains ss s → wrote state s n ≡ false)
+    → (rules.after_batch state ss).map ≡ state.map
+empty_commits_keep state [] none = refl
+empty_commits_keep state (s ∷ ss) none =
+    empty_commits_keep (rules.after_commit state s) ss (λ t n there.
+    false_from_ne_true (wrote (rules.after_commit state s) t n) (λ is.
+    both_ways (wrote state t n) (none t n (contains_there s ss t there))
+    (wrote_before state s t n is)))
+    ∙ empty_map state s (λ n. none s n (contains_here s ss))
 
 -- ---- the commands
 
@@ -112,15 +113,22 @@ aborts_lead s tid before later old within mine change locked =
     (λ places c it state fits. refl) (λ p k counted. counted)
 
 pub empty_commits_lead : EmptyCommitsLead
-empty_commits_lead s tid before old within mine none locked =
-    let after = held.after_end before.slots s in
-    memory_leads (λ state. rules.after_commit state s) before
+empty_commits_lead ss before old opened none locked =
+    let after = held.after_batch before.slots ss in
+    let each : (s : ℕ) → Contains ss s → written_of before.slots s ≡ [] =
+    λ s there. none_written before.slots ss s none there in
+    let out : All (IsOut before.frames) (written_by before.slots ss) =
+    subst (All (IsOut before.frames)) (sym none) (λ k d within. absurd (omega (arith, within))) in
+    memory_leads (λ state. rules.after_batch state ss) before
     (memory_of (with_numbers_of before.tables after) before.frames after) old
-    (λ places c it state same fits. session_numbers_fit places c it
-    (without_active before.tables tid) before.frames after (rules.after_commit state s)
-    (empty_commits_fit places c it before.tables before.frames before.slots state s tid fits within
-    mine (wrote_none before.slots state s fits.sessions none) locked))
-    (λ places c it state fits. empty_commits_keep before.slots state s fits.sessions none)
+    (λ places c it state same fits. batch_fits ss before opened out places c it state fits c
+    before.tables before.frames it.committed
+    (λ n. ap (λ (tids : List ℕ). if list_any (λ tid. n == tid) tids then true else it.committed n)
+    (sym (no_numbers before.slots ss each)))
+    (none_settled before.slots ss before.frames each) locked fits.mirrors (omega arith)
+    fits.none_lost (λ u page now low few shows. shows))
+    (λ places c it state fits. empty_commits_keep state ss
+    (λ s n there. wrote_none before.slots state s fits.sessions (each s there) n))
     (λ p k counted. counted)
 
 pub open_sessions_may_end : OpenSessionsMayEnd

@@ -1,13 +1,14 @@
 -- How what calls of a store leave is joined.
-use Rattle.std.specs.Prelude.{ℕ, ◌≡◌, ◌<◌, ◌-◌, [], List, length, Option, Some, None, Result, Ok, Err, All, is_ok}
+use Rattle.std.specs.Prelude.{ℕ, ◌≡◌, ◌<◌, ◌-◌, [], List, Option, Some, None, Result, Ok, Err, All, is_ok}
 use Rattle.ipl_base.specs.declared.limits.TheConstants.{RESERVED_PLACES, PAGES, SLOTS}
 use Rattle.chip_trait.specs.Told.{History, Told, Counts}
 use Rattle.ipl_base.specs.declared.fault.ChipFault.{ChipFault}
 use Rattle.ipl_rules.specs.State.{Map, State, at_rest}
-use Rattle.ipl_rules.specs.Operations.{after_commit, after_restart}
+use Rattle.ipl_rules.specs.Operations.{after_batch, after_restart}
 use Rattle.ipl_model.specs.declared.reply.Reply.{Reply}
 use Rattle.ipl_format.specs.Record.{Record}
-use Rattle.record_locks.specs.Held.{Slots, number_of, written_of, after_end}
+use Rattle.record_locks.specs.Held.{Slots, number_of, written_of, written_by, writer_numbers}
+use Rattle.record_locks.specs.Held.{after_batch as slots_after}
 use Rattle.ipl_meaning.specs.Chart.{Chart, chart_of}
 use Rattle.ipl_meaning.specs.Layout.{Entry, Layout, Laid}
 use Rattle.ipl_meaning.specs.Rests.{now, StoryRests}
@@ -23,13 +24,14 @@ use Rattle.unit_io.specs.ReadsAt.{Anywhere, ReadsAt}
 use Rattle.steps.specs.Steps.{Settled}
 use Rattle.steps.specs.Laws.{Preserves}
 use Rattle.pending_writes.specs.Pending.{IsWrittenOut}
-use Rattle.pending_writes.specs.Frames.{Frame, Frames, logs_of, with_frame_at, with_frame_log, IsFrameOf, IsCommittedFrame}
+use Rattle.pending_writes.specs.Frames.{Frame, Frames, logs_of, with_frame_at, with_frame_log, IsFrameOf}
 use Rattle.pending_writes.specs.FrameLaws.{TellsSlot}
 use Rattle.pending_writes.specs.Fits.{LocksHold, AreSessionsOf, is_active, Fits, FitsStory}
 use Rattle.store_trait.specs.declared.fault.Fault.{Fault}
 use Rattle.store_steps.specs.Advances.{FitsOn, TurnsTables, Memory, memory_of, MemoryFits, KeepsState, LeadsTo}
-use Rattle.store_steps.specs.NamedFrames.{NamedFramesChange}
-use Rattle.store_steps.specs.Numbers.{IsOut, added_to, AddsNumber, AddsNumberInSteps}
+use Rattle.store_steps.specs.NamedFrames.{SettleInTurn}
+use Rattle.store_steps.specs.Numbers.{IsOut, added_to, AddsNumbers, AddsNumbersInSteps}
+use Rattle.store_steps.specs.Refusals.{AreOpenSessions}
 
 -- ---- calls that keep each state
 
@@ -208,25 +210,28 @@ NamesOutSuffice = (places : ℕ) (c : Chart) (it : Layout) (memory : Memory) (st
     → All (IsOut memory.frames) (written_of memory.slots s)
     → IsWrittenOut (logs_of memory.frames) tid
 
--- The number of a session is added, whose records are on the chip: its changes become values of
--- their frames, and it is closed.
+-- The numbers of those sessions are added that wrote something, whose records are on the chip: the
+-- changes of each become values of their frames, and all the sessions are closed.
 abbrev pub NumbersLead : Type 0
-NumbersLead = (s tid : ℕ) (before : Memory) (later : Frames) (old new : Told)
-    → s < length before.slots → number_of before.slots s ≡ Some tid
-    → All (IsOut before.frames) (written_of before.slots s)
-    → Charts (AddsNumber old.places before.tables.status before.tables.next tid) old new
-    → AddsNumberInSteps old.places before.tables.status before.tables.next tid (Ok tt) old new
-    → NamedFramesChange (IsCommittedFrame tid) (written_of before.slots s) before.frames later
-    → LocksHold (after_end before.slots s)
-    → LeadsTo {T = Unit {0}} {E = ChipFault} (λ state. after_commit state s) before old (Ok tt)
-    (memory_of (added_to before.tables tid (after_end before.slots s)) later
-    (after_end before.slots s)) new
+NumbersLead = (ss : List ℕ) (before : Memory) (later : Frames) (old new : Told)
+    → AreOpenSessions before.slots ss
+    → All (IsOut before.frames) (written_by before.slots ss)
+    → Charts (AddsNumbers old.places before.tables.status before.tables.next
+    (writer_numbers before.slots ss)) old new
+    → AddsNumbersInSteps old.places before.tables.status before.tables.next
+    (writer_numbers before.slots ss) (Ok tt) old new
+    → SettleInTurn before.slots ss before.frames later
+    → LocksHold (slots_after before.slots ss)
+    → LeadsTo {T = Unit {0}} {E = ChipFault} (λ state. after_batch state ss) before old (Ok tt)
+    (memory_of (added_to before.tables (writer_numbers before.slots ss)
+    (slots_after before.slots ss)) later (slots_after before.slots ss)) new
 
--- It wasn't added: nobody knows whether the number is committed, so nothing is said of the memory.
+-- They weren't added: nobody knows whether they are committed, so nothing is said of the memory.
 abbrev pub FailedNumbersLead : Type 0
-FailedNumbersLead = (s tid : ℕ) (before after : Memory) (e f : ChipFault) (old new : Told)
-    → number_of before.slots s ≡ Some tid
-    → All (IsOut before.frames) (written_of before.slots s)
-    → AddsNumberInSteps old.places before.tables.status before.tables.next tid (Err e) old new
+FailedNumbersLead = (ss : List ℕ) (before after : Memory) (e f : ChipFault) (old new : Told)
+    → AreOpenSessions before.slots ss
+    → All (IsOut before.frames) (written_by before.slots ss)
+    → AddsNumbersInSteps old.places before.tables.status before.tables.next
+    (writer_numbers before.slots ss) (Err e) old new
     → IsStopped e old new
-    → LeadsTo {T = Unit {0}} (λ state. after_commit state s) before old (Err f) after new
+    → LeadsTo {T = Unit {0}} (λ state. after_batch state ss) before old (Err f) after new

@@ -1,8 +1,8 @@
 -- Frames of which a call changes those of the names that a session wrote.
-use Rattle.std.specs.Prelude.{ℕ, ◌≡◌, ◌⊎◌, List, Some, Contains}
+use Rattle.std.specs.Prelude.{ℕ, ◌≡◌, ◌⊎◌, List, [], ◌∷◌, Some, Contains}
 use Rattle.ipl_base.specs.Places.{home_of}
 use Rattle.ipl_rules.specs.State.{State}
-use Rattle.record_locks.specs.Held.{number_of, written_of}
+use Rattle.record_locks.specs.Held.{Slots, number_of, written_of}
 use Rattle.ipl_meaning.specs.Chart.{Chart}
 use Rattle.ipl_meaning.specs.Layout.{Layout}
 use Rattle.pending_writes.specs.Frames.{Frame, Frames, IsCommittedFrame, IsAbortedFrame, ChangesSo, EachFrameChanges}
@@ -23,18 +23,21 @@ pub record NamedFramesChange (R : Frame → Frame → Type 0) (names : List ℕ)
   pub each : EachFrameChanges (IsSameOr R) old new
   pub named : (n : ℕ) → Contains names n → ChangesPageOf R old new n
 
--- where the frames of the names change that a session wrote, each frame changes as it should
-abbrev pub NamedFramesSuffice : (ℕ → Frame → Frame → Type 0) → Type 0
-NamedFramesSuffice R = (places : ℕ) (c : Chart) (it : Layout) (memory : Memory) (later : Frames)
+-- the frames of the names that an open session wrote change as at its commit
+abbrev pub SettlesSession : Slots → ℕ → Frames → Frames → Type 0
+SettlesSession slots s old new = (tid : ℕ) → number_of slots s ≡ Some tid
+    → NamedFramesChange (IsCommittedFrame tid) (written_of slots s) old new
+
+-- so those of several sessions, one session after the other
+abbrev pub SettleInTurn : Slots → List ℕ → Frames → Frames → Type 0
+SettleInTurn slots [] old new = new ≡ old
+SettleInTurn slots (s ∷ ss) old new = (between : Frames) × SettlesSession slots s old between
+    × SettleInTurn slots ss between new
+
+-- where the frames of the names change that a session wrote, as at its abort, each frame does
+abbrev pub NamedAbortsSuffice : Type 0
+NamedAbortsSuffice = (places : ℕ) (c : Chart) (it : Layout) (memory : Memory) (later : Frames)
     (state : State) (s tid : ℕ)
     → MemoryFits places c it memory state → number_of memory.slots s ≡ Some tid
-    → NamedFramesChange (R tid) (written_of memory.slots s) memory.frames later
-    → EachFrameChanges (R tid) memory.frames later
-
--- so at a commit
-abbrev pub NamedCommitsSuffice : Type 0
-NamedCommitsSuffice = NamedFramesSuffice IsCommittedFrame
-
--- and at an abort
-abbrev pub NamedAbortsSuffice : Type 0
-NamedAbortsSuffice = NamedFramesSuffice IsAbortedFrame
+    → NamedFramesChange (IsAbortedFrame tid) (written_of memory.slots s) memory.frames later
+    → EachFrameChanges (IsAbortedFrame tid) memory.frames later

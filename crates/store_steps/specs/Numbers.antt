@@ -1,5 +1,5 @@
--- A session's number that is added to the committed ones, between two barriers.
-use Rattle.std.specs.Prelude.{ℕ, ◌≡◌, ◌+◌, [], ◌∷◌, Contains, Result, filter}
+-- The numbers of sessions that are added to the committed ones, between two barriers.
+use Rattle.std.specs.Prelude.{ℕ, ◌≡◌, ◌+◌, [], List, All, Contains, Result, filter}
 use Rattle.chip_trait.specs.Told.{History, Told}
 use Rattle.ipl_base.specs.Places.{home_of}
 use Rattle.ipl_base.specs.declared.fault.ChipFault.{ChipFault}
@@ -15,7 +15,7 @@ use Rattle.unit_io.specs.Leads.{IsSteady}
 use Rattle.steps.specs.Steps.{NoOtherEnd, Steps, RestsAgreeing}
 use Rattle.txn_status.specs.Adding.{HasStatus, with_added, layout_added, Added}
 use Rattle.pending_writes.specs.Frames.{Frames, logs_of}
-use Rattle.pending_writes.specs.Fits.{is_another}
+use Rattle.pending_writes.specs.Fits.{is_none_of}
 
 -- ---- before it
 
@@ -25,27 +25,31 @@ IsOut frames n = logs_of frames (home_of n).unit (home_of n).page ≡ []
 
 -- ---- what it leaves
 
--- the tables once the number is committed, with these sessions open still: one number was drawn
-abbrev pub added_to : Tables → ℕ → Slots → Tables
-added_to t tid slots = with_added t (tid ∷ []) (1 + t.next) (numbers_in slots)
+-- the tables once the numbers are committed, with these sessions open still: one number was drawn
+abbrev pub added_to : Tables → List ℕ → Slots → Tables
+added_to t tids slots = with_added t tids (1 + t.next) (numbers_in slots)
 
--- Whatever tables of this status and this counter mirrored the old chart, with the number among
--- those of open sessions: with the number committed they mirror the new one, and its pages are
--- kept, which the old chart has with the records of the number.
-abbrev pub AddsNumber : ℕ → Status → ℕ → ℕ → Chart → Chart → Type 0
-AddsNumber places status next tid c y = (it : Layout) (t : Tables) → Mirrors places c it t
-    → HasStatus t status next → Contains t.active tid
-    → Added places c y it t (tid ∷ []) (1 + next) (filter (is_another tid) t.active)
+-- the numbers of the open sessions without these
+abbrev pub others_of : Tables → List ℕ → List ℕ
+others_of t tids = filter (is_none_of tids) t.active
+
+-- Whatever tables of this status and this counter mirrored the old chart, with the numbers among
+-- those of open sessions: with the numbers committed they mirror the new one, and its pages are
+-- kept, which the old chart has with the records of the numbers.
+abbrev pub AddsNumbers : ℕ → Status → ℕ → List ℕ → Chart → Chart → Type 0
+AddsNumbers places status next tids c y = (it : Layout) (t : Tables) → Mirrors places c it t
+    → HasStatus t status next → All (Contains t.active) tids
+    → Added places c y it t tids (1 + next) (others_of t tids)
 
 -- Over a story that rests on a map, with which such tables agree: at each moment a power cut leaves
--- the old map or the one with the records of the number; done, the story rests on the new one. It
--- fails only where a write failed.
-abbrev pub AddsNumberInSteps : ℕ → Status → ℕ → ℕ → Result (Unit {0}) ChipFault → Told → Told
+-- the old map or the one with the records of all the numbers; done, the story rests on the new one.
+-- It fails only where a write failed.
+abbrev pub AddsNumbersInSteps : ℕ → Status → ℕ → List ℕ → Result (Unit {0}) ChipFault → Told → Told
     → Type 0
-AddsNumberInSteps places status next tid result old new =
+AddsNumbersInSteps places status next tids result old new =
     (h : History) (it : Layout) (t : Tables) (m n : Map) → IsSteady h old
-    → HasStatus t status next → Contains t.active tid → RestsAgreeing places m it t h
-    → Says places (now h) (layout_added it (tid ∷ [])) n
+    → HasStatus t status next → All (Contains t.active) tids → RestsAgreeing places m it t h
+    → Says places (now h) (layout_added it tids) n
     → Steps (EachStandsEither places m n) t
-    (with_added t (tid ∷ []) (1 + next) (filter (is_another tid) t.active))
+    (with_added t tids (1 + next) (others_of t tids))
     (λ done k. StoryRests places n k) NoOtherEnd h result old new

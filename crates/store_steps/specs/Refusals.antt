@@ -1,9 +1,9 @@
 -- What a store refuses: its sessions tell it, as the model's state does.
-use Rattle.std.specs.Prelude.{ℕ, ◌≡◌, ◌<◌, ◌≤◌, ◌*◌, [], ◌∷◌, List, length, Some, None, Result, Ok}
+use Rattle.std.specs.Prelude.{ℕ, ◌≡◌, ◌<◌, ◌≤◌, ◌*◌, [], ◌∷◌, List, Contains, false, length, Some, None, Result, Ok}
 use Rattle.ipl_base.specs.declared.limits.TheConstants.{SESSIONS, UNIT_NAMES}
 use Rattle.chip_trait.specs.Told.{Told}
 use Rattle.ipl_base.specs.declared.fault.Refusal.{Refusal}
-use Rattle.ipl_rules.specs.Refusals.{refuses_begin, refuses_get, refuses_share, refuses_put, refuses_del, refuses_end, refuses_list, refuses_merge}
+use Rattle.ipl_rules.specs.Refusals.{refuses_begin, refuses_get, refuses_share, refuses_put, refuses_del, refuses_end, refuses_batch, is_twice, refuses_list, refuses_merge}
 use Rattle.ipl_rules.specs.State.{State, Limits}
 use Rattle.ipl_model.specs.declared.command.Command.{Command}
 use Rattle.ipl_model.specs.declared.reply.Reply.{Reply}
@@ -69,6 +69,11 @@ pub record MayWriteName (units : ℕ) (slots : Slots) (s n : ℕ) : Type 0 where
   pub reaches : ReachesName units slots s n
   pub may : locks.refuses_write slots s n ≡ None
 
+-- these sessions are such, and none is named twice
+pub record AreOpenSessions (slots : Slots) (ss : List ℕ) : Type 0 where
+  pub opens : (s : ℕ) → Contains ss s → IsOpenSession slots s
+  pub once : (s : ℕ) → Contains ss s → is_twice ss s ≡ false
+
 -- a begin: the session is one of the 32, and closed
 abbrev pub PassedBegins : Type 0
 PassedBegins = (units : ℕ) (slots : Slots) (s : ℕ)
@@ -101,6 +106,11 @@ PassedDels = (units : ℕ) (slots : Slots) (s n : ℕ)
 abbrev pub PassedEnds : Type 0
 PassedEnds = (units : ℕ) (slots : Slots) (s : ℕ)
     → refuses_end (limits_of units) (state_of slots) s ≡ None → IsOpenSession slots s
+
+-- a commit of several sessions
+abbrev pub PassedBatches : Type 0
+PassedBatches = (units : ℕ) (slots : Slots) (ss : List ℕ)
+    → refuses_batch (limits_of units) (state_of slots) ss ≡ None → AreOpenSessions slots ss
 
 -- a list: both names are the units'
 abbrev pub PassedLists : Type 0

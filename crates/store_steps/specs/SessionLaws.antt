@@ -1,11 +1,12 @@
 -- What commands leave that a store does in memory alone.
-use Rattle.std.specs.Prelude.{ℕ, ◌≡◌, ◌<◌, ◌≤◌, ◌+◌, ◌-◌, [], length, Some, None, Ok}
+use Rattle.std.specs.Prelude.{ℕ, ◌≡◌, ◌<◌, ◌≤◌, ◌+◌, ◌-◌, List, [], length, Some, None, Ok}
 use Rattle.ipl_base.specs.declared.limits.TheConstants.{RESERVED_PLACES}
 use Rattle.chip_trait.specs.Told.{Told}
 use Rattle.ipl_base.specs.declared.fault.ChipFault.{ChipFault}
 use Rattle.ipl_rules.specs.Operations as rules
 use Rattle.ipl_format.specs.Record.{Record, IsRecord}
-use Rattle.record_locks.specs.Held.{Slots, number_of, numbers_in, written_of, after_begin, after_share, after_write, after_end}
+use Rattle.record_locks.specs.Held.{Slots, number_of, numbers_in, written_of, written_by, after_begin, after_share, after_write, after_end}
+use Rattle.record_locks.specs.Held.{after_batch as slots_after}
 use Rattle.ipl_meaning.specs.Tables.{Tables}
 use Rattle.record_locks.specs.Locks.{refuses_end}
 use Rattle.pending_writes.specs.Pending.{name_at}
@@ -13,6 +14,7 @@ use Rattle.pending_writes.specs.Frames.{Frame, Frames, with_frame_at, IsWrittenF
 use Rattle.pending_writes.specs.Fits.{LocksHold}
 use Rattle.store_steps.specs.Advances.{Memory, memory_of, LeadsTo}
 use Rattle.store_steps.specs.NamedFrames.{NamedFramesChange}
+use Rattle.store_steps.specs.Refusals.{AreOpenSessions}
 
 -- the tables have the numbers of these sessions
 abbrev pub with_numbers_of : Tables → Slots → Tables
@@ -56,14 +58,13 @@ AbortsLead = (s tid : ℕ) (before : Memory) (later : Frames) (old : Told) → s
     (memory_of (with_numbers_of before.tables (after_end before.slots s)) later
     (after_end before.slots s)) old
 
--- one that wrote nothing is committed without the chip
+-- sessions that wrote nothing are committed without the chip
 abbrev pub EmptyCommitsLead : Type 0
-EmptyCommitsLead = (s tid : ℕ) (before : Memory) (old : Told) → s < length before.slots
-    → number_of before.slots s ≡ Some tid → written_of before.slots s ≡ []
-    → LocksHold (after_end before.slots s)
-    → LeadsTo {T = Unit {0}} {E = ChipFault} (λ state. rules.after_commit state s) before old
-    (Ok tt) (memory_of (with_numbers_of before.tables (after_end before.slots s)) before.frames
-    (after_end before.slots s)) old
+EmptyCommitsLead = (ss : List ℕ) (before : Memory) (old : Told) → AreOpenSessions before.slots ss
+    → written_by before.slots ss ≡ [] → LocksHold (slots_after before.slots ss)
+    → LeadsTo {T = Unit {0}} {E = ChipFault} (λ state. rules.after_batch state ss) before old
+    (Ok tt) (memory_of (with_numbers_of before.tables (slots_after before.slots ss)) before.frames
+    (slots_after before.slots ss)) old
 
 -- a session that has a number is open, and may be closed
 abbrev pub OpenSessionsMayEnd : Type 0

@@ -30,7 +30,7 @@ ghost use Rattle.store_steps.specs.SessionLaws.{
   EmptyCommitsLead,
   OpenSessionsMayEnd,
 };
-ghost use Rattle.store_steps.specs.NamedFrames.{NamedCommitsSuffice, NamedAbortsSuffice};
+ghost use Rattle.store_steps.specs.NamedFrames.{NamedAbortsSuffice};
 ghost use Rattle.store_steps.specs.Views.{
   SettledFramesAreCommitted,
   DroppedFramesAreAborted,
@@ -57,6 +57,7 @@ ghost use Rattle.store_steps.specs.Refusals.{
   PassedPuts,
   PassedDels,
   PassedEnds,
+  PassedBatches,
   PassedLists,
   PassedMerges,
 };
@@ -93,8 +94,8 @@ pub fn leading_laws()
     ensures failed_numbers { FailedNumbersLead }
 {}
 
-/// Commands in memory alone lead to the model's next state: begin, share, a write, an abort, and the
-/// commit of a session that wrote nothing. An open session may be closed.
+/// Commands in memory alone lead to the model's next state: begin, share, a write, an abort, and a
+/// commit of sessions that wrote nothing. An open session may be closed.
 pub fn session_laws()
     ensures begins { BeginsLead }
     ensures shares { SharesLead }
@@ -123,6 +124,7 @@ pub fn passing_laws()
     ensures puts { PassedPuts }
     ensures dels { PassedDels }
     ensures ends { PassedEnds }
+    ensures batches { PassedBatches }
     ensures lists { PassedLists }
     ensures merges { PassedMerges }
 {}
@@ -135,7 +137,6 @@ pub fn frame_laws()
     ensures tells { FramesTellState }
 
     // of the names that a session wrote
-    ensures named_commits { NamedCommitsSuffice }
     ensures named_aborts { NamedAbortsSuffice }
 {}
 

@@ -2,12 +2,12 @@
 //! relations: a call that keeps each state, and one that leads to the next. Laws join what calls
 //! leave, and hand it to a run over a script; others say what the sessions refuse. It stands on
 //! the condition of a store (`pending_writes`) and on what calls leave (`steps`). The one call here
-//! adds the number of a session that is committed.
+//! adds the numbers of the sessions that one commit closes.
 //!
-//! Proved, by its five laws, `add_number`: a call that keeps each state, and one that leads to the
+//! Proved, by its laws, `add_numbers`: a call that keeps each state, and one that leads to the
 //! next: over told contents the memory fits then, and over a story a power cut leaves the map
-//! before or the next one. Such calls are joined, and are the work of a command. A session's
-//! number is added between two barriers.
+//! before or the next one. Such calls are joined, and are the work of a command. The numbers of
+//! sessions are added by one sector between two barriers.
 #![tactic(auto)]
 
 mod laws;
@@ -16,4 +16,4 @@ mod numbers;
 pub use laws::{
     frame_laws, keeper_laws, keeping_laws, leading_laws, passing_laws, refusal_laws, session_laws,
 };
-pub use numbers::add_number;
+pub use numbers::add_numbers;

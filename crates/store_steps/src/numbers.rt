@@ -1,43 +1,45 @@
-//! The number of a session that is committed.
-ghost use Rattle.std.specs.Prelude.{◌≡◌, ◌<◌, ◌≤◌, ◌+◌, ◌^◌, [], ◌∷◌, OnOk, OnErr, is_ok};
+//! The numbers of sessions that are committed.
+ghost use Rattle.std.specs.Prelude.{◌≡◌, ◌<◌, ◌≤◌, ◌+◌, ◌^◌, [], ◌∷◌, length, OnOk, OnErr, is_ok};
 ghost use Rattle.unit_io.specs.Accounts.{Accounts};
 ghost use Rattle.unit_io.specs.Charts.{Charts};
 ghost use Rattle.unit_io.specs.Costs.{ProgramsAt, Spends};
 ghost use Rattle.unit_io.specs.Leads.{IsStopped};
 ghost use Rattle.unit_io.specs.Spots.{Programs, IsSpot};
 ghost use Rattle.txn_status.specs.Status.{room_of, after_add};
-ghost use Rattle.store_steps.specs.Numbers.{AddsNumber, AddsNumberInSteps};
+ghost use Rattle.store_steps.specs.Numbers.{AddsNumbers, AddsNumbersInSteps};
 
 use chip_trait::Chip;
 use ipl_base::{ChipFault, Counter};
 use txn_status::Status;
 use unit_io::barrier;
 
-/// Commits the number of a session, whose records are all in log sectors: a barrier, a commit
-/// sector with the number, and a barrier. That there is room, and a number left to draw, are
-/// conditions.
+/// Commits the numbers (1 to 32) of sessions whose records are all in log sectors: a barrier, one
+/// commit sector with the numbers, and a barrier. That there is room, and a number left to draw,
+/// are conditions.
 ///
-/// A power cut leaves the map before or the one with the records of the number; done, the chip
+/// A power cut leaves the map before or the one with the records of all the numbers; done, the chip
 /// stands for that one. It fails only where a write failed, and the status is as it was then.
-pub fn add_number<C: Chip>(
+pub fn add_numbers<C: Chip>(
     chip: &mut C,
     status: &mut Status,
     counter: &mut Counter,
-    tid: u64,
+    tids: &[u64],
 ) -> Result<(), ChipFault>
     requires place { status.old.place < (C.told chip.old).places }
     requires room { 0 < room_of status.old }
+    requires some { 1 ≤ length tids.now }
+    requires few { length tids.now ≤ 32 }
     requires left { counter.old + 1 < 2 ^ 64 }
-    ensures added { OnOk result (status.new ≡ after_add status.old (tid ∷ [])) }
+    ensures added { OnOk result (status.new ≡ after_add status.old tids.now) }
     ensures same { OnErr result (status.new ≡ status.old) }
     ensures drawn { OnOk result (counter.new ≡ counter.old + 1) }
     ensures draws { (counter.old ≤ counter.new) × (counter.new ≤ counter.old + 1) }
 
     // What the chip holds then, and what a power cut leaves.
     ensures adds { OnOk result (Charts
-        (AddsNumber (C.told chip.old).places status.old counter.old tid)
+        (AddsNumbers (C.told chip.old).places status.old counter.old tids.now)
         (C.told chip.old) (C.told chip.new)) }
-    ensures steps { AddsNumberInSteps (C.told chip.old).places status.old counter.old tid
+    ensures steps { AddsNumbersInSteps (C.told chip.old).places status.old counter.old tids.now
         result (C.told chip.old) (C.told chip.new) }
     // One program and two barriers.
     ensures costs { Spends (ProgramsAt status.old.place 1 2 6)
@@ -47,7 +49,7 @@ pub fn add_number<C: Chip>(
         (C.told chip.old) (C.told chip.new) }
     ensures accounts { Accounts IsStopped result (C.told chip.old) (C.told chip.new) }
 {
-    // The records have to last before the number counts.
+    // The records have to last before the numbers count.
     barrier(chip)?;
-    status.add(chip, counter, &[tid])
+    status.add(chip, counter, tids)
 }

@@ -104,6 +104,7 @@ IsSingle (command.Share s n) = Unit {0}
 IsSingle (command.Put s n bytes) = Unit {0}
 IsSingle (command.Del s n) = Unit {0}
 IsSingle (command.Commit s) = Unit {0}
+IsSingle (command.Batch ss) = Unit {0}
 IsSingle (command.Abort s) = Unit {0}
 IsSingle (command.List a b) = ⊥
 IsSingle (command.Merge u) = Unit {0}

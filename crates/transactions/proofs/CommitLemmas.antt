@@ -1,14 +1,12 @@
 -- What a commit makes of the memory of a store and of its chip.
-use Rattle.std.proofs.Common.{◌≡◌, ◌≢◌, ℕ, ◌<◌, ◌≤◌, ◌+◌, ◌*◌, ◌^◌, Bool, true, false, eqb, [], ◌∷◌, List, map, length, Some, None, Result, Ok, Err, inr, refl, sym, ◌∙◌, ap, subst, arith}
-use Rattle.std.specs.List.{All}
-use Rattle.std.proofs.lemmas.Bool.{eqb-true, eq-eqb}
+use Rattle.std.proofs.Common.{◌≡◌, ℕ, ◌<◌, ◌≤◌, ◌+◌, ◌*◌, ◌^◌, Bool, true, false, [], List, All, Result, Ok, Err, OnOk, inr, refl, sym, ◌∙◌, ap, subst, arith}
 use Rattle.chip_trait.specs.Told.{Told}
 use Rattle.chip_trait.proofs.CountsLemmas.{counts_none}
 use Rattle.ipl_base.specs.declared.fault.ChipFault.{ChipFault}
-use Rattle.ipl_base.specs.declared.name.Name.{Name}
-use Rattle.ipl_rules.specs.Operations.{after_commit}
+use Rattle.ipl_rules.specs.Operations.{after_batch}
 use Rattle.ipl_rules.specs.State.{State}
-use Rattle.record_locks.specs.Held.{number_of, numbers_in, written_of, after_end}
+use Rattle.record_locks.specs.Held.{numbers_in, written_by, writer_numbers}
+use Rattle.record_locks.specs.Held.{after_batch as slots_after}
 use Rattle.ipl_meaning.specs.Tables.{Status, Tables, IsCountedClean}
 use Rattle.ipl_meaning.specs.TableSteps.{after_commit as after_commit_of}
 use Rattle.merge_rules.specs.Known.{KnowsPlaces}
@@ -25,11 +23,12 @@ use Rattle.status_renewal.proofs.CauseLemmas.{write_accounts}
 use Rattle.buffer_pool.specs.Holding.{KeepsPins}
 use Rattle.buffer_pool.specs.Pools.{PoolView}
 use Rattle.buffer_pool.proofs.HoldingLemmas.{nothing_keeps}
-use Rattle.pending_writes.specs.Frames.{EachFrameChanges, IsCommittedFrame}
+use Rattle.pending_writes.specs.Frames.{EachFrameChanges}
 use Rattle.pending_writes.specs.Fits.{LocksHold}
-use Rattle.store_steps.specs.Advances.{Memory, LeadsTo}
-use Rattle.store_steps.specs.NamedFrames.{NamedFramesChange, IsSameOr}
-use Rattle.store_steps.specs.Numbers.{IsOut, added_to, AddsNumber, AddsNumberInSteps}
+use Rattle.store_steps.specs.Advances.{Memory, memory_of, LeadsTo}
+use Rattle.store_steps.specs.NamedFrames.{SettleInTurn}
+use Rattle.store_steps.specs.Numbers.{IsOut, added_to, AddsNumbers, AddsNumbersInSteps}
+use Rattle.store_steps.specs.Refusals.{AreOpenSessions}
 use Rattle.store_steps.specs.SessionLaws.{with_numbers_of}
 use Rattle.store_steps.proofs.CommitLemmas.{numbers_lead, failed_numbers_lead}
 use Rattle.store_steps.proofs.SessionLemmas.{empty_commits_lead}
@@ -37,9 +36,9 @@ use Rattle.frame_changes.specs.Views.{frames_of}
 use Rattle.page_frames.specs.declared.pages.Pages.{Pages}
 use Rattle.page_frames.specs.Pages.{tables_in, frames_in, Upholds}
 use Rattle.transactions.specs.declared.transactions.Transactions.{Transactions}
-use Rattle.transactions.specs.Turns.{memory_in, IsInOrder, Turns, IsSameButActive}
+use Rattle.transactions.specs.Turns.{memory_in, IsInOrder, MayAddNumbers, Turns, IsSameButActive}
 use Rattle.transactions.proofs.OrderLemmas.{changed_had, same_had, still_ready, memory_is}
-use Rattle.transactions.proofs.SessionLemmas.{among_all}
+use Rattle.transactions.proofs.FramedLemmas.{StaysFramed, in_turn_stays}
 use Rattle.transactions.proofs.TurnLemmas.{upheld_then, upheld_no_more, turns_weaker}
 
 -- A commit sector was programmed, the first clean one of the status place: it isn't counted as clean
@@ -57,40 +56,34 @@ number_tidy places t after done result old new known room fewer =
     let was = commit_shrinks places t known [] [] 0 q s (fewer end q s counted) in
     (was.0, λ here spot. was.1 here spot))
 
--- the number of a session was added, and its changes are values
-pub number_added : (s tid : ℕ) (names : List Name) (old new : Transactions) (added : Pages)
+-- the numbers of sessions were added, and their changes are values
+pub numbers_added : (ss tids : List ℕ) (old new : Transactions) (added : Pages)
     (before after : Told)
-    → IsInOrder before.places old → s < 32 → number_of old.sessions s ≡ Some tid
-    → All (IsOut (frames_in old.pages)) (written_of old.sessions s)
-    → Charts (AddsNumber before.places old.pages.parts.status old.pages.parts.counter tid)
-    before after
-    → AddsNumberInSteps before.places old.pages.parts.status old.pages.parts.counter tid (Ok tt)
+    → IsInOrder before.places old → AreOpenSessions old.sessions ss → MayAddNumbers old ss
+    → tids ≡ writer_numbers old.sessions ss
+    → Charts (AddsNumbers before.places old.pages.parts.status old.pages.parts.counter tids) before
+    after
+    → AddsNumbersInSteps before.places old.pages.parts.status old.pages.parts.counter tids (Ok tt)
     before after
     → added.parts.directory ≡ old.pages.parts.directory
     → added.parts.overflow ≡ old.pages.parts.overflow
-    → added.parts.status ≡ after_add old.pages.parts.status (tid ∷ [])
+    → added.parts.status ≡ after_add old.pages.parts.status tids
     → added.parts.counter ≡ old.pages.parts.counter + 1
-    → map (λ (n : Name). n.0) names ≡ written_of old.sessions s
-    → NamedFramesChange (IsCommittedFrame tid) (map (λ (n : Name). n.0) names)
-    (frames_of old.pages.pool) (frames_of added.pool)
+    → SettleInTurn old.sessions ss (frames_in old.pages) (frames_of added.pool)
     → KeepsPins old.pages.pool added.pool
     → IsSameButActive added new.pages
-    → new.sessions ≡ after_end old.sessions s
+    → new.sessions ≡ slots_after old.sessions ss
     → new.pages.parts.active ≡ numbers_in new.sessions → LocksHold new.sessions
-    → 0 < room_of old.pages.parts.status
     → Spends (Programs old.pages.parts.status.place (IsSpot old.pages.parts.status.first) true) before after
     → Accounts IsStopped (Ok (tt {0})) before after
-    → Turns (λ state. after_commit state s) 1 old before (Ok (tt {0})) new after
-number_added s tid names old new added before after order low mine out adds steps directory
-    overflow status counter written settled pins rest slots active locks room programs accounts =
-    let ended = after_end old.sessions s in
+    → Turns (λ state. after_batch state ss) 1 old before (Ok (tt {0})) new after
+numbers_added ss tids old new added before after order are may writers adds steps directory overflow
+    status counter settled pins rest slots active locks programs accounts =
+    let ended = slots_after old.sessions ss in
+    let stands = old.pages.parts.status in
+    let next = old.pages.parts.counter in
     let locked : LocksHold ended = subst LocksHold slots locks in
-    let R = IsCommittedFrame tid in
-    let change : NamedFramesChange R (written_of old.sessions s) (frames_in old.pages)
-    (frames_of added.pool) =
-    subst (λ (l : List ℕ). NamedFramesChange R l (frames_in old.pages) (frames_of added.pool))
-    written settled in
-    let t = added_to (tables_in old.pages) tid ended in
+    let t = added_to (tables_in old.pages) tids ended in
     let pins_then = subst (KeepsPins old.pages.pool) (sym rest.pool) pins in
     let same = memory_is t (frames_of added.pool) ended new (record {
       places = rest.directory ∙ directory;
@@ -100,13 +93,19 @@ number_added s tid names old new added before after order low mine out adds step
       active = active ∙ ap numbers_in slots;
       frames_are = ap frames_of rest.pool;
       slots_are = slots;
-    }) in record {
+    }) in
+    let leads_on : LeadsTo {T = Unit {0}} {E = ChipFault} (λ state. after_batch state ss)
+    (memory_in old) before (Ok tt) (memory_of t (frames_of added.pool) ended) after =
+    subst (λ (l : List ℕ). Charts (AddsNumbers before.places stands next l) before after
+    → AddsNumbersInSteps before.places stands next l (Ok tt) before after
+    → LeadsTo {T = Unit {0}} {E = ChipFault} (λ state. after_batch state ss) (memory_in old) before
+    (Ok tt) (memory_of (added_to (tables_in old.pages) l ended) (frames_of added.pool) ended) after)
+    (sym writers) (λ adding in_steps. numbers_lead ss (memory_in old) (frames_of added.pool) before
+    after are may.out adding in_steps settled locked) adds steps in record {
       leads = subst (λ (m : Memory). LeadsTo {T = Unit {0}} {E = ChipFault}
-          (λ state. after_commit state s) (memory_in old) before (Ok tt) m after) same
-          (numbers_lead s tid (memory_in old) (frames_of added.pool) before after
-          (among_all old.sessions s None locked low) mine out adds steps change locked);
+          (λ state. after_batch state ss) (memory_in old) before (Ok tt) m after) same leads_on;
       tidy = number_tidy before.places (tables_in old.pages) (tables_in new.pages) true (Ok tt) before
-          after order.ready.known room
+          after order.ready.known may.room
           (λ end q n counted. subst (λ (m : Memory). IsCountedClean m.tables q n) (sym same) counted)
           programs;
       order = record {
@@ -115,9 +114,11 @@ number_added s tid names old new added before after order low mine out adds step
           overflow = rest.overflow ∙ overflow;
           status = ap (λ (it : Status). it.place) (rest.status ∙ status);
         }) pins_then
-            (changed_had (IsSameOr R) old.pages new.pages
-            (subst (λ (p : PoolView). EachFrameChanges (IsSameOr R) (frames_in old.pages)
-            (frames_of p)) (sym rest.pool) change.each)) order.ready;
+            (changed_had StaysFramed old.pages new.pages
+            (subst (λ (p : PoolView). EachFrameChanges StaysFramed (frames_in old.pages)
+            (frames_of p)) (sym rest.pool)
+            (in_turn_stays old.sessions ss (frames_in old.pages) (frames_of added.pool) are.opens
+            settled))) order.ready;
         active = active;
       };
       pins = pins_then;
@@ -126,11 +127,12 @@ number_added s tid names old new added before after order low mine out adds step
       accounts = write_accounts before after (Ok tt) accounts;
     }
 
--- it wasn't added
-pub number_not_added : (s tid : ℕ) (e : ChipFault) (old new : Transactions) (before after : Told)
-    → IsInOrder before.places old → number_of old.sessions s ≡ Some tid
-    → All (IsOut (frames_in old.pages)) (written_of old.sessions s)
-    → AddsNumberInSteps before.places old.pages.parts.status old.pages.parts.counter tid (Err e)
+-- they weren't added
+pub numbers_not_added : (ss tids : List ℕ) (e : ChipFault) (old new : Transactions)
+    (before after : Told)
+    → IsInOrder before.places old → AreOpenSessions old.sessions ss → MayAddNumbers old ss
+    → tids ≡ writer_numbers old.sessions ss
+    → AddsNumbersInSteps before.places old.pages.parts.status old.pages.parts.counter tids (Err e)
     before after
     → new.sessions ≡ old.sessions → new.pages.pool ≡ old.pages.pool
     → new.pages.parts.directory ≡ old.pages.parts.directory
@@ -139,17 +141,17 @@ pub number_not_added : (s tid : ℕ) (e : ChipFault) (old new : Transactions) (b
     → new.pages.parts.active ≡ old.pages.parts.active
     → (old.pages.parts.counter ≤ new.pages.parts.counter)
     × (new.pages.parts.counter ≤ old.pages.parts.counter + 1)
-    → 0 < room_of old.pages.parts.status
     → Spends (Programs old.pages.parts.status.place (IsSpot old.pages.parts.status.first) false) before after
     → Accounts {T = Unit {0}} IsStopped (Err e) before after
-    → Turns {T = Unit {0}} (λ state. after_commit state s) 1 old before (Err e) new after
-number_not_added s tid e old new before after order mine out steps sessions pool directory
-    overflow status active draws room programs accounts =
+    → Turns {T = Unit {0}} (λ state. after_batch state ss) 1 old before (Err e) new after
+numbers_not_added ss tids e old new before after order are may writers steps sessions pool directory
+    overflow status active draws programs accounts =
     let pins = subst (KeepsPins old.pages.pool) (sym pool) (nothing_keeps old.pages.pool) in record {
-      leads = failed_numbers_lead s tid (memory_in old) (memory_in new) e e before after mine out
-          steps accounts.cause;
+      leads = failed_numbers_lead ss (memory_in old) (memory_in new) e e before after are may.out
+          (subst (λ (l : List ℕ). AddsNumbersInSteps before.places old.pages.parts.status
+          old.pages.parts.counter l (Err e) before after) writers steps) accounts.cause;
       tidy = number_tidy before.places (tables_in old.pages) (tables_in new.pages) false (Err e)
-          before after order.ready.known room
+          before after order.ready.known may.room
           (λ unrisen. absurd (omega (arith, accounts.cause.1, unrisen))) programs;
       order = record {
         ready = still_ready before.places old.pages new.pages (record {
@@ -164,6 +166,17 @@ number_not_added s tid e old new before after order mine out steps sessions pool
       drawn = draws.1;
       accounts = write_accounts before after (Err e) accounts;
     }
+
+-- the names' pages were written out, where a clean sector was made sure of before
+pub may_add : (ss : List ℕ) (mid : Pages) (new : Transactions) (result : Result (Unit {0}) ChipFault)
+    → OnOk result (All (IsOut (frames_in new.pages)) (written_by new.sessions ss))
+    → 0 < room_of mid.parts.status → new.pages.parts.status ≡ mid.parts.status
+    → OnOk result (MayAddNumbers new ss)
+may_add ss mid new (Ok v) out room same = record {
+  out = out;
+  room = subst (λ (status : Status). 0 < room_of status) (sym same) room;
+}
+may_add ss mid new (Err e) out room same = tt
 
 -- other open sessions: the same sectors are counted as clean
 active_counted : (old new : Pages) → IsSameButActive old new → (p s : ℕ)
@@ -180,20 +193,20 @@ active_counted old new rest p s counted =
 
 -- ---- all of a commit
 
--- the session wrote nothing
-pub empty_committed : (s tid most : ℕ) (old new : Transactions) (told : Told)
-    → IsInOrder told.places old → s < 32 → number_of old.sessions s ≡ Some tid
-    → written_of old.sessions s ≡ [] → IsSameButActive old.pages new.pages
-    → new.sessions ≡ after_end old.sessions s
+-- the sessions wrote nothing
+pub empty_committed : (ss : List ℕ) (most : ℕ) (old new : Transactions) (told : Told)
+    → IsInOrder told.places old → AreOpenSessions old.sessions ss
+    → written_by old.sessions ss ≡ [] → IsSameButActive old.pages new.pages
+    → new.sessions ≡ slots_after old.sessions ss
     → new.pages.parts.active ≡ numbers_in new.sessions → LocksHold new.sessions
-    → Turns {T = Unit {0}} (λ state. after_commit state s) most old told (Ok tt) new told
-empty_committed s tid most old new told order low mine none rest slots active locks =
-    let ended = after_end old.sessions s in
+    → Turns {T = Unit {0}} (λ state. after_batch state ss) most old told (Ok tt) new told
+empty_committed ss most old new told order are none rest slots active locks =
+    let ended = slots_after old.sessions ss in
     let locked : LocksHold ended = subst LocksHold slots locks in
     let pins = subst (KeepsPins old.pages.pool) (sym rest.pool) (nothing_keeps old.pages.pool) in
     record {
       leads = subst (λ (m : Memory). LeadsTo {T = Unit {0}} {E = ChipFault}
-          (λ state. after_commit state s) (memory_in old) told (Ok tt) m told)
+          (λ state. after_batch state ss) (memory_in old) told (Ok tt) m told)
           (memory_is (with_numbers_of (tables_in old.pages) ended) (frames_in old.pages) ended new
           (record {
             places = rest.directory;
@@ -204,8 +217,7 @@ empty_committed s tid most old new told order low mine none rest slots active lo
             frames_are = ap frames_of rest.pool;
             slots_are = slots;
           }))
-          (empty_commits_lead s tid (memory_in old) told (among_all old.sessions s None locked low)
-          mine none locked);
+          (empty_commits_lead ss (memory_in old) told are none locked);
       tidy = tables_fewer {T = Unit {0}} {E = ChipFault} (tables_in old.pages) (tables_in old.pages) (tables_in new.pages) (Ok tt)
           told told (λ q n counted. active_counted old.pages new.pages rest q n counted)
           (tables_none {T = Unit {0}} {E = ChipFault} (tables_in old.pages) (Ok tt) told);
@@ -223,45 +235,29 @@ empty_committed s tid most old new told order low mine none rest slots active lo
       accounts = record { counts = counts_none told; cause = tt };
     }
 
--- the most numbers that are drawn before the session's number is added
-abbrev pub BEFORE_NUMBER : ℕ
-BEFORE_NUMBER = 2 ^ 14 + 14 * 64
+-- the most numbers that are drawn before the sessions' numbers are added
+abbrev pub BEFORE_NUMBERS : ℕ
+BEFORE_NUMBERS = 2 ^ 14 + 14 * 64
 
--- its records were written out, and then its number was added, or not
-pub committed : (s : ℕ) (old mid new : Transactions) (result : Result (Unit {0}) ChipFault)
+-- their records were written out, and then their numbers were added, or not
+pub committed : (ss : List ℕ) (old mid new : Transactions) (result : Result (Unit {0}) ChipFault)
     (before between after : Told)
-    → Upholds BEFORE_NUMBER old.pages before (Ok (tt {0})) mid.pages between
+    → Upholds BEFORE_NUMBERS old.pages before (Ok (tt {0})) mid.pages between
     → mid.sessions ≡ old.sessions
-    → Turns (λ state. after_commit state s) 1 mid between result new after
-    → Turns (λ state. after_commit state s) (2 ^ 15) old before result new after
-committed s old mid new result before between after did same turns =
-    let next = λ (state : State). after_commit state s in
-    turns_weaker next (BEFORE_NUMBER + 1) (2 ^ 15) old new result before after (omega arith)
-    (upheld_then next BEFORE_NUMBER 1 old mid new result before between after did same turns)
+    → Turns (λ state. after_batch state ss) 1 mid between result new after
+    → Turns (λ state. after_batch state ss) (2 ^ 15) old before result new after
+committed ss old mid new result before between after did same turns =
+    let next = λ (state : State). after_batch state ss in
+    turns_weaker next (BEFORE_NUMBERS + 1) (2 ^ 15) old new result before after (omega arith)
+    (upheld_then next BEFORE_NUMBERS 1 old mid new result before between after did same turns)
 
 -- they weren't
-pub not_committed : (s : ℕ) (old new : Transactions) (e : ChipFault) (before after : Told)
+pub not_committed : (ss : List ℕ) (old new : Transactions) (e : ChipFault) (before after : Told)
     → IsInOrder before.places old
-    → Upholds {T = Unit {0}} BEFORE_NUMBER old.pages before (Err e) new.pages after
+    → Upholds {T = Unit {0}} BEFORE_NUMBERS old.pages before (Err e) new.pages after
     → new.sessions ≡ old.sessions
-    → Turns {T = Unit {0}} (λ state. after_commit state s) (2 ^ 15) old before (Err e) new after
-not_committed s old new e before after order did same =
-    let next = λ (state : State). after_commit state s in
-    turns_weaker next BEFORE_NUMBER (2 ^ 15) old new (Err e) before after (omega arith)
-    (upheld_no_more next BEFORE_NUMBER old new e before after order did same)
-
--- ---- whether the session wrote a name
-
-module _ (b : Bool) (written : List ℕ) where
-  pub wrote_nothing : (names : List Name) → b ≡ eqb (length names) 0 → b ≡ true
-      → map (λ (n : Name). n.0) names ≡ written → written ≡ []
-  wrote_nothing [] is has_none same = sym same
-  wrote_nothing (n ∷ names) is has_none same =
-      absurd (let none = eqb-true (length (n ∷ names)) 0 (sym is ∙ has_none) in omega (arith, none))
-
-  pub wrote_some : (names : List Name) → b ≡ eqb (length names) 0 → b ≡ false
-      → map (λ (n : Name). n.0) names ≡ written → written ≢ []
-  wrote_some [] is has_some same none =
-      let e : true ≡ false = sym (eq-eqb (length {A = Name} []) 0 refl) ∙ (sym is ∙ has_some) in
-      absurd (cc e)
-  wrote_some (n ∷ names) is has_some same none = absurd (cc (same ∙ none))
+    → Turns {T = Unit {0}} (λ state. after_batch state ss) (2 ^ 15) old before (Err e) new after
+not_committed ss old new e before after order did same =
+    let next = λ (state : State). after_batch state ss in
+    turns_weaker next BEFORE_NUMBERS (2 ^ 15) old new (Err e) before after (omega arith)
+    (upheld_no_more next BEFORE_NUMBERS old new e before after order did same)

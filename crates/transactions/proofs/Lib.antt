@@ -1,9 +1,11 @@
 pub mod NumberLemmas
+pub mod WriterLemmas
 pub mod OpenLemmas
+pub mod BatchLemmas
 pub mod OrderLemmas
 pub mod SessionLemmas
+pub mod FramedLemmas
 pub mod CommitLemmas
 pub mod TurnLemmas
 pub mod WriteLemmas
 pub mod CostLemmas
-pub mod FramedLemmas

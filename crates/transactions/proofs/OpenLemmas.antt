@@ -22,7 +22,7 @@ numbered (Some h) is = (h.number, refl)
 open_numbered : (slots : Slots) (s : ℕ) → is_open (state_of slots) s ≡ true → HasNumber slots s
 open_numbered slots s is = numbered (held_at slots s) (sym (open_at slots s) ∙ is)
 
-is_open_then : (b : Bool) (rest : Option Refusal)
+pub is_open_then : (b : Bool) (rest : Option Refusal)
     → (if not b then Some NotOpen else rest) ≡ None → b ≡ true
 is_open_then true rest none = refl
 is_open_then false rest none = absurd (cc none)

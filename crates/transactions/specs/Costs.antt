@@ -1,5 +1,5 @@
 -- What writes and commits ask of the chip.
-use Rattle.std.specs.Prelude.{ℕ, ◌≡◌, ◌<◌, ◌≤◌, ◌+◌, ◌*◌, [], ◌∷◌, Some, None, length}
+use Rattle.std.specs.Prelude.{ℕ, ◌≡◌, ◌<◌, ◌≤◌, ◌+◌, ◌*◌, List, [], ◌∷◌, Some, None, length}
 use Rattle.chip_trait.specs.Story.{Story}
 use Rattle.chip_trait.specs.Told.{Told}
 use Rattle.ipl_base.specs.Places.{home_of}
@@ -9,7 +9,7 @@ use Rattle.unit_io.specs.Costs.{Costs, Spends}
 use Rattle.txn_status.specs.Status.{room_of}
 use Rattle.selective_merge.specs.Spotting.{HasHomeSpot}
 use Rattle.pending_writes.specs.Frames.{Frame}
-use Rattle.record_locks.specs.Held.{written_of}
+use Rattle.record_locks.specs.Held.{written_by}
 use Rattle.page_writing.specs.Spending.{ErasesAndLogs}
 use Rattle.page_frames.specs.declared.pages.Pages.{Pages}
 use Rattle.page_frames.specs.Pages.{tables_in, frames_in, IsFramed, HasFreeFrame}
@@ -34,23 +34,20 @@ pub record AsksToWrite (n : ℕ) (change : Change) (old : Pages) (before after :
       → Spends (Costs 0 1 0 (5 ∷ [])) before after
   pub costs : Spends (ErasesAndLogs old.parts.directory) before after
 
--- how many pages in frames have records in memory and a name that the session wrote
-abbrev pub pages_to_write : Transactions → ℕ → ℕ
-pages_to_write it s = changed_pages it.pages (written_of it.sessions s)
+-- how many pages in frames have records in memory and a name that one of these sessions wrote
+abbrev pub pages_to_write : Transactions → List ℕ → ℕ
+pages_to_write it ss = changed_pages it.pages (written_by it.sessions ss)
 
--- for so many pages at most one erase each, and one log sector outside the places that are erased
-abbrev pub PagesOut : ℕ → Story → Type 0
-PagesOut pages = Costs pages pages (3 * pages) (5 ∷ [])
-
+-- for so many pages at most one erase each, and one log sector outside the places that are erased;
 -- and one commit sector
 abbrev pub CommitCosts : ℕ → Story → Type 0
 CommitCosts pages = Costs pages (pages + 1) (3 * pages + 2) (5 ∷ 6 ∷ [])
 
--- A commit of a session: nothing where it wrote nothing; where the status place has a clean sector,
--- so much for the pages in frames that are to be written; and no erase where each unit also has log
--- sectors clean at home for its own of these.
-pub record CommitAsks (it : Transactions) (s : ℕ) (before after : Told) : Type 0 where
-  pub idle : written_of it.sessions s ≡ [] → after ≡ before
-  pub costs : 0 < room_of it.pages.parts.status → Spends (CommitCosts (pages_to_write it s)) before after
-  pub homes : 0 < room_of it.pages.parts.status → HasHomesFor it.pages (written_of it.sessions s)
-      → Spends (Costs 0 (pages_to_write it s + 1) 2 (5 ∷ 6 ∷ [])) before after
+-- A commit of these sessions together: nothing where they wrote nothing; where the status place has a
+-- clean sector, so much for the pages in frames that are to be written, each once whichever sessions
+-- wrote there; and no erase where each unit also has log sectors clean at home for its own of these.
+pub record CommitAsks (it : Transactions) (ss : List ℕ) (before after : Told) : Type 0 where
+  pub idle : written_by it.sessions ss ≡ [] → after ≡ before
+  pub costs : 0 < room_of it.pages.parts.status → Spends (CommitCosts (pages_to_write it ss)) before after
+  pub homes : 0 < room_of it.pages.parts.status → HasHomesFor it.pages (written_by it.sessions ss)
+      → Spends (Costs 0 (pages_to_write it ss + 1) 2 (5 ∷ 6 ∷ [])) before after

@@ -1,14 +1,16 @@
 -- What sessions do to the memory of a store, and to its chip.
-use Rattle.std.specs.Prelude.{ℕ, ◌≡◌, ◌≤◌, ◌+◌, Result, Ok}
+use Rattle.std.specs.Prelude.{ℕ, ◌≡◌, ◌<◌, ◌≤◌, ◌+◌, List, All, Result, Ok}
 use Rattle.chip_trait.specs.Told.{Told}
 use Rattle.ipl_base.specs.declared.fault.ChipFault.{ChipFault}
 use Rattle.ipl_rules.specs.State.{State}
-use Rattle.record_locks.specs.Held.{numbers_in}
+use Rattle.record_locks.specs.Held.{numbers_in, written_by}
 use Rattle.ipl_meaning.specs.Tables.{IsCountedClean}
 use Rattle.unit_io.specs.Accounts.{Accounts}
 use Rattle.steps.specs.Steps.{Tidies}
+use Rattle.txn_status.specs.Status.{room_of}
 use Rattle.buffer_pool.specs.Holding.{KeepsPins}
 use Rattle.store_steps.specs.Advances.{Memory, memory_of, LeadsTo}
+use Rattle.store_steps.specs.Numbers.{IsOut}
 use Rattle.page_frames.specs.declared.pages.Pages.{Pages}
 use Rattle.page_frames.specs.Pages.{tables_in, frames_in, IsReady, PageCause}
 use Rattle.transactions.specs.declared.transactions.Transactions.{Transactions}
@@ -21,6 +23,11 @@ memory_in it = memory_of (tables_in it.pages) (frames_in it.pages) it.sessions
 pub record IsInOrder (places : ℕ) (it : Transactions) : Type 0 where
   pub ready : IsReady places it.pages
   pub active : it.pages.parts.active ≡ numbers_in it.sessions
+
+-- the records of these sessions are all on the chip, and there is a clean sector for their numbers
+pub record MayAddNumbers (it : Transactions) (ss : List ℕ) : Type 0 where
+  pub out : All (IsOut (frames_in it.pages)) (written_by it.sessions ss)
+  pub room : 0 < room_of it.pages.parts.status
 
 -- A call that leads from each state that memory and chip stand for to the next one. Whatever the chip
 -- tells: its events are lawful by the tables, the memory is in order, the same pages are held, at most

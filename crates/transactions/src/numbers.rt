@@ -1,6 +1,13 @@
-//! The numbers of the open sessions, as the tables have them.
-ghost use Rattle.std.specs.Prelude.{◌≡◌};
-ghost use Rattle.record_locks.specs.Held.{numbers_in};
+//! The numbers of open sessions: of all, as the tables have them, and of those that a commit adds.
+ghost use Rattle.std.specs.Prelude.{◌≡◌, ◌≤◌, ◌<◌, ℕ, [], ◌∷◌, Contains, length};
+ghost use Rattle.std.specs.Option.{option_map_or};
+ghost use Rattle.record_locks.specs.Held.{
+  numbers_in,
+  number_of,
+  written_of,
+  writer_number,
+  writer_numbers,
+};
 
 use record_locks::Sessions;
 use selective_merge::Active;
@@ -17,4 +24,32 @@ pub fn active_numbers(sessions: &Sessions) -> Active
         }
     }
     active
+}
+
+/// The number of a session (0 to 31), where it wrote something.
+fn writer_number(sessions: &Sessions, s: u32) -> Option<u64>
+    requires { s < 32 }
+    ensures { writer_number (written_of sessions.now s) (number_of sessions.now s)
+        ≡ option_map_or (λ tid. tid ∷ []) result [] }
+{
+    if sessions.written(s).is_empty() {
+        return None;
+    }
+    sessions.number(s)
+}
+
+/// The numbers of those of these sessions (at most 32, each 0 to 31) that wrote something, in their
+/// order.
+pub fn writer_numbers(sessions: &Sessions, numbers: &[u32]) -> Active
+    requires low { (s : ℕ) → Contains numbers.now s → s < 32 }
+    requires few { length numbers.now ≤ 32 }
+    ensures { result ≡ writer_numbers sessions.now numbers.now }
+{
+    let mut tids = Active::none();
+    for s in numbers {
+        if let Some(tid) = writer_number(sessions, *s) {
+            tids.add(tid);
+        }
+    }
+    tids
 }

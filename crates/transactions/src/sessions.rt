@@ -2,7 +2,8 @@
 ghost use Rattle.std.specs.Prelude.{◌≡◌, ◌<◌, ◌+◌, ◌^◌, None};
 ghost use Rattle.ipl_rules.specs.Operations.{after_begin, after_share, after_abort};
 ghost use Rattle.pending_writes.specs.Fits.{LocksHold};
-ghost use Rattle.record_locks.specs.Held.{after_end, number_of, numbers_in};
+ghost use Rattle.record_locks.specs.Held.{after_end, after_batch, number_of, numbers_in};
+ghost use Rattle.store_steps.specs.Refusals.{AreOpenSessions};
 ghost use Rattle.record_locks.specs.Locks.{refuses_begin, refuses_share, refuses_end};
 ghost use Rattle.page_frames.specs.Pages.{KeepsFramed};
 ghost use Rattle.transactions.specs.Turns.{TurnsInMemory, IsSameButActive};
@@ -51,6 +52,19 @@ impl Transactions {
         ensures rest { IsSameButActive self.old.pages self.new.pages }
     {
         let _ = self.sessions.end(s);
+        self.pages.parts.active = active_numbers(&self.sessions);
+        self.sessions.facts();
+    }
+
+    /// Closes these sessions.
+    pub(crate) fn end_all(&mut self, numbers: &[u32])
+        requires open { AreOpenSessions self.old.sessions numbers.now }
+        ensures sessions { self.new.sessions ≡ after_batch self.old.sessions numbers.now }
+        ensures active { self.new.pages.parts.active ≡ numbers_in self.new.sessions }
+        ensures locks { LocksHold self.new.sessions }
+        ensures rest { IsSameButActive self.old.pages self.new.pages }
+    {
+        let _ = self.sessions.end_all(numbers);
         self.pages.parts.active = active_numbers(&self.sessions);
         self.sessions.facts();
     }

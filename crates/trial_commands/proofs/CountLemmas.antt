@@ -54,6 +54,7 @@ one_line limits state (command.Share s n) is = one_where limits state (command.S
 one_line limits state (command.Put s n bytes) is = one_where limits state (command.Put s n bytes) refl
 one_line limits state (command.Del s n) is = one_where limits state (command.Del s n) refl
 one_line limits state (command.Commit s) is = one_where limits state (command.Commit s) refl
+one_line limits state (command.Batch ss) is = absurd is
 one_line limits state (command.Abort s) is = one_where limits state (command.Abort s) refl
 one_line limits state (command.List a b) is = absurd is
 one_line limits state (command.Merge u) is = absurd is

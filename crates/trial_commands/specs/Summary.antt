@@ -13,6 +13,7 @@ use Rattle.ipl_model.specs.declared.command.Command.TheVariants as command
 use Rattle.ipl_model.specs.declared.reply.Reply.{Reply}
 use Rattle.ipl_model.specs.declared.reply.Reply.TheVariants as reply
 use Rattle.ipl_model.specs.Step.{step, row_reply}
+use Rattle.ipl_model.specs.Laws.{is_commit}
 use Rattle.ipl_model.specs.Text.{reply_text}
 use Rattle.ipl_model.specs.Run.{joined, after_all}
 
@@ -28,19 +29,6 @@ exchanges limits state (c ∷ commands) =
 
 -- ---- what is counted
 
-abbrev pub is_commit : Command → Bool
-is_commit (command.Begin s) = false
-is_commit (command.Get s n) = false
-is_commit (command.Share s n) = false
-is_commit (command.Put s n bytes) = false
-is_commit (command.Del s n) = false
-is_commit (command.Commit s) = true
-is_commit (command.Abort s) = false
-is_commit (command.List a b) = false
-is_commit (command.Merge u) = false
-is_commit command.Restart = false
-is_commit command.Syntax = false
-
 abbrev pub is_abort : Command → Bool
 is_abort (command.Begin s) = false
 is_abort (command.Get s n) = false
@@ -48,6 +36,7 @@ is_abort (command.Share s n) = false
 is_abort (command.Put s n bytes) = false
 is_abort (command.Del s n) = false
 is_abort (command.Commit s) = false
+is_abort (command.Batch ss) = false
 is_abort (command.Abort s) = true
 is_abort (command.List a b) = false
 is_abort (command.Merge u) = false
@@ -78,6 +67,7 @@ is_conflict_refusal (refusal.PendingFull unit) = false
 is_conflict_refusal refusal.BadUnit = false
 is_conflict_refusal refusal.HoldsFull = false
 is_conflict_refusal refusal.NotHeld = false
+is_conflict_refusal (refusal.Twice s) = false
 
 -- the reply `err 7`
 abbrev pub is_conflict : Reply → Bool

@@ -50,7 +50,7 @@ commands_from source count =
 abbrev pub trial_commands : ℕ → ℕ → ℕ → List Command
 trial_commands units seed count = commands_from (record { units = units; state = seed }) count
 
--- what a command of a trial can be: no list, no merge, no restart
+-- what a command of a trial can be: no batch, no list, no merge, no restart
 abbrev pub IsOfTrial : Command → Type 0
 IsOfTrial (command.Begin s) = Unit {0}
 IsOfTrial (command.Get s n) = Unit {0}
@@ -58,6 +58,7 @@ IsOfTrial (command.Share s n) = Unit {0}
 IsOfTrial (command.Put s n bytes) = Unit {0}
 IsOfTrial (command.Del s n) = Unit {0}
 IsOfTrial (command.Commit s) = Unit {0}
+IsOfTrial (command.Batch ss) = ⊥
 IsOfTrial (command.Abort s) = Unit {0}
 IsOfTrial (command.List a b) = ⊥
 IsOfTrial (command.Merge u) = ⊥

@@ -45,7 +45,7 @@ impl Tally {
         ensures more { self.new.commands ≡ self.old.commands + 1 }
     {
         match (command, reply) {
-            (Command::Commit(_), Reply::Ok) => self.commits += 1,
+            (Command::Commit(_) | Command::Batch(_), Reply::Ok) => self.commits += 1,
             (Command::Abort(_), Reply::Ok) => self.aborts += 1,
             (_, Reply::Refused(Refusal::Conflict(_))) => self.conflicts += 1,
             _ => {}

@@ -67,7 +67,7 @@ pub fn holder(sessions: &[Option<LoggedSession>], s: u32, lock: Lock, name: u32)
 }
 
 /// Appends copies of writes.
-fn append_copies(all: &mut Vec<Write>, log: &[Write]) -> Result<(), AllocError>
+pub fn append_copies(all: &mut Vec<Write>, log: &[Write]) -> Result<(), AllocError>
     ensures { OnOk result (newest_first all.new.items ≡ newest_first log.now ++ newest_first all.old.items) }
 {
     for write in log {

@@ -1,5 +1,5 @@
 //! When the plain model refuses an operation.
-ghost use Rattle.std.specs.Prelude.{◌≡◌, ◌∷◌, ◌==◌, [], length, nat_le, IfOk};
+ghost use Rattle.std.specs.Prelude.{◌≡◌, ◌∷◌, ◌==◌, [], length, nat_le, not, IfOk};
 ghost use Rattle.std.specs.List.{list_any};
 ghost use Rattle.ipl_rules.specs.State.{is_open, writes_of, shared_of, last_write, written_names, least_other, pending};
 ghost use Rattle.ipl_rules.specs.Refusals.{is_new_write, is_new_share};
@@ -9,6 +9,7 @@ use super::PlainModel;
 use super::locks::{Lock, holder, pending_writes};
 use super::scan::{count_in_unit, count_names, newest};
 use ipl_base::{PENDING_NAMES, Refusal, UNIT_NAMES, Value};
+use ipl_rules::{has_bad_session, least_twice};
 use std::alloc::AllocError;
 
 impl PlainModel {
@@ -90,7 +91,7 @@ impl PlainModel {
 }
 
 impl PlainModel {
-    ghost use Rattle.ipl_rules.specs.Refusals.{refuses_begin, refuses_get, refuses_share, refuses_put, refuses_del, refuses_end, refuses_list, refuses_merge};
+    ghost use Rattle.ipl_rules.specs.Refusals.{refuses_begin, refuses_get, refuses_share, refuses_put, refuses_del, refuses_end, refuses_batch, refuses_list, refuses_merge};
     ghost use Rattle.ipl_model.specs.Plain.{refuses_write};
 
     /// Whether there is no such name.
@@ -211,6 +212,29 @@ impl PlainModel {
             return Some(Refusal::BadSession);
         }
         if !self.is_open(s) {
+            return Some(Refusal::NotOpen);
+        }
+        None
+    }
+
+    /// Whether one of these sessions isn't open.
+    fn has_closed(&self, sessions: &[u32]) -> bool
+        ensures { result ≡ list_any (λ s. not (is_open (state_of self.now) s)) sessions.now }
+    {
+        sessions.iter().any(|s| !self.is_open(*s))
+    }
+
+    /// Why a commit of several sessions is refused, if it is.
+    pub fn refuses_batch(&self, sessions: &[u32]) -> Option<Refusal>
+        ensures { result ≡ refuses_batch (limits_of self.now) (state_of self.now) sessions.now }
+    {
+        if has_bad_session(sessions) {
+            return Some(Refusal::BadSession);
+        }
+        if let Some(s) = least_twice(sessions) {
+            return Some(Refusal::Twice(s));
+        }
+        if self.has_closed(sessions) {
             return Some(Refusal::NotOpen);
         }
         None

@@ -120,6 +120,17 @@ impl PlainModel {
         Ok(replies)
     }
 
+    fn batch(&mut self, sessions: &[u32]) -> Result<Vec<Reply>, AllocError>
+        ensures { IsStep self.old (command.Batch sessions.now) self.new result }
+    {
+        if let Some(refusal) = self.refuses_batch(sessions) {
+            return one_line(self.alloc, Reply::Refused(refusal));
+        }
+        let replies = one_line(self.alloc, Reply::Ok)?;
+        self.apply_batch(sessions)?;
+        Ok(replies)
+    }
+
     fn abort(&mut self, s: u32) -> Result<Vec<Reply>, AllocError>
         ensures { IsStep self.old (command.Abort s) self.new result }
     {
@@ -186,6 +197,7 @@ impl PlainModel {
             Command::Put(s, name, bytes) => self.put(*s, *name, bytes.bytes()),
             Command::Del(s, name) => self.del(*s, *name),
             Command::Commit(s) => self.commit(*s),
+            Command::Batch(sessions) => self.batch(sessions.numbers()),
             Command::Abort(s) => self.abort(*s),
             Command::List(a, b) => self.list(*a, *b),
             Command::Merge(unit) => self.merge(*unit),

@@ -2,6 +2,7 @@ use Rattle.std.proofs.Common.{ap, refl, Option, List, ℕ}
 use Rattle.std.specs.Option.{option_map_or}
 use Rattle.std.specs.FinMap.{get}
 use Rattle.ipl_rules.proofs.SeenLemmas.{get-with_writes}
+use Rattle.ipl_rules.proofs.BatchLemmas.{batches_name_once, batches_write, batches_keep}
 use Rattle.ipl_rules.proofs.laws.Goals as goal
 
 pub returns-clause-refusals : goal.returns-clause-refusals
@@ -12,3 +13,12 @@ returns-clause-sees c = λ state s n change is. ap (λ (o : Option (Option (List
 
 pub returns-clause-commits : goal.returns-clause-commits
 returns-clause-commits c = get-with_writes
+
+pub returns-clause-once : goal.returns-clause-once
+returns-clause-once c = batches_name_once
+
+pub returns-clause-batches : goal.returns-clause-batches
+returns-clause-batches c = batches_write
+
+pub returns-clause-keeps : goal.returns-clause-keeps
+returns-clause-keeps c = batches_keep

@@ -1,13 +1,15 @@
 //! When the calls on sessions are refused.
-ghost use Rattle.std.specs.Prelude.{◌≡◌, ◌<◌, length, nat_le};
+ghost use Rattle.std.specs.Prelude.{◌≡◌, ◌<◌, length, nat_le, not};
+ghost use Rattle.std.specs.List.{list_any};
 ghost use Rattle.ipl_rules.specs.State.{is_open, writes_of, shared_of, written_names};
 ghost use Rattle.ipl_rules.specs.Refusals.{is_new_write, is_new_share};
 ghost use Rattle.record_locks.specs.Standing.{state_of};
-ghost use Rattle.record_locks.specs.Locks.{refuses_share, refuses_write};
+ghost use Rattle.record_locks.specs.Locks.{refuses_share, refuses_write, refuses_batch};
 
 use super::Sessions;
 use crate::session::is_listed;
-use ipl_base::{Name, PENDING_NAMES, Refusal, UNIT_NAMES};
+use ipl_base::{Name, PENDING_NAMES, Refusal, SESSIONS, UNIT_NAMES};
+use ipl_rules::{has_bad_session, least_twice};
 
 impl Sessions {
     /// Whether a session is open.
@@ -17,6 +19,21 @@ impl Sessions {
         ensures { result ≡ is_open (state_of self.now) s }
     {
         self.slots[s as usize].is_some()
+    }
+
+    /// Whether there is no such session, or it isn't open.
+    fn is_closed(&self, s: u32) -> bool
+        ensures { result ≡ not (is_open (state_of self.now) s) }
+    {
+        let _ = &self.slots;
+        s >= SESSIONS || !self.is_open(s)
+    }
+
+    /// Whether one of these sessions isn't open.
+    fn has_closed(&self, numbers: &[u32]) -> bool
+        ensures { result ≡ list_any (λ s. not (is_open (state_of self.now) s)) numbers.now }
+    {
+        numbers.iter().any(|s| self.is_closed(*s))
     }
 
     /// Whether a session did not write a name.
@@ -92,6 +109,21 @@ impl Sessions {
         }
         if self.pending(name.0 / UNIT_NAMES) >= PENDING_NAMES {
             return Some(Refusal::PendingFull(name.0 / UNIT_NAMES));
+        }
+        None
+    }
+    /// Why a commit of several sessions is refused, if it is.
+    pub fn refuses_batch(&self, numbers: &[u32]) -> Option<Refusal>
+        ensures { result ≡ refuses_batch self.now numbers.now }
+    {
+        if has_bad_session(numbers) {
+            return Some(Refusal::BadSession);
+        }
+        if let Some(s) = least_twice(numbers) {
+            return Some(Refusal::Twice(s));
+        }
+        if self.has_closed(numbers) {
+            return Some(Refusal::NotOpen);
         }
         None
     }

@@ -6,5 +6,5 @@ use Rattle.merge_tests.proofs.walking.commit.Goals as goal
 pub returns : goal.returns
 returns g c =
     known_stays 5 (tables_of c.args.parts.now) _ c.requires refl refl
-    (place_stays c.args.parts.now.status c.add_number.new.status (c.args.tid ∷ [])
-    c.add_number.result c.add_number.ensures.added c.add_number.ensures.same)
+    (place_stays c.args.parts.now.status c.add_numbers.new.status (c.args.tid ∷ [])
+    c.add_numbers.result c.add_numbers.ensures.added c.add_numbers.ensures.same)

@@ -1,8 +1,9 @@
-use Rattle.std.proofs.Common.{◌≡◌, map, drop}
+use Rattle.std.proofs.Common.{◌≡◌, drop}
+use Rattle.record_locks.specs.Held.{written_by}
 use Rattle.page_frames.specs.Changed.{is_on_page}
 use Rattle.page_frames.proofs.sessions.has_page.Given as goal
 
--- one of the names is on the page where one of the rest is
-abbrev pub invariant-loop-name : goal.invariant-loop-name
-invariant-loop-name l = is_on_page (map (λ n. n.0) l.names) l.unit l.page
-    ≡ is_on_page (map (λ n. n.0) (drop l.name-index l.names)) l.unit l.page
+-- a name of one of the sessions is on the page where a name of one of the rest is
+abbrev pub invariant-loop-s : goal.invariant-loop-s
+invariant-loop-s l = is_on_page (written_by l.sessions l.numbers) l.unit l.page
+    ≡ is_on_page (written_by l.sessions (drop l.s-index l.numbers)) l.unit l.page

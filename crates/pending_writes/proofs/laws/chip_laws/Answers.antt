@@ -1,5 +1,5 @@
 use Rattle.pending_writes.proofs.ChipFitLemmas.{log_sectors_fit, merges_fit, other_steps_fit, renewals_fit}
-use Rattle.pending_writes.proofs.EndFitLemmas.{commits_fit}
+use Rattle.pending_writes.proofs.BatchFitLemmas.{batches_fit}
 use Rattle.pending_writes.proofs.laws.chip_laws.Goals as goal
 
 pub returns : goal.returns
@@ -8,5 +8,5 @@ returns c = record {
   merges = merges_fit;
   others = other_steps_fit;
   renewals = renewals_fit;
-  commits = commits_fit;
+  batches = batches_fit;
 }

@@ -1,5 +1,5 @@
 use Rattle.pending_writes.proofs.MemoryFitLemmas.{begins_fit, shares_fit, writes_fit, loads_fit, evictions_fit, openings_fit}
-use Rattle.pending_writes.proofs.EndFitLemmas.{aborts_fit, empty_commits_fit}
+use Rattle.pending_writes.proofs.EndFitLemmas.{aborts_fit}
 use Rattle.pending_writes.proofs.ListedLemmas.{session_numbers_fit}
 use Rattle.pending_writes.proofs.laws.memory_laws.Goals as goal
 
@@ -9,7 +9,6 @@ returns c = record {
   shares = shares_fit;
   writes = writes_fit;
   aborts = aborts_fit;
-  empty_commits = empty_commits_fit;
   numbers = session_numbers_fit;
   loads = loads_fit;
   evictions = evictions_fit;

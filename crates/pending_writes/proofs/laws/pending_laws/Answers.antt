@@ -8,6 +8,7 @@ use Rattle.pending_writes.proofs.LogSectorLemmas.{log_sectors_keep_pending}
 use Rattle.pending_writes.proofs.MergeLemmas.{merges_keep_pending, same_logs_keep_pending}
 use Rattle.pending_writes.proofs.RenewLemmas.{renewals_keep_pending}
 use Rattle.pending_writes.proofs.FewLemmas.{few_are_pending}
+use Rattle.pending_writes.proofs.BatchLemmas.{batches_keep_pending, batches_say_writes}
 use Rattle.pending_writes.proofs.laws.pending_laws.Goals as goal
 
 pub returns : goal.returns
@@ -21,6 +22,8 @@ returns c = record {
   renewals = renewals_keep_pending;
   commits = commits_keep_pending;
   says = commits_say_writes;
+  batches = batches_keep_pending;
+  batches_say = batches_say_writes;
   aborts = aborts_keep_pending;
   restarts = restarts_leave_none;
   in_memory = records_stay_pending;

@@ -1,5 +1,5 @@
 use Rattle.store_steps.proofs.ViewLemmas.{frames_tell_state, settled_frames_are_committed, dropped_frames_are_aborted, changed_frames_are_written}
-use Rattle.store_steps.proofs.NamedLemmas.{named_commits_suffice, named_aborts_suffice}
+use Rattle.store_steps.proofs.NamedLemmas.{named_aborts_suffice}
 use Rattle.store_steps.proofs.laws.frame_laws.Goals as goal
 
 pub returns : goal.returns
@@ -8,6 +8,5 @@ returns c = record {
   aborts = dropped_frames_are_aborted;
   writes = changed_frames_are_written;
   tells = frames_tell_state;
-  named_commits = named_commits_suffice;
   named_aborts = named_aborts_suffice;
 }

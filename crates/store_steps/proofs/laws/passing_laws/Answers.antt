@@ -1,4 +1,4 @@
-use Rattle.store_steps.proofs.RefusalLemmas.{passed_begins, passed_gets, passed_shares, passed_puts, passed_dels, passed_ends, passed_lists, passed_merges}
+use Rattle.store_steps.proofs.RefusalLemmas.{passed_begins, passed_gets, passed_shares, passed_puts, passed_dels, passed_ends, passed_batches, passed_lists, passed_merges}
 use Rattle.store_steps.proofs.laws.passing_laws.Goals as goal
 
 pub returns : goal.returns
@@ -9,6 +9,7 @@ returns c = record {
   puts = passed_puts;
   dels = passed_dels;
   ends = passed_ends;
+  batches = passed_batches;
   lists = passed_lists;
   merges = passed_merges;
 }

@@ -1,6 +1,6 @@
 use Rattle.std.proofs.Common.{sym, subst, List, ℕ}
 use Rattle.ipl_model.specs.declared.command.Command.{Command}
-use Rattle.ipl_model.specs.declared.command.Command.TheVariants.{Put}
+use Rattle.ipl_model.specs.declared.command.Command.TheVariants.{Put, Batch}
 use Rattle.ipl_model.specs.Plain.{IsStep}
 use Rattle.ipl_model.proofs.plain_model.PlainModel.answer.Goals as goal
 
@@ -14,3 +14,8 @@ returns-in-Put c =
 
 pub returns-in-Del : goal.returns-in-Del
 returns-in-Del c = subst (λ (command : Command). IsStep c.args.self.now command c.del.new.self c.del.result) (sym c.in-Del.is) c.del.ensures
+
+pub returns-in-Batch : goal.returns-in-Batch
+returns-in-Batch c =
+    subst (λ (command : Command). IsStep c.args.self.now command c.batch.new.self c.batch.result) (sym c.in-Batch.is)
+    (subst (λ (numbers : List ℕ). IsStep c.args.self.now (Batch numbers) c.batch.new.self c.batch.result) c.numbers.ensures.value c.batch.ensures)

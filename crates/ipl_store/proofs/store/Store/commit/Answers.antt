@@ -1,12 +1,23 @@
-use Rattle.std.proofs.Common.{◌≡◌, ◌∙◌, ◌^◌, None, sym, ap}
+use Rattle.std.proofs.Common.{◌≡◌, ◌∙◌, ◌^◌, [], ◌∷◌, None, sym, ap}
 use Rattle.ipl_rules.specs.Operations.{after_commit}
 use Rattle.ipl_rules.specs.Refusals.{refuses_end}
 use Rattle.record_locks.specs.Standing.{state_of}
 use Rattle.store_steps.specs.Keeps.{limits_of}
+use Rattle.store_steps.proofs.RefusalLemmas.{one_is_open}
 use Rattle.ipl_store.specs.Calls.{early_fault, entry_fault}
 use Rattle.ipl_store.proofs.CallLemmas.{let_in, turns_move, moved_calls, kept_holds, kept_framed}
 use Rattle.transactions.proofs.CostLemmas.{empty_asks}
 use Rattle.ipl_store.proofs.store.Store.commit.Goals as goal
+
+pub commit-done-requires-clause-open : goal.commit-done-requires-clause-open
+commit-done-requires-clause-open g c =
+    let store = c.args.self.now in
+    let slots = store.transactions.sessions in
+    let refusal = refuses_end (limits_of store.units) (state_of slots) c.args.s in
+    let none : early_fault (entry_fault store) refusal ≡ None =
+    ap (early_fault (entry_fault store)) (sym c.refuses_end.ensures) ∙ sym c.in_ok-admit.ensures in
+    let (up, few, free) = let_in store refusal none in
+    one_is_open slots c.args.s (c.passing_laws.ensures.ends store.units slots c.args.s free)
 
 pub returns-clause-calls : goal.returns-clause-calls
 returns-clause-calls g c =
@@ -41,7 +52,7 @@ returns-clause-framed g c = kept_framed c.args.self.now c.end.new.self c.commit-
 
 pub returns-in_err-admit-clause-asks : goal.returns-in_err-admit-clause-asks
 returns-in_err-admit-clause-asks g c =
-    empty_asks c.args.self.now.transactions c.args.s (g.C.Chip.told c.args.chip.now)
+    empty_asks c.args.self.now.transactions (c.args.s ∷ []) (g.C.Chip.told c.args.chip.now)
 
 pub returns-clause-asks : goal.returns-clause-asks
 returns-clause-asks g c = c.commit-done.ensures.asks

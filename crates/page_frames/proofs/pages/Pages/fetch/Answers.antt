@@ -49,7 +49,7 @@ returns-in_err-make_room-clause-framed g c = record {
   stay = λ room. elim room [
     | inl there ↦ absurd (false≢true (subst IsSome c.requires.absent there))
     | inr free ↦ subst (KeepsFramed c.args.self.now)
-        (sym (c.in_err-make_room.ensures.idle free).0) (λ u q is. is)
+        (sym (c.in_err-make_room.ensures.idle free).1) (λ u q is. is)
   ];
   leaves = c.in_err-make_room.ensures.leaves;
   uses = λ v q used apart now. c.in_err-make_room.ensures.uses v q used now;
@@ -63,7 +63,7 @@ returns-clause-framed g c =
       stay = λ room. elim room [
         | inl there ↦ absurd (false≢true (subst IsSome c.requires.absent there))
         | inr free ↦ subst (λ (pages : Pages). KeepsFramed pages c.load.new.self)
-            (c.in_ok-make_room.ensures.idle free).0 keeps
+            (c.in_ok-make_room.ensures.idle free).1 keeps
       ];
       leaves = λ v q is gone.
           c.in_ok-make_room.ensures.leaves v q is (λ there. gone (keeps v q there));
@@ -87,10 +87,10 @@ pub returns-clause-exact : goal.returns-clause-exact
 returns-clause-exact g c = λ free.
     let same = c.in_ok-make_room.ensures.idle free in
     subst (λ (told : Told). FailsAsPage (tables_in c.args.self.now) c.args.unit c.args.page
-    c.load.result told) same.1
+    c.load.result told) same.2
     (subst (λ (pages : Pages). FailsAsPage (tables_in pages) c.args.unit c.args.page c.load.result
-    (g.C.Chip.told c.make_room.new.chip)) same.0 c.load.ensures.exact)
+    (g.C.Chip.told c.make_room.new.chip)) same.1 c.load.ensures.exact)
 
 pub returns-in_err-make_room-clause-exact : goal.returns-in_err-make_room-clause-exact
 returns-in_err-make_room-clause-exact g c = λ free. absurd
-    (false≢true (c.in_err-make_room.ensures.done free))
+    (false≢true (c.in_err-make_room.ensures.idle free).0)

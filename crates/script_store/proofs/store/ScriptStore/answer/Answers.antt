@@ -38,6 +38,12 @@ returns-in-Commit-clause-does g c = rw c.in-Commit.is c.commit.ensures
 pub returns-in-Commit-clause-done : goal.returns-in-Commit-clause-done
 returns-in-Commit-clause-done g c = rw c.in-Commit.is (any_done c.commit.result)
 
+pub returns-in-Batch-clause-does : goal.returns-in-Batch-clause-does
+returns-in-Batch-clause-does g c = rw c.in-Batch.is c.commit_all.ensures
+
+pub returns-in-Batch-clause-done : goal.returns-in-Batch-clause-done
+returns-in-Batch-clause-done g c = rw c.in-Batch.is (any_done c.commit_all.result)
+
 pub returns-in-Abort-clause-does : goal.returns-in-Abort-clause-does
 returns-in-Abort-clause-does g c = rw c.in-Abort.is c.abort.ensures
 

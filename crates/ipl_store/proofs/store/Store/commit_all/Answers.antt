@@ -1,0 +1,74 @@
+use Rattle.std.proofs.Common.{◌≡◌, ◌∙◌, ◌^◌, Some, None, Err, refl, sym, ap}
+use Rattle.std.proofs.lemmas.Result.{err_from_is_err_and}
+use Rattle.ipl_rules.specs.Operations.{after_batch}
+use Rattle.ipl_rules.specs.Refusals.{refuses_batch}
+use Rattle.record_locks.specs.Standing.{state_of}
+use Rattle.store_steps.specs.Keeps.{limits_of}
+use Rattle.ipl_store.specs.Calls.{early_fault, entry_fault}
+use Rattle.ipl_store.proofs.CallLemmas.{calls_refused, let_in, turns_move, moved_calls, kept_holds, kept_framed}
+use Rattle.transactions.proofs.CostLemmas.{empty_asks}
+use Rattle.ipl_store.proofs.store.Store.commit_all.Goals as goal
+
+pub commit-done-requires-clause-open : goal.commit-done-requires-clause-open
+commit-done-requires-clause-open g c =
+    let store = c.args.self.now in
+    let slots = store.transactions.sessions in
+    let refusal = refuses_batch (limits_of store.units) (state_of slots) c.args.sessions.now in
+    let none : early_fault (entry_fault store) refusal ≡ None =
+    ap (early_fault (entry_fault store)) (sym c.refuses_batch.ensures)
+    ∙ sym c.in_ok-admit.ensures in
+    let (up, few, free) = let_in store refusal none in
+    c.passing_laws.ensures.batches store.units slots c.args.sessions.now free
+
+pub returns-clause-calls : goal.returns-clause-calls
+returns-clause-calls g c =
+    let store = c.args.self.now in
+    let old = g.C.Chip.told c.args.chip.now in
+    let after = g.C.Chip.told c.commit-done.new.chip in
+    let refusal = refuses_batch (limits_of store.units) (state_of store.transactions.sessions)
+    c.args.sessions.now in
+    let early = early_fault (entry_fault store) refusal in
+    let none : early ≡ None =
+    ap (early_fault (entry_fault store)) (sym c.refuses_batch.ensures)
+    ∙ sym c.in_ok-admit.ensures in
+    let (up, few, free) = let_in store refusal none in
+    moved_calls (λ state. after_batch state c.args.sessions.now) (2 ^ 15) store
+    c.commit-done.new.self c.commit-done.new.kept old after c.commit-done.result c.end.result
+    c.end.new.self up c.requires.sound
+    (turns_move (λ state. after_batch state c.args.sessions.now) (2 ^ 15) store.transactions
+    c.commit-done.new.self old after c.commit-done.result c.commit-done.ensures.turns
+    c.commit-done.ensures.complete c.commit-done.ensures.faults)
+    c.end.ensures.rest c.end.ensures.ends early none
+
+pub returns-in_err-admit-clause-calls : goal.returns-in_err-admit-clause-calls
+returns-in_err-admit-clause-calls g c =
+    let store = c.args.self.now in
+    let refusal = refuses_batch (limits_of store.units) (state_of store.transactions.sessions)
+    c.args.sessions.now in
+    let early = early_fault (entry_fault store) refusal in
+    let fault = c.in_err-admit.field-0.0 in
+    let is : early ≡ Some fault =
+    ap (early_fault (entry_fault store)) (sym c.refuses_batch.ensures)
+    ∙ sym c.in_err-admit.ensures in
+    let e = err_from_is_err_and c.from_residual.result c.from_residual.ensures.1 in
+    rw (e.1 ∙ ap Err e.2) (calls_refused early
+    (λ state. after_batch state c.args.sessions.now) (2 ^ 15) store
+    (g.C.Chip.told c.args.chip.now) (Err fault) fault is refl c.requires.sound)
+
+pub returns-clause-holds : goal.returns-clause-holds
+returns-clause-holds g c = kept_holds c.args.self.now c.end.new.self c.commit-done.new.self
+    c.commit-done.new.kept c.end.ensures.rest c.commit-done.ensures.turns.pins
+
+pub returns-in_err-admit-clause-framed : goal.returns-in_err-admit-clause-framed
+returns-in_err-admit-clause-framed g c = λ u page is. is
+
+pub returns-clause-framed : goal.returns-clause-framed
+returns-clause-framed g c = kept_framed c.args.self.now c.end.new.self c.commit-done.new.self
+    c.commit-done.new.kept c.end.ensures.rest c.commit-done.ensures.framed
+
+pub returns-in_err-admit-clause-asks : goal.returns-in_err-admit-clause-asks
+returns-in_err-admit-clause-asks g c =
+    empty_asks c.args.self.now.transactions c.args.sessions.now (g.C.Chip.told c.args.chip.now)
+
+pub returns-clause-asks : goal.returns-clause-asks
+returns-clause-asks g c = c.commit-done.ensures.asks

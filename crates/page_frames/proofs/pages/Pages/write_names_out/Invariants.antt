@@ -1,8 +1,0 @@
-use Rattle.std.proofs.Common.{map}
-use Rattle.page_frames.proofs.OutAllLemmas.{IsOutBelow}
-use Rattle.page_frames.proofs.pages.Pages.write_names_out.Given as goal
-
--- the pages before this one that are of the names have no records in memory
-abbrev pub invariant-loop-i : goal.invariant-loop-i
-invariant-loop-i g l = IsOutBelow l.i (map (λ n. n.0) l.names) l.fn.self
-    (g.C.Chip.told l.fn.chip) l.self (g.C.Chip.told l.chip)

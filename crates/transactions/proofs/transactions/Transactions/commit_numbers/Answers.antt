@@ -1,0 +1,57 @@
+use Rattle.std.proofs.Common.{inr, refl, ◌∙◌, ap}
+use Rattle.std.proofs.lemmas.Result.{err_from_is_err_and}
+use Rattle.record_locks.specs.Held.{Slots, after_batch}
+use Rattle.selective_merge.specs.declared.parts.Parts.{Parts}
+use Rattle.transactions.proofs.CommitLemmas.{numbers_added, numbers_not_added}
+use Rattle.transactions.proofs.FramedLemmas.{in_turn_framed}
+use Rattle.transactions.proofs.transactions.Transactions.commit_numbers.Goals as goal
+
+pub returns-in_err-add_numbers-clause-turns : goal.returns-in_err-add_numbers-clause-turns
+returns-in_err-add_numbers-clause-turns g c =
+    let old = c.args.self.now in
+    let says = c.in_err-add_numbers.ensures in
+    let e = err_from_is_err_and c.from_residual.result c.from_residual.ensures.1 in
+    rw (e.1, e.2)
+    (numbers_not_added c.args.numbers.now c.as_slice.result.now c.in_err-add_numbers.field-0.0 old
+    (record {
+      pages = record {
+        parts = record old.pages.parts {
+          status = c.add_numbers.new.status;
+          counter = c.add_numbers.new.counter;
+        };
+        pool = old.pages.pool;
+      };
+      sessions = old.sessions;
+    }) (g.C.Chip.told c.args.chip.now) (g.C.Chip.told c.add_numbers.new.chip) c.requires.order
+    c.requires.open c.requires.may_add (c.as_slice.ensures.numbers ∙ c.requires.tids) says.steps refl refl refl refl says.same refl says.draws
+    says.tidy says.accounts)
+
+pub returns-clause-turns : goal.returns-clause-turns
+returns-clause-turns g c =
+    let old = c.args.self.now in
+    let says = c.in_ok-add_numbers.ensures in
+    let same = c.settle_all.ensures.parts in
+    numbers_added c.args.numbers.now c.as_slice.result.now old c.end_all.new.self c.settle_all.new.self.pages
+    (g.C.Chip.told c.args.chip.now) (g.C.Chip.told c.add_numbers.new.chip) c.requires.order
+    c.requires.open c.requires.may_add (c.as_slice.ensures.numbers ∙ c.requires.tids) says.adds
+    says.steps (ap (λ (parts : Parts). parts.directory) same)
+    (ap (λ (parts : Parts). parts.overflow) same)
+    (ap (λ (parts : Parts). parts.status) same ∙ says.added)
+    (ap (λ (parts : Parts). parts.counter) same ∙ says.drawn) c.settle_all.ensures.settled
+    c.settle_all.ensures.pins c.end_all.ensures.rest
+    (c.end_all.ensures.sessions ∙ ap (λ (slots : Slots). after_batch slots c.args.numbers.now)
+    c.settle_all.ensures.sessions) c.end_all.ensures.active c.end_all.ensures.locks says.tidy says.accounts
+
+pub returns-in_err-add_numbers-clause-complete : goal.returns-in_err-add_numbers-clause-complete
+returns-in_err-add_numbers-clause-complete g c =
+    let e = err_from_is_err_and c.from_residual.result c.from_residual.ensures.1 in
+    rw (e.1, e.2) (inr c.in_err-add_numbers.ensures.accounts.cause.0)
+
+pub returns-in_err-add_numbers-clause-framed : goal.returns-in_err-add_numbers-clause-framed
+returns-in_err-add_numbers-clause-framed g c = λ u page is. is
+
+pub returns-clause-framed : goal.returns-clause-framed
+returns-clause-framed g c =
+    in_turn_framed c.args.self.now.sessions c.args.numbers.now c.args.self.now.pages
+    c.settle_all.new.self.pages c.end_all.new.self.pages c.requires.open.opens
+    c.settle_all.ensures.settled c.end_all.ensures.rest.pool
