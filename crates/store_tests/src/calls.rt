@@ -2,6 +2,7 @@
 ghost use Rattle.std.specs.Prelude.{◌≡◌, ◌≤◌, IfOk};
 ghost use Rattle.chip_mem.specs.Views.{told_of};
 ghost use Rattle.ipl_store.specs.Calls.{IsSound};
+ghost use Rattle.store_tests.specs.Suits.{Suits};
 
 use chip_mem::MemChip;
 use ipl_base::{ChipFault, ImageFault, Refusal, StoreFault};
@@ -12,7 +13,7 @@ use std::process::Abort;
 use std::test::Fail;
 
 /// A call of a store. Sessions come first, then names or pages, then values.
-#[derive(Clone, Copy, Debug, PartialEq, Eq)]
+#[derive(Clone, Copy)]
 pub(crate) enum Call<'a> {
     Begin(u32),
     Get(u32, u32),
@@ -20,6 +21,8 @@ pub(crate) enum Call<'a> {
     Put(u32, u32, &'a [u8]),
     Del(u32, u32),
     Commit(u32),
+    /// Three sessions together.
+    Batch(u32, u32, u32),
     Abort(u32),
     Committed(u32),
     Hold(u32, u32),
@@ -61,6 +64,26 @@ fn ended<'a>(done: Result<(), StoreFault>) -> Answer<'a> {
     }
 }
 
+/// Makes a call that lends nothing. One that lends isn't made.
+fn make(store: &mut Store, chip: &mut MemChip, call: Call<'_>) -> Result<(), StoreFault>
+    requires sound { IsSound (told_of chip.old).places store.old }
+    ensures sound { IsSound (told_of chip.old).places store.new }
+    ensures places { (told_of chip.new).places ≡ (told_of chip.old).places }
+{
+    match call {
+        Call::Begin(s) => store.begin(chip, s),
+        Call::Put(s, n, value) => store.put(chip, s, n, value),
+        Call::Del(s, n) => store.del(chip, s, n),
+        Call::Commit(s) => store.commit(chip, s),
+        Call::Batch(r, s, t) => store.commit_all(chip, &[r, s, t]),
+        Call::Abort(s) => store.abort(chip, s),
+        Call::Hold(unit, page) => store.hold(chip, unit, page),
+        Call::Release(unit, page) => store.release(chip, unit, page),
+        Call::Merge(unit) => store.merge(chip, unit),
+        Call::Get(_, _) | Call::Share(_, _) | Call::Committed(_) => Ok(()),
+    }
+}
+
 /// Whether a call gives this answer.
 pub(crate) fn gives(
     store: &mut Store,
@@ -73,17 +96,10 @@ pub(crate) fn gives(
     ensures places { (told_of chip.new).places ≡ (told_of chip.old).places }
 {
     match call {
-        Call::Begin(s) => ended(store.begin(chip, s)) == answer,
         Call::Get(s, n) => store.get(chip, s, n) == answer,
         Call::Share(s, n) => store.share(chip, s, n) == answer,
-        Call::Put(s, n, value) => ended(store.put(chip, s, n, value)) == answer,
-        Call::Del(s, n) => ended(store.del(chip, s, n)) == answer,
-        Call::Commit(s) => ended(store.commit(chip, s)) == answer,
-        Call::Abort(s) => ended(store.abort(chip, s)) == answer,
         Call::Committed(n) => store.committed(chip, n) == answer,
-        Call::Hold(unit, page) => ended(store.hold(chip, unit, page)) == answer,
-        Call::Release(unit, page) => ended(store.release(chip, unit, page)) == answer,
-        Call::Merge(unit) => ended(store.merge(chip, unit)) == answer,
+        _ => ended(make(store, chip, call)) == answer,
     }
 }
 
@@ -94,15 +110,11 @@ pub(crate) fn call_all(
     chip: &mut MemChip,
     cases: &[(Call<'_>, Answer<'_>)],
 )
-    requires sound { IsSound (told_of chip.old).places store.old }
-    ensures sound { IsSound (told_of chip.old).places store.new }
-    ensures places { (told_of chip.new).places ≡ (told_of chip.old).places }
+    requires { Suits chip.old store.old }
+    ensures { Suits chip.new store.new }
 {
     for (number, (call, answer)) in cases.iter().enumerate() {
-        assert!(rt;
-            gives(store, chip, *call, *answer),
-            "call {number}: {call:?}"
-        );
+        assert!(rt; gives(store, chip, *call, *answer), "call {number}");
     }
 }
 
@@ -117,17 +129,46 @@ pub(crate) fn formatted(alloc: Global, places: u32, room: u64) -> Result<MemChip
 
 /// What a power cut leaves of a chip, where each open sector is as it was meant to be.
 pub(crate) fn left_of(alloc: Global, chip: &MemChip) -> Result<MemChip, Fail>
-    ensures places { IfOk result (λ left. (told_of left).places ≡ (told_of chip.now).places) }
+    ensures { IfOk result (λ left. (told_of left).places ≡ (told_of chip.now).places) }
 {
     Ok(chip.image(alloc, u64::MAX, &[])?)
 }
 
-/// The store of a chip that is opened.
-pub(crate) fn opened(alloc: Global, chip: &mut MemChip, frames: u32) -> Result<Store, Fail>
+/// What a power cut leaves of the chip of a store.
+pub(crate) fn left_by(alloc: Global, _store: &Store, chip: &MemChip) -> Result<MemChip, Fail>
+    requires { Suits chip.now _store.now }
+    ensures { IfOk result (λ left. Suits left _store.now) }
+{
+    left_of(alloc, chip)
+}
+
+/// From now on the call of this number fails on the chip of a store.
+pub(crate) fn fail_call(
+    alloc: Global,
+    _store: &Store,
+    chip: &mut MemChip,
+    number: u64,
+) -> Result<(), Fail>
+    requires { Suits chip.old _store.now }
+    ensures { Suits chip.new _store.now }
+{
+    chip.fail_at([number].to_vec(alloc)?);
+    Ok(())
+}
+
+/// From now on no write succeeds on the chip of a store.
+pub(crate) fn fail_writes(_store: &Store, chip: &mut MemChip)
+    requires { Suits chip.old _store.now }
+    ensures { Suits chip.new _store.now }
+{
+    chip.stop_after(0);
+}
+
+/// Opens a chip; the store is sound for it.
+fn open(alloc: Global, chip: &mut MemChip, frames: u32) -> Result<Store, Fail>
     requires two { 2 ≤ frames }
     requires few { frames ≤ 64 }
-    ensures sound { IfOk result (λ store. IsSound (told_of chip.new).places store) }
-    ensures places { (told_of chip.new).places ≡ (told_of chip.old).places }
+    ensures { IfOk result (λ store. IsSound (told_of chip.new).places store) }
 {
     match Store::open(alloc, chip, frames) {
         Ok(store) => Ok(store),
@@ -135,23 +176,68 @@ pub(crate) fn opened(alloc: Global, chip: &mut MemChip, frames: u32) -> Result<S
     }
 }
 
-/// Opens the chip of a store again, or another of as many places.
-pub(crate) fn reopened(store: Store, chip: &mut MemChip) -> (Store, Result<(), ImageFault>)
-    requires sound { IsSound (told_of chip.old).places store }
-    ensures sound { IsSound (told_of chip.new).places result.0 }
-    ensures places { (told_of chip.new).places ≡ (told_of chip.old).places }
+/// The store of a chip that is opened.
+pub(crate) fn opened(alloc: Global, chip: &mut MemChip, frames: u32) -> Result<Store, Fail>
+    requires two { 2 ≤ frames }
+    requires few { frames ≤ 64 }
+    ensures { IfOk result (λ store. Suits chip.new store) }
+{
+    open(alloc, chip, frames)
+}
+
+/// Opens a chip again; the store is sound for it then too.
+fn reopen(store: Store, chip: &mut MemChip) -> (Store, Result<(), ImageFault>)
+    requires { IsSound (told_of chip.old).places store }
+    ensures { IsSound (told_of chip.new).places result.0 }
 {
     store.reopen(chip)
+}
+
+/// Opens the chip of a store again, or what is left of it.
+pub(crate) fn reopened(store: Store, chip: &mut MemChip) -> (Store, Result<(), ImageFault>)
+    requires { Suits chip.old store }
+    ensures { Suits chip.new result.0 }
+{
+    reopen(store, chip)
 }
 
 /// Opens a chip with sixteen frames, and makes calls. Each gives its answer.
 pub(crate) fn call_left(
     rt: &impl Abort,
     alloc: Global,
-    mut chip: MemChip,
+    chip: MemChip,
     cases: &[(Call<'_>, Answer<'_>)],
 ) -> Result<MemChip, Fail> {
-    let mut store = opened(alloc, &mut chip, 16)?;
+    call_in_frames(rt, alloc, chip, 16, cases)
+}
+
+/// Opens a chip with so many frames, and makes calls. Each gives its answer.
+pub(crate) fn call_in_frames(
+    rt: &impl Abort,
+    alloc: Global,
+    mut chip: MemChip,
+    frames: u32,
+    cases: &[(Call<'_>, Answer<'_>)],
+) -> Result<MemChip, Fail>
+    requires two { 2 ≤ frames }
+    requires few { frames ≤ 64 }
+{
+    let mut store = opened(alloc, &mut chip, frames)?;
     call_all(rt, &mut store, &mut chip, cases);
     Ok(chip)
+}
+
+/// Makes calls that ask nothing of the chip. Each gives its answer.
+pub(crate) fn call_idle(
+    rt: &impl Abort,
+    store: &mut Store,
+    chip: &mut MemChip,
+    cases: &[(Call<'_>, Answer<'_>)],
+)
+    requires { Suits chip.old store.old }
+    ensures { Suits chip.new store.new }
+{
+    let asked = chip.events().len();
+    call_all(rt, store, chip, cases);
+    assert_eq!(rt; chip.events().len(), asked);
 }

@@ -1,6 +1,6 @@
 //! What power cuts leave where one sector is open: it is as it was, whole or torn.
-use crate::calls::{Call, DONE, NONE, call_left, formatted, found, left_of};
-use crate::scripts::{committing, seven_commits_beside, sixteen_commits};
+use crate::calls::{Answer, Call, DONE, NONE, call_left, formatted, found, left_of};
+use crate::scripts::{add, committing, seven_commits_beside, sixteen_commits};
 use chip_mem::{Choice, MemChip, Pick};
 use chip_trait::Event;
 use std::alloc::Global;
@@ -63,6 +63,30 @@ fn cut_in(
     Ok(chip.image(alloc, (number as u64).saturating_add(1), &[pick])?)
 }
 
+/// Whatever a cut leaves of a sector, right after the last event that programs it, the chip opens with
+/// these records.
+fn cut_each(
+    rt: &impl Abort,
+    alloc: Global,
+    chip: &MemChip,
+    (place, sector): (u32, u32),
+    records: &[(Call<'_>, Answer<'_>)],
+) -> Result<(), Fail> {
+    for left in [Left::Old, Left::Torn, Left::Whole] {
+        let cut = cut_in(alloc, chip, place, sector, left)?;
+        call_left(rt, alloc, cut, records)?;
+    }
+    Ok(())
+}
+
+/// The chip that a cut leaves right before the last header of place 0 is programmed.
+fn before_header(alloc: Global, chip: &MemChip) -> Result<MemChip, Fail> {
+    let Some(header) = last_program(chip, 0, 0) else {
+        return Err(Fail::from("the new status place is another one"));
+    };
+    Ok(chip.image(alloc, header as u64, &[])?)
+}
+
 /// A chip of so many places after a commit of two bytes at name 5.
 fn committed(rt: &impl Abort, alloc: Global, places: u32) -> Result<MemChip, Fail> {
     let mut calls = Vec::new(alloc);
@@ -94,19 +118,10 @@ fn an_opening_that_is_cut_keeps_the_records(rt: HostRuntime) -> Result<(), Fail>
         (Call::Committed(5), found(b"hi")),
         (Call::Committed(6), NONE),
     ];
-    let image = left_of(alloc, &chip)?;
-    let reopened = call_left(&rt, alloc, image, &records)?;
     // Two units, the first of which was merged from place 0 to place 4: the new status place is 0.
-    let Some(header) = last_program(&reopened, 0, 0) else {
-        return Err(Fail::from("the new status place is another one"));
-    };
-    let before = reopened.image(alloc, header as u64, &[])?;
-    call_left(&rt, alloc, before, &records)?;
-    for left in [Left::Old, Left::Torn, Left::Whole] {
-        let cut = cut_in(alloc, &reopened, 0, 0, left)?;
-        call_left(&rt, alloc, cut, &records)?;
-    }
-    Ok(())
+    let reopened = call_left(&rt, alloc, left_of(alloc, &chip)?, &records)?;
+    call_left(&rt, alloc, before_header(alloc, &reopened)?, &records)?;
+    cut_each(&rt, alloc, &reopened, (0, 0), &records)
 }
 
 #[test]
@@ -114,18 +129,20 @@ fn a_merge_that_is_cut_keeps_the_records(rt: HostRuntime) -> Result<(), Fail> {
     let alloc = rt.alloc();
     let calls = sixteen_commits(alloc)?;
     let chip = call_left(&rt, alloc, formatted(alloc, 5, 2000)?, &calls)?;
-    for left in [Left::Old, Left::Torn, Left::Whole] {
-        let cut = cut_in(alloc, &chip, 0, 0, left)?;
-        call_left(&rt, alloc, cut, &[(Call::Committed(5), found(&[15]))])?;
-    }
-    Ok(())
+    cut_each(
+        &rt,
+        alloc,
+        &chip,
+        (0, 0),
+        &[(Call::Committed(5), found(&[15]))],
+    )
 }
 
 #[test]
 fn a_merge_that_empties_an_overflow_place_is_cut(rt: HostRuntime) -> Result<(), Fail> {
     let alloc = rt.alloc();
     let mut calls = seven_commits_beside(alloc)?;
-    calls.push((Call::Abort(0), DONE))?;
+    add(&mut calls, Call::Abort(0), DONE)?;
     committing(&mut calls, 1, 64, b"h")?;
     let chip = call_left(&rt, alloc, formatted(alloc, 5, 3000)?, &calls)?;
     let records = [
@@ -133,9 +150,5 @@ fn a_merge_that_empties_an_overflow_place_is_cut(rt: HostRuntime) -> Result<(), 
         (Call::Committed(39), NONE),
         (Call::Committed(64), found(&[7])),
     ];
-    for left in [Left::Old, Left::Torn, Left::Whole] {
-        let cut = cut_in(alloc, &chip, 3, 0, left)?;
-        call_left(&rt, alloc, cut, &records)?;
-    }
-    Ok(())
+    cut_each(&rt, alloc, &chip, (3, 0), &records)
 }

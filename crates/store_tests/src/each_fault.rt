@@ -5,12 +5,12 @@
 //!
 //! The rows show what the clause `calls` of the store's calls says of faults: its `leads` (what is left
 //! and what is kept) and its `ends` (the fault, and whether the store is down).
-ghost use Rattle.std.specs.Prelude.{◌≡◌, ◌<◌, length, IfOk};
-ghost use Rattle.chip_mem.specs.Views.{told_of};
-ghost use Rattle.ipl_store.specs.Calls.{IsSound};
+ghost use Rattle.std.specs.Prelude.{◌<◌, length, IfOk};
+ghost use Rattle.store_tests.specs.Suits.{Suits};
 
 use crate::calls::{
-    Answer, Call, DONE, call_all, call_left, failed, formatted, found, left_of, opened,
+    Answer, Call, DONE, call_all, call_left, fail_call, failed, formatted, found, left_by, left_of,
+    opened,
 };
 use crate::faults::{call_down, call_reopened};
 use chip_mem::MemChip;
@@ -96,8 +96,7 @@ pub(crate) fn store_after(
     chip: &mut MemChip,
     cases: &[Case<'_>],
 ) -> Result<Store, Fail>
-    ensures sound { IfOk result (λ store. IsSound (told_of chip.new).places store) }
-    ensures places { (told_of chip.new).places ≡ (told_of chip.old).places }
+    ensures { IfOk result (λ store. Suits chip.new store) }
 {
     let mut store = opened(alloc, chip, 2)?;
     call_all(rt, &mut store, chip, cases);
@@ -112,11 +111,10 @@ fn failing_store(
     turn: &Turn<'_>,
     number: u64,
 ) -> Result<Store, Fail>
-    ensures sound { IfOk result (λ store. IsSound (told_of chip.new).places store) }
-    ensures places { (told_of chip.new).places ≡ (told_of chip.old).places }
+    ensures { IfOk result (λ store. Suits chip.new store) }
 {
     let store = store_after(rt, alloc, chip, turn.before)?;
-    chip.fail_at([number].to_vec(alloc)?);
+    fail_call(alloc, &store, chip, number)?;
     Ok(store)
 }
 
@@ -154,7 +152,7 @@ fn fail_write(
     let cases = [(turn.call, failed(ChipFault::Stopped))];
     call_all(rt, &mut store, &mut left, &cases);
     call_down(rt, &mut store, &mut left);
-    let mut image = left_of(alloc, &left)?;
+    let mut image = left_by(alloc, &store, &left)?;
     call_reopened(rt, store, &mut image, records);
     Ok(())
 }

@@ -1,14 +1,13 @@
 //! Reads and writes of the chip that fail, a sector that was damaged, and stores that are opened
 //! again.
-ghost use Rattle.std.specs.Prelude.{◌≡◌, IfOk};
-ghost use Rattle.chip_mem.specs.Views.{told_of};
-ghost use Rattle.ipl_store.specs.Calls.{IsSound};
+ghost use Rattle.std.specs.Prelude.{IfOk};
+ghost use Rattle.store_tests.specs.Suits.{Suits};
 
 use crate::calls::{
-    Answer, Call, DONE, DOWN, NONE, call_all, call_left, failed, formatted, found, left_of, opened,
-    refused, reopened,
+    Answer, Call, DONE, DOWN, NONE, call_all, call_idle, call_left, fail_call, fail_writes, failed,
+    formatted, found, left_by, left_of, opened, refused, reopened,
 };
-use crate::scripts::committing;
+use crate::scripts::{add, committing};
 use chip_mem::MemChip;
 use chip_trait::{Chip, Event};
 use ipl_base::{ChipFault, ImageFault, Refusal};
@@ -22,22 +21,21 @@ use std::test::Fail;
 fn with_record(rt: &impl Abort, alloc: Global) -> Result<MemChip, Fail> {
     let mut calls = Vec::new(alloc);
     committing(&mut calls, 0, 5, b"hi")?;
-    calls.push((Call::Merge(0), DONE))?;
+    add(&mut calls, Call::Merge(0), DONE)?;
     let chip = call_left(rt, alloc, formatted(alloc, 5, 2000)?, &calls)?;
     left_of(alloc, &chip)
 }
 
 /// The store of a chip with a session, where the next call of the chip is going to fail.
 fn failing_next(rt: &impl Abort, alloc: Global, chip: &mut MemChip) -> Result<Store, Fail>
-    ensures sound { IfOk result (λ store. IsSound (told_of chip.new).places store) }
-    ensures places { (told_of chip.new).places ≡ (told_of chip.old).places }
+    ensures { IfOk result (λ store. Suits chip.new store) }
 {
     let mut store = opened(alloc, chip, 16)?;
     let cases = [(Call::Begin(0), DONE)];
     call_all(rt, &mut store, chip, &cases);
     // Each call of the chip so far is an event.
     let next = chip.events().len() as u64;
-    chip.fail_at([next].to_vec(alloc)?);
+    fail_call(alloc, &store, chip, next)?;
     Ok(store)
 }
 
@@ -85,8 +83,7 @@ fn a_failed_read_changes_nothing(rt: HostRuntime) -> Result<(), Fail> {
 
 /// A store of a chip with one record, where two sessions have written and a page is held.
 fn with_two_writers(rt: &impl Abort, alloc: Global, chip: &mut MemChip) -> Result<Store, Fail>
-    ensures sound { IfOk result (λ store. IsSound (told_of chip.new).places store) }
-    ensures places { (told_of chip.new).places ≡ (told_of chip.old).places }
+    ensures { IfOk result (λ store. Suits chip.new store) }
 {
     let mut store = opened(alloc, chip, 16)?;
     let cases = [
@@ -117,12 +114,11 @@ fn first_program(rt: &impl Abort, alloc: Global) -> Result<u64, Fail> {
 
 /// A store that the first program of a commit left down.
 fn stopped(rt: &impl Abort, alloc: Global, chip: &mut MemChip) -> Result<Store, Fail>
-    ensures sound { IfOk result (λ store. IsSound (told_of chip.new).places store) }
-    ensures places { (told_of chip.new).places ≡ (told_of chip.old).places }
+    ensures { IfOk result (λ store. Suits chip.new store) }
 {
     let number = first_program(rt, alloc)?;
     let mut store = with_two_writers(rt, alloc, chip)?;
-    chip.fail_at([number].to_vec(alloc)?);
+    fail_call(alloc, &store, chip, number)?;
     let cases = [(Call::Commit(0), failed(ChipFault::Stopped))];
     call_all(rt, &mut store, chip, &cases);
     Ok(store)
@@ -130,11 +126,9 @@ fn stopped(rt: &impl Abort, alloc: Global, chip: &mut MemChip) -> Result<Store, 
 
 /// Makes each call on a store that is down. Nothing is asked of the chip.
 pub(crate) fn call_down(rt: &impl Abort, store: &mut Store, chip: &mut MemChip)
-    requires sound { IsSound (told_of chip.old).places store.old }
-    ensures sound { IsSound (told_of chip.new).places store.new }
-    ensures places { (told_of chip.new).places ≡ (told_of chip.old).places }
+    requires { Suits chip.old store.old }
+    ensures { Suits chip.new store.new }
 {
-    let asked = chip.events().len();
     let cases = [
         (Call::Begin(2), DOWN),
         (Call::Begin(32), DOWN),
@@ -150,8 +144,7 @@ pub(crate) fn call_down(rt: &impl Abort, store: &mut Store, chip: &mut MemChip)
         (Call::Release(0, 0), DOWN),
         (Call::Merge(0), DOWN),
     ];
-    call_all(rt, store, chip, &cases);
-    assert_eq!(rt; chip.events().len(), asked);
+    call_idle(rt, store, chip, &cases);
 }
 
 /// Opens the chip of a store again, or what is left of it, and makes calls. Each gives its answer.
@@ -161,7 +154,7 @@ pub(crate) fn call_reopened(
     chip: &mut MemChip,
     cases: &[(Call<'_>, Answer<'_>)],
 )
-    requires sound { IsSound (told_of chip.old).places store }
+    requires { Suits chip.old store }
 {
     let (mut again, opens) = reopened(store, chip);
     assert_eq!(rt; opens, Ok(()));
@@ -176,7 +169,7 @@ fn a_failed_write_leaves_the_store_down(rt: HostRuntime) -> Result<(), Fail> {
     let mut chip = with_record(&rt, alloc)?;
     let mut store = stopped(&rt, alloc, &mut chip)?;
     call_down(&rt, &mut store, &mut chip);
-    let mut left = left_of(alloc, &chip)?;
+    let mut left = left_by(alloc, &store, &chip)?;
     let records = [
         (Call::Committed(5), found(b"hi")),
         (Call::Committed(6), NONE),
@@ -190,11 +183,10 @@ fn a_failed_write_leaves_the_store_down(rt: HostRuntime) -> Result<(), Fail> {
 
 /// A store of which the opening fails, since no write of what is left of its chip succeeds.
 fn not_reopened(rt: &impl Abort, store: Store, left: &mut MemChip) -> Store
-    requires sound { IsSound (told_of left.old).places store }
-    ensures sound { IsSound (told_of left.new).places result }
-    ensures places { (told_of left.new).places ≡ (told_of left.old).places }
+    requires { Suits left.old store }
+    ensures { Suits left.new result }
 {
-    left.stop_after(0);
+    fail_writes(&store, left);
     let (down, stops) = reopened(store, left);
     assert_eq!(rt; stops, Err(ImageFault::Chip(ChipFault::Stopped)));
     down
@@ -206,10 +198,10 @@ fn a_store_that_is_not_opened_again_is_down(rt: HostRuntime) -> Result<(), Fail>
     let alloc = rt.alloc();
     let mut chip = with_record(&rt, alloc)?;
     let store = opened(alloc, &mut chip, 16)?;
-    let mut left = left_of(alloc, &chip)?;
+    let mut left = left_by(alloc, &store, &chip)?;
     let mut down = not_reopened(&rt, store, &mut left);
     call_down(&rt, &mut down, &mut left);
-    let mut right = left_of(alloc, &left)?;
+    let mut right = left_by(alloc, &down, &left)?;
     call_reopened(&rt, down, &mut right, &[(Call::Committed(5), found(b"hi"))]);
     Ok(())
 }

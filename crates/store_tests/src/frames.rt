@@ -1,7 +1,11 @@
 //! Few frames and many, and pages that are held in them.
 ghost use Rattle.std.specs.Prelude.{◌≤◌};
 
-use crate::calls::{Answer, Call, DONE, NONE, call_all, formatted, found, opened, refused};
+use crate::calls::{
+    Answer, Call, DONE, NONE, call_all, call_idle, call_in_frames, formatted, found, left_of,
+    opened, refused,
+};
+use crate::scripts::{add, add_all};
 use ipl_base::Refusal;
 use std::alloc::Global;
 use std::process::Abort;
@@ -10,31 +14,64 @@ use std::test::Fail;
 /// How many pages are asked for, more than there may be frames.
 const PAGES: u32 = 66;
 
-/// Each page is written, and some are seen by the session. All are committed, and some seen again.
-fn over_all_pages(alloc: Global) -> Result<Vec<(Call<'static>, Answer<'static>)>, Fail> {
-    let mut calls = Vec::new(alloc);
-    calls.push((Call::Begin(0), DONE))?;
-    calls.push((Call::Begin(1), DONE))?;
-    calls.push((Call::Hold(0, 3), DONE))?;
+/// Each page is written.
+fn put_pages<'a>(calls: &mut Vec<(Call<'a>, Answer<'a>)>) -> Result<(), Fail> {
     for page in 0..PAGES {
-        calls.push((Call::Put(0, 64 * page, b"new"), DONE))?;
+        add(calls, Call::Put(0, 64 * page, b"new"), DONE)?;
     }
+    Ok(())
+}
+
+/// Some pages are seen by the session that wrote them.
+fn get_pages<'a>(calls: &mut Vec<(Call<'a>, Answer<'a>)>) -> Result<(), Fail> {
     for turn in 0..10 {
-        calls.push((Call::Get(0, 448 * turn), found(b"new")))?;
+        add(calls, Call::Get(0, 448 * turn), found(b"new"))?;
     }
-    calls.push((Call::Get(1, 0), NONE))?;
-    calls.push((Call::Put(1, 0, b"no"), refused(Refusal::Conflict(0))))?;
-    calls.push((Call::Commit(0), DONE))?;
+    Ok(())
+}
+
+/// Some pages are seen once they are committed.
+fn see_pages<'a>(calls: &mut Vec<(Call<'a>, Answer<'a>)>) -> Result<(), Fail> {
     for turn in 0..10 {
-        calls.push((Call::Committed(320 * turn), found(b"new")))?;
+        add(calls, Call::Committed(320 * turn), found(b"new"))?;
     }
-    calls.push((Call::Del(1, 64), DONE))?;
-    calls.push((Call::Merge(0), DONE))?;
-    calls.push((Call::Release(0, 3), DONE))?;
-    calls.push((Call::Committed(64), found(b"new")))?;
-    calls.push((Call::Commit(1), DONE))?;
-    calls.push((Call::Committed(64), NONE))?;
-    calls.push((Call::Committed(0), found(b"new")))?;
+    Ok(())
+}
+
+/// Each page is written, and some are seen by the session. All are committed, and some seen again.
+fn written_pages(alloc: Global) -> Result<Vec<(Call<'static>, Answer<'static>)>, Fail> {
+    let mut calls = Vec::new(alloc);
+    let begins = [
+        (Call::Begin(0), DONE),
+        (Call::Begin(1), DONE),
+        (Call::Hold(0, 3), DONE),
+    ];
+    add_all(&mut calls, &begins)?;
+    put_pages(&mut calls)?;
+    get_pages(&mut calls)?;
+    let commits = [
+        (Call::Get(1, 0), NONE),
+        (Call::Put(1, 0, b"no"), refused(Refusal::Conflict(0))),
+        (Call::Commit(0), DONE),
+    ];
+    add_all(&mut calls, &commits)?;
+    see_pages(&mut calls)?;
+    Ok(calls)
+}
+
+/// Then the other session deletes one of them.
+fn over_all_pages(alloc: Global) -> Result<Vec<(Call<'static>, Answer<'static>)>, Fail> {
+    let mut calls = written_pages(alloc)?;
+    let deletes = [
+        (Call::Del(1, 64), DONE),
+        (Call::Merge(0), DONE),
+        (Call::Release(0, 3), DONE),
+        (Call::Committed(64), found(b"new")),
+        (Call::Commit(1), DONE),
+        (Call::Committed(64), NONE),
+        (Call::Committed(0), found(b"new")),
+    ];
+    add_all(&mut calls, &deletes)?;
     Ok(calls)
 }
 
@@ -46,9 +83,7 @@ fn call_with_frames(rt: &impl Abort, alloc: Global, first: u32, last: u32) -> Re
     let fresh = formatted(alloc, 9, 20000)?;
     let calls = over_all_pages(alloc)?;
     for frames in first..last {
-        let mut chip = fresh.image(alloc, u64::MAX, &[])?;
-        let mut store = opened(alloc, &mut chip, frames)?;
-        call_all(rt, &mut store, &mut chip, &calls);
+        call_in_frames(rt, alloc, left_of(alloc, &fresh)?, frames, &calls)?;
     }
     Ok(())
 }
@@ -95,13 +130,11 @@ fn three_pages_take_turns_in_two_frames(rt: HostRuntime) -> Result<(), Fail> {
         (Call::Get(0, 128), found(b"\xcc")),
     ];
     call_all(&rt, &mut store, &mut chip, &turns);
-    let asked = chip.events().len();
     let held = [
         (Call::Get(0, 0), found(b"\xaa")),
         (Call::Release(0, 0), DONE),
         (Call::Release(0, 0), refused(Refusal::NotHeld)),
     ];
-    call_all(&rt, &mut store, &mut chip, &held);
-    assert_eq!(rt; chip.events().len(), asked);
+    call_idle(&rt, &mut store, &mut chip, &held);
     Ok(())
 }

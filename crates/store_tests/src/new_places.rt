@@ -2,7 +2,7 @@
 //! or the status place is full. The rows show what those of `each_fault` do.
 use crate::calls::{Call, DONE, NONE, formatted, found};
 use crate::each_fault::{Case, Turn, fail_turn};
-use crate::scripts::{SIX, commits, long_puts, status_filled};
+use crate::scripts::{SIX, add, commits, long_puts, status_filled};
 use std::alloc::Global;
 use std::test::Fail;
 
@@ -20,8 +20,8 @@ const LAST: &[u8] = b"b";
 fn log_filled(alloc: Global) -> Result<Vec<Case<'static>>, Fail> {
     let mut calls = long_puts(alloc, 40)?;
     commits(&mut calls, 1, 64, SIX)?;
-    calls.push((Call::Begin(1), DONE))?;
-    calls.push((Call::Put(1, 64, LAST), DONE))?;
+    add(&mut calls, Call::Begin(1), DONE)?;
+    add(&mut calls, Call::Put(1, 64, LAST), DONE)?;
     Ok(calls)
 }
 
@@ -36,8 +36,8 @@ fn records_beside(value: &[u8]) -> [Case<'_>; 2] {
 /// The status place is full, and session 2 wrote name 960.
 fn status_filled_and_put(alloc: Global) -> Result<Vec<Case<'static>>, Fail> {
     let mut calls = status_filled(alloc)?;
-    calls.push((Call::Begin(2), DONE))?;
-    calls.push((Call::Put(2, 960, LAST), DONE))?;
+    add(&mut calls, Call::Begin(2), DONE)?;
+    add(&mut calls, Call::Put(2, 960, LAST), DONE)?;
     Ok(calls)
 }
 

@@ -1,7 +1,8 @@
 //! Which calls are refused, and why.
 ghost use Rattle.std.specs.Prelude.{◌<◌, ◌+◌};
 
-use crate::calls::{Answer, Call, DONE, NONE, call_all, formatted, found, opened, refused};
+use crate::calls::{Answer, Call, DONE, NONE, call_left, formatted, found, refused};
+use crate::scripts::add;
 use ipl_base::Refusal;
 use std::alloc::Global;
 use std::process::Abort;
@@ -14,9 +15,7 @@ fn call_fresh(
     places: u32,
     cases: &[(Call<'_>, Answer<'_>)],
 ) -> Result<(), Fail> {
-    let mut chip = formatted(alloc, places, 4000)?;
-    let mut store = opened(alloc, &mut chip, 16)?;
-    call_all(rt, &mut store, &mut chip, cases);
+    call_left(rt, alloc, formatted(alloc, places, 4000)?, cases)?;
     Ok(())
 }
 
@@ -107,8 +106,8 @@ fn refusals_come_in_their_order(rt: HostRuntime) -> Result<(), Fail> {
 }
 
 /// A session's puts of one byte at so many names, from the first on.
-fn puts(
-    calls: &mut Vec<(Call<'_>, Answer<'_>)>,
+fn puts<'a>(
+    calls: &mut Vec<(Call<'a>, Answer<'a>)>,
     session: u32,
     first: u32,
     count: u32,
@@ -116,7 +115,7 @@ fn puts(
     requires { first + count < 10000 }
 {
     for name in first..first + count {
-        calls.push((Call::Put(session, name, b"\xaa"), DONE))?;
+        add(calls, Call::Put(session, name, b"\xaa"), DONE)?;
     }
     Ok(())
 }
@@ -139,24 +138,32 @@ fn forty_eight_names_of_a_unit_are_pending(rt: HostRuntime) -> Result<(), Fail> 
 #[test]
 fn a_session_writes_256_names(rt: HostRuntime) -> Result<(), Fail> {
     let mut calls = Vec::new(rt.alloc());
-    calls.push((Call::Begin(0), DONE))?;
+    add(&mut calls, Call::Begin(0), DONE)?;
     for unit in 0..5 {
         puts(&mut calls, 0, 960 * unit, 48)?;
     }
     puts(&mut calls, 0, 4800, 16)?;
-    calls.push((Call::Put(0, 4816, b"\xaa"), refused(Refusal::WritesFull)))?;
-    calls.push((Call::Put(0, 4815, b"\xaa"), DONE))?;
+    add(
+        &mut calls,
+        Call::Put(0, 4816, b"\xaa"),
+        refused(Refusal::WritesFull),
+    )?;
+    add(&mut calls, Call::Put(0, 4815, b"\xaa"), DONE)?;
     call_fresh(&rt, rt.alloc(), 10, &calls)
 }
 
 #[test]
 fn a_session_shares_256_names(rt: HostRuntime) -> Result<(), Fail> {
     let mut calls = Vec::new(rt.alloc());
-    calls.push((Call::Begin(0), DONE))?;
+    add(&mut calls, Call::Begin(0), DONE)?;
     for name in 0..256 {
-        calls.push((Call::Share(0, name), NONE))?;
+        add(&mut calls, Call::Share(0, name), NONE)?;
     }
-    calls.push((Call::Share(0, 256), refused(Refusal::SharesFull)))?;
-    calls.push((Call::Share(0, 255), NONE))?;
+    add(
+        &mut calls,
+        Call::Share(0, 256),
+        refused(Refusal::SharesFull),
+    )?;
+    add(&mut calls, Call::Share(0, 255), NONE)?;
     call_fresh(&rt, rt.alloc(), 5, &calls)
 }

@@ -1,11 +1,10 @@
 //! Each call of the chip fails in turn where a store opens it again. The store is down then, and opens
 //! it the next time: the same chip after a failed read, and what is left of it after a failed write. The
 //! rows show the clauses `opens` and `tries` of `reopen`.
-ghost use Rattle.std.specs.Prelude.{◌≡◌, IfOk};
-ghost use Rattle.chip_mem.specs.Views.{told_of};
-ghost use Rattle.ipl_store.specs.Calls.{IsSound};
+ghost use Rattle.std.specs.Prelude.{IfOk};
+ghost use Rattle.store_tests.specs.Suits.{Suits};
 
-use crate::calls::{left_of, reopened};
+use crate::calls::{fail_call, left_by, left_of, reopened};
 use crate::each_fault::{Case, NEW, OLD, records, script, store_after, with_records};
 use crate::faults::{call_down, call_reopened};
 use chip_mem::MemChip;
@@ -25,11 +24,10 @@ fn failed_opening(
     number: u64,
     fault: ChipFault,
 ) -> Result<Store, Fail>
-    ensures sound { IfOk result (λ store. IsSound (told_of chip.new).places store) }
-    ensures places { (told_of chip.new).places ≡ (told_of chip.old).places }
+    ensures { IfOk result (λ store. Suits chip.new store) }
 {
     let store = store_after(rt, alloc, chip, cases)?;
-    chip.fail_at([number].to_vec(alloc)?);
+    fail_call(alloc, &store, chip, number)?;
     let (down, opens) = reopened(store, chip);
     assert_eq!(rt; opens, Err(ImageFault::Chip(fault)));
     Ok(down)
@@ -65,7 +63,7 @@ fn fail_opening_write(
     let mut left = left_of(alloc, chip)?;
     let mut down = failed_opening(rt, alloc, &mut left, cases, number, ChipFault::Stopped)?;
     call_down(rt, &mut down, &mut left);
-    let mut image = left_of(alloc, &left)?;
+    let mut image = left_by(alloc, &down, &left)?;
     call_reopened(rt, down, &mut image, &records(value));
     Ok(())
 }

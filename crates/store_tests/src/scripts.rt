@@ -15,6 +15,25 @@ const SIXTEEN: &[u8] = &[1, 2, 3, 4, 5, 6, 7, 8, 9, 10, 11, 12, 13, 14, 15, 16];
 /// The longest value. The record of a put of it takes a quarter of a log sector.
 pub(crate) const LONGEST: &[u8] = &[0x61; 108];
 
+/// Adds a call with its answer.
+pub(crate) fn add<'a>(
+    calls: &mut Vec<(Call<'a>, Answer<'a>)>,
+    call: Call<'a>,
+    answer: Answer<'a>,
+) -> Result<(), Fail> {
+    calls.push((call, answer))?;
+    Ok(())
+}
+
+/// Adds calls with their answers.
+pub(crate) fn add_all<'a>(
+    calls: &mut Vec<(Call<'a>, Answer<'a>)>,
+    rows: &[(Call<'a>, Answer<'a>)],
+) -> Result<(), Fail> {
+    calls.extend_from_slice(rows)?;
+    Ok(())
+}
+
 /// A session that begins, puts a value and is committed.
 pub(crate) fn committing<'a>(
     calls: &mut Vec<(Call<'a>, Answer<'a>)>,
@@ -22,9 +41,9 @@ pub(crate) fn committing<'a>(
     name: u32,
     value: &'a [u8],
 ) -> Result<(), Fail> {
-    calls.push((Call::Begin(session), DONE))?;
-    calls.push((Call::Put(session, name, value), DONE))?;
-    calls.push((Call::Commit(session), DONE))?;
+    add(calls, Call::Begin(session), DONE)?;
+    add(calls, Call::Put(session, name, value), DONE)?;
+    add(calls, Call::Commit(session), DONE)?;
     Ok(())
 }
 
@@ -56,9 +75,9 @@ pub(crate) fn long_puts(
     count: u32,
 ) -> Result<Vec<(Call<'static>, Answer<'static>)>, Fail> {
     let mut calls = Vec::new(alloc);
-    calls.push((Call::Begin(0), DONE))?;
+    add(&mut calls, Call::Begin(0), DONE)?;
     for name in 0..count {
-        calls.push((Call::Put(0, name, LONGEST), DONE))?;
+        add(&mut calls, Call::Put(0, name, LONGEST), DONE)?;
     }
     Ok(calls)
 }

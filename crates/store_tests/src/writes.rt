@@ -5,8 +5,10 @@ use crate::calls::{
 };
 use crate::events::{Write, committed_numbers, erased, header, sector, written};
 use crate::scripts::{
-    FIFTEEN, LONGEST, SIX, commits, committing, long_puts, seven_commits_beside, status_filled,
+    FIFTEEN, LONGEST, SIX, add, add_all, commits, committing, long_puts, seven_commits_beside,
+    status_filled,
 };
+use chip_mem::MemChip;
 use sector_format::{Decoded, Head};
 use std::alloc::Global;
 use std::process::Abort;
@@ -28,11 +30,52 @@ fn written_after(
     written(alloc, &chip, from)
 }
 
+/// Calls that are made after others on the store of a fresh chip write this.
+fn write_after(
+    rt: &impl Abort,
+    alloc: Global,
+    places: u32,
+    before: &[(Call<'_>, Answer<'_>)],
+    cases: &[(Call<'_>, Answer<'_>)],
+    writes: &[Write],
+) -> Result<(), Fail> {
+    let made = written_after(rt, alloc, places, before, cases)?;
+    assert_eq!(rt; made.as_slice(), writes);
+    Ok(())
+}
+
+/// This was written to a chip, and these numbers were committed.
+fn check_all(
+    rt: &impl Abort,
+    alloc: Global,
+    chip: &MemChip,
+    writes: &[Write],
+    numbers: &[u64],
+) -> Result<(), Fail> {
+    let made = written(alloc, chip, 0)?;
+    assert_eq!(rt; made.as_slice(), writes);
+    let committed = committed_numbers(alloc, chip)?;
+    assert_eq!(rt; committed.as_slice(), numbers);
+    Ok(())
+}
+
+/// A session is committed, and then these calls are made.
+fn commit_before(
+    alloc: Global,
+    session: u32,
+    name: u32,
+    value: &'static [u8],
+    rows: &[(Call<'static>, Answer<'static>)],
+) -> Result<Vec<(Call<'static>, Answer<'static>)>, Fail> {
+    let mut calls = Vec::new(alloc);
+    committing(&mut calls, session, name, value)?;
+    add_all(&mut calls, rows)?;
+    Ok(calls)
+}
+
 #[test]
 fn a_record_is_put_and_committed(rt: HostRuntime) -> Result<(), Fail> {
     let alloc = rt.alloc();
-    let mut chip = formatted(alloc, 6, 1000)?;
-    let mut store = opened(alloc, &mut chip, 16)?;
     let cases = [
         (Call::Begin(0), DONE),
         (Call::Put(0, 5, b"hi"), DONE),
@@ -57,7 +100,7 @@ fn a_record_is_put_and_committed(rt: HostRuntime) -> Result<(), Fail> {
         (Call::Merge(1), DONE),
         (Call::Committed(5), NONE),
     ];
-    call_all(&rt, &mut store, &mut chip, &cases);
+    call_left(&rt, alloc, formatted(alloc, 6, 1000)?, &cases)?;
     Ok(())
 }
 
@@ -66,8 +109,7 @@ fn a_record_is_put_and_committed(rt: HostRuntime) -> Result<(), Fail> {
 #[test]
 fn numbers_are_drawn_in_turn(rt: HostRuntime) -> Result<(), Fail> {
     let alloc = rt.alloc();
-    let mut calls = Vec::new(alloc);
-    committing(&mut calls, 0, 5, b"h")?;
+    let calls = commit_before(alloc, 0, 5, b"h", &[])?;
     let chip = call_left(&rt, alloc, formatted(alloc, 5, 1000)?, &calls)?;
     let writes = [
         // The format drew 1 and 2. The opening draws 3 for a new status place.
@@ -87,9 +129,7 @@ fn numbers_are_drawn_in_turn(rt: HostRuntime) -> Result<(), Fail> {
         sector((2, 1), Head::COMMIT, 3, 7, 8),
         Write::Barrier,
     ];
-    assert_eq!(rt; written(alloc, &chip, 0)?.as_slice(), writes.as_slice());
-    assert_eq!(rt; committed_numbers(alloc, &chip)?.as_slice(), [4].as_slice());
-    Ok(())
+    check_all(&rt, alloc, &chip, &writes, &[4])
 }
 
 /// A record takes twelve bytes and its value's, and a log sector in memory is written to the chip
@@ -98,7 +138,7 @@ fn numbers_are_drawn_in_turn(rt: HostRuntime) -> Result<(), Fail> {
 fn five_long_puts_fill_a_log_sector(rt: HostRuntime) -> Result<(), Fail> {
     let alloc = rt.alloc();
     let four = long_puts(alloc, 4)?;
-    assert_eq!(rt; written_after(&rt, alloc, 5, &[], &four)?.len(), 0);
+    write_after(&rt, alloc, 5, &[], &four, &[])?;
     let fifth = [(Call::Put(0, 4, LONGEST), DONE)];
     // The opening drew 3, and the session 4.
     let writes = [
@@ -109,11 +149,7 @@ fn five_long_puts_fill_a_log_sector(rt: HostRuntime) -> Result<(), Fail> {
         Write::Barrier,
         sector((1, 241), Head::LOG, 5, 6, 480),
     ];
-    assert_eq!(rt;
-        written_after(&rt, alloc, 5, &four, &fifth)?.as_slice(),
-        writes.as_slice()
-    );
-    Ok(())
+    write_after(&rt, alloc, 5, &four, &fifth, &writes)
 }
 
 /// The counter of an opening starts above each number that is found, also that of a transaction
@@ -123,11 +159,12 @@ fn what_an_open_session_wrote_is_lost_in_a_cut(rt: HostRuntime) -> Result<(), Fa
     let alloc = rt.alloc();
     let five = long_puts(alloc, 5)?;
     let cut = call_left(&rt, alloc, formatted(alloc, 5, 1000)?, &five)?;
-    let mut calls = Vec::new(alloc);
-    committing(&mut calls, 0, 10, b"a")?;
-    calls.push((Call::Committed(0), NONE))?;
-    calls.push((Call::Committed(4), NONE))?;
-    calls.push((Call::Committed(10), found(b"a")))?;
+    let records = [
+        (Call::Committed(0), NONE),
+        (Call::Committed(4), NONE),
+        (Call::Committed(10), found(b"a")),
+    ];
+    let calls = commit_before(alloc, 0, 10, b"a", &records)?;
     let chip = call_left(&rt, alloc, left_of(alloc, &cut)?, &calls)?;
     // The log sector of the open session had 6, the greatest number.
     let writes = [
@@ -146,9 +183,7 @@ fn what_an_open_session_wrote_is_lost_in_a_cut(rt: HostRuntime) -> Result<(), Fa
         sector((0, 1), Head::COMMIT, 7, 11, 8),
         Write::Barrier,
     ];
-    assert_eq!(rt; written(alloc, &chip, 0)?.as_slice(), writes.as_slice());
-    assert_eq!(rt; committed_numbers(alloc, &chip)?.as_slice(), [8].as_slice());
-    Ok(())
+    check_all(&rt, alloc, &chip, &writes, &[8])
 }
 
 /// Fifteen log sectors stand beside the pages. Where all are written, and nothing is to be carried,
@@ -160,9 +195,7 @@ fn the_sixteenth_commit_merges(rt: HostRuntime) -> Result<(), Fail> {
     commits(&mut fifteen, 0, 5, FIFTEEN)?;
     let chip = call_left(&rt, alloc, formatted(alloc, 5, 2000)?, &fifteen)?;
     assert_eq!(rt; erased(alloc, &chip)?.as_slice(), [2, 1].as_slice());
-    let mut last = Vec::new(alloc);
-    committing(&mut last, 0, 5, b"z")?;
-    last.push((Call::Committed(5), found(b"z")))?;
+    let last = commit_before(alloc, 0, 5, b"z", &[(Call::Committed(5), found(b"z"))])?;
     // The first commit drew four numbers, each of the fourteen after it three, and the session 50.
     let writes = [
         Write::Erase(0),
@@ -176,11 +209,7 @@ fn the_sixteenth_commit_merges(rt: HostRuntime) -> Result<(), Fail> {
         sector((2, 16), Head::COMMIT, 3, 53, 8),
         Write::Barrier,
     ];
-    assert_eq!(rt;
-        written_after(&rt, alloc, 5, &fifteen, &last)?.as_slice(),
-        writes.as_slice()
-    );
-    Ok(())
+    write_after(&rt, alloc, 5, &fifteen, &last, &writes)
 }
 
 /// A unit that is full, and of which more than seven log sectors would be carried, isn't merged: an
@@ -190,8 +219,7 @@ fn a_full_log_is_carried_on_in_an_overflow_place(rt: HostRuntime) -> Result<(), 
     let alloc = rt.alloc();
     let mut full = long_puts(alloc, 40)?;
     commits(&mut full, 1, 64, SIX)?;
-    let mut seventh = Vec::new(alloc);
-    committing(&mut seventh, 1, 64, b"g")?;
+    let seventh = commit_before(alloc, 1, 64, b"g", &[])?;
     // The opening drew 3, and session 0 has 4. The merge drew 5, nine log sectors 6 to 14, and the
     // six commits 15 to 32.
     let writes = [
@@ -205,11 +233,7 @@ fn a_full_log_is_carried_on_in_an_overflow_place(rt: HostRuntime) -> Result<(), 
         sector((2, 7), Head::COMMIT, 3, 36, 8),
         Write::Barrier,
     ];
-    assert_eq!(rt;
-        written_after(&rt, alloc, 5, &full, &seventh)?.as_slice(),
-        writes.as_slice()
-    );
-    Ok(())
+    write_after(&rt, alloc, 5, &full, &seventh, &writes)
 }
 
 /// What was aborted isn't carried, so the unit is merged at its next log sector, though an overflow
@@ -218,12 +242,13 @@ fn a_full_log_is_carried_on_in_an_overflow_place(rt: HostRuntime) -> Result<(), 
 fn a_merge_empties_an_overflow_place(rt: HostRuntime) -> Result<(), Fail> {
     let alloc = rt.alloc();
     let mut aborted = seven_commits_beside(alloc)?;
-    aborted.push((Call::Abort(0), DONE))?;
-    let mut last = Vec::new(alloc);
-    committing(&mut last, 1, 64, b"h")?;
-    last.push((Call::Committed(64), found(b"h")))?;
-    last.push((Call::Committed(0), NONE))?;
-    last.push((Call::Committed(39), NONE))?;
+    add(&mut aborted, Call::Abort(0), DONE)?;
+    let records = [
+        (Call::Committed(64), found(b"h")),
+        (Call::Committed(0), NONE),
+        (Call::Committed(39), NONE),
+    ];
+    let last = commit_before(alloc, 1, 64, b"h", &records)?;
     // The seventh commit drew 33 to 36, and the session 37.
     let writes = [
         Write::Erase(3),
@@ -237,11 +262,7 @@ fn a_merge_empties_an_overflow_place(rt: HostRuntime) -> Result<(), Fail> {
         sector((2, 8), Head::COMMIT, 3, 40, 8),
         Write::Barrier,
     ];
-    assert_eq!(rt;
-        written_after(&rt, alloc, 5, &aborted, &last)?.as_slice(),
-        writes.as_slice()
-    );
-    Ok(())
+    write_after(&rt, alloc, 5, &aborted, &last, &writes)
 }
 
 /// A commit that finds no clean commit sector first writes a new status place, with the numbers that
@@ -249,8 +270,7 @@ fn a_merge_empties_an_overflow_place(rt: HostRuntime) -> Result<(), Fail> {
 #[test]
 fn a_full_status_place_is_renewed_first(rt: HostRuntime) -> Result<(), Fail> {
     let alloc = rt.alloc();
-    let mut last = Vec::new(alloc);
-    committing(&mut last, 2, 960, b"b")?;
+    let last = commit_before(alloc, 2, 960, b"b", &[])?;
     // The format drew 1 to 3, the opening 4, session 0 and its log sectors 5 to 15, and the commits
     // of unit 0 16 to 37. Of unit 1 each draws three, and every fifteenth one more for a merge: all
     // draw 38 to 798, and the session 799. Its place is 4, and 1 is the lowest free one.
@@ -272,9 +292,22 @@ fn a_full_status_place_is_renewed_first(rt: HostRuntime) -> Result<(), Fail> {
         sector((1, 2), Head::COMMIT, 800, 803, 8),
         Write::Barrier,
     ];
+    write_after(&rt, alloc, 6, &status_filled(alloc)?, &last, &writes)
+}
+
+/// The numbers that the new status place keeps, in whatever order.
+fn check_kept(rt: &impl Abort, alloc: Global, chip: &MemChip) -> Result<(), Fail> {
+    let numbers = committed_numbers(alloc, chip)?;
+    // The 255 of the old one come first.
+    assert_eq!(rt; numbers.len(), 255 + 15 + 1);
+    let mut kept = numbers[255..270].to_vec(alloc)?;
+    kept.sort()?;
     assert_eq!(rt;
-        written_after(&rt, alloc, 6, &status_filled(alloc)?, &last)?.as_slice(),
-        writes.as_slice()
+        kept.as_slice(),
+        [
+            16, 19, 22, 25, 28, 31, 34, 774, 778, 781, 784, 787, 790, 793, 796
+        ]
+        .as_slice()
     );
     Ok(())
 }
@@ -287,18 +320,7 @@ fn a_new_status_place_keeps_the_numbers_of_live_records(rt: HostRuntime) -> Resu
     let mut calls = status_filled(alloc)?;
     committing(&mut calls, 2, 960, b"b")?;
     let chip = call_left(&rt, alloc, formatted(alloc, 6, 20000)?, &calls)?;
-    let numbers = committed_numbers(alloc, &chip)?;
-    // The 255 of the old one come first.
-    assert_eq!(rt; numbers.len(), 255 + 15 + 1);
-    let mut kept = numbers[255..270].to_vec(alloc)?;
-    kept.sort()?;
-    assert_eq!(rt;
-        kept.as_slice(),
-        [
-            16, 19, 22, 25, 28, 31, 34, 774, 778, 781, 784, 787, 790, 793, 796
-        ]
-        .as_slice()
-    );
+    check_kept(&rt, alloc, &chip)?;
     let records = [
         (Call::Committed(0), NONE),
         (Call::Committed(64), found(&[7])),
