@@ -8,9 +8,9 @@ ghost use Rattle.chip_mem.specs.Picked.{chosen, with_pick, image_of};
 
 use crate::pick::{Choice, Pick};
 use crate::replay::{held_at, is_open, replay, settled_count};
-use crate::sectors::{SECTORS, copy_sectors, program_sector};
+use crate::sectors::{copy_sectors, program_sector};
 use chip_trait::Event;
-use ipl_base::OutOfMemory;
+use ipl_base::{OutOfMemory, SECTORS};
 use std::alloc::Global;
 
 /// The sectors of the image of these events, on a chip that began with these sectors.
@@ -55,7 +55,7 @@ fn put_pick(sectors: &mut [[u8; 512]], start: &[[u8; 512]], events: &[Event], pi
     ensures image { let x = contents_of start.now in let story = reverse events.now in
         IsImage x story (contents_of sectors.old) → IsImage x story (contents_of sectors.new) }
 {
-    if pick.sector as usize >= SECTORS || !is_open(events, pick.place, pick.sector) {
+    if pick.sector >= SECTORS || !is_open(events, pick.place, pick.sector) {
         return;
     }
     if let Some(bytes) = chosen_bytes(start, events, pick) {

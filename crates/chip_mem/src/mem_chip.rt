@@ -9,11 +9,9 @@ ghost use Rattle.chip_mem.specs.Story.{IsReplayed, is_inside};
 use crate::image::image_sectors;
 use crate::pick::Pick;
 use crate::schedule::Schedule;
-use crate::sectors::{
-    SECTORS, copy_sectors, erase_place, erased_sectors, program_sector, read_sector,
-};
+use crate::sectors::{copy_sectors, erase_place, erased_sectors, program_sector, read_sector};
 use chip_trait::{Chip, Event, Failed, Piece};
-use ipl_base::OutOfMemory;
+use ipl_base::{OutOfMemory, SECTORS};
 use std::alloc::Global;
 
 /// A chip in memory that tells what it holds and its story. It has room for so many events.
@@ -52,7 +50,7 @@ impl MemChip {
         ensures told { IfOk result (λ chip. told_of chip ≡ starting places erased) }
         ensures plan { IfOk result (λ chip. plan_of chip ≡ new_plan room) }
     {
-        let sectors = erased_sectors(alloc, places as usize * SECTORS)?;
+        let sectors = erased_sectors(alloc, places as usize * SECTORS as usize)?;
         MemChip::starting(alloc, places, room, sectors)
     }
 

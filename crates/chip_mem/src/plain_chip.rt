@@ -1,9 +1,9 @@
 //! A chip in memory that keeps no story.
 ghost use Rattle.std.specs.Prelude.{◌≡◌, ◌*◌, length, IfOk};
 
-use crate::sectors::{SECTORS, erase_place, erased_sectors, program_sector, read_sector};
+use crate::sectors::{erase_place, erased_sectors, program_sector, read_sector};
 use chip_trait::{Chip, Failed};
-use ipl_base::OutOfMemory;
+use ipl_base::{OutOfMemory, SECTORS};
 use std::alloc::Global;
 
 /// A chip in memory that never fails. It tells what it holds, and no story.
@@ -25,7 +25,7 @@ impl PlainChip {
     {
         Ok(PlainChip {
             places,
-            sectors: erased_sectors(alloc, places as usize * SECTORS)?,
+            sectors: erased_sectors(alloc, places as usize * SECTORS as usize)?,
         })
     }
 }

@@ -7,8 +7,9 @@ ghost use Rattle.chip_mem.specs.Sectors.{contents_of};
 ghost use Rattle.chip_mem.specs.Story.{is_inside};
 ghost use Rattle.chip_mem.specs.Picked.{settled_count};
 
-use crate::sectors::{BLANK, SECTORS, erase_place, program_sector};
+use crate::sectors::{BLANK, erase_place, program_sector};
 use chip_trait::Event;
+use ipl_base::SECTORS;
 
 /// Does the events, the first one first.
 pub fn replay(sectors: &mut [[u8; 512]], events: &[Event])
@@ -37,7 +38,7 @@ pub fn held_at(start: &[[u8; 512]], events: &[Event], p: u32, s: u32) -> [u8; 51
     requires sector { s < 256 }
     ensures { result ≡ held (contents_of start.now) (reverse events.now) p s }
 {
-    let mut bytes = start[p as usize * SECTORS + s as usize];
+    let mut bytes = start[p as usize * SECTORS as usize + s as usize];
     for event in events {
         put_bytes(event, p, s, &mut bytes);
     }

@@ -4,11 +4,8 @@ ghost use Rattle.chip_trait.specs.declared.event.Event.TheVariants.{Program, Era
 ghost use Rattle.chip_trait.specs.Story.{after, blank};
 ghost use Rattle.chip_mem.specs.Sectors.{HasWholeSectors, contents_of};
 
-use ipl_base::OutOfMemory;
+use ipl_base::{OutOfMemory, SECTORS};
 use std::alloc::Global;
-
-/// The sectors of a place.
-pub const SECTORS: usize = 256;
 
 /// An erased sector.
 pub const BLANK: [u8; 512] = [255; 512];
@@ -37,8 +34,8 @@ pub fn erase_place(sectors: &mut [[u8; 512]], place: usize)
     requires { place * 256 + 256 ≤ length sectors.old }
     ensures { contents_of sectors.new ≡ after (Erase place) (contents_of sectors.old) }
 {
-    for s in 0..SECTORS {
-        sectors[place * SECTORS + s] = BLANK;
+    for s in 0..SECTORS as usize {
+        sectors[place * SECTORS as usize + s] = BLANK;
     }
 }
 
@@ -48,7 +45,7 @@ pub fn program_sector(sectors: &mut [[u8; 512]], place: usize, sector: usize, by
     requires sector { sector < 256 }
     ensures { contents_of sectors.new ≡ after (Program place sector bytes.now) (contents_of sectors.old) }
 {
-    sectors[place * SECTORS + sector] = *bytes;
+    sectors[place * SECTORS as usize + sector] = *bytes;
 }
 
 /// Reads a sector, 0 to 255, of a place.
@@ -57,5 +54,5 @@ pub fn read_sector(sectors: &[[u8; 512]], place: usize, sector: usize, into: &mu
     requires sector { sector < 256 }
     ensures { into.new ≡ contents_of sectors.now place sector }
 {
-    *into = sectors[place * SECTORS + sector];
+    *into = sectors[place * SECTORS as usize + sector];
 }

@@ -1,5 +1,6 @@
 //! What a slot holds, lent from the frame of its page.
 ghost use Rattle.std.specs.Prelude.{◌≡◌, ◌≤◌, ◌<◌, Some, None, IfSome, length, option_map};
+ghost use Rattle.ipl_base.specs.declared.limits.TheConstants.{VALUE_LEN};
 ghost use Rattle.page_ops.specs.Frames.{values_in, pending_in};
 ghost use Rattle.page_ops.specs.Pending.{seen_by};
 ghost use Rattle.pending_writes.specs.Frames.{Frame as FrameOfPage};
@@ -16,7 +17,7 @@ pub fn committed_value(pool: &Pool, unit: u32, page: u32, slot: u32) -> Option<&
     ensures value { (f : FrameOfPage) → frames_of pool.now unit page ≡ Some f
         → option_map (λ b. b.now) result ≡ f.values slot }
     ensures none { frames_of pool.now unit page ≡ None → result ≡ None }
-    ensures short { IfSome result (λ b. length b.now ≤ 108) }
+    ensures short { IfSome result (λ b. length b.now ≤ VALUE_LEN) }
 {
     match pool.look(unit, page) {
         Some(frame) => frame.committed().get(slot),
@@ -32,7 +33,7 @@ pub fn seen_value(pool: &Pool, unit: u32, page: u32, slot: u32, tid: u64) -> Opt
     ensures seen { (f : FrameOfPage) → frames_of pool.now unit page ≡ Some f
         → option_map (λ b. b.now) result ≡ seen_by tid (f.values slot) (f.pending slot) }
     ensures none { frames_of pool.now unit page ≡ None → result ≡ None }
-    ensures short { IfSome result (λ b. length b.now ≤ 108) }
+    ensures short { IfSome result (λ b. length b.now ≤ VALUE_LEN) }
 {
     match pool.look(unit, page) {
         Some(frame) => seen_in(frame, slot, tid),
@@ -45,7 +46,7 @@ fn seen_in(frame: &Frame, slot: u32, tid: u64) -> Option<&[u8]>
     requires { slot < 64 }
     ensures seen { option_map (λ b. b.now) result
         ≡ seen_by tid (values_in frame.now slot) (pending_in frame.now slot) }
-    ensures short { IfSome result (λ b. length b.now ≤ 108) }
+    ensures short { IfSome result (λ b. length b.now ≤ VALUE_LEN) }
 {
     match frame.pending(slot) {
         Some(pending) if pending.tid == tid => pending.value,

@@ -1,5 +1,6 @@
 //! The size of a chip that can be used.
 ghost use Rattle.std.specs.Prelude.{◌≡◌, ◌+◌, ◌≤◌, ℕ, IfSome, IfNone};
+ghost use Rattle.ipl_base.specs.declared.limits.TheConstants.{MOST_PLACES, MOST_UNITS};
 ghost use Rattle.ipl_base.specs.Places.{IsGeometry};
 
 use crate::limits::{LEAST_PLACES, MOST_PLACES, RESERVED_PLACES};
@@ -16,7 +17,7 @@ impl Model for Geometry {
 
     ghost view = { λ g. g.places };
 
-    ghost invariant = { λ g. (5 ≤ g.places) × (g.places ≤ 1028) };
+    ghost invariant = { λ g. (5 ≤ g.places) × (g.places ≤ MOST_PLACES) };
 
     ghost inverse = { λ n. record { places = n } };
 }
@@ -44,7 +45,7 @@ impl Geometry {
     /// The logical units that such a chip holds: all places but four.
     pub fn units(&self) -> u32
         ensures units { result + 4 ≡ self.now }
-        ensures range { (1 ≤ result) × (result ≤ 1024) }
+        ensures range { (1 ≤ result) × (result ≤ MOST_UNITS) }
     {
         self.places - RESERVED_PLACES
     }

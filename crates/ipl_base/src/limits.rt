@@ -9,6 +9,9 @@ pub const PAYLOAD_LEN: usize = 480;
 /// The bytes of a value, at most.
 pub const VALUE_LEN: usize = 108;
 
+/// The bytes of a log record before its value.
+pub const RECORD_HEAD: usize = 12;
+
 /// The places of a chip that can be used, at least.
 pub const LEAST_PLACES: u32 = 5;
 
@@ -17,6 +20,9 @@ pub const MOST_PLACES: u32 = 1028;
 
 /// The places of a chip that are no unit's: the status place, two overflow places, one to write anew.
 pub const RESERVED_PLACES: u32 = 4;
+
+/// The units of a chip, at most.
+pub const MOST_UNITS: u32 = 1024;
 
 /// The pages of a unit.
 pub const PAGES: u32 = 15;
@@ -30,6 +36,9 @@ pub const UNIT_NAMES: u32 = 960;
 /// The base sectors of a page, at most.
 pub const PAGE_SECTORS: u32 = 16;
 
+/// The bytes of a page's text, at most: what its base sectors hold.
+pub const PAGE_LEN: usize = 7680;
+
 /// The first log sector of a unit's place.
 pub const FIRST_LOG_SECTOR: u32 = 241;
 
@@ -41,6 +50,15 @@ pub const CARRIED_SECTORS: usize = 12;
 
 /// The log sectors that a unit has in overflow places, at most.
 pub const OVERFLOW_SECTORS: usize = 16;
+
+/// The live log sectors of a unit, at most: those of its place and those in overflow places.
+pub const LIVE_SECTORS: usize = 31;
+
+/// The records in the live log sectors of a unit, at most: 40 without a value in each.
+pub const LIVE_RECORDS: usize = 1240;
+
+/// The most carried sectors with which a unit is merged; with more it is given an overflow sector.
+pub const MERGE_THRESHOLD: u32 = 7;
 
 /// The overflow places in use, at most.
 pub const OVERFLOW_PLACES: usize = 2;
@@ -57,8 +75,17 @@ pub const SESSION_NAMES: usize = 256;
 /// The numbers in a commit sector, at most.
 pub const COMMIT_NUMBERS: usize = 60;
 
+/// The numbers in the commit sectors of a status place, at most: 60 in each of 255.
+pub const STATUS_NUMBERS: usize = 15_300;
+
 /// The numbers that a switch of the status place keeps, at most.
 pub const KEPT_NUMBERS: usize = 3840;
 
 /// The pages that a buffer pool holds, at most.
 pub const FRAMES: usize = 64;
+
+/// The first number with which an image is spent: a store that has found it isn't opened.
+pub const FIRST_SPENT: u64 = 1 << 63;
+
+/// The last number that is drawn for a command: what a call draws beyond it still fits 64 bits.
+pub const LAST_NUMBER: u64 = 18_446_744_073_708_503_040;

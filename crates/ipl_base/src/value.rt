@@ -1,5 +1,6 @@
 //! The bytes of one record.
 ghost use Rattle.std.specs.Prelude.{◌≡◌, ◌≤◌, ◌<◌, ℕ, List, [], length, IfSome, IfNone};
+ghost use Rattle.ipl_base.specs.declared.limits.TheConstants.{VALUE_LEN};
 
 use crate::limits::VALUE_LEN;
 use arrayvec::ArrayVec;
@@ -9,7 +10,7 @@ use std::marker::Model;
 /// The bytes of a record, at most 108. A contract sees them as a list.
 #[derive(PartialEq, Eq, Debug, Drop)]
 pub struct Value {
-    bytes: ArrayVec<u8, 108>,
+    bytes: ArrayVec<u8, VALUE_LEN>,
 }
 
 impl Model for Value {
@@ -17,7 +18,7 @@ impl Model for Value {
 
     ghost view = { λ v. v.bytes.items };
 
-    ghost invariant = { λ v. length v.bytes.items ≤ 108 };
+    ghost invariant = { λ v. length v.bytes.items ≤ VALUE_LEN };
 
     ghost inverse = { λ xs. record { bytes = record { items = xs } } };
 }
@@ -37,8 +38,8 @@ impl Value {
 
     /// `None` exactly where there are more than 108 bytes.
     pub fn of(bytes: &[u8]) -> Option<Value>
-        ensures some { IfSome result (λ v. (v ≡ bytes.now) × (length bytes.now ≤ 108)) }
-        ensures none { IfNone result (108 < length bytes.now) }
+        ensures some { IfSome result (λ v. (v ≡ bytes.now) × (length bytes.now ≤ VALUE_LEN)) }
+        ensures none { IfNone result (VALUE_LEN < length bytes.now) }
     {
         let mut items = ArrayVec::new();
         match items.try_extend_from_slice(bytes) {
@@ -50,7 +51,7 @@ impl Value {
     /// Its bytes, at most 108.
     pub fn bytes(&self) -> &[u8]
         ensures value { result.now ≡ self.now }
-        ensures fits { length result.now ≤ 108 }
+        ensures fits { length result.now ≤ VALUE_LEN }
     {
         self.bytes.as_slice()
     }

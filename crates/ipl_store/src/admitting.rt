@@ -5,10 +5,7 @@ ghost use Rattle.store_trait.specs.Keeping.{LAST_NUMBER};
 ghost use Rattle.ipl_store.specs.Calls.{counter_of, down_fault, early_fault, entry_fault, EndsAs};
 
 use crate::Store;
-use ipl_base::{ChipFault, Refusal, StoreFault};
-
-/// Numbers above this aren't drawn any more.
-const LAST_NUMBER: u64 = 18_446_744_073_708_503_040;
+use ipl_base::{ChipFault, LAST_NUMBER, Refusal, StoreFault};
 
 impl Store {
     /// Whether no number may be drawn any more.

@@ -1,5 +1,6 @@
 //! A merge that is asked for.
 ghost use Rattle.std.specs.Prelude.{◌≤◌, slice_index, is_ok, OnOk};
+ghost use Rattle.ipl_base.specs.declared.limits.TheConstants.{CARRIED_SECTORS};
 ghost use Rattle.unit_io.specs.Charts.{Charts};
 ghost use Rattle.unit_io.specs.Costs.{Spends};
 ghost use Rattle.ipl_rules.specs.Refusals.{refuses_merge};
@@ -36,7 +37,7 @@ impl Store {
             (C.told chip.old) (C.told chip.new)) }
         // Three log sectors of that place at least are clean.
         ensures room { OnOk result
-            (slice_index self.new.transactions.pages.parts.directory.written unit ≤ 12) }
+            (slice_index self.new.transactions.pages.parts.directory.written unit ≤ CARRIED_SECTORS) }
         ensures costs { Spends (ErasesFor self.old.transactions.pages.parts.directory
             (slice_index self.new.transactions.pages.parts.directory.current unit) (is_ok result))
             (C.told chip.old) (C.told chip.new) }

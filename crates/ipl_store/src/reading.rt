@@ -2,6 +2,7 @@
 ghost use Rattle.std.specs.Prelude.{◌≡◌, ◌<◌, ◌≤◌, ◌*◌, ℕ, List, Option, false, Some, None, IfOk, IfSome, OnOk, length, option_map};
 ghost use Rattle.std.specs.Borrow.{sem, Bor};
 ghost use Rattle.std.specs.Io.BufRead.{Rests};
+ghost use Rattle.ipl_base.specs.declared.limits.TheConstants.{VALUE_LEN};
 ghost use Rattle.ipl_base.specs.Places.{home_of};
 ghost use Rattle.ipl_rules.specs.Operations.{after_share};
 ghost use Rattle.ipl_rules.specs.Refusals.{refuses_get, refuses_share};
@@ -54,7 +55,7 @@ impl Store {
             → frames_in self.now.transactions.pages (home_of n).unit (home_of n).page ≡ Some f
             → option_map (λ b. b.now) result
             ≡ seen_by tid (f.values (home_of n).slot) (f.pending (home_of n).slot) }
-        ensures short { IfSome result (λ b. length b.now ≤ 108) }
+        ensures short { IfSome result (λ b. length b.now ≤ VALUE_LEN) }
     {
         let tid = self.transactions.sessions.number(s)?;
         let home = home(Name(n));
@@ -103,7 +104,7 @@ impl Store {
             self.old (C.told chip.old) result new (C.told chip.new))) }
         ensures seen { IfOk result (λ found. IsSeen s n self.old (C.told chip.old)
             (option_map (λ b. b.now) found)) }
-        ensures short { IfOk result (λ found. IfSome found (λ b. length b.now ≤ 108)) }
+        ensures short { IfOk result (λ found. IfSome found (λ b. length b.now ≤ VALUE_LEN)) }
         ensures asks { AsksFor n self.old (C.told chip.old) (C.told chip.new) }
     {
         self.fetch(chip, s, n)?;
@@ -150,7 +151,7 @@ impl Store {
             self.old (C.told chip.old) result new (C.told chip.new))) }
         ensures seen { IfOk result (λ found. IsSeen s n self.old (C.told chip.old)
             (option_map (λ b. b.now) found)) }
-        ensures short { IfOk result (λ found. IfSome found (λ b. length b.now ≤ 108)) }
+        ensures short { IfOk result (λ found. IfSome found (λ b. length b.now ≤ VALUE_LEN)) }
         ensures asks { AsksFor n self.old (C.told chip.old) (C.told chip.new) }
     {
         self.fetch_shared(chip, s, n)?;
@@ -177,7 +178,7 @@ impl Store {
         ensures committed { (f : Frame)
             → frames_in self.now.transactions.pages (home_of n).unit (home_of n).page ≡ Some f
             → option_map (λ b. b.now) result ≡ f.values (home_of n).slot }
-        ensures short { IfSome result (λ b. length b.now ≤ 108) }
+        ensures short { IfSome result (λ b. length b.now ≤ VALUE_LEN) }
     {
         let home = home(Name(n));
         committed_value(
@@ -198,7 +199,7 @@ impl Store {
             self.old (C.told chip.old) result new (C.told chip.new))) }
         ensures committed { IfOk result (λ found. IsCommitted n self.old (C.told chip.old)
             (option_map (λ b. b.now) found)) }
-        ensures short { IfOk result (λ found. IfSome found (λ b. length b.now ≤ 108)) }
+        ensures short { IfOk result (λ found. IfSome found (λ b. length b.now ≤ VALUE_LEN)) }
         ensures asks { AsksFor n self.old (C.told chip.old) (C.told chip.new) }
     {
         self.fetch_name(chip, n)?;

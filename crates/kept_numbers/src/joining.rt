@@ -1,6 +1,7 @@
 //! The committed numbers of log records join a set of numbers.
 ghost use Rattle.std.specs.Prelude.{◌≡◌, ◌<◌, [], ◌∷◌, length};
 ghost use Rattle.std.specs.Bool.{OnTrue, OnFalse};
+ghost use Rattle.ipl_base.specs.declared.limits.TheConstants.{KEPT_NUMBERS};
 ghost use Rattle.log_records.specs.Reading.{records_of};
 ghost use Rattle.log_records.specs.View.{record_of};
 ghost use Rattle.number_set.specs.Numbers.{with_list, among};
@@ -22,11 +23,11 @@ fn is_committed(status: &Status, tid: u64) -> bool
 
 /// Adds the number of a record, where it is committed. False exactly where it doesn't fit.
 fn add_number(set: &mut NumberSet, logged: &Record, status: &Status) -> bool
-    requires { set.old.most ≡ 3840 }
+    requires { set.old.most ≡ KEPT_NUMBERS }
     ensures joined { OnTrue result (set.new ≡ with_list set.old
         (joined status.now.numbers (record_of logged.now ∷ []) set.old.list)) }
     ensures full { OnFalse result
-        (3840 < length (joined status.now.numbers (record_of logged.now ∷ []) set.old.list)) }
+        (KEPT_NUMBERS < length (joined status.now.numbers (record_of logged.now ∷ []) set.old.list)) }
     ensures most { set.new.most ≡ set.old.most }
 {
     set.rises();
@@ -43,11 +44,11 @@ fn add_number(set: &mut NumberSet, logged: &Record, status: &Status) -> bool
 /// Adds the committed numbers of the records of a payload. False exactly where they don't all fit,
 /// and then it may have added some of them.
 pub fn add_payload(set: &mut NumberSet, payload: &Payload, status: &Status) -> bool
-    requires { set.old.most ≡ 3840 }
+    requires { set.old.most ≡ KEPT_NUMBERS }
     ensures joined { OnTrue result (set.new ≡ with_list set.old
         (joined status.now.numbers (records_of payload.now) set.old.list)) }
     ensures full { OnFalse result
-        (3840 < length (joined status.now.numbers (records_of payload.now) set.old.list)) }
+        (KEPT_NUMBERS < length (joined status.now.numbers (records_of payload.now) set.old.list)) }
     ensures most { set.new.most ≡ set.old.most }
 {
     let _ = payload.bytes();
@@ -62,11 +63,11 @@ pub fn add_payload(set: &mut NumberSet, payload: &Payload, status: &Status) -> b
 /// Adds the committed numbers of the records of log sectors. False exactly where they don't all fit,
 /// and then it may have added some of them.
 pub fn add_sectors(set: &mut NumberSet, sectors: &[LogSector], status: &Status) -> bool
-    requires { set.old.most ≡ 3840 }
+    requires { set.old.most ≡ KEPT_NUMBERS }
     ensures joined { OnTrue result (set.new ≡ with_list set.old
         (joined status.now.numbers (records_kept sectors.now) set.old.list)) }
     ensures full { OnFalse result
-        (3840 < length (joined status.now.numbers (records_kept sectors.now) set.old.list)) }
+        (KEPT_NUMBERS < length (joined status.now.numbers (records_kept sectors.now) set.old.list)) }
     ensures most { set.new.most ≡ set.old.most }
 {
     for sector in sectors {

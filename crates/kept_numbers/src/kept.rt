@@ -1,6 +1,7 @@
 //! The committed numbers that a new status place keeps.
 ghost use Rattle.std.specs.Prelude.{◌≡◌, ◌≤◌, ◌↔◌, [], length, IfOk, IsTrue};
 ghost use Rattle.std.specs.Bool.{OnTrue, OnFalse};
+ghost use Rattle.ipl_base.specs.declared.limits.TheConstants.{KEPT_NUMBERS};
 ghost use Rattle.log_records.specs.Reading.{records_of};
 ghost use Rattle.number_set.specs.Numbers.{AreRising};
 ghost use Rattle.unit_log.specs.Kept.{records_kept};
@@ -26,12 +27,13 @@ pub struct KeptNumbers {
 
 impl Model for KeptNumbers {
     ghost use Rattle.std.specs.Prelude.{ℕ, List, ◌≡◌};
+    ghost use Rattle.ipl_base.specs.declared.limits.TheConstants.{KEPT_NUMBERS};
 
     ghost Value = { List ℕ };
 
     ghost view = { λ k. k.kept.list };
 
-    ghost invariant = { λ k. (k.kept.most ≡ 3840) × (k.draft.most ≡ 3840) };
+    ghost invariant = { λ k. (k.kept.most ≡ KEPT_NUMBERS) × (k.draft.most ≡ KEPT_NUMBERS) };
 }
 
 impl KeptNumbers {
@@ -54,7 +56,7 @@ impl KeptNumbers {
     /// That they rise, and are at most 3,840.
     pub fn rises(&self)
         ensures rising { AreRising self.now }
-        ensures few { length self.now ≤ 3840 }
+        ensures few { length self.now ≤ KEPT_NUMBERS }
     {
         self.kept.rises();
     }
@@ -63,7 +65,7 @@ impl KeptNumbers {
     pub fn as_slice(&self) -> &[u64]
         ensures numbers { result.now ≡ self.now }
         ensures rising { AreRising result.now }
-        ensures few { length result.now ≤ 3840 }
+        ensures few { length result.now ≤ KEPT_NUMBERS }
     {
         self.kept.rises();
         self.kept.as_slice()
@@ -73,7 +75,7 @@ impl KeptNumbers {
     /// exactly where they would be more than 3,840 then, and what is kept says nothing.
     pub fn add(&mut self, payload: &Payload, status: &Status) -> bool
         ensures fits { IsTrue result
-            ↔ (length (joined status.now.numbers (records_of payload.now) self.old) ≤ 3840) }
+            ↔ (length (joined status.now.numbers (records_of payload.now) self.old) ≤ KEPT_NUMBERS) }
         ensures joined { OnTrue result
             (self.new ≡ joined status.now.numbers (records_of payload.now) self.old) }
     {
@@ -88,7 +90,7 @@ impl KeptNumbers {
     /// False exactly where they would be more than 3,840 then, and the same are kept as before.
     pub fn join(&mut self, sectors: &[LogSector], status: &Status) -> bool
         ensures fits { IsTrue result
-            ↔ (length (joined status.now.numbers (records_kept sectors.now) self.old) ≤ 3840) }
+            ↔ (length (joined status.now.numbers (records_kept sectors.now) self.old) ≤ KEPT_NUMBERS) }
         ensures joined { OnTrue result
             (self.new ≡ joined status.now.numbers (records_kept sectors.now) self.old) }
         ensures same { OnFalse result (self.new ≡ self.old) }

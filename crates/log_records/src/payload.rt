@@ -1,18 +1,20 @@
 //! Records in the payload of one sector.
 ghost use Rattle.std.specs.Prelude.{◌≡◌, ◌≤◌, ◌<◌, ◌+◌, ◌++◌, ◌↔◌, [], ℕ, List, IsTrue, length};
 ghost use Rattle.std.specs.Bool.{OnTrue, OnFalse};
+ghost use Rattle.ipl_base.specs.declared.limits.TheConstants.{PAYLOAD_LEN};
 ghost use Rattle.ipl_format.specs.Record.{IsLogPayload, IsRecord, SpellsLog, record_bytes, value_of};
 ghost use Rattle.log_records.specs.Reading.{records_of};
 ghost use Rattle.log_records.specs.View.{change_of, record_of};
 
 use crate::{Record, Records};
 use arrayvec::ArrayVec;
+use ipl_base::{PAYLOAD_LEN, RECORD_HEAD};
 use std::marker::Model;
 
 /// A list of records as at most 480 bytes. A contract sees the bytes.
 #[derive(Debug, Drop)]
 pub struct Payload {
-    bytes: ArrayVec<u8, 480>,
+    bytes: ArrayVec<u8, PAYLOAD_LEN>,
 }
 
 impl Model for Payload {
@@ -20,7 +22,7 @@ impl Model for Payload {
 
     ghost view = { λ p. p.bytes.items };
 
-    ghost invariant = { λ p. (length p.bytes.items ≤ 480) × IsLogPayload p.bytes.items };
+    ghost invariant = { λ p. (length p.bytes.items ≤ PAYLOAD_LEN) × IsLogPayload p.bytes.items };
 }
 
 impl Payload {
@@ -36,7 +38,7 @@ impl Payload {
     /// The payload of these bytes, which are a list of records (see `is_list`), at most 480 of them.
     pub fn of(bytes: &[u8]) -> Payload
         requires list { IsLogPayload bytes.now }
-        requires fits { length bytes.now ≤ 480 }
+        requires fits { length bytes.now ≤ PAYLOAD_LEN }
         ensures { result ≡ bytes.now }
     {
         let mut items = ArrayVec::new();
@@ -48,7 +50,7 @@ impl Payload {
     pub fn bytes(&self) -> &[u8]
         ensures value { result.now ≡ self.now }
         ensures list { IsLogPayload result.now }
-        ensures fits { length result.now ≤ 480 }
+        ensures fits { length result.now ≤ PAYLOAD_LEN }
     {
         self.bytes.as_slice()
     }
@@ -56,7 +58,7 @@ impl Payload {
 
 // The first twelve bytes of a record.
 #[tactic(auto, unfolding(ipl_format::specs::Record::record_bytes, ipl_format::specs::Numbers::long))]
-fn front(logged: &Record) -> [u8; 12]
+fn front(logged: &Record) -> [u8; RECORD_HEAD]
     requires page { logged.now.page < 15 }
     requires slot { logged.now.slot < 64 }
     ensures spelled { record_bytes (record_of logged.now)
@@ -83,8 +85,8 @@ fn front(logged: &Record) -> [u8; 12]
 }
 
 // Adds bytes at the end, where there is room.
-fn extend(bytes: &mut ArrayVec<u8, 480>, more: &[u8])
-    requires { length bytes.old.items + length more.now ≤ 480 }
+fn extend(bytes: &mut ArrayVec<u8, PAYLOAD_LEN>, more: &[u8])
+    requires { length bytes.old.items + length more.now ≤ PAYLOAD_LEN }
     ensures { bytes.new.items ≡ bytes.old.items ++ more.now }
 {
     let _ = bytes.try_extend_from_slice(more);
@@ -96,7 +98,7 @@ pub fn put(payload: &mut Payload, logged: &Record) -> bool
     requires page { logged.now.page < 15 }
     requires slot { logged.now.slot < 64 }
     ensures fits { IsTrue result
-        ↔ (length payload.old + length (record_bytes (record_of logged.now)) ≤ 480) }
+        ↔ (length payload.old + length (record_bytes (record_of logged.now)) ≤ PAYLOAD_LEN) }
     ensures added { OnTrue result
         (payload.new ≡ payload.old ++ record_bytes (record_of logged.now)) }
     ensures full { OnFalse result (payload.new ≡ payload.old) }

@@ -1,28 +1,29 @@
 //! Log records, read from bytes.
 ghost use Rattle.std.specs.Prelude.{◌≡◌, ◌≤◌, ◌+◌, ◌↔◌, IsTrue, drop, length, option_map, slice_index, true};
+ghost use Rattle.ipl_base.specs.declared.limits.TheConstants.{RECORD_HEAD};
 ghost use Rattle.ipl_format.specs.Record.{IsLogPayload};
 ghost use Rattle.log_records.specs.Reading.{change_at, first_record, has_record, is_change, record_at};
 ghost use Rattle.log_records.specs.View.{change_of, record_of};
 
 use crate::{Change, Record};
-use ipl_base::Value;
+use ipl_base::{RECORD_HEAD, VALUE_LEN, Value};
 use ipl_format::long_at;
 
 fn is_change(kind: u8, len: u8) -> bool
     ensures { result ≡ is_change kind len }
 {
-    (kind == 1 && len <= 108) || (kind == 2 && len == 0)
+    (kind == 1 && usize::from(len) <= VALUE_LEN) || (kind == 2 && len == 0)
 }
 
 // Whether the bytes begin with a record.
 fn has_record(bytes: &[u8]) -> bool
     ensures { result ≡ has_record bytes.now }
 {
-    bytes.len() >= 12
+    bytes.len() >= RECORD_HEAD
         && bytes[0] < 15
         && bytes[2] < 64
         && is_change(bytes[1], bytes[3])
-        && 12 + usize::from(bytes[3]) <= bytes.len()
+        && RECORD_HEAD + usize::from(bytes[3]) <= bytes.len()
 }
 
 fn change_at(bytes: &[u8]) -> Change
@@ -32,8 +33,8 @@ fn change_at(bytes: &[u8]) -> Change
     if bytes[1] != 1 {
         return Change::Delete;
     }
-    let end = 12 + usize::from(bytes[3]);
-    match Value::of(&bytes[12..end]) {
+    let end = RECORD_HEAD + usize::from(bytes[3]);
+    match Value::of(&bytes[RECORD_HEAD..end]) {
         Some(value) => Change::Put(value),
         None => unreachable!(),
     }
@@ -53,9 +54,9 @@ fn first_record(bytes: &[u8]) -> Record
 
 fn after_record(bytes: &[u8]) -> &[u8]
     requires { has_record bytes.now ≡ true }
-    ensures { result.now ≡ drop (12 + slice_index bytes.now 3) bytes.now }
+    ensures { result.now ≡ drop (RECORD_HEAD + slice_index bytes.now 3) bytes.now }
 {
-    &bytes[12 + usize::from(bytes[3])..]
+    &bytes[RECORD_HEAD + usize::from(bytes[3])..]
 }
 
 // The first record, and the bytes after it.

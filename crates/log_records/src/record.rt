@@ -1,5 +1,6 @@
 //! What a log record says.
 ghost use Rattle.std.specs.Prelude.{◌≡◌, ◌≤◌, length};
+ghost use Rattle.ipl_base.specs.declared.limits.TheConstants.{VALUE_LEN};
 ghost use Rattle.ipl_format.specs.Record.{kind_of, value_of};
 ghost use Rattle.log_records.specs.View.{change_of};
 
@@ -27,7 +28,7 @@ impl Change {
     // The value of a put, and nothing for a delete.
     pub(crate) fn bytes(&self) -> &[u8]
         ensures value { result.now ≡ value_of (change_of self.now) }
-        ensures fits { length result.now ≤ 108 }
+        ensures fits { length result.now ≤ VALUE_LEN }
     {
         match self {
             Change::Put(value) => value.bytes(),

@@ -1,13 +1,14 @@
 //! Records that fit in one log sector.
 ghost use Rattle.std.specs.Prelude.{◌≡◌, ◌≤◌, ◌<◌, ◌+◌, ◌++◌, [], ◌∷◌, ◌↔◌, IsTrue, length};
 ghost use Rattle.std.specs.Bool.{OnTrue, OnFalse};
+ghost use Rattle.ipl_base.specs.declared.limits.TheConstants.{PAYLOAD_LEN, VALUE_LEN};
 ghost use Rattle.ipl_format.specs.Record.{IsRecord, SpellsLog, value_of};
 ghost use Rattle.ipl_meaning.specs.Last.{size_of, size_of_all};
 ghost use Rattle.log_records.specs.Reading.{records_of};
 ghost use Rattle.log_records.specs.View.{change_of, record_of};
 ghost use Rattle.mem_log_sector.specs.MemLogs.{without_tid, IsMemLog};
 
-use ipl_base::PAYLOAD_LEN;
+use ipl_base::{PAYLOAD_LEN, RECORD_HEAD};
 use log_records::{Change, Payload, Record, put, records};
 use std::marker::Model;
 use std::mem;
@@ -56,9 +57,9 @@ impl MemLog {
     /// Whether a record fits in a log sector with them.
     pub fn fits(&self, rec: &Record) -> bool
         ensures { IsTrue result
-            ↔ (size_of_all self.now + size_of (record_of rec.now) ≤ 480) }
+            ↔ (size_of_all self.now + size_of (record_of rec.now) ≤ PAYLOAD_LEN) }
     {
-        self.payload.bytes().len() + 12 + value_len(&rec.change) <= PAYLOAD_LEN
+        self.payload.bytes().len() + RECORD_HEAD + value_len(&rec.change) <= PAYLOAD_LEN
     }
 
     /// Adds a record, of page 0 to 14 and slot 0 to 63, behind the others. False exactly where it
@@ -67,7 +68,7 @@ impl MemLog {
         requires page { rec.now.page < 15 }
         requires slot { rec.now.slot < 64 }
         ensures fits { IsTrue result
-            ↔ (size_of_all self.old + size_of (record_of rec.now) ≤ 480) }
+            ↔ (size_of_all self.old + size_of (record_of rec.now) ≤ PAYLOAD_LEN) }
         ensures pushed { OnTrue result (self.new ≡ self.old ++ record_of rec.now ∷ []) }
         ensures full { OnFalse result (self.new ≡ self.old) }
     {
@@ -127,7 +128,7 @@ fn others(payload: &Payload, tid: u64) -> Payload
 /// How many bytes the value of a change has, at most 108.
 fn value_len(change: &Change) -> usize
     ensures len { result ≡ length (value_of (change_of change.now)) }
-    ensures short { result ≤ 108 }
+    ensures short { result ≤ VALUE_LEN }
 {
     match change {
         Change::Put(value) => value.bytes().len(),

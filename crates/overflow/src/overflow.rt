@@ -1,6 +1,7 @@
 //! The table of overflow places.
 ghost use Rattle.std.specs.Prelude.{◌≡◌, ◌≤◌, ◌<◌, ◌+◌, ◌-◌, [], ℕ, map, replicate, length, nat_lt, Contains, IfOk, IfSome, IfNone, None};
 ghost use Rattle.std.specs.Option.{option_map};
+ghost use Rattle.ipl_base.specs.declared.limits.TheConstants.{OVERFLOW_SECTORS};
 ghost use Rattle.overflow.specs.Lists.{pair_of, spots_in, masks_at, empty_lists, with_place, after_add, after_drop, places_left, listed, first_spot, AreWithin, IsSoundOverflow};
 
 use crate::places::{PlaceInUse, first_spot, keep_named, places_left, use_spot};
@@ -83,7 +84,7 @@ impl Overflow {
     pub fn list(&self, unit: u32) -> ArrayVec<Spot, OVERFLOW_SECTORS>
         requires { unit < length self.now.spots }
         ensures spots { map pair_of result.items ≡ spots_in self.now unit }
-        ensures few { length result.items ≤ 16 }
+        ensures few { length result.items ≤ OVERFLOW_SECTORS }
         ensures within { AreWithin (length self.now.spots + 4) (spots_in self.now unit) }
     {
         let list = &self.spots[unit as usize];
@@ -104,7 +105,7 @@ impl Overflow {
     pub fn count(&self, unit: u32) -> u32
         requires { unit < length self.now.spots }
         ensures count { result ≡ length (spots_in self.now unit) }
-        ensures few { result ≤ 16 }
+        ensures few { result ≤ OVERFLOW_SECTORS }
     {
         let list = &self.spots[unit as usize];
         list.len()
@@ -158,7 +159,7 @@ impl Overflow {
     /// its log sector names. It isn't clean any more, nor is any before it in its place.
     pub fn add(&mut self, unit: u32, spot: Spot, mask: u16)
         requires unit { unit < length self.old.spots }
-        requires few { length (spots_in self.old unit) < 16 }
+        requires few { length (spots_in self.old unit) < OVERFLOW_SECTORS }
         requires place { spot.place < length self.old.spots + 4 }
         requires sector { spot.sector < 256 }
         ensures { self.new ≡ after_add self.old unit spot.place spot.sector mask }

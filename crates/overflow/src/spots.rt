@@ -1,5 +1,6 @@
 //! The spots of one unit, and which pages each of them names.
 ghost use Rattle.std.specs.Prelude.{◌≡◌, ◌≤◌, ◌<◌, ◌++◌, ◌∷◌, [], length, map};
+ghost use Rattle.ipl_base.specs.declared.limits.TheConstants.{OVERFLOW_SECTORS};
 ghost use Rattle.overflow.specs.Lists.{pair_of, short_pair, names_place};
 
 use arrayvec::ArrayVec;
@@ -22,13 +23,14 @@ pub struct SpotList {
 
 impl Model for SpotList {
     ghost use Rattle.std.specs.Prelude.{ℕ, List, map, length, ◌≤◌};
+    ghost use Rattle.ipl_base.specs.declared.limits.TheConstants.{OVERFLOW_SECTORS};
     ghost use Rattle.overflow.specs.Lists.{short_pair};
 
     ghost Value = { List (ℕ × ℕ) };
 
     ghost view = { λ l. map short_pair l.items.items };
 
-    ghost invariant = { λ l. length l.items.items ≤ 16 };
+    ghost invariant = { λ l. length l.items.items ≤ OVERFLOW_SECTORS };
 }
 
 impl SpotList {
@@ -51,7 +53,7 @@ impl SpotList {
     /// The spots, the oldest first.
     pub fn list(&self) -> ArrayVec<Spot, OVERFLOW_SECTORS>
         ensures spots { map pair_of result.items ≡ self.now }
-        ensures few { length result.items ≤ 16 }
+        ensures few { length result.items ≤ OVERFLOW_SECTORS }
     {
         let mut spots = ArrayVec::new();
         for short in self.items.as_slice() {
@@ -66,14 +68,14 @@ impl SpotList {
     /// How many there are, at most 16.
     pub fn len(&self) -> u32
         ensures count { result ≡ length self.now }
-        ensures few { result ≤ 16 }
+        ensures few { result ≤ OVERFLOW_SECTORS }
     {
         self.items.len() as u32
     }
 
     /// Puts a spot behind the others, of which there are fewer than 16.
     pub fn push(&mut self, spot: Spot)
-        requires few { length self.old < 16 }
+        requires few { length self.old < OVERFLOW_SECTORS }
         requires place { spot.place < 65536 }
         requires sector { spot.sector < 65536 }
         ensures { self.new ≡ self.old ++ pair_of spot ∷ [] }
@@ -113,12 +115,13 @@ pub struct MaskList {
 
 impl Model for MaskList {
     ghost use Rattle.std.specs.Prelude.{ℕ, List, length, ◌≤◌};
+    ghost use Rattle.ipl_base.specs.declared.limits.TheConstants.{OVERFLOW_SECTORS};
 
     ghost Value = { List ℕ };
 
     ghost view = { λ l. l.items.items };
 
-    ghost invariant = { λ l. length l.items.items ≤ 16 };
+    ghost invariant = { λ l. length l.items.items ≤ OVERFLOW_SECTORS };
 }
 
 impl MaskList {
@@ -141,14 +144,14 @@ impl MaskList {
     /// The masks, in the order of the spots.
     pub fn as_slice(&self) -> &[u16]
         ensures masks { result.now ≡ self.now }
-        ensures few { length result.now ≤ 16 }
+        ensures few { length result.now ≤ OVERFLOW_SECTORS }
     {
         self.items.as_slice()
     }
 
     /// Puts a mask behind the others, of which there are fewer than 16.
     pub fn push(&mut self, mask: u16)
-        requires { length self.old < 16 }
+        requires { length self.old < OVERFLOW_SECTORS }
         ensures { self.new ≡ self.old ++ mask ∷ [] }
     {
         self.items.push(mask);

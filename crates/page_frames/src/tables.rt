@@ -1,6 +1,7 @@
 //! Work on the tables that leaves the frames as they are: a clean sector for the next commit, and a
 //! merge.
 ghost use Rattle.std.specs.Prelude.{◌≡◌, ◌<◌, ◌≤◌, ◌+◌, ◌-◌, ◌^◌, slice_index, is_ok, OnOk};
+ghost use Rattle.ipl_base.specs.declared.limits.TheConstants.{CARRIED_SECTORS};
 ghost use Rattle.unit_io.specs.Costs.{Spends};
 ghost use Rattle.txn_status.specs.Status.{room_of};
 ghost use Rattle.selective_merge.specs.Merging.{Merges, StaysMirrored, FailsAsMerge};
@@ -58,7 +59,7 @@ impl Pages {
             (λ done. Merges (C.told chip.old).places unit (tables_in self.old) (tables_in self.new))
             (StaysMirrored (C.told chip.old).places (tables_in self.old) (tables_in self.new))
             result (C.told chip.old) (C.told chip.new) }
-        ensures room { OnOk result (slice_index self.new.parts.directory.written unit ≤ 12) }
+        ensures room { OnOk result (slice_index self.new.parts.directory.written unit ≤ CARRIED_SECTORS) }
         ensures frames { self.new.pool ≡ self.old.pool }
         ensures framed { KeepsFramed self.old self.new }
         ensures costs { Spends (ErasesFor self.old.parts.directory

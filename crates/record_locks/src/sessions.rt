@@ -1,6 +1,7 @@
 //! The open sessions of a store.
 ghost use Rattle.std.specs.Prelude.{◌≡◌, ◌≤◌, ◌<◌, ℕ, ◌==◌, ◌/◌, None, map, length, Contains, IfOk, OnOk, OnErr, replicate};
 ghost use Rattle.std.specs.Result.{result_err};
+ghost use Rattle.ipl_base.specs.declared.limits.TheConstants.{PENDING_NAMES};
 ghost use Rattle.ipl_rules.specs.State.{pending};
 ghost use Rattle.record_locks.specs.Held.{number_of, written_of, shared_of, after_begin, after_share, after_write, after_end, after_batch};
 ghost use Rattle.record_locks.specs.Standing.{state_of};
@@ -132,7 +133,7 @@ impl Sessions {
     /// How many names of a unit open sessions wrote.
     pub fn pending(&self, unit: u32) -> u32
         ensures count { result ≡ pending (state_of self.now) unit }
-        ensures few { result ≤ 48 }
+        ensures few { result ≤ PENDING_NAMES }
     {
         count_pending(&self.slots, unit)
     }

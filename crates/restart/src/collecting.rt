@@ -1,5 +1,6 @@
 //! The committed numbers of live log records are collected.
 ghost use Rattle.std.specs.Prelude.{◌≡◌, ◌≤◌, ℕ, List, true, length};
+ghost use Rattle.ipl_base.specs.declared.limits.TheConstants.{PAYLOAD_LEN};
 ghost use Rattle.log_records.specs.Reading.{records_of};
 ghost use Rattle.kept_numbers.specs.Joins.{joined};
 ghost use Rattle.opening_rules.specs.Payloads.{is_log_payload};
@@ -27,7 +28,7 @@ pub(crate) fn collect(
     fits: bool,
 ) -> bool
     requires list { is_log_payload payload.now ≡ true }
-    requires fits { length payload.now ≤ 480 }
+    requires fits { length payload.now ≤ PAYLOAD_LEN }
     ensures { (found : List ℕ) → AreKept found fits numbers.old
         → AreKept (joined status.now.numbers (records_of payload.now) found) result numbers.new }
 {

@@ -1,5 +1,6 @@
 //! The directory and the overflow lists are filled.
 ghost use Rattle.std.specs.Prelude.{◌≡◌, ◌<◌, ◌≤◌, ◌+◌, ◌-◌, ◌&&◌, ◌||◌, Bool, ℕ, [], true, length, Option, Some};
+ghost use Rattle.ipl_base.specs.declared.limits.TheConstants.{MOST_PLACES};
 ghost use Rattle.opening_rules.specs.First.{at, count_below, all_below, with_one};
 ghost use Rattle.opening_rules.specs.Chosen.{Winner as Chosen};
 ghost use Rattle.opening_rules.specs.Live.{is_overflow_place};
@@ -19,7 +20,7 @@ use unit_directory::Directory;
 /// that names a page. Nothing else is in use then.
 pub(crate) fn adopt_all(directory: &mut Directory, current: &[Option<Winner>])
     requires units { length current.now + 4 ≡ length directory.old.in_use }
-    requires places { length directory.old.in_use ≤ 1028 }
+    requires places { length directory.old.in_use ≤ MOST_PLACES }
     requires within { (u : ℕ) (winner : Chosen) → at current.now u ≡ Some winner
         → winner.place < length directory.old.in_use }
     ensures adopted { AreAdopted (at current.now) (length current.now) (length current.now) directory.new }
@@ -47,7 +48,7 @@ pub(crate) fn is_held(heads: &[Option<Header>], noted: &Noted, place: u32) -> bo
 
 /// Takes the overflow places that hold live log sectors.
 fn take_overflows(directory: &mut Directory, heads: &[Option<Header>], noted: &Noted)
-    requires small { length heads.now ≤ 1028 }
+    requires small { length heads.now ≤ MOST_PLACES }
     requires places { length heads.now ≡ length directory.old.in_use }
     requires noted { places_of noted.now ≡ length directory.old.in_use }
     ensures used { (used : ℕ → Bool) (most : ℕ) → AreUsed used (length heads.now) most directory.old.in_use
@@ -71,7 +72,7 @@ pub(crate) fn take_others(
     status: &Winner,
     noted: &Noted,
 )
-    requires small { length heads.now ≤ 1028 }
+    requires small { length heads.now ≤ MOST_PLACES }
     requires places { length heads.now ≡ length directory.old.in_use }
     requires noted { places_of noted.now ≡ length directory.old.in_use }
     requires status { status.now.place < length directory.old.in_use }
@@ -105,7 +106,7 @@ fn list_place(overflow: &mut Overflow, heads: &[Option<Header>], noted: &Noted, 
 
 /// Lists the overflow places that hold live log sectors, at most two, with no sector known clean.
 pub(crate) fn list_places(overflow: &mut Overflow, heads: &[Option<Header>], noted: &Noted)
-    requires small { length heads.now ≤ 1028 }
+    requires small { length heads.now ≤ MOST_PLACES }
     requires places { places_of noted.now ≡ length heads.now }
     requires four { length overflow.old.spots + 4 ≡ length heads.now }
     requires two { count_below (is_held_place heads.now noted.now) (length heads.now) ≤ 2 }

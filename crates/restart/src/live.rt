@@ -1,5 +1,6 @@
 //! Which log sectors are live, and the greatest number in one.
 ghost use Rattle.std.specs.Prelude.{◌≡◌, ◌<◌, ◌≤◌, ℕ, List, true, map, length, Some};
+ghost use Rattle.ipl_base.specs.declared.limits.TheConstants.{PAYLOAD_LEN};
 ghost use Rattle.sector_format.specs.Decode.{sector_of};
 ghost use Rattle.ipl_meaning.specs.Masks.{mask_of};
 ghost use Rattle.log_records.specs.Reading.{records_of};
@@ -109,7 +110,7 @@ pub(crate) fn is_log_payload(payload: &[u8]) -> bool
 /// Which pages the records of a log sector name: bit p is page p's.
 pub(crate) fn pages_of(payload: &[u8]) -> u16
     requires list { is_log_payload payload.now ≡ true }
-    requires fits { length payload.now ≤ 480 }
+    requires fits { length payload.now ≤ PAYLOAD_LEN }
     ensures { result ≡ mask_of (records_of payload.now) }
 {
     mask_of(&Payload::of(payload))
@@ -118,7 +119,7 @@ pub(crate) fn pages_of(payload: &[u8]) -> u16
 /// The greatest transaction number in a list of records, and at least this.
 fn greatest_tid(payload: &[u8], least: u64) -> u64
     requires list { is_log_payload payload.now ≡ true }
-    requires fits { length payload.now ≤ 480 }
+    requires fits { length payload.now ≤ PAYLOAD_LEN }
     ensures { result ≡ greatest_of least (map tid_of (records_of payload.now)) }
 {
     let payload = Payload::of(payload);
@@ -131,7 +132,7 @@ fn greatest_tid(payload: &[u8], least: u64) -> u64
 
 /// The greatest number in a log sector.
 pub(crate) fn log_number(head: &Head, payload: &[u8]) -> u64
-    requires { length payload.now ≤ 480 }
+    requires { length payload.now ≤ PAYLOAD_LEN }
     ensures { result ≡ log_number (Some (sector_of head.now payload.now)) }
 {
     let own = head.generation.max(head.serial);

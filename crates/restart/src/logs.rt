@@ -1,6 +1,7 @@
 //! Log sectors are read where they may stand.
 ghost use Rattle.std.specs.Prelude.{◌≡◌, ◌<◌, ◌≤◌, ◌+◌, ◌*◌, ℕ, List, [], true, false, max, length, Some, IfOk, IfErr, IfSome, OnOk};
 ghost use Rattle.std.specs.Option.{option_map};
+ghost use Rattle.ipl_base.specs.declared.limits.TheConstants.{OVERFLOW_SECTORS, PAYLOAD_LEN};
 ghost use Rattle.sector_format.specs.Decode.{sector_of};
 ghost use Rattle.ipl_meaning.specs.Chart.{chart_of};
 ghost use Rattle.ipl_meaning.specs.Masks.{mask_of as pages_of};
@@ -28,7 +29,7 @@ use crate::kept::{Header, Winner};
 use crate::live::{is_live, is_log_payload, is_overflow_place, log_number, may_hold_log, pages_of};
 use crate::noted::Noted;
 use chip_trait::Chip;
-use ipl_base::{ChipFault, Geometry, ImageFault, Spot};
+use ipl_base::{ChipFault, Geometry, ImageFault, OVERFLOW_SECTORS, Spot};
 use kept_numbers::KeptNumbers;
 use overflow::Overflow;
 use sector_format::{Head, payload_in};
@@ -54,13 +55,14 @@ fn check_log(
         → TellsImageFault (log_test (at heads.now) marks (spot.place * 256 + spot.sector)
         (Some (sector_of head.now payload.now))) result }
     ensures room { OnOk result (is_overflow_place (at heads.now spot.place) ≡ true
-        → overflow_count_of overflow.now head.now.unit < 16) }
+        → overflow_count_of overflow.now head.now.unit < OVERFLOW_SECTORS) }
     ensures list { OnOk result (is_log_payload payload.now ≡ true) }
     ensures image { IfErr result (λ e. is_image e ≡ true) }
 {
     if !is_log_payload(payload)
         || noted.has(head.unit, head.serial)
-        || (is_overflow_place(heads, spot.place) && overflow.count(head.unit) >= 16)
+        || (is_overflow_place(heads, spot.place)
+            && overflow.count(head.unit) as usize >= OVERFLOW_SECTORS)
     {
         return Err(ImageFault::Chip(ChipFault::Malformed {
             place: spot.place,
@@ -85,7 +87,7 @@ fn list_log(
     requires units { length directory.old.current ≡ length overflow.old.spots }
     requires four { length overflow.old.spots + 4 ≡ length heads.now }
     requires few { is_overflow_place (at heads.now spot.place) ≡ true
-        → overflow_count_of overflow.old unit < 16 }
+        → overflow_count_of overflow.old unit < OVERFLOW_SECTORS }
     requires home { is_overflow_place (at heads.now spot.place) ≡ false → 241 ≤ spot.sector }
     ensures listed { overflow.new ≡ listed (is_overflow_place (at heads.now spot.place))
         overflow.old unit spot.place spot.sector mask }
@@ -118,7 +120,7 @@ fn take_log(
     requires sized { AreSized (length current.now) (length heads.now) noted.old overflow.old }
     requires units { length directory.old.current ≡ length current.now }
     requires spot { is_log_spot (at heads.now) (at current.now) spot.place spot.sector ≡ true }
-    requires fits { length payload.now ≤ 480 }
+    requires fits { length payload.now ≤ PAYLOAD_LEN }
     requires roomy { IsRoomy (at current.now) (spot.place * 256 + spot.sector)
         noted.old overflow.old }
     ensures fault { (marks : List Mark) → IsNoted noted.old overflow.old marks
@@ -181,7 +183,7 @@ fn take_found(
     requires spot { is_log_spot (at heads.now) (at current.now) spot.place spot.sector ≡ true }
     requires roomy { IsRoomy (at current.now) (spot.place * 256 + spot.sector)
         noted.old overflow.old }
-    requires fits { IfSome found (λ it. it.1 ≤ 480) }
+    requires fits { IfSome found (λ it. it.1 ≤ PAYLOAD_LEN) }
     ensures fault { (marks : List Mark) → IsNoted noted.old overflow.old marks
         → TellsImageFault (log_test (at heads.now) marks (spot.place * 256 + spot.sector)
         (kept (is_live (at heads.now) (at current.now) spot.place)

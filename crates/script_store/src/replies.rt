@@ -1,5 +1,6 @@
 //! The answer of a call of the store as a reply.
 ghost use Rattle.std.specs.Prelude.{◌≡◌, ◌≢◌, ◌≤◌, Err, IfSome, length, option_map};
+ghost use Rattle.ipl_base.specs.declared.limits.TheConstants.{VALUE_LEN};
 ghost use Rattle.ipl_base.specs.declared.fault.StoreFault.TheVariants.{Down};
 ghost use Rattle.ipl_model.specs.Step.{found_reply};
 ghost use Rattle.script_store.specs.Keeps.{ended, answer_of, reply_of, looked_up};
@@ -34,7 +35,7 @@ pub(crate) fn reply_of(done: Result<(), StoreFault>) -> Result<Reply, Fault>
 
 /// A record of at most 108 bytes, or none, for a reply.
 pub(crate) fn copied(found: Option<&[u8]>) -> Option<Value>
-    requires short { IfSome found (λ b. length b.now ≤ 108) }
+    requires short { IfSome found (λ b. length b.now ≤ VALUE_LEN) }
     ensures { result ≡ option_map (λ b. b.now) found.entry }
 {
     match found {

@@ -9,13 +9,10 @@ ghost use Rattle.script_store.specs.Keeps.{IsRunning, KeepsScript, Does, script_
 ghost use Rattle.script_store.specs.Done.{HasDone, HasFound};
 
 use chip_trait::Chip;
-use ipl_base::{UNIT_NAMES, Value};
+use ipl_base::{MOST_UNITS, UNIT_NAMES, Value};
 use ipl_model::{Command, Reply};
 use ipl_store::Store;
 use store_trait::Fault;
-
-/// The units of a chip, at most.
-const MOST_UNITS: u32 = 1_024;
 
 /// A store of records, whose calls are the commands of a script.
 #[derive(Drop)]

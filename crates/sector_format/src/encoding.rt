@@ -1,5 +1,6 @@
 //! The bytes of a sector.
 ghost use Rattle.std.specs.Prelude.{◌≡◌, ◌≢◌, ◌≤◌, ◌+◌, ◌-◌, ◌++◌, Some, drop, length, replicate, take};
+ghost use Rattle.ipl_base.specs.declared.limits.TheConstants.{PAYLOAD_LEN};
 ghost use Rattle.chip_trait.specs.Story.{blank};
 ghost use Rattle.ipl_format.specs.Sector.{IsKind, filled, sector_bytes, sector_in};
 ghost use Rattle.sector_format.specs.Decode.{HasRange, head_bytes, sector_of};
@@ -34,7 +35,7 @@ fn write_front(head: &Head, used: u16, out: &mut [u8; 512])
 
 // Copies the payload behind the head.
 fn copy_payload(payload: &[u8], out: &mut [u8; 512])
-    requires { length payload.now ≤ 480 }
+    requires { length payload.now ≤ PAYLOAD_LEN }
     ensures { out.new ≡ take 32 out.old ++ payload.now ++ drop (32 + length payload.now) out.old }
 {
     out[32..32 + payload.len()].copy_from_slice(payload);
@@ -50,7 +51,7 @@ fn clear_from(start: usize, out: &mut [u8; 512])
 
 // Writes the payload, and zeros after it.
 fn write_payload(payload: &[u8], out: &mut [u8; 512])
-    requires { length payload.now ≤ 480 }
+    requires { length payload.now ≤ PAYLOAD_LEN }
     ensures { out.new ≡ take 32 out.old ++ filled payload.now }
 {
     copy_payload(payload, out);
@@ -59,7 +60,7 @@ fn write_payload(payload: &[u8], out: &mut [u8; 512])
 
 /// Writes the sector of this head (of a kind that there is) and a payload of at most 480 bytes, whatever stood there.
 pub fn encode(head: &Head, payload: &[u8], out: &mut [u8; 512])
-    requires fits { length payload.now ≤ 480 }
+    requires fits { length payload.now ≤ PAYLOAD_LEN }
     requires known { IsKind head.now.kind }
     ensures bytes { out.new ≡ sector_bytes (sector_of head.now payload.now) }
     ensures said { sector_in out.new ≡ Some (sector_of head.now payload.now) }

@@ -1,17 +1,19 @@
 //! The parts of a sector, as its bytes have them.
 ghost use Rattle.std.specs.Prelude.{◌≡◌, ◌≤◌, ◌+◌, ◌↔◌, IsTrue, bit_or, drop, fold, length, replicate, take};
 ghost use Rattle.std.specs.List.{list_all};
+ghost use Rattle.ipl_base.specs.declared.limits.TheConstants.{PAYLOAD_LEN};
 ghost use Rattle.chip_trait.specs.Story.{blank};
 ghost use Rattle.ipl_format.specs.Sector.{computed_sum, is_formed, is_marked, is_zero, used_length};
 ghost use Rattle.sector_format.specs.Decode.{head_in};
 
 use crate::Head;
 use crc_sum::crc32_parts;
+use ipl_base::PAYLOAD_LEN;
 use ipl_format::{half_at, long_at, word_at};
 
 /// The payload of a sector that uses so many bytes of it, 0 to 480.
 pub fn payload_in(bytes: &[u8; 512], used: usize) -> &[u8]
-    requires { used ≤ 480 }
+    requires { used ≤ PAYLOAD_LEN }
     ensures payload { result.now ≡ take used (drop 32 bytes.now) }
     ensures size { length result.now ≡ used }
 {
@@ -80,7 +82,7 @@ pub(crate) fn is_formed(bytes: &[u8; 512]) -> bool
         && bytes[4] >= 1
         && bytes[4] <= 6
         && bytes[5] == 1
-        && used <= 480
+        && used <= PAYLOAD_LEN
         && is_zero_from(bytes, 32 + used)
 }
 

@@ -2,6 +2,7 @@
 ghost use Rattle.std.specs.Prelude.{◌≡◌, ◌<◌, ◌+◌, List, All, map, drop, length};
 ghost use Rattle.std.specs.Bool.{OnTrue, OnFalse};
 ghost use Rattle.std.specs.List.{list_any};
+ghost use Rattle.ipl_base.specs.declared.limits.TheConstants.{CARRIED_SECTORS};
 ghost use Rattle.ipl_format.specs.Record.{IsRecord, Record as LogRecord};
 ghost use Rattle.ipl_meaning.specs.Last.{pack, carried};
 ghost use Rattle.ipl_meaning.specs.Values.{counts_for};
@@ -42,7 +43,7 @@ fn carry_one(records: &[Record], i: usize, active: &Active, packs: &mut Packs) -
     ensures full { (all : List LogRecord)
         → IsPacking (among active.now) all (map record_of (drop i records.now))
         packs.old.closed.items packs.old.last
-        → OnFalse result (12 < length (pack (carried (among active.now) all))) }
+        → OnFalse result (CARRIED_SECTORS < length (pack (carried (among active.now) all))) }
 {
     let logged = &records[i];
     if !is_kept(logged, &records[i + 1..], active) {
@@ -55,7 +56,7 @@ fn carry_one(records: &[Record], i: usize, active: &Active, packs: &mut Packs) -
 pub fn pack_carried(log: &Log, active: &Active, packs: &mut Packs) -> bool
     ensures packed { OnTrue result (packs.new.closed.items
         ≡ payloads_of (packs_of active.now log.now)) }
-    ensures full { OnFalse result (12 < length (packs_of active.now log.now)) }
+    ensures full { OnFalse result (CARRIED_SECTORS < length (packs_of active.now log.now)) }
 {
     packs.clear();
     let records = log.records();

@@ -1,18 +1,16 @@
 //! The records of a unit's live log sectors, in their order.
 ghost use Rattle.std.specs.Prelude.{◌≡◌, ◌<◌, ◌≤◌, ◌+◌, ◌++◌, [], ◌∷◌, All, length, map, IfOk};
+ghost use Rattle.ipl_base.specs.declared.limits.TheConstants.{LIVE_RECORDS, LIVE_SECTORS};
 ghost use Rattle.ipl_format.specs.Record.{IsRecord};
 ghost use Rattle.log_records.specs.Reading.{records_of};
 ghost use Rattle.log_records.specs.View.{record_of};
 ghost use Rattle.unit_log.specs.Kept.{records_kept};
 
-use ipl_base::OutOfMemory;
+use ipl_base::{LIVE_RECORDS, OutOfMemory};
 use log_records::{Payload, Record, records};
 use std::alloc::Global;
 use std::marker::Model;
 use unit_log::LogSector;
-
-/// The most records that 31 log sectors hold, with 40 in each.
-const MOST: usize = 1240;
 
 /// Log records in their order, at most 1240. A contract sees the list. Memory is taken by `new`
 /// alone.
@@ -23,6 +21,7 @@ pub struct Log {
 
 impl Model for Log {
     ghost use Rattle.std.specs.Prelude.{List, ◌≤◌, All, length, map, vec_capacity};
+    ghost use Rattle.ipl_base.specs.declared.limits.TheConstants.{LIVE_RECORDS};
     ghost use Rattle.ipl_format.specs.Record.{Record as LogRecord, IsRecord};
     ghost use Rattle.log_records.specs.View.{record_of};
 
@@ -30,7 +29,7 @@ impl Model for Log {
 
     ghost view = { λ l. map record_of l.records.items };
 
-    ghost invariant = { λ l. (1240 ≤ vec_capacity l.records)
+    ghost invariant = { λ l. (LIVE_RECORDS ≤ vec_capacity l.records)
         × All IsRecord (map record_of l.records.items) };
 }
 
@@ -39,7 +38,7 @@ impl Log {
     pub fn new(alloc: Global) -> Result<Log, OutOfMemory>
         ensures { IfOk result (λ log. log ≡ []) }
     {
-        let records = Vec::with_capacity(alloc, MOST)?;
+        let records = Vec::with_capacity(alloc, LIVE_RECORDS)?;
         Ok(Log { records })
     }
 
@@ -53,7 +52,7 @@ impl Log {
 
     /// Puts a record behind the others, of which there are fewer than 1240.
     fn push(&mut self, logged: Record)
-        requires room { length self.old < 1240 }
+        requires room { length self.old < LIVE_RECORDS }
         requires valid { IsRecord (record_of logged) }
         ensures { self.new ≡ self.old ++ record_of logged ∷ [] }
     {
@@ -74,7 +73,7 @@ impl Log {
 
     /// Has the records of these log sectors, at most 31, in their order, and no others.
     pub fn take(&mut self, sectors: &[LogSector])
-        requires { length sectors.now ≤ 31 }
+        requires { length sectors.now ≤ LIVE_SECTORS }
         ensures { self.new ≡ records_kept sectors.now }
     {
         self.records.clear();

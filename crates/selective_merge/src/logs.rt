@@ -1,5 +1,6 @@
 //! The log sectors of a merge.
 ghost use Rattle.std.specs.Prelude.{◌≡◌, ◌<◌, ◌≤◌, ◌+◌, ◌^◌, length, is_ok, OnOk};
+ghost use Rattle.ipl_base.specs.declared.limits.TheConstants.{CARRIED_SECTORS};
 ghost use Rattle.unit_io.specs.Accounts.{Accounts};
 ghost use Rattle.unit_io.specs.Charts.{Charts, Spares, Gains};
 ghost use Rattle.unit_io.specs.Costs.{ProgramsAt, Spends};
@@ -60,8 +61,8 @@ pub fn write_logs<C: Chip>(
     counter: &mut Counter,
 ) -> Result<(), ChipFault>
     requires place { place < (C.told chip.old).places }
-    requires few { length payloads.now ≤ 12 }
-    requires left { counter.old + 12 < 2 ^ 64 }
+    requires few { length payloads.now ≤ CARRIED_SECTORS }
+    requires left { counter.old + CARRIED_SECTORS < 2 ^ 64 }
     ensures writes { WritesLogs (C.told chip.old).places place head.now.unit head.now.generation
         counter.old payloads.now (C.told chip.old) result (C.told chip.new) }
     ensures tells { OnOk result (Charts

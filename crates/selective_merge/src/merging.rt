@@ -1,5 +1,6 @@
 //! The merge.
 ghost use Rattle.std.specs.Prelude.{◌≡◌, ◌<◌, ◌≤◌, ◌+◌, ◌^◌, length, slice_index, is_ok, OnOk};
+ghost use Rattle.ipl_base.specs.declared.limits.TheConstants.{CARRIED_SECTORS};
 ghost use Rattle.ipl_meaning.specs.Chart.{chart_of};
 ghost use Rattle.ipl_meaning.specs.Last.{carried_count};
 ghost use Rattle.ipl_meaning.specs.Layout.{Layout};
@@ -68,8 +69,8 @@ fn merge_packed<C: Chip>(
         (pages_fault x (from_home home.now parts.old.status.numbers parts.old.scratch.log)) result) }
     ensures spares { OnOk result (SparesUsed parts.old.directory
         (C.told chip.old) (C.told chip.new)) }
-    ensures few { length (packs_of parts.old.active parts.old.scratch.log) ≤ 12 }
-    ensures room { OnOk result (slice_index parts.new.directory.written unit ≤ 12) }
+    ensures few { length (packs_of parts.old.active parts.old.scratch.log) ≤ CARRIED_SECTORS }
+    ensures room { OnOk result (slice_index parts.new.directory.written unit ≤ CARRIED_SECTORS) }
     ensures holds { Holds (C.told chip.old).places (tables_of parts.old) (tables_of parts.new) }
     ensures free { free_count parts.old.directory.in_use ≤ free_count parts.new.directory.in_use }
     ensures drawn { OnOk result (parts.new.counter
@@ -145,7 +146,7 @@ fn merge_known<C: Chip>(
         (C.told chip.old) (C.told chip.new)) }
     ensures few { CarriesFew home.now.place
         (length (packs_of parts.old.active parts.old.scratch.log)) result }
-    ensures room { OnOk result (slice_index parts.new.directory.written unit ≤ 12) }
+    ensures room { OnOk result (slice_index parts.new.directory.written unit ≤ CARRIED_SECTORS) }
     ensures holds { Holds (C.told chip.old).places (tables_of parts.old) (tables_of parts.new) }
     ensures free { free_count parts.old.directory.in_use ≤ free_count parts.new.directory.in_use }
     ensures drawn { OnOk result (parts.new.counter
@@ -206,7 +207,7 @@ pub fn merge_learnt<C: Chip>(
         (C.told chip.old) }
 
     // What the tables have, whatever the chip tells.
-    ensures room { OnOk result (slice_index parts.new.directory.written unit ≤ 12) }
+    ensures room { OnOk result (slice_index parts.new.directory.written unit ≤ CARRIED_SECTORS) }
     ensures holds { Holds (C.told chip.old).places (tables_of parts.old) (tables_of parts.new) }
     ensures free { free_count parts.old.directory.in_use ≤ free_count parts.new.directory.in_use }
     ensures drawn { OnOk result (parts.new.counter
@@ -268,7 +269,7 @@ pub fn merge<C: Chip>(chip: &mut C, parts: &mut Parts, unit: u32) -> Result<(), 
         (C.told chip.old) }
 
     // What the tables have, whatever the chip tells.
-    ensures room { OnOk result (slice_index parts.new.directory.written unit ≤ 12) }
+    ensures room { OnOk result (slice_index parts.new.directory.written unit ≤ CARRIED_SECTORS) }
     ensures holds { Holds (C.told chip.old).places (tables_of parts.old) (tables_of parts.new) }
     ensures free { free_count parts.old.directory.in_use ≤ free_count parts.new.directory.in_use }
     ensures drawn { OnOk result (parts.new.counter

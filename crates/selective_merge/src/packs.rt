@@ -1,27 +1,25 @@
 //! Payloads of log sectors, filled one after another.
 ghost use Rattle.std.specs.Prelude.{◌≡◌, ◌<◌, ◌≤◌, ◌++◌, [], ◌∷◌, List, length, IfOk, vec_capacity};
 ghost use Rattle.std.specs.Bool.{OnTrue, OnFalse};
+ghost use Rattle.ipl_base.specs.declared.limits.TheConstants.{CARRIED_SECTORS};
 ghost use Rattle.ipl_format.specs.Record.{SpellsLog, IsRecord, Record as LogRecord};
 ghost use Rattle.log_records.specs.View.{record_of};
 ghost use Rattle.merge_rules.specs.Packs.{payloads_of};
 ghost use Rattle.selective_merge.specs.Packing.{pack_open, IsAdded, masks_of_payloads};
 
-use ipl_base::OutOfMemory;
+use ipl_base::{CARRIED_SECTORS, OutOfMemory};
 use log_records::{Payload, Record, put};
 use std::alloc::Global;
 use std::mem::replace;
 use unit_log::mask_of;
-
-/// The most log sectors that a merge carries.
-const MOST: usize = 12;
 
 /// At most 12 payloads that are full, and one that is being filled. Memory is taken by `new` alone.
 #[derive(Drop)]
 pub struct Packs {
     closed: Vec<Payload>,
     last: Payload,
-    ghost room: { 12 ≤ vec_capacity closed },
-    ghost few: { length closed.items ≤ 12 },
+    ghost room: { CARRIED_SECTORS ≤ vec_capacity closed },
+    ghost few: { length closed.items ≤ CARRIED_SECTORS },
 }
 
 impl Packs {
@@ -29,7 +27,7 @@ impl Packs {
     pub fn new(alloc: Global) -> Result<Packs, OutOfMemory>
         ensures { IfOk result (λ packs. packs.closed.items ≡ []) }
     {
-        let closed = Vec::with_capacity(alloc, MOST)?;
+        let closed = Vec::with_capacity(alloc, CARRIED_SECTORS)?;
         Ok(Packs {
             closed,
             last: Payload::empty(),
@@ -48,7 +46,7 @@ impl Packs {
     /// The full payloads, at most 12.
     pub fn payloads(&self) -> &[Payload]
         ensures all { result.now ≡ self.now.closed.items }
-        ensures few { length result.now ≤ 12 }
+        ensures few { length result.now ≤ CARRIED_SECTORS }
     {
         &self.closed
     }
@@ -58,9 +56,9 @@ impl Packs {
         ensures closed { OnTrue result
             (self.new.closed.items ≡ self.old.closed.items ++ self.old.last ∷ []) }
         ensures last { OnTrue result (self.new.last ≡ []) }
-        ensures full { OnFalse result (12 ≤ length self.old.closed.items) }
+        ensures full { OnFalse result (CARRIED_SECTORS ≤ length self.old.closed.items) }
     {
-        if self.closed.len() >= MOST {
+        if self.closed.len() >= CARRIED_SECTORS {
             return false;
         }
         let full = replace(&mut self.last, Payload::empty());
@@ -76,7 +74,7 @@ impl Packs {
             → OnTrue result (IsAdded self.old.closed.items full (record_of logged.now)
             self.new.closed.items self.new.last) }
         ensures full { (full rest : List LogRecord) → SpellsLog self.old.last full
-            → OnFalse result (12 < length (self.old.closed.items
+            → OnFalse result (CARRIED_SECTORS < length (self.old.closed.items
             ++ payloads_of (pack_open full (record_of logged.now ∷ rest)))) }
     {
         if put(&mut self.last, logged) {
@@ -94,7 +92,7 @@ impl Packs {
             → OnTrue result (self.new.closed.items
             ≡ self.old.closed.items ++ payloads_of (pack_open full [])) }
         ensures full { (full : List LogRecord) → SpellsLog self.old.last full
-            → OnFalse result (12 < length (self.old.closed.items
+            → OnFalse result (CARRIED_SECTORS < length (self.old.closed.items
             ++ payloads_of (pack_open full []))) }
     {
         if self.last.bytes().is_empty() {
@@ -107,7 +105,7 @@ impl Packs {
 /// Which pages the records of each of these payloads name, at most 12: bit p is page p's. Behind them
 /// stand log sectors that name none.
 pub fn masks_of(payloads: &[Payload]) -> [u16; 15]
-    requires { length payloads.now ≤ 12 }
+    requires { length payloads.now ≤ CARRIED_SECTORS }
     ensures { result ≡ masks_of_payloads 15 payloads.now }
 {
     let mut masks = [0; 15];

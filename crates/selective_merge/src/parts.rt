@@ -1,5 +1,6 @@
 //! The tables of a store, as a merge needs them.
 ghost use Rattle.std.specs.Prelude.{◌≡◌, ◌≢◌, ◌<◌, ◌≤◌, ◌+◌, AllPairs, IfSome, [], length, slice_index, slice_set};
+ghost use Rattle.ipl_base.specs.declared.limits.TheConstants.{CARRIED_SECTORS};
 ghost use Rattle.ipl_meaning.specs.Mirrors.{AreApart, NoneIsLost};
 ghost use Rattle.ipl_meaning.specs.Tables.{IsFree, overflow_places};
 ghost use Rattle.ipl_meaning.specs.TableSteps.{IsMoved};
@@ -67,7 +68,7 @@ pub fn move_unit(
     requires unit { unit < length parts.old.directory.current }
     requires place { place < length parts.old.directory.in_use }
     requires another { place ≢ slice_index parts.old.directory.current unit }
-    requires few { used ≤ 12 }
+    requires few { used ≤ CARRIED_SECTORS }
     ensures moved { AllPairs AreApart (overflow_places (tables_of parts.old))
         → IsMoved (tables_of parts.old) (tables_of parts.new) unit place used }
     ensures told { TellsUnit (tables_of parts.old) (tables_of parts.new) unit generation masks }

@@ -1,5 +1,6 @@
 //! A unit written to a place that was free.
 ghost use Rattle.std.specs.Prelude.{◌≡◌, ◌≢◌, ◌<◌, ◌≤◌, ◌+◌, ◌^◌, length, is_ok, IfOk, OnOk};
+ghost use Rattle.ipl_base.specs.declared.limits.TheConstants.{CARRIED_SECTORS};
 ghost use Rattle.unit_io.specs.Accounts.{Accounts};
 ghost use Rattle.unit_io.specs.Charts.{Charts, Spares};
 ghost use Rattle.unit_io.specs.Costs.{ErasesOnce, ProgramsAt, Spends};
@@ -43,8 +44,8 @@ fn fill<C: Chip>(
     requires place { place < (C.told chip.old).places }
     requires another { home.now.place ≢ place }
     requires unit { head.now.unit ≡ home.now.head.unit }
-    requires twelve { length payloads.now ≤ 12 }
-    requires left { counter.old + 12 < 2 ^ 64 }
+    requires twelve { length payloads.now ≤ CARRIED_SECTORS }
+    requires left { counter.old + CARRIED_SECTORS < 2 ^ 64 }
     ensures fills { FillsPlace (C.told chip.old).places
         (from_home home.now status.now.numbers log.now) place head.now.generation counter.old
         payloads.now (C.told chip.old) result (C.told chip.new) }
@@ -84,7 +85,7 @@ fn seal_unit<C: Chip>(
 ) -> Result<(), ChipFault>
     requires place { place < (C.told chip.old).places }
     requires few { IsFew pieces }
-    requires twelve { carried ≤ 12 }
+    requires twelve { carried ≤ CARRIED_SECTORS }
     requires kind { head.now.kind ≡ 1 }
     requires serial { head.now.serial ≡ head.now.generation }
     ensures seals { SealsUnit (C.told chip.old).places place units head.now.unit
@@ -110,7 +111,7 @@ fn seal_unit<C: Chip>(
 
 /// How many payloads there are, at most 12.
 fn count_of(payloads: &[Payload]) -> u8
-    requires { length payloads.now ≤ 12 }
+    requires { length payloads.now ≤ CARRIED_SECTORS }
     ensures { result ≡ length payloads.now }
 {
     payloads.len() as u8
@@ -134,8 +135,8 @@ pub fn write_unit<C: Chip>(
     requires place { place < (C.told chip.old).places }
     requires another { home.now.place ≢ place }
     requires sized { units + 4 ≡ (C.told chip.old).places }
-    requires twelve { length payloads.now ≤ 12 }
-    requires left { counter.old + 12 < 2 ^ 64 }
+    requires twelve { length payloads.now ≤ CARRIED_SECTORS }
+    requires left { counter.old + CARRIED_SECTORS < 2 ^ 64 }
     ensures writes { WritesUnit (C.told chip.old).places
         (from_home home.now status.now.numbers log.now) place generation counter.old
         payloads.now (C.told chip.old) result (C.told chip.new) }

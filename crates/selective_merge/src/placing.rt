@@ -21,10 +21,7 @@ use crate::merging::merge_learnt;
 use crate::overflowing::open_overflow;
 use crate::spots::{OverflowChoice, home_spot, overflow_choice, packed_count};
 use chip_trait::Chip;
-use ipl_base::{ChipFault, Spot};
-
-/// The most carried sectors with which a unit is merged rather than given an overflow sector.
-const THRESHOLD: u32 = 7;
+use ipl_base::{ChipFault, MERGE_THRESHOLD, Spot};
 
 /// Merges the unit that was read, and answers its first clean log sector.
 fn merged_spot<C: Chip>(
@@ -159,7 +156,7 @@ pub fn log_place<C: Chip>(chip: &mut C, parts: &mut Parts, unit: u32) -> Result<
         &mut parts.scratch,
     )?;
     let carried = packed_count(&mut parts.scratch, &parts.active);
-    if carried <= THRESHOLD {
+    if carried <= MERGE_THRESHOLD {
         return merged_spot(chip, parts, unit, &home);
     }
     elsewhere(chip, parts, unit, &home)

@@ -1,6 +1,7 @@
 //! The pass over the units, which finds the numbers that a new status place keeps.
 ghost use Rattle.std.specs.Prelude.{◌≡◌, ◌<◌, ◌≤◌, ◌+◌, ◌*◌, ◌-◌, ◌^◌, ℕ, Some, true, IfErr, OnOk};
 ghost use Rattle.std.specs.Bool.{OnTrue};
+ghost use Rattle.ipl_base.specs.declared.limits.TheConstants.{MOST_UNITS};
 ghost use Rattle.chip_trait.specs.Story.{Contents};
 ghost use Rattle.ipl_meaning.specs.Chart.{Chart, chart_of};
 ghost use Rattle.ipl_meaning.specs.Layout.{Layout};
@@ -87,7 +88,7 @@ fn take_unit<C: Chip>(
 /// where one whose numbers don't fit is merged.
 fn pass<C: Chip>(chip: &mut C, parts: &mut Parts, kept: &mut KeptNumbers) -> Result<(), ChipFault>
     requires known { KnowsPlaces (C.told chip.old).places (tables_of parts.old) }
-    requires left { parts.old.counter + 13 * 1024 < 2 ^ 64 }
+    requires left { parts.old.counter + 13 * MOST_UNITS < 2 ^ 64 }
     ensures passes { (places : ℕ) (x : Contents) (it : Layout)
         → (C.told chip.old).places ≡ places → (C.told chip.old).contents ≡ Some x
         → Mirrors places (chart_of x) it (tables_of parts.old)
@@ -107,7 +108,7 @@ fn pass<C: Chip>(chip: &mut C, parts: &mut Parts, kept: &mut KeptNumbers) -> Res
         (C.told chip.old) result (C.told chip.new) }
     ensures holds { Holds (C.told chip.old).places (tables_of parts.old) (tables_of parts.new) }
     ensures draws { (parts.old.counter ≤ parts.new.counter)
-        × (parts.new.counter ≤ parts.old.counter + 13 * 1024) }
+        × (parts.new.counter ≤ parts.old.counter + 13 * MOST_UNITS) }
     ensures costs { Spends (ErasesAtMost ((C.told chip.old).places - 4))
         (C.told chip.old) (C.told chip.new) }
     ensures tidy { Tidies (tables_of parts.old) result (tables_of parts.new)
@@ -131,7 +132,7 @@ pub fn find_numbers<C: Chip>(
     found: bool,
 ) -> Result<(), ChipFault>
     requires known { KnowsPlaces (C.told chip.old).places (tables_of parts.old) }
-    requires left { parts.old.counter + 13 * 1024 < 2 ^ 64 }
+    requires left { parts.old.counter + 13 * MOST_UNITS < 2 ^ 64 }
     requires exact { found ≡ true → KeepsAll (C.told chip.old).places (tables_of parts.old) kept.old
         (C.told chip.old) }
     ensures passes { (places : ℕ) (x : Contents) (it : Layout)
@@ -153,7 +154,7 @@ pub fn find_numbers<C: Chip>(
         (C.told chip.old) result (C.told chip.new) }
     ensures holds { Holds (C.told chip.old).places (tables_of parts.old) (tables_of parts.new) }
     ensures draws { (parts.old.counter ≤ parts.new.counter)
-        × (parts.new.counter ≤ parts.old.counter + 13 * 1024) }
+        × (parts.new.counter ≤ parts.old.counter + 13 * MOST_UNITS) }
     ensures costs { Spends (ErasesAtMost ((C.told chip.old).places - 4))
         (C.told chip.old) (C.told chip.new) }
     ensures tidy { Tidies (tables_of parts.old) result (tables_of parts.new)

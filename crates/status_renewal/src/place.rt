@@ -1,5 +1,6 @@
 //! The status place, renewed in all tables.
 ghost use Rattle.std.specs.Prelude.{◌≡◌, ◌≤◌, ◌<◌, ◌+◌, ◌^◌, ℕ, length, Some, OnOk, OnErr, is_ok};
+ghost use Rattle.ipl_base.specs.declared.limits.TheConstants.{KEPT_NUMBERS};
 ghost use Rattle.ipl_meaning.specs.Tables.{IsFree, Tables};
 ghost use Rattle.merge_rules.specs.Known.{KnowsPlaces};
 ghost use Rattle.number_set.specs.Numbers.{AreRising};
@@ -36,7 +37,7 @@ pub fn renew_place<C: Chip>(
     requires held { ¬ IsFree directory.old status.old.place }
     requires placed { status.old.place < (C.told chip.old).places }
     requires rising { AreRising kept.now }
-    requires few { length kept.now ≤ 3840 }
+    requires few { length kept.now ≤ KEPT_NUMBERS }
     requires left { counter.old + 65 < 2 ^ 64 }
 
     // What the tables have, whatever the chip tells.

@@ -1,5 +1,6 @@
 //! A name is changed.
 ghost use Rattle.std.specs.Prelude.{◌≡◌, ◌<◌, ◌+◌, ◌-◌, ◌*◌, ◌^◌, ◌≤◌, length, None, OnOk};
+ghost use Rattle.ipl_base.specs.declared.limits.TheConstants.{VALUE_LEN};
 ghost use Rattle.ipl_base.specs.Places.{home_of};
 ghost use Rattle.ipl_format.specs.Record.{IsRecord, value_of};
 ghost use Rattle.log_records.specs.View.{change_of, record_of};
@@ -82,7 +83,7 @@ fn has_spelling(rec: &Record)
 // How many bytes the value of a change has, at most 108.
 fn value_len(change: &Change) -> usize
     ensures len { result ≡ length (value_of (change_of change.now)) }
-    ensures short { result ≤ 108 }
+    ensures short { result ≤ VALUE_LEN }
 {
     match change {
         Change::Put(value) => value.bytes().len(),

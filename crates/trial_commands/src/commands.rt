@@ -1,9 +1,11 @@
 //! The commands of a trial, one after another.
 ghost use Rattle.std.specs.Prelude.{◌≡◌, ◌∷◌, ◌+◌, ◌*◌, ◌/◌, ◌%◌, ◌<◌, ◌≤◌, ℕ};
+ghost use Rattle.ipl_base.specs.declared.limits.TheConstants.{MOST_UNITS};
 ghost use Rattle.rand_xoshiro.specs.SplitMix64.{mix_u64};
 ghost use Rattle.trial_commands.specs.Source.{Source};
 ghost use Rattle.trial_commands.specs.Words.{IsOfTrial, command_of_word, commands_from, name_of, operation_of, put_bytes, session_of};
 
+use ipl_base::VALUE_LEN;
 use ipl_model::{Command, PutBytes};
 use rand_core::SeedableRng;
 use rand_core::utils::NextWord;
@@ -33,7 +35,7 @@ fn operation(word: u64) -> u64
 
 /// The name that a word says, in a store of so many units.
 fn name(units: u32, word: u64) -> u32
-    requires { units ≤ 1024 }
+    requires { units ≤ MOST_UNITS }
     ensures { result ≡ name_of units word }
 {
     (word / 128 % 512) as u32 * units
@@ -45,7 +47,7 @@ fn bytes(word: u64) -> PutBytes
 {
     let len = (word / 65536 % 109) as usize;
     let first = word / 4_294_967_296;
-    let mut bytes = [0u8; 108];
+    let mut bytes = [0u8; VALUE_LEN];
     for i in 0..len {
         bytes[i] = ((first + i as u64) % 256) as u8;
     }
@@ -55,7 +57,7 @@ fn bytes(word: u64) -> PutBytes
 /// The command that a word says, in a store of so many units.
 #[tactic(auto, unfolding(crate::specs::Words::command_of_word))]
 fn command(units: u32, word: u64) -> Command
-    requires { units ≤ 1024 }
+    requires { units ≤ MOST_UNITS }
     ensures value { result ≡ command_of_word units word }
     ensures kind { IsOfTrial result }
 {
@@ -83,13 +85,13 @@ impl Model for TrialCommands {
 
     ghost view = { λ v. record { units = v.units; state = v.words } };
 
-    ghost invariant = { λ v. v.units ≤ 1024 };
+    ghost invariant = { λ v. v.units ≤ MOST_UNITS };
 }
 
 impl TrialCommands {
     /// The commands of a seed, for a store of at most 1,024 units.
     pub fn of(units: u32, seed: u32) -> TrialCommands
-        requires { units ≤ 1024 }
+        requires { units ≤ MOST_UNITS }
         ensures { result ≡ record { units = units; state = seed } }
     {
         TrialCommands {

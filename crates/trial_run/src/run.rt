@@ -1,5 +1,6 @@
 //! A whole trial.
 ghost use Rattle.std.specs.Prelude.{◌≡◌, ◌≤◌, IfErr};
+ghost use Rattle.ipl_base.specs.declared.limits.TheConstants.{MOST_UNITS};
 ghost use Rattle.chip_trait.specs.Told.{Told};
 ghost use Rattle.store_trait.specs.Onward.{Onward};
 ghost use Rattle.store_trait.specs.Keeping.{SCRIPT_DRAWS};
@@ -26,7 +27,7 @@ pub fn run_trial<S: Store, D: Desk>(
     seed: u32,
     count: u32,
 ) -> Result<(), Stop>
-    requires units { units ≤ 1024 }
+    requires units { units ≤ MOST_UNITS }
     requires suits { S.keeping.suits store.old (D.told desk.old).places }
     ensures run { RunsTrial S.keeping (trial_commands units seed count) store.old (D.told desk.old)
         result store.new (D.told desk.new) }

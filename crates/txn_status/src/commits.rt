@@ -1,5 +1,6 @@
 //! Commit sectors, encoded and programmed.
 ghost use Rattle.std.specs.Prelude.{◌≡◌, ◌≤◌, ◌<◌, ◌+◌, ◌++◌, length, OnOk, is_ok};
+ghost use Rattle.ipl_base.specs.declared.limits.TheConstants.{PAYLOAD_LEN};
 ghost use Rattle.ipl_format.specs.Numbers.{long};
 ghost use Rattle.unit_io.specs.Accounts.{Accounts};
 ghost use Rattle.unit_io.specs.Leads.{IsStopped};
@@ -19,7 +20,7 @@ use unit_io::{add_commit, prepare_commit};
 /// Puts the eight bytes of a number behind others.
 #[tactic(auto, unfolding(ipl_format::specs::Numbers::long))]
 fn put(bytes: &mut ArrayVec<u8, PAYLOAD_LEN>, number: u64)
-    requires { length bytes.old.items + 8 ≤ 480 }
+    requires { length bytes.old.items + 8 ≤ PAYLOAD_LEN }
     ensures bytes { bytes.new.items ≡ bytes.old.items ++ long number }
     ensures len { length bytes.new.items ≡ length bytes.old.items + 8 }
 {
@@ -30,7 +31,7 @@ fn put(bytes: &mut ArrayVec<u8, PAYLOAD_LEN>, number: u64)
 fn payload_of(numbers: &[u64]) -> ArrayVec<u8, PAYLOAD_LEN>
     requires { length numbers.now ≤ 60 }
     ensures bytes { result.items ≡ commit_bytes numbers.now }
-    ensures fits { length result.items ≤ 480 }
+    ensures fits { length result.items ≤ PAYLOAD_LEN }
 {
     let mut bytes = ArrayVec::new();
     for number in numbers {

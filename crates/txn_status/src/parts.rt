@@ -1,5 +1,6 @@
 //! Numbers and a header, put on a new status place.
 ghost use Rattle.std.specs.Prelude.{◌≡◌, ◌≤◌, ◌<◌, ◌+◌, ◌*◌, ◌^◌, length, OnOk, is_ok};
+ghost use Rattle.ipl_base.specs.declared.limits.TheConstants.{KEPT_NUMBERS};
 ghost use Rattle.unit_io.specs.Accounts.{Accounts};
 ghost use Rattle.unit_io.specs.Leads.{IsStopped};
 ghost use Rattle.unit_io.specs.Costs.{ProgramsAt, Spends};
@@ -20,7 +21,7 @@ use unit_layout::write_status_header;
 
 /// How many commit sectors numbers fill, at most 3,840 of them.
 pub fn part_count(numbers: &[u64]) -> u32
-    requires { length numbers.now ≤ 3840 }
+    requires { length numbers.now ≤ KEPT_NUMBERS }
     ensures parts { result ≡ parts_of numbers.now }
     ensures few { result ≤ 64 }
 {
@@ -48,7 +49,7 @@ pub fn write_parts<C: Chip>(
     numbers: &[u64],
 ) -> Result<(), ChipFault>
     requires place { place < (C.told chip.old).places }
-    requires few { length numbers.now ≤ 3840 }
+    requires few { length numbers.now ≤ KEPT_NUMBERS }
     requires left { counter.old + 64 < 2 ^ 64 }
     ensures keeps { LeadsParts (C.told chip.old).places place generation counter.old numbers.now
         (C.told chip.old) result (C.told chip.new) }

@@ -1,5 +1,6 @@
 //! The commit sectors of a place are read.
 ghost use Rattle.std.specs.Prelude.{◌≡◌, ◌<◌, ◌≤◌, ◌+◌, ℕ, max, length, Some, [], IfOk, IfErr, IfSome, OnOk};
+ghost use Rattle.ipl_base.specs.declared.limits.TheConstants.{PAYLOAD_LEN, STATUS_NUMBERS};
 ghost use Rattle.ipl_base.specs.declared.fault.ChipFault.TheVariants.{Malformed};
 ghost use Rattle.ipl_format.specs.Sector.{Sector};
 ghost use Rattle.sector_format.specs.Decode.{sector_of};
@@ -68,7 +69,7 @@ fn take_found(
     greatest: u64,
 ) -> Result<u64, ChipFault>
     requires kind { IfSome found (λ it. it.0.kind ≡ 6) }
-    requires fits { IfSome found (λ it. it.1 ≤ 480) }
+    requires fits { IfSome found (λ it. it.1 ≤ PAYLOAD_LEN) }
     requires room { length numbers.old.list + 60 ≤ numbers.old.most }
     ensures numbers { OnOk result (numbers.new.list ≡ with_numbers (numbers_of
         (kept (is_commit_of generation) (sector_named bytes.now found))) numbers.old.list) }
@@ -156,11 +157,11 @@ pub fn read_commits<C: Chip>(
     numbers: &mut NumberSet,
 ) -> Result<u64, ChipFault>
     requires place { place < (C.told chip.old).places }
-    requires room { 15300 ≤ numbers.old.most }
+    requires room { STATUS_NUMBERS ≤ numbers.old.most }
     ensures numbers { OnOk result (OfContents (C.told chip.old) (λ x.
         numbers.new.list
         ≡ with_numbers (committed_numbers (chart_of x) (under place generation)) [])) }
-    ensures few { length numbers.new.list ≤ 15300 }
+    ensures few { length numbers.new.list ≤ STATUS_NUMBERS }
     ensures most { numbers.new.most ≡ numbers.old.most }
     ensures number { IfOk result (λ n. OfContents (C.told chip.old) (λ x.
         n ≡ greatest_of_commits 0 (chart_of x) (under place generation) sectors)) }

@@ -1,5 +1,6 @@
 //! The status of transactions.
 ghost use Rattle.std.specs.Prelude.{◌≡◌, ◌≤◌, ◌<◌, ◌+◌, ◌^◌, ◌↔◌, ℕ, length, Contains, IfOk, IfErr, IsTrue, OnOk, OnErr, is_ok};
+ghost use Rattle.ipl_base.specs.declared.limits.TheConstants.{KEPT_NUMBERS, STATUS_NUMBERS};
 ghost use Rattle.ipl_base.specs.Places.{IsGeometry};
 ghost use Rattle.ipl_format.specs.Sector.{Sector};
 ghost use Rattle.ipl_meaning.specs.Chart.{chart_of};
@@ -22,14 +23,11 @@ use crate::commits::write_commit;
 use crate::parts::{part_count, seal_status, write_parts};
 use crate::reading::{read_commits, read_generation};
 use chip_trait::Chip;
-use ipl_base::{ChipFault, Counter, Geometry, OutOfMemory, SECTORS, Spot};
+use ipl_base::{ChipFault, Counter, Geometry, OutOfMemory, SECTORS, STATUS_NUMBERS, Spot};
 use number_set::NumberSet;
 use std::alloc::Global;
 use std::marker::Model;
 use unit_io::begin_unit;
-
-/// As many numbers as the commit sectors of a place have room for: 60 in each of 255.
-const MOST: usize = 15_300;
 
 /// The committed numbers, the status place with its generation, and the first of its sectors that
 /// is known clean (1 to 255, or 256 where none is). A contract sees the numbers as a list in rising
@@ -44,6 +42,7 @@ pub struct Status {
 
 impl Model for Status {
     ghost use Rattle.std.specs.Prelude.{◌≡◌};
+    ghost use Rattle.ipl_base.specs.declared.limits.TheConstants.{STATUS_NUMBERS};
     ghost use Rattle.ipl_meaning.specs.Tables.{Status};
     ghost use Rattle.txn_status.specs.Status.{IsSoundStatus};
 
@@ -62,7 +61,7 @@ impl Model for Status {
       generation = s.generation;
       numbers = s.numbers.list;
       first = s.first;
-    }) × (s.numbers.most ≡ 15300) };
+    }) × (s.numbers.most ≡ STATUS_NUMBERS) };
 }
 
 impl Status {
@@ -71,7 +70,7 @@ impl Status {
     pub fn new(alloc: Global, _geometry: Geometry) -> Result<Status, OutOfMemory>
         ensures { IfOk result (λ status. status ≡ empty_status) }
     {
-        let numbers = NumberSet::new(alloc, MOST)?;
+        let numbers = NumberSet::new(alloc, STATUS_NUMBERS)?;
         Ok(Status {
             place: 0,
             generation: 0,
@@ -242,7 +241,7 @@ impl Status {
         requires size { IsGeometry (C.told chip.old).places }
         requires place { place < (C.told chip.old).places }
         requires rising { AreRising kept.now }
-        requires few { length kept.now ≤ 3840 }
+        requires few { length kept.now ≤ KEPT_NUMBERS }
         requires left { counter.old + 65 < 2 ^ 64 }
         ensures switched { OnOk result (self.new ≡ switched_to place counter.old kept.now) }
         ensures same { OnErr result (self.new ≡ self.old) }

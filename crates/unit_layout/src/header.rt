@@ -1,9 +1,11 @@
 //! The payload of a data header.
 ghost use Rattle.std.specs.Prelude.{◌≡◌, ◌≤◌, ◌++◌, ◌↔◌, [], ◌∷◌, ℕ, List, IsTrue, IfSome, IfNone, All, drop, length, take};
+ghost use Rattle.ipl_base.specs.declared.limits.TheConstants.{CARRIED_SECTORS};
 ghost use Rattle.ipl_format.specs.Header.{IsCount, SpellsDataHeader};
 ghost use Rattle.ipl_format.specs.Numbers.{word};
 ghost use Rattle.unit_layout.specs.Header.{SpellsHeader};
 
+use ipl_base::{CARRIED_SECTORS, PAGE_SECTORS};
 use ipl_format::word_at;
 
 /// What a data header says of its unit. The table is in docs/FORMAT.md, "Header payloads".
@@ -35,7 +37,7 @@ fn write_counts(pieces: &[u8; 15], out: &mut [u8; 20])
 /// Writes the payload of a data header, whose pages have at most 16 base sectors each, and at most 12 log sectors carried.
 pub fn write_data_header(header: &DataHeader, out: &mut [u8; 20])
     requires pieces { All IsCount header.now.pieces }
-    requires carried { header.now.carried ≤ 12 }
+    requires carried { header.now.carried ≤ CARRIED_SECTORS }
     ensures { SpellsHeader header.now out.new }
 {
     let units = header.units;
@@ -47,13 +49,13 @@ pub fn write_data_header(header: &DataHeader, out: &mut [u8; 20])
 fn are_counts(bytes: &[u8]) -> bool
     ensures { IsTrue result ↔ All IsCount bytes.now }
 {
-    bytes.iter().all(|count| *count <= 16)
+    bytes.iter().all(|count| u32::from(*count) <= PAGE_SECTORS)
 }
 
 fn may_be_carried(count: u8) -> bool
-    ensures { IsTrue result ↔ (count ≤ 12) }
+    ensures { IsTrue result ↔ (count ≤ CARRIED_SECTORS) }
 {
-    count <= 12
+    usize::from(count) <= CARRIED_SECTORS
 }
 
 // The counts of the pages, bytes 4 to 19.

@@ -1,5 +1,6 @@
 //! The live log sectors of a unit.
 ghost use Rattle.std.specs.Prelude.{◌≡◌, ◌<◌, ◌≤◌, ◌+◌, ℕ, List, length, slice_index, Some, IsSomeAnd, IfOk, IfSome, OnOk, MatchResult, All};
+ghost use Rattle.ipl_base.specs.declared.limits.TheConstants.{PAGE_SECTORS, PAYLOAD_LEN};
 ghost use Rattle.chip_trait.specs.Told.{Told};
 ghost use Rattle.ipl_base.specs.declared.fault.ChipFault.TheVariants.{ReadFault};
 ghost use Rattle.ipl_format.specs.Header.{SpellsDataHeader};
@@ -34,14 +35,14 @@ pub struct UnitHead {
 
 /// The header of this unit that was found, or none.
 fn header_in(found: Option<(Head, usize)>, bytes: &[u8; 512], unit: u32) -> Option<UnitHead>
-    requires { IfSome found (λ it. it.1 ≤ 480) }
+    requires { IfSome found (λ it. it.1 ≤ PAYLOAD_LEN) }
     ensures some { (head : Sector) (units : ℕ) → sector_named bytes.now found ≡ Some head
         → head.kind ≡ 1 → head.unit ≡ unit
         → (pieces : List ℕ) → SpellsDataHeader units pieces head.payload
         → IsSomeAnd result (λ r. (r.generation ≡ head.generation) × (r.pieces ≡ pieces)) }
     ensures found { IfSome result (λ r. (head : Sector)
         × (sector_named bytes.now found ≡ Some head) × SaysHead head unit r) }
-    ensures few { IfSome result (λ r. All (λ n. n ≤ 16) r.pieces) }
+    ensures few { IfSome result (λ r. All (λ n. n ≤ PAGE_SECTORS) r.pieces) }
 {
     let (head, used) = found?;
     if head.kind != Head::DATA_HEADER || head.unit != unit {
@@ -64,7 +65,7 @@ fn read_header<C: Chip>(chip: &mut C, place: u32, unit: u32) -> Result<UnitHead,
         (λ fault. fault ≡ ReadFault)) }
     ensures header { IfOk result (λ r. OfContents (C.told chip.old) (λ x.
         IsHeaded (chart_of x) place unit r)) }
-    ensures few { IfOk result (λ r. All (λ n. n ≤ 16) r.pieces) }
+    ensures few { IfOk result (λ r. All (λ n. n ≤ PAGE_SECTORS) r.pieces) }
     ensures looks { LooksAt (IsAt place 0) result (C.told chip.old) (C.told chip.new) }
     ensures one { AddsAtMost 1 (C.told chip.old) (C.told chip.new) }
 {
@@ -98,7 +99,7 @@ pub fn read_live<C: Chip>(
         MatchResult result (λ head. IsLive it unit head scratch.new) (λ fault. fault ≡ ReadFault)) }
     ensures header { IfOk result (λ head. OfContents (C.told chip.old) (λ x.
         IsHeaded (chart_of x) (slice_index directory.now.current unit) unit head)) }
-    ensures few { IfOk result (λ head. All (λ n. n ≤ 16) head.pieces) }
+    ensures few { IfOk result (λ head. All (λ n. n ≤ PAGE_SECTORS) head.pieces) }
     ensures looks { LooksAt
         (IsLogRead (slice_index directory.now.current unit) (spots_in overflow.now unit))
         result (C.told chip.old) (C.told chip.new) }
@@ -147,7 +148,7 @@ pub fn read_page_log<C: Chip>(
     ensures as_many { OnOk result (OfMirrored (C.told chip.old) directory.now overflow.now (λ it.
         length (page_spots directory.now overflow.now unit page)
         ≡ length (of_page page (it.units unit).log))) }
-    ensures few { IfOk result (λ head. All (λ n. n ≤ 16) head.pieces) }
+    ensures few { IfOk result (λ head. All (λ n. n ≤ PAGE_SECTORS) head.pieces) }
     ensures looks { LooksAt
         (IsPageLogRead (slice_index directory.now.current unit)
         (page_spots directory.now overflow.now unit page))

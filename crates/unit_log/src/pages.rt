@@ -1,5 +1,6 @@
 //! Which log sectors of a unit name a page.
 ghost use Rattle.std.specs.Prelude.{◌≡◌, ◌≤◌, ◌<◌, ◌+◌, ◌++◌, ℕ, length, map, slice_index, [], All};
+ghost use Rattle.ipl_base.specs.declared.limits.TheConstants.{LIVE_SECTORS};
 ghost use Rattle.ipl_meaning.specs.Masks.{has_page, mask_of};
 ghost use Rattle.ipl_meaning.specs.Tables.{masks_in};
 ghost use Rattle.log_records.specs.Reading.{records_of};
@@ -7,13 +8,10 @@ ghost use Rattle.overflow.specs.Lists.{pair_of, spots_in, masks_at, AreWithin};
 ghost use Rattle.unit_log.specs.Paged.{home_with, listed_with, page_spots};
 
 use arrayvec::ArrayVec;
-use ipl_base::{FIRST_LOG_SECTOR, SECTORS, Spot};
+use ipl_base::{FIRST_LOG_SECTOR, LIVE_SECTORS, SECTORS, Spot};
 use log_records::{Payload, records};
 use overflow::Overflow;
 use unit_directory::Directory;
-
-/// The most log sectors that a unit has: 15 at home, and 16 elsewhere.
-const MOST: usize = 31;
 
 /// Which pages the records of a log sector name: bit p is page p's.
 pub fn mask_of(payload: &Payload) -> u16
@@ -37,7 +35,7 @@ fn has_page(mask: u16, page: u32) -> bool
 }
 
 /// Puts those log sectors at the unit's place among the spots that name the page.
-fn add_home(spots: &mut ArrayVec<Spot, MOST>, directory: &Directory, unit: u32, page: u32)
+fn add_home(spots: &mut ArrayVec<Spot, LIVE_SECTORS>, directory: &Directory, unit: u32, page: u32)
     requires unit { unit < length directory.now.current }
     requires page { page < 15 }
     requires none { spots.old.items ≡ [] }
@@ -54,13 +52,13 @@ fn add_home(spots: &mut ArrayVec<Spot, MOST>, directory: &Directory, unit: u32, 
 }
 
 /// Puts those of its spots in overflow places among them.
-fn add_listed(spots: &mut ArrayVec<Spot, MOST>, overflow: &Overflow, unit: u32, page: u32)
+fn add_listed(spots: &mut ArrayVec<Spot, LIVE_SECTORS>, overflow: &Overflow, unit: u32, page: u32)
     requires unit { unit < length overflow.now.spots }
     requires page { page < 15 }
     requires few { length spots.old.items ≤ 15 }
     ensures spots { map pair_of spots.new.items ≡ map pair_of spots.old.items
         ++ listed_with page (spots_in overflow.now unit) (masks_at overflow.now unit) }
-    ensures few { length spots.new.items ≤ 31 }
+    ensures few { length spots.new.items ≤ LIVE_SECTORS }
     ensures within { AreWithin (length overflow.now.spots + 4) (spots_in overflow.now unit) }
 {
     let all = overflow.list(unit);
@@ -79,12 +77,12 @@ pub fn page_spots(
     overflow: &Overflow,
     unit: u32,
     page: u32,
-) -> ArrayVec<Spot, MOST>
+) -> ArrayVec<Spot, LIVE_SECTORS>
     requires unit { unit < length directory.now.current }
     requires units { length overflow.now.spots ≡ length directory.now.current }
     requires page { page < 15 }
     ensures spots { map pair_of result.items ≡ page_spots directory.now overflow.now unit page }
-    ensures few { length result.items ≤ 31 }
+    ensures few { length result.items ≤ LIVE_SECTORS }
     ensures within { AreWithin (length directory.now.in_use)
         (page_spots directory.now overflow.now unit page) }
 {

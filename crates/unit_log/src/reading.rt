@@ -1,5 +1,6 @@
 //! Log sectors are read, and those of the unit are kept.
 ghost use Rattle.std.specs.Prelude.{◌≡◌, ◌≤◌, ◌<◌, ◌+◌, ◌-◌, [], ◌∷◌, length, map, Some, IfErr, IfSome, OnOk};
+ghost use Rattle.ipl_base.specs.declared.limits.TheConstants.{LIVE_SECTORS, OVERFLOW_SECTORS, PAYLOAD_LEN};
 ghost use Rattle.chip_trait.specs.Told.{Told};
 ghost use Rattle.ipl_base.specs.declared.fault.ChipFault.TheVariants.{Malformed};
 ghost use Rattle.overflow.specs.Lists.{pair_of, AreWithin};
@@ -18,8 +19,8 @@ use unit_io::read_log;
 
 /// Keeps a log sector with this payload, or tells why it can't be one of the unit's.
 fn keep(scratch: &mut Scratch, spot: Spot, serial: u64, payload: &[u8]) -> Result<(), ChipFault>
-    requires room { length scratch.old < 31 }
-    requires fits { length payload.now ≤ 480 }
+    requires room { length scratch.old < LIVE_SECTORS }
+    requires fits { length payload.now ≤ PAYLOAD_LEN }
     ensures kept { OnOk result (scratch.new
         ≡ with_found (Some (record { serial = serial; payload = payload.now })) scratch.old) }
     ensures unfit { IfErr result (λ fault.
@@ -49,8 +50,8 @@ fn take_found(
     found: Option<(Head, usize)>,
     bytes: &[u8; 512],
 ) -> Result<(), ChipFault>
-    requires room { length scratch.old < 31 }
-    requires fits { IfSome found (λ it. it.1 ≤ 480) }
+    requires room { length scratch.old < LIVE_SECTORS }
+    requires fits { IfSome found (λ it. it.1 ≤ PAYLOAD_LEN) }
     ensures kept { OnOk result (scratch.new
         ≡ with_found (kept_if unit generation (sector_named bytes.now found)) scratch.old) }
     ensures unfit { IfErr result (λ fault.
@@ -79,7 +80,7 @@ fn read_spot<C: Chip>(
 ) -> Result<(), ChipFault>
     requires place { spot.place < (C.told chip.old).places }
     requires sector { spot.sector < 256 }
-    requires room { length scratch.old < 31 }
+    requires room { length scratch.old < LIVE_SECTORS }
     ensures gathers { Gathers (C.told chip.old) unit generation (pair_of spot ∷ [])
         scratch.old scratch.new result }
     ensures count { length scratch.new ≤ length scratch.old + 1 }
@@ -104,7 +105,7 @@ fn read_home<C: Chip>(
     requires place { place < (C.told chip.old).places }
     requires least { 241 ≤ end }
     requires most { end ≤ 256 }
-    requires room { length scratch.old ≤ 16 }
+    requires room { length scratch.old ≤ OVERFLOW_SECTORS }
     ensures gathers { Gathers (C.told chip.old) unit generation (spots_from place 241 (end - 241))
         scratch.old scratch.new result }
     ensures count { length scratch.new ≤ length scratch.old + 15 }
@@ -125,7 +126,7 @@ pub fn read_listed<C: Chip>(
     scratch: &mut Scratch,
 ) -> Result<(), ChipFault>
     requires within { AreWithin (C.told chip.old).places (map pair_of spots.now) }
-    requires room { length scratch.old + length spots.now ≤ 31 }
+    requires room { length scratch.old + length spots.now ≤ LIVE_SECTORS }
     ensures gathers { Gathers (C.told chip.old) unit generation (map pair_of spots.now)
         scratch.old scratch.new result }
     ensures looks { LooksAt (IsListed (map pair_of spots.now)) result
@@ -152,7 +153,7 @@ pub fn read_sectors<C: Chip>(
     requires least { 241 ≤ end }
     requires most { end ≤ 256 }
     requires within { AreWithin (C.told chip.old).places (map pair_of spots.now) }
-    requires few { length spots.now ≤ 16 }
+    requires few { length spots.now ≤ OVERFLOW_SECTORS }
     requires none { scratch.old ≡ [] }
     ensures gathers { Gathers (C.told chip.old) unit generation
         (log_spots place end (map pair_of spots.now)) scratch.old scratch.new result }

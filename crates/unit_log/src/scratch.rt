@@ -2,15 +2,13 @@
 ghost use Rattle.std.specs.Prelude.{◌≡◌, ◌≤◌, ◌<◌, ◌+◌, [], ◌∷◌, not, length, vec_capacity, vec_len, IfOk, Bool};
 ghost use Rattle.std.specs.List.{insert};
 ghost use Rattle.std.specs.Bool.{OnTrue, OnFalse};
+ghost use Rattle.ipl_base.specs.declared.limits.TheConstants.{LIVE_SECTORS};
 ghost use Rattle.unit_log.specs.Kept.{has_serial, with_kept, rank_of, AreRising};
 
-use ipl_base::OutOfMemory;
+use ipl_base::{LIVE_SECTORS, OutOfMemory};
 use log_records::Payload;
 use std::alloc::Global;
 use std::marker::Model;
-
-/// The most log sectors that a unit has: 15 at home, and 16 elsewhere.
-const MOST: usize = 31;
 
 /// A log sector: its serial, and its records.
 #[derive(Drop)]
@@ -28,6 +26,7 @@ pub struct Scratch {
 
 impl Model for Scratch {
     ghost use Rattle.std.specs.Prelude.{List, length, vec_capacity, ◌≤◌};
+    ghost use Rattle.ipl_base.specs.declared.limits.TheConstants.{LIVE_SECTORS};
     ghost use Rattle.unit_log.specs.declared.scratch.LogSector.{LogSector};
     ghost use Rattle.unit_log.specs.Kept.{AreRising};
 
@@ -35,8 +34,8 @@ impl Model for Scratch {
 
     ghost view = { λ s. s.sectors.items };
 
-    ghost invariant = { λ s. (length s.sectors.items ≤ 31)
-        × (31 ≤ vec_capacity s.sectors)
+    ghost invariant = { λ s. (length s.sectors.items ≤ LIVE_SECTORS)
+        × (LIVE_SECTORS ≤ vec_capacity s.sectors)
         × AreRising s.sectors.items };
 }
 
@@ -87,7 +86,7 @@ impl Scratch {
     pub fn new(alloc: Global) -> Result<Scratch, OutOfMemory>
         ensures { IfOk result (λ scratch. scratch ≡ []) }
     {
-        let sectors = Vec::with_capacity(alloc, MOST)?;
+        let sectors = Vec::with_capacity(alloc, LIVE_SECTORS)?;
         Ok(Scratch { sectors })
     }
 
@@ -101,7 +100,7 @@ impl Scratch {
     /// The log sectors, in rising order of their serials.
     pub fn sectors(&self) -> &[LogSector]
         ensures sectors { result.now ≡ self.now }
-        ensures few { length result.now ≤ 31 }
+        ensures few { length result.now ≤ LIVE_SECTORS }
         ensures rising { AreRising result.now }
     {
         self.sectors.as_slice()
@@ -109,7 +108,7 @@ impl Scratch {
 
     /// What always holds: there are at most 31, and their serials rise.
     pub fn facts(&self)
-        ensures few { length self.now ≤ 31 }
+        ensures few { length self.now ≤ LIVE_SECTORS }
         ensures rising { AreRising self.now }
     {
         let _ = &self.sectors;
@@ -117,7 +116,7 @@ impl Scratch {
 
     /// Puts a log sector in, unless one has its serial. There must be room.
     pub(crate) fn insert(&mut self, serial: u64, payload: Payload) -> bool
-        requires { length self.old < 31 }
+        requires { length self.old < LIVE_SECTORS }
         ensures told { result ≡ not (has_serial serial self.old) }
         ensures done { OnTrue result
             (self.new ≡ with_kept (record { serial = serial; payload = payload }) self.old) }

@@ -8,7 +8,7 @@ ghost use Rattle.ipl_model.specs.Plain.{state_of, limits_of, keeps_from};
 use super::PlainModel;
 use super::locks::{Lock, holder, pending_writes};
 use super::scan::{count_in_unit, count_names, newest};
-use ipl_base::{PENDING_NAMES, Refusal, UNIT_NAMES, Value};
+use ipl_base::{PENDING_NAMES, Refusal, UNIT_NAMES, VALUE_LEN, Value};
 use ipl_rules::{has_bad_session, least_twice};
 use std::alloc::AllocError;
 
@@ -184,7 +184,7 @@ impl PlainModel {
         if self.is_bad_name(name) {
             return Ok(Some(Refusal::BadName));
         }
-        if bytes.len() > 108 {
+        if bytes.len() > VALUE_LEN {
             return Ok(Some(Refusal::TooLong));
         }
         self.refuses_write(s, name)

@@ -54,8 +54,8 @@ returns-in_err-home-clause-tells g c =
     old.places (tables_of c.args.parts.now) old
     (g.C.Chip.told c.learn.new.chip) c.in_err-home.ensures.looks.reads)
 
-pub returns-then-carried-le-THRESHOLD-clause-steps : goal.returns-then-carried-le-THRESHOLD-clause-steps
-returns-then-carried-le-THRESHOLD-clause-steps g c =
+pub returns-then-carried-le-MERGE_THRESHOLD-clause-steps : goal.returns-then-carried-le-MERGE_THRESHOLD-clause-steps
+returns-then-carried-le-MERGE_THRESHOLD-clause-steps g c =
     let old = g.C.Chip.told c.args.chip.now in
     let mid = g.C.Chip.told c.learn.new.chip in
     let new = g.C.Chip.told c.merged_spot.new.chip in
@@ -64,7 +64,7 @@ returns-then-carried-le-THRESHOLD-clause-steps g c =
     let u = c.args.unit in
     let reads = c.in_ok-home.ensures.looks.reads in
     let full : ¬ HasHomeSpot t u = λ has. omega (arith, has, c.in_default.ensures.none) in
-    let low : c.packed_count-carried.result ≤ 7 = omega (arith, c.if-carried-le-THRESHOLD.true) in
+    let low : c.packed_count-carried.result ≤ 7 = omega (arith, c.if-carried-le-MERGE_THRESHOLD.true) in
     placed_behind Merged (IsLogRead (slice_index c.args.parts.now.directory.current c.args.unit)
     (spots_in c.args.parts.now.overflow c.args.unit))
     u t after old mid new reads c.merged_spot.result
@@ -80,8 +80,8 @@ returns-then-carried-le-THRESHOLD-clause-steps g c =
     (if_ok _ _ c.merged_spot.result (λ spot home x y it merged. merged)
     c.merged_spot.ensures.spot))
 
-pub returns-then-carried-le-THRESHOLD-clause-tells : goal.returns-then-carried-le-THRESHOLD-clause-tells
-returns-then-carried-le-THRESHOLD-clause-tells g c =
+pub returns-then-carried-le-MERGE_THRESHOLD-clause-tells : goal.returns-then-carried-le-MERGE_THRESHOLD-clause-tells
+returns-then-carried-le-MERGE_THRESHOLD-clause-tells g c =
     let old = g.C.Chip.told c.args.chip.now in
     let mid = g.C.Chip.told c.learn.new.chip in
     let new = g.C.Chip.told c.merged_spot.new.chip in
@@ -90,7 +90,7 @@ returns-then-carried-le-THRESHOLD-clause-tells g c =
     let u = c.args.unit in
     let reads = c.in_ok-home.ensures.looks.reads in
     let full : ¬ HasHomeSpot t u = λ has. omega (arith, has, c.in_default.ensures.none) in
-    let low : c.packed_count-carried.result ≤ 7 = omega (arith, c.if-carried-le-THRESHOLD.true) in
+    let low : c.packed_count-carried.result ≤ 7 = omega (arith, c.if-carried-le-MERGE_THRESHOLD.true) in
     placed_told Merged (IsLogRead (slice_index c.args.parts.now.directory.current c.args.unit)
     (spots_in c.args.parts.now.overflow c.args.unit))
     u t after old mid new reads c.merged_spot.result
@@ -116,7 +116,7 @@ returns-clause-steps g c =
     let u = c.args.unit in
     let reads = c.in_ok-home.ensures.looks.reads in
     let full : ¬ HasHomeSpot t u = λ has. omega (arith, has, c.in_default.ensures.none) in
-    let high : 7 < c.packed_count-carried.result = omega (arith, c.if-carried-le-THRESHOLD.false) in
+    let high : 7 < c.packed_count-carried.result = omega (arith, c.if-carried-le-MERGE_THRESHOLD.false) in
     placed_behind IsElsewhere (IsLogRead (slice_index c.args.parts.now.directory.current c.args.unit)
     (spots_in c.args.parts.now.overflow c.args.unit))
     u t after old mid new reads c.elsewhere.result
@@ -139,7 +139,7 @@ returns-clause-tells g c =
     let u = c.args.unit in
     let reads = c.in_ok-home.ensures.looks.reads in
     let full : ¬ HasHomeSpot t u = λ has. omega (arith, has, c.in_default.ensures.none) in
-    let high : 7 < c.packed_count-carried.result = omega (arith, c.if-carried-le-THRESHOLD.false) in
+    let high : 7 < c.packed_count-carried.result = omega (arith, c.if-carried-le-MERGE_THRESHOLD.false) in
     placed_told IsElsewhere (IsLogRead (slice_index c.args.parts.now.directory.current c.args.unit)
     (spots_in c.args.parts.now.overflow c.args.unit))
     u t after old mid new reads c.elsewhere.result
@@ -163,8 +163,8 @@ returns-in_err-home-clause-costs g c =
     (tables_of c.args.parts.now).places (g.C.Chip.told c.args.chip.now)
     (g.C.Chip.told c.learn.new.chip) c.in_err-home.ensures.looks.reads
 
-pub returns-then-carried-le-THRESHOLD-clause-costs : goal.returns-then-carried-le-THRESHOLD-clause-costs
-returns-then-carried-le-THRESHOLD-clause-costs g c =
+pub returns-then-carried-le-MERGE_THRESHOLD-clause-costs : goal.returns-then-carried-le-MERGE_THRESHOLD-clause-costs
+returns-then-carried-le-MERGE_THRESHOLD-clause-costs g c =
     erases_free_behind (IsLogRead (slice_index c.args.parts.now.directory.current c.args.unit)
     (spots_in c.args.parts.now.overflow c.args.unit))
     (tables_of c.args.parts.now).places (g.C.Chip.told c.args.chip.now)
@@ -186,8 +186,8 @@ returns-in_err-home-clause-fault g c = λ x told it mirrors.
     (tables_of c.args.parts.now)
     (record { mirrors = mirrors; directory_is = refl; overflow_is = refl })))
 
-pub returns-then-carried-le-THRESHOLD-clause-fault : goal.returns-then-carried-le-THRESHOLD-clause-fault
-returns-then-carried-le-THRESHOLD-clause-fault g c =
+pub returns-then-carried-le-MERGE_THRESHOLD-clause-fault : goal.returns-then-carried-le-MERGE_THRESHOLD-clause-fault
+returns-then-carried-le-MERGE_THRESHOLD-clause-fault g c =
     let reads = c.in_ok-home.ensures.looks.reads in
     fails_behind (tables_of c.args.parts.now) c.args.unit (g.C.Chip.told c.args.chip.now)
     (g.C.Chip.told c.learn.new.chip) c.merged_spot.result reads.counts.places
@@ -206,11 +206,11 @@ returns-in_err-home-clause-complete g c =
     fails_complete old.places (tables_of c.args.parts.now) c.args.unit c.from_residual.result old
     (returns-in_err-home-clause-fault g c)
 
-pub returns-then-carried-le-THRESHOLD-clause-complete : goal.returns-then-carried-le-THRESHOLD-clause-complete
-returns-then-carried-le-THRESHOLD-clause-complete g c =
+pub returns-then-carried-le-MERGE_THRESHOLD-clause-complete : goal.returns-then-carried-le-MERGE_THRESHOLD-clause-complete
+returns-then-carried-le-MERGE_THRESHOLD-clause-complete g c =
     let old = g.C.Chip.told c.args.chip.now in
     fails_complete old.places (tables_of c.args.parts.now) c.args.unit c.merged_spot.result old
-    (returns-then-carried-le-THRESHOLD-clause-fault g c)
+    (returns-then-carried-le-MERGE_THRESHOLD-clause-fault g c)
 
 pub returns-clause-complete : goal.returns-clause-complete
 returns-clause-complete g c =
@@ -225,8 +225,8 @@ returns-in_err-home-clause-tidy g c =
     (g.C.Chip.told c.args.chip.now) (g.C.Chip.told c.learn.new.chip)
     c.in_err-home.ensures.looks.reads
 
-pub returns-then-carried-le-THRESHOLD-clause-tidy : goal.returns-then-carried-le-THRESHOLD-clause-tidy
-returns-then-carried-le-THRESHOLD-clause-tidy g c =
+pub returns-then-carried-le-MERGE_THRESHOLD-clause-tidy : goal.returns-then-carried-le-MERGE_THRESHOLD-clause-tidy
+returns-then-carried-le-MERGE_THRESHOLD-clause-tidy g c =
     tidies_behind (IsLogRead (slice_index c.args.parts.now.directory.current c.args.unit)
     (spots_in c.args.parts.now.overflow c.args.unit)) (tables_of c.args.parts.now)
     (tables_of c.merged_spot.new.parts) c.merged_spot.result (g.C.Chip.told c.args.chip.now)
