@@ -1,78 +1,172 @@
 -- Slot by slot over a frame.
-use Rattle.std.proofs.Common.{◌≡◌, ◌≢◌, ℕ, ◌<◌, ◌≤◌, ◌+◌, List, replicate, Option, None, length, slice_index_or, slice_set, refl, sym, ◌∙◌, ap, subst, inl, inr, arith}
-use Rattle.std.specs.Array.{AllOfLen}
-use Rattle.std.proofs.lemmas.Bool.{cases_eq}
-use Rattle.std.proofs.lemmas.List.{same_lists, length-replicate, get_or-replicate, get_or_default, get_or-set_same, get_or-set_other, length-set}
-use Rattle.ipl_format.specs.Page.{Slots, empty_page}
-use Rattle.page_ops.specs.declared.pending.PendingChange.{PendingChange}
-use Rattle.page_ops.specs.Pending.{seen_by, without_pending}
-use Rattle.page_ops.specs.Frames.{FrameView, values_in, pending_in, empty_frame}
+use Rattle.std.proofs.Common.{◌≡◌, ◌≢◌, ℕ, zero, suc, ◌<◌, ◌≤◌, ◌+◌, Bool, true, false, List, [], ◌∷◌, length, get_or, set, replicate, Option, Some, None, refl, sym, ◌∙◌, ap, ap₂, subst, inl, inr, arith}
+use Rattle.std.specs.Prelude.{◌==◌, if◌then◌else◌}
+use Rattle.std.specs.Option.{option_map_or}
+use Rattle.std.proofs.lemmas.Bool.{cases_eq, false≢true, eq-eqb, ne_eqb}
+use Rattle.std.proofs.lemmas.List.{ext_get_or, length-replicate, get_or-replicate, get_or-set_same, get_or-set_other, length-set}
+use Rattle.ipl_format.specs.Page.{Slots, empty_page, value_in}
+use Rattle.page_ops.specs.Pending.{Pending, Pendings, seen_by, without_pending, with_pending}
+use Rattle.page_ops.specs.Frames.{FrameView, AreOfPending, values_in, pending_in, pending_of, pendings_of, empty_frame}
 
--- a list that has nothing at each place
-nothing_in : {X : Type 0} (n : ℕ) (xs : List (Option X)) → length xs ≡ n
-    → ((k : ℕ) → k < n → slice_index_or xs k None ≡ None) → xs ≡ replicate n None
-nothing_in {X} n xs long none =
-    same_lists xs (replicate n None) (long ∙ sym (length-replicate {A = Option X} n None))
-    (λ k d below. let within : k < n = subst (λ (m : ℕ). k < m) long below in
-    get_or_default xs k d None below ∙ none k within
-    ∙ sym (get_or-replicate {A = Option X} n k None d within))
+-- ---- one slot
+
+pub pending_slot : (numbers : List (Option ℕ)) (values : Slots) (i : ℕ)
+    → get_or (pendings_of numbers values) i None
+    ≡ pending_of (get_or numbers i None) (get_or values i None)
+unfolding pendings_of
+pending_slot [] values i = refl
+pending_slot (n ∷ numbers) [] zero = refl
+pending_slot (n ∷ numbers) [] (suc i) = pending_slot numbers [] i
+pending_slot (n ∷ numbers) (v ∷ values) zero = refl
+pending_slot (n ∷ numbers) (v ∷ values) (suc i) = pending_slot numbers values i
+
+none_in : (n : ℕ) (values : Slots) → pendings_of (replicate n None) values ≡ replicate n None
+unfolding pendings_of
+none_in zero values = refl
+none_in (suc n) [] = ap (λ l. None ∷ l) (none_in n [])
+none_in (suc n) (v ∷ values) = ap (λ l. None ∷ l) (none_in n values)
+
+-- with nothing pending
+pub none_pending : (n : ℕ) (numbers : List (Option ℕ)) (values : Slots) → numbers ≡ replicate n None
+    → pendings_of numbers values ≡ replicate n None
+none_pending n numbers values is = ap (λ l. pendings_of l values) is ∙ none_in n values
+
+-- what becomes of a pending change of a number
+pub of_number : (tid : ℕ) (n : Option ℕ) (v : Option (List ℕ))
+    → option_map_or (λ m. m == tid) n false ≡ true → without_pending tid (pending_of n v) ≡ None
+of_number tid None v e = absurd (false≢true e)
+of_number tid (Some m) v e = ap (λ (b : Bool). if b then None else Some (m, v)) e
+
+pub of_another : (tid : ℕ) (n : Option ℕ) (v : Option (List ℕ))
+    → option_map_or (λ m. m == tid) n false ≡ false
+    → without_pending tid (pending_of n v) ≡ pending_of n v
+of_another tid None v e = refl
+of_another tid (Some m) v e = ap (λ (b : Bool). if b then None else Some (m, v)) e
+
+pub seen_own : (tid : ℕ) (w : Option (List ℕ)) (n : Option ℕ) (v : Option (List ℕ))
+    → option_map_or (λ m. m == tid) n false ≡ true → seen_by tid w (pending_of n v) ≡ v
+seen_own tid w None v e = absurd (false≢true e)
+seen_own tid w (Some m) v e = ap (λ (b : Bool). if b then v else w) e
+
+pub seen_another : (tid : ℕ) (w : Option (List ℕ)) (n : Option ℕ) (v : Option (List ℕ))
+    → option_map_or (λ m. m == tid) n false ≡ false → seen_by tid w (pending_of n v) ≡ w
+seen_another tid w None v e = refl
+seen_another tid w (Some m) v e = ap (λ (b : Bool). if b then v else w) e
+
+-- ---- a frame
 
 -- an empty page, of which nothing is pending
-pub all_none : (page : Slots) (xs : List (Option PendingChange))
-    → page ≡ empty_page → AllOfLen (λ o. o ≡ None) xs 64
-    → ◌≡◌ {A = FrameView} (record { page = page; pending = xs }) empty_frame
-all_none page xs same are = rw (same, nothing_in 64 xs are.long (λ k low. are.at k None low)) refl
+pub all_none : (page : Slots) (numbers : List (Option ℕ)) (values : Slots) → page ≡ empty_page
+    → numbers ≡ replicate 64 None
+    → ◌≡◌ {A = FrameView} (record { page = page; pending = pendings_of numbers values }) empty_frame
+all_none page numbers values same none = rw (same, none_pending 64 numbers values none) refl
+
+pub none_tidy : (numbers : List (Option ℕ)) (values : Slots) → values ≡ empty_page
+    → numbers ≡ replicate 64 None → AreOfPending numbers values
+unfolding empty_page
+none_tidy numbers values empty none = record {
+  count = ap length none ∙ length-replicate {A = Option ℕ} 64 None;
+  tidy = λ slot none. ap (λ (p : Slots). get_or p slot None) empty ∙ nothing slot 64;
+}
+  where
+    nothing : (k n : ℕ) → get_or {A = Option (List ℕ)} (replicate n None) k None ≡ None
+    nothing k zero = refl
+    nothing zero (suc n) = refl
+    nothing (suc k) (suc n) = nothing k n
+
+-- a slot has another number and another value, and the others have what they had
+module _ (numbers later : List (Option ℕ)) (values now : Slots) (slot : ℕ) (n : Option ℕ)
+    (v : Option (List ℕ)) (numbers_are : later ≡ set numbers slot n)
+    (values_are : now ≡ set values slot v) where
+  pub changed_here : slot < length numbers → slot < length now
+      → get_or (pendings_of later now) slot None ≡ pending_of n v
+  changed_here low within =
+      pending_slot later now slot
+      ∙ ap₂ pending_of
+      (ap (λ (l : List (Option ℕ)). get_or l slot None) numbers_are
+      ∙ get_or-set_same numbers slot n None low)
+      (ap (λ (l : Slots). get_or l slot None) values_are
+      ∙ get_or-set_same values slot v None long)
+    where
+      long : slot < length values
+      long = omega (arith, within, ap length values_are, length-set values slot v)
+
+  pub changed_others : (k : ℕ) → k ≢ slot
+      → get_or (pendings_of later now) k None ≡ get_or (pendings_of numbers values) k None
+  changed_others k other =
+      pending_slot later now k
+      ∙ ap₂ pending_of
+      (ap (λ (l : List (Option ℕ)). get_or l k None) numbers_are
+      ∙ get_or-set_other numbers slot k n None other)
+      (ap (λ (l : Slots). get_or l k None) values_are
+      ∙ get_or-set_other values slot k v None other)
+      ∙ sym (pending_slot numbers values k)
+
+-- a change is noted
+pub noted : (numbers later : List (Option ℕ)) (values now : Slots) (slot tid : ℕ)
+    (change : Option (List ℕ)) (pending : Pendings)
+    → ((k : ℕ) → get_or (pendings_of numbers values) k None ≡ pending k)
+    → slot < length numbers → slot < length now
+    → later ≡ set numbers slot (Some tid) → now ≡ set values slot change
+    → (k : ℕ) → get_or (pendings_of later now) k None
+    ≡ with_pending pending slot (tid, change) k
+noted numbers later values now slot tid change pending was low within numbers_are values_are k =
+    elim (cases_eq k slot) [
+      | inl same ↦ ap (λ (i : ℕ). get_or (pendings_of later now) i None) same
+          ∙ (changed_here numbers later values now slot (Some tid) change numbers_are values_are
+          low within
+          ∙ sym (ap (λ (b : Bool). if b then Some (tid, change) else pending k)
+          (eq-eqb k slot same)))
+      | inr other ↦ changed_others numbers later values now slot (Some tid) change numbers_are
+          values_are k other
+          ∙ (was k ∙ sym (ap (λ (b : Bool). if b then Some (tid, change) else pending k)
+          (ne_eqb k slot other)))
+    ]
+
+-- a slot's change, of which `n` is the number
+module _ (numbers : List (Option ℕ)) (values : Slots) (slot tid : ℕ) (n : Option ℕ)
+    (number_is : n ≡ get_or numbers slot None) where
+  change_is : get_or (pendings_of numbers values) slot None
+      ≡ pending_of n (get_or values slot None)
+  change_is = pending_slot numbers values slot
+      ∙ ap (λ (o : Option ℕ). pending_of o (get_or values slot None)) (sym number_is)
+
+  -- it is of the number: it is gone
+  pub gone : (later : List (Option ℕ)) (now : Slots) → slot < length numbers → slot < length now
+      → later ≡ set numbers slot None → now ≡ set values slot None
+      → option_map_or (λ m. m == tid) n false ≡ true
+      → get_or (pendings_of later now) slot None
+      ≡ without_pending tid (get_or (pendings_of numbers values) slot None)
+  gone later now low within numbers_are values_are own =
+      changed_here numbers later values now slot None None numbers_are values_are low within
+      ∙ sym (ap (without_pending tid) change_is ∙ of_number tid n (get_or values slot None) own)
+
+  -- or it becomes the value
+  pub becomes : (page now : Slots) (v : Option (List ℕ)) → slot < length now
+      → now ≡ set page slot (get_or values slot None)
+      → option_map_or (λ m. m == tid) n false ≡ true
+      → get_or now slot None ≡ seen_by tid v (get_or (pendings_of numbers values) slot None)
+  becomes page now v within is own =
+      ap (λ (p : Slots). get_or p slot None) is
+      ∙ (get_or-set_same page slot (get_or values slot None) None long
+      ∙ sym (ap (seen_by tid v) change_is ∙ seen_own tid v n (get_or values slot None) own))
+    where
+      long : slot < length page
+      long = omega (arith, within, ap length is, length-set page slot (get_or values slot None))
+
+  -- it is of another number: it stays
+  pub stays : option_map_or (λ m. m == tid) n false ≡ false
+      → without_pending tid (get_or (pendings_of numbers values) slot None)
+      ≡ get_or (pendings_of numbers values) slot None
+  stays other = ap (without_pending tid) change_is
+      ∙ (of_another tid n (get_or values slot None) other ∙ sym change_is)
+
+  pub not_seen : (v : Option (List ℕ)) → option_map_or (λ m. m == tid) n false ≡ false
+      → seen_by tid v (get_or (pendings_of numbers values) slot None) ≡ v
+  not_seen v other = ap (seen_by tid v) change_is
+      ∙ seen_another tid v n (get_or values slot None) other
 
 -- ---- slots one after the other
-
--- slots below i hold nothing, and nothing is pending there
-pub record AreCleared (i : ℕ) (f : FrameView) : Type 0 where
-  pub long : 0 < i → (length f.page ≡ 64) × (length f.pending ≡ 64)
-  pub page : (slot : ℕ) → slot < i → slice_index_or f.page slot None ≡ None
-  pub pending : (slot : ℕ) → slot < i → slice_index_or f.pending slot None ≡ None
-
--- of no slots this holds
-pub none_cleared : (f : FrameView) → AreCleared 0 f
-none_cleared f = record {
-  long = λ low. absurd (omega (arith, low));
-  page = λ slot low. absurd (omega (arith, low));
-  pending = λ slot low. absurd (omega (arith, low));
-}
-
--- a list of which one item more is none
-none_more : {X : Type 0} (i : ℕ) (xs ys : List (Option X)) → length ys ≡ 64 → i < 64
-    → ys ≡ slice_set xs i None
-    → ((slot : ℕ) → slot < i → slice_index_or xs slot None ≡ None)
-    → (slot : ℕ) → slot < i + 1 → slice_index_or ys slot None ≡ None
-none_more {X} i xs ys long within set so slot low = elim (cases_eq slot i) [
-  | inl same ↦ ap (λ (l : List (Option X)). slice_index_or l slot None) set
-      ∙ ap (λ (k : ℕ). slice_index_or (slice_set xs i None) k None) same
-      ∙ get_or-set_same xs i None None
-      (subst (λ (n : ℕ). i < n) (sym long ∙ ap length set ∙ length-set xs i None) within)
-  | inr other ↦ ap (λ (l : List (Option X)). slice_index_or l slot None) set
-      ∙ get_or-set_other xs i slot None None other ∙ so slot (omega (arith, low, other))
-]
-
--- one slot more
-pub cleared_more : (i : ℕ) (now next : FrameView) → i < 64 → AreCleared i now
-    → (length next.page ≡ 64) × (length next.pending ≡ 64)
-    → next.page ≡ slice_set now.page i None → next.pending ≡ slice_set now.pending i None
-    → AreCleared (i + 1) next
-cleared_more i now next within so long page pending = record {
-  long = λ some. long;
-  page = none_more i now.page next.page long.0 within page so.page;
-  pending = none_more i now.pending next.pending long.1 within pending so.pending;
-}
-
--- 64 slots are all
-pub all_cleared : (i : ℕ) (f : FrameView) → 64 ≤ i → AreCleared i f → f ≡ empty_frame
-unfolding empty_page
-all_cleared i f all so =
-    let long = so.long (omega (arith, all)) in
-    rw (
-      nothing_in 64 f.page long.0 (λ k low. so.page k (omega (arith, low, all))),
-      nothing_in 64 f.pending long.1 (λ k low. so.pending k (omega (arith, low, all))),
-    ) refl
 
 -- slots below i are without the number, and the others as they were
 pub record AreDropped (tid i : ℕ) (old new : FrameView) : Type 0 where
@@ -107,7 +201,8 @@ settled_more tid i old now next so value here other_values others = record {
   ];
   pending = λ slot low. elim (cases_eq slot i) [
     | inl same ↦ ap (pending_in next) same ∙ here
-        ∙ ap (without_pending tid) (so.pending_ahead i (omega arith) ∙ ap (pending_in old) (sym same))
+        ∙ ap (without_pending tid) (so.pending_ahead i (omega arith)
+        ∙ ap (pending_in old) (sym same))
     | inr other ↦ others slot other ∙ so.pending slot (omega (arith, low, other))
   ];
   values_ahead = λ slot high. other_values slot (λ same. absurd (omega (arith, high, same)))

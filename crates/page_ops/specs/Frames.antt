@@ -1,26 +1,36 @@
 -- What a frame holds of a page: the committed values, and apart from them the pending changes.
-use Rattle.std.specs.Prelude.{ℕ, ◌≡◌, ◌<◌, List, Option, None, slice_index_or, slice_set, replicate}
-use Rattle.std.specs.Option.{option_map}
+use Rattle.std.specs.Prelude.{ℕ, ◌≡◌, ◌<◌, List, [], ◌∷◌, Option, Some, None, length, slice_index_or, slice_set, replicate}
 use Rattle.ipl_base.specs.declared.limits.TheConstants.{SLOTS}
 use Rattle.ipl_format.specs.Page.{Slots, empty_page, value_in}
 use Rattle.ipl_format.specs.Record.{Record}
 use Rattle.ipl_meaning.specs.Values.{Values}
-use Rattle.log_records.specs.View.{change_of}
-use Rattle.page_ops.specs.declared.pending.PendingChange.{PendingChange}
 use Rattle.page_ops.specs.Pending.{Pending, Pendings, seen_by, without_pending}
 
 -- the page after a record on it: the record's slot has the record's value or none
 abbrev pub with_record : Slots → Record → Slots
 with_record page r = slice_set page r.slot r.change
 
--- what a slot's pending change stands for
-abbrev pub kept_pending : Option PendingChange → Option Pending
-kept_pending o = option_map (λ p. (p.tid, change_of p.change)) o
+-- the pending change of a slot: its number, where there is one, and the value that stands for the
+-- slot
+abbrev pub pending_of : Option ℕ → Option (List ℕ) → Option Pending
+pending_of None value = None
+pending_of (Some tid) value = Some (tid, value)
+
+-- slot by slot
+unfoldable pub pendings_of : List (Option ℕ) → Slots → List (Option Pending)
+pendings_of [] values = []
+pendings_of (n ∷ numbers) [] = pending_of n None ∷ pendings_of numbers []
+pendings_of (n ∷ numbers) (v ∷ values) = pending_of n v ∷ pendings_of numbers values
+
+-- 64 numbers, and only slots with one have a value
+pub record AreOfPending (numbers : List (Option ℕ)) (values : Slots) : Type 0 where
+  pub count : length numbers ≡ SLOTS
+  pub tidy : (slot : ℕ) → slice_index_or numbers slot None ≡ None → value_in values slot ≡ None
 
 -- the committed page; and for each of its 64 slots the pending change, if there is one
 pub record FrameView : Type 0 where
   pub page : Slots
-  pub pending : List (Option PendingChange)
+  pub pending : List (Option Pending)
 
 -- the committed value of a slot
 abbrev pub values_in : FrameView → Values
@@ -28,7 +38,7 @@ values_in f slot = value_in f.page slot
 
 -- the pending change of a slot
 abbrev pub pending_in : FrameView → Pendings
-pending_in f slot = kept_pending (slice_index_or f.pending slot None)
+pending_in f slot = slice_index_or f.pending slot None
 
 -- an empty page, of which nothing is pending
 abbrev pub empty_frame : FrameView

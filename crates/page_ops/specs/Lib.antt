@@ -1,3 +1,4 @@
 pub mod Pending
+pub mod Numbers
 pub mod Frames
 pub mod Lending

@@ -1,32 +1,42 @@
 //! A page in memory.
-ghost use Rattle.std.specs.Prelude.{◌≡◌, ◌≢◌, ◌≤◌, ◌<◌, ℕ, None, IfSome, length, option_map, slice_set};
+ghost use Rattle.std.specs.Prelude.{◌≡◌, ◌≢◌, ◌≤◌, ◌<◌, ◌==◌, ℕ, false, IfSome, length, option_map, slice_set};
 ghost use Rattle.std.specs.Borrow.{sem};
+ghost use Rattle.std.specs.Option.{option_map_or};
+ghost use Rattle.ipl_base.specs.declared.limits.TheConstants.{VALUE_LEN};
+ghost use Rattle.ipl_format.specs.Page.{IsPage, value_in};
 ghost use Rattle.log_records.specs.View.{change_of};
 ghost use Rattle.page_ops.specs.Pending.{seen_by, without_pending, with_pending};
 ghost use Rattle.page_ops.specs.Frames.{empty_frame, values_in, pending_in, IsSettled, IsDropped};
 ghost use Rattle.page_ops.specs.Lending.{LendsPage};
 
-use crate::pending::{Pending, PendingChange, copied, is_of, lend, settle};
+use crate::applying::change_slot;
+use crate::numbers::Numbers;
+use crate::pending::Pending;
 use ipl_base::SLOTS;
 use log_records::Change;
 use page_text::PageMap;
 use std::marker::Model;
-use std::mem;
 
 /// A page in memory: its committed values, and for each slot at most one pending change, with the
 /// number of its transaction. A contract sees both, slot by slot.
 #[derive(Drop)]
 pub struct Frame {
     page: PageMap,
-    pending: [Option<PendingChange>; 64],
+    // The values of pending puts. A slot without a pending change has none here.
+    values: PageMap,
+    // The number of each slot's pending change.
+    numbers: Numbers,
 }
 
 impl Model for Frame {
-    ghost use Rattle.page_ops.specs.Frames.{FrameView};
+    ghost use Rattle.std.specs.Prelude.{length, ◌≡◌};
+    ghost use Rattle.page_ops.specs.Frames.{FrameView, AreOfPending, pendings_of};
 
     ghost Value = { FrameView };
 
-    ghost view = { λ f. record { page = f.page; pending = f.pending } };
+    ghost view = { λ f. record { page = f.page; pending = pendings_of f.numbers f.values } };
+
+    ghost invariant = { λ f. AreOfPending f.numbers f.values };
 }
 
 impl Frame {
@@ -36,18 +46,18 @@ impl Frame {
     {
         Frame {
             page: PageMap::empty(),
-            pending: Default::default(),
+            values: PageMap::empty(),
+            numbers: Numbers::none(),
         }
     }
 
-    /// Empties the frame where it stands: what is empty is looked at and not written, so that a frame
-    /// that is empty already costs no more than that.
-    pub fn clear(&mut self)
+    /// Makes it an empty page, of which nothing is pending.
+    pub fn reset(&mut self)
         ensures { self.new ≡ empty_frame }
     {
-        for slot in 0..SLOTS {
-            self.clear_at(slot);
-        }
+        self.page.reset();
+        self.values.reset();
+        self.numbers.reset();
     }
 
     /// The committed page.
@@ -70,10 +80,11 @@ impl Frame {
         requires { slot < 64 }
         ensures pending { option_map (λ p. (p.tid, option_map (λ bytes. bytes.now) p.value)) result
             ≡ pending_in self.now slot }
-        ensures short { IfSome result (λ p. IfSome p.value (λ bytes. length bytes.now ≤ 108)) }
+        ensures short { IfSome result (λ p. IfSome p.value (λ bytes. length bytes.now ≤ VALUE_LEN)) }
     {
-        match &self.pending[slot as usize] {
-            Some(own) => Some(lend(own)),
+        let value = self.values.get(slot);
+        match self.numbers.get(slot) {
+            Some(tid) => Some(Pending { tid, value }),
             None => None,
         }
     }
@@ -85,8 +96,8 @@ impl Frame {
         ensures pending { (k : ℕ) → pending_in self.new k
             ≡ with_pending (pending_in self.old) slot (tid, change_of change.now) k }
     {
-        let change = copied(change);
-        self.pending[slot as usize] = Some(PendingChange { tid, change });
+        change_slot(&mut self.values, slot, change);
+        self.numbers.give(slot, tid);
     }
 
     /// Drops all pending changes of this number, as an abort does.
@@ -109,21 +120,6 @@ impl Frame {
 }
 
 impl Frame {
-    /// Empties a slot and drops its pending change, where it has any.
-    fn clear_at(&mut self, slot: u32)
-        requires { slot < 64 }
-        ensures long { (length self.new.page ≡ 64) × (length self.new.pending ≡ 64) }
-        ensures page { self.new.page ≡ slice_set self.old.page slot None }
-        ensures pending { self.new.pending ≡ slice_set self.old.pending slot None }
-    {
-        if self.page.get(slot).is_some() {
-            self.page.clear(slot);
-        }
-        if self.pending[slot as usize].is_some() {
-            self.pending[slot as usize] = None;
-        }
-    }
-
     /// Drops the pending change of a slot, where it is of this number.
     fn drop_at(&mut self, slot: u32, tid: u64)
         requires { slot < 64 }
@@ -132,8 +128,9 @@ impl Frame {
             ≡ without_pending tid (pending_in self.old slot) }
         ensures others { (k : ℕ) → k ≢ slot → pending_in self.new k ≡ pending_in self.old k }
     {
-        if is_of(&self.pending[slot as usize], tid) {
-            self.pending[slot as usize] = None;
+        if is_of(self.numbers.get(slot), tid) {
+            self.values.clear(slot);
+            self.numbers.take(slot);
         }
     }
 
@@ -148,11 +145,32 @@ impl Frame {
             → values_in self.new k ≡ values_in self.old k }
         ensures others { (k : ℕ) → k ≢ slot → pending_in self.new k ≡ pending_in self.old k }
     {
-        if !is_of(&self.pending[slot as usize], tid) {
-            return;
+        if is_of(self.numbers.get(slot), tid) {
+            copy_slot(&self.values, slot, &mut self.page);
+            self.values.clear(slot);
+            self.numbers.take(slot);
         }
-        if let Some(own) = mem::replace(&mut self.pending[slot as usize], None) {
-            settle(&mut self.page, slot, &own.change);
-        }
+    }
+}
+
+/// Whether there is a number, and it is this one.
+fn is_of(number: Option<u64>, tid: u64) -> bool
+    ensures { result ≡ option_map_or (λ n. n == tid) number false }
+{
+    match number {
+        Some(own) => own == tid,
+        None => false,
+    }
+}
+
+/// Gives a slot (0 to 63) of a page what the same slot of another holds.
+fn copy_slot(from: &PageMap, slot: u32, to: &mut PageMap)
+    requires { slot < 64 }
+    ensures page { IsPage to.new }
+    ensures copied { to.new ≡ slice_set to.old slot (value_in from.now slot) }
+{
+    match from.get(slot) {
+        Some(value) => to.set(slot, value),
+        None => to.clear(slot),
     }
 }

@@ -7,6 +7,7 @@
 
 mod applying;
 mod frame;
+mod numbers;
 mod pending;
 
 pub use applying::apply;

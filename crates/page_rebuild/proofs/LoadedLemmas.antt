@@ -27,7 +27,7 @@ use Rattle.unit_log.specs.Kept.{kept_of, records_kept}
 use Rattle.ipl_meaning.specs.Masks.{of_page, is_of_page}
 use Rattle.ipl_meaning.proofs.MaskLemmas.{page_applied, page_last}
 use Rattle.unit_log.specs.Paged.{IsLiveOf}
-use Rattle.page_ops.specs.Frames.{FrameView, values_in, pending_in, kept_pending}
+use Rattle.page_ops.specs.Frames.{FrameView, values_in, pending_in}
 use Rattle.page_rebuild.specs.Taken.{pending_of, pending_after, AreTaken}
 use Rattle.page_rebuild.specs.Loaded.{IsLoaded, HasPageOf, AreTables, base_fault}
 use Rattle.page_rebuild.proofs.ReadLemmas.{within, home_is}
@@ -46,8 +46,7 @@ kept_records c places u home generation (e ∷ log) each =
 none_pending : (f : FrameView) (slot : ℕ) → f.pending ≡ replicate 64 None → slot < 64
     → pending_in f slot ≡ None
 none_pending f slot none low =
-    ap (λ p. kept_pending (slice_index_or p slot None)) none
-    ∙ ap kept_pending (get_or-replicate 64 slot None None low)
+    ap (λ p. slice_index_or p slot None) none ∙ get_or-replicate 64 slot None None low
 
 or_none : {X : Type 0} (o : Option X) → option_or o None ≡ o
 or_none None = refl

@@ -1,5 +1,6 @@
 //! A page is read, and its unit's log.
 ghost use Rattle.std.specs.Prelude.{◌≡◌, ◌≤◌, ◌<◌, ◌+◌, ℕ, length, slice_index, All, IfErr, OnOk, OnErr};
+ghost use Rattle.ipl_base.specs.declared.limits.TheConstants.{PAGE_SECTORS};
 ghost use Rattle.chip_trait.specs.Told.{Told};
 ghost use Rattle.ipl_rules.specs.State.{Map};
 ghost use Rattle.ipl_format.specs.Page.{empty_page};
@@ -38,7 +39,7 @@ fn read_base<C: Chip>(
     frame: &mut Frame,
 ) -> Result<(), ChipFault>
     requires place { place < (C.told chip.old).places }
-    requires few { All (λ n. n ≤ 16) header.now.pieces }
+    requires few { All (λ n. n ≤ PAGE_SECTORS) header.now.pieces }
     requires page { page < 15 }
     ensures exact { OfContents (C.told chip.old) (λ x. TellsChipFault
         (page_fault x place unit header.now.generation page (slice_index header.now.pieces page))
@@ -50,7 +51,7 @@ fn read_base<C: Chip>(
     ensures pending { frame.new.pending ≡ frame.old.pending }
     ensures reads { ReadsAt (IsBaseRead place page (slice_index header.now.pieces page))
         (C.told chip.old) (C.told chip.new) }
-    ensures count { AddsAtMost 16 (C.told chip.old) (C.told chip.new) }
+    ensures count { AddsAtMost PAGE_SECTORS (C.told chip.old) (C.told chip.new) }
     ensures cause { IfErr result (λ e.
         IsPageCause place page e (C.told chip.old) (C.told chip.new)) }
 {
@@ -113,7 +114,7 @@ pub fn load<C: Chip>(
         (page_spots directory.now overflow.now unit page) page e
         (C.told chip.old) (C.told chip.new)) }
 {
-    frame.clear();
+    frame.reset();
     let place = directory.current(unit);
     let header = read_page_log(chip, directory, overflow, unit, page, scratch)?;
     read_base(chip, place, unit, &header, page, frame)?;

@@ -21,10 +21,17 @@ pub others_short : (o : Option (List ℕ)) (xs : Slots) → All IsShort (o ∷ x
 others_short o xs h = λ i d within. h (suc i) d (omega arith)
 
 -- a page stays one when a slot is emptied, or gets a short value
-pub short_set : (xs : Slots) (i : ℕ) (o : Option (List ℕ)) → IsShort o → All IsShort xs → All IsShort (set xs i o)
+pub short_set : (xs : Slots) (i : ℕ) (o : Option (List ℕ)) → IsShort o → All IsShort xs
+    → All IsShort (set xs i o)
 short_set [] i o s h = h
 short_set (x ∷ xs) zero o s h = All-cons IsShort o xs s (others_short x xs h)
-short_set (x ∷ xs) (suc i) o s h = All-cons IsShort x (set xs i o) (h 0 None (omega arith)) (short_set xs i o s (others_short x xs h))
+short_set (x ∷ xs) (suc i) o s h = All-cons IsShort x (set xs i o) (h 0 None (omega arith))
+    (short_set xs i o s (others_short x xs h))
 
-pub page_set : (page : Slots) (slot : ℕ) (o : Option (List ℕ)) → IsShort o → IsPage page → IsPage (set page slot o)
-page_set page slot o s h = record { slots = length-set page slot o ∙ h.slots; short = short_set page slot o s h.short }
+pub page_set : (page : Slots) (slot : ℕ) (o : Option (List ℕ)) → IsShort o → IsPage page
+    → IsPage (set page slot o)
+page_set page slot o s h = record {
+  slots = length-set page slot o
+      ∙ h.slots;
+  short = short_set page slot o s h.short;
+}

@@ -6,11 +6,12 @@
 //! the grammar.
 #![tactic(auto)]
 
-mod held;
+mod indexing;
 mod map;
-mod reading;
-mod writing;
+mod moving;
+mod page_bytes;
+mod texts;
 
 pub use map::PageMap;
-pub use reading::read;
-pub use writing::write;
+pub use page_bytes::PageBytes;
+pub use texts::{read, write};

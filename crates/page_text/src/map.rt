@@ -1,22 +1,26 @@
 //! What the slots of a page hold.
-ghost use Rattle.std.specs.Prelude.{◌≡◌, ◌≤◌, ◌<◌, ℕ, List, Option, Some, None, IfSome, length, option_map, slice_set};
-ghost use Rattle.ipl_format.specs.Page.{IsPage, empty_page, value_in};
+ghost use Rattle.std.specs.Prelude.{◌≡◌, ◌≤◌, ◌<◌, Some, None, IfSome, length, option_map, slice_set};
+ghost use Rattle.std.specs.Borrow.{sem};
+ghost use Rattle.ipl_base.specs.declared.limits.TheConstants.{PAGE_LEN, VALUE_LEN};
+ghost use Rattle.ipl_format.specs.Page.{IsPage, SpellsPage, empty_page, value_in};
+ghost use Rattle.page_text.specs.Lending.{LendsBytes};
 
-use crate::held::Held;
+use crate::PageBytes;
 use std::marker::Model;
 
-/// What each of the 64 slots of a page holds: nothing, or at most 108 bytes. A contract sees the list of the slots.
+/// What each of the 64 slots of a page holds: nothing, or at most 108 bytes. It is kept as the page's
+/// text. A contract sees the list of the slots.
 #[derive(Drop)]
 pub struct PageMap {
-    values: [Option<Held>; 64],
+    text: PageBytes,
 }
 
 impl Model for PageMap {
+    ghost use Rattle.std.specs.Prelude.{ℕ, List, Option};
+
     ghost Value = { List (Option (List ℕ)) };
 
-    ghost view = { λ m. m.values };
-
-    ghost invariant = { λ m. IsPage m.values };
+    ghost view = { λ m. m.text.page };
 }
 
 impl PageMap {
@@ -25,8 +29,31 @@ impl PageMap {
         ensures { result ≡ empty_page }
     {
         PageMap {
-            values: Default::default(),
+            text: PageBytes::empty(),
         }
+    }
+
+    /// Makes it a page with nothing.
+    pub fn reset(&mut self)
+        ensures { self.new ≡ empty_page }
+    {
+        self.text.reset();
+    }
+
+    /// The text of the page.
+    pub fn text(&self) -> &[u8]
+        ensures text { SpellsPage result.now self.now }
+        ensures fits { length result.now ≤ PAGE_LEN }
+    {
+        self.text.text()
+    }
+
+    /// The bytes of the text, for reading another page. The page is then the one that they begin with.
+    pub fn bytes_mut(&mut self) -> &mut PageBytes
+        ensures* lends { sem 𝓛 (LendsBytes self.entry result) }
+        ensures page { result.now.page ≡ self.old }
+    {
+        &mut self.text
     }
 
     /// What a slot (0 to 63) holds.
@@ -34,24 +61,19 @@ impl PageMap {
         requires { slot < 64 }
         ensures page { IsPage self.now }
         ensures value { option_map (λ bytes. bytes.now) result ≡ value_in self.now slot }
-        ensures short { IfSome result (λ bytes. length bytes.now ≤ 108) }
+        ensures short { IfSome result (λ bytes. length bytes.now ≤ VALUE_LEN) }
     {
-        match &self.values[slot as usize] {
-            Some(value) => Some(value.bytes()),
-            None => None,
-        }
+        self.text.get(slot)
     }
 
     /// Puts at most 108 bytes into a slot (0 to 63); the others stay.
     pub fn set(&mut self, slot: u32, value: &[u8])
         requires slot { slot < 64 }
-        requires short { length value.now ≤ 108 }
+        requires short { length value.now ≤ VALUE_LEN }
         ensures page { IsPage self.new }
         ensures set { self.new ≡ slice_set self.old slot (Some value.now) }
     {
-        // The bytes are written where they stay: made elsewhere and moved, they would be read right after.
-        let held = self.values[slot as usize].insert(Held::empty());
-        held.fill(value);
+        self.text.set(slot, value);
     }
 
     /// Empties a slot (0 to 63); the others stay.
@@ -60,14 +82,6 @@ impl PageMap {
         ensures page { IsPage self.new }
         ensures cleared { self.new ≡ slice_set self.old slot None }
     {
-        self.values[slot as usize] = None;
-    }
-
-    // How many slots there are.
-    pub(crate) fn slot_count(&self) -> u32
-        ensures count { result ≡ 64 }
-        ensures page { IsPage self.now }
-    {
-        self.values.as_slice().len() as u32
+        self.text.clear(slot);
     }
 }

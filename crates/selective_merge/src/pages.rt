@@ -1,5 +1,6 @@
 //! The pages of a unit, moved to another place with the committed records applied.
 ghost use Rattle.std.specs.Prelude.{◌≡◌, ◌≢◌, ◌<◌, ◌≤◌, ◌↔◌, ℕ, is_ok, IfOk, OnOk};
+ghost use Rattle.ipl_base.specs.declared.limits.TheConstants.{PAGE_SECTORS};
 ghost use Rattle.ipl_format.specs.Page.{IsPage, value_in};
 ghost use Rattle.log_records.specs.View.{record_of};
 ghost use Rattle.unit_io.specs.Accounts.{Accounts};
@@ -18,16 +19,13 @@ ghost use Rattle.selective_merge.specs.Writing.{MovesOnePage, MovesPages};
 use crate::home::Home;
 use crate::log::Log;
 use chip_trait::Chip;
-use ipl_base::ChipFault;
+use ipl_base::{ChipFault, PAGES};
 use log_records::Record;
 use page_ops::apply;
 use page_text::PageMap;
 use sector_format::Head;
 use txn_status::Status;
 use unit_io::{program_page, read_page};
-
-/// How many pages a unit has.
-const PAGES: u32 = 15;
 
 /// Whether a number is committed.
 fn is_committed(status: &Status, tid: u64) -> bool
@@ -59,8 +57,8 @@ fn apply_committed(slots: &mut PageMap, page: u32, log: &Log, status: &Status)
     }
 }
 
-/// Reads a page (0 to 14) where the unit stands, and programs it as the committed records leave it,
-/// at another place; answers how many sectors it took there, 0 to 16.
+/// Reads a page (0 to 14) where the unit stands into a page in memory, and programs it as the
+/// committed records leave it, at another place; answers how many sectors it took there, 0 to 16.
 fn move_page<C: Chip>(
     chip: &mut C,
     home: &Home,
@@ -69,6 +67,7 @@ fn move_page<C: Chip>(
     place: u32,
     head: &Head,
     page: u32,
+    slots: &mut PageMap,
 ) -> Result<u32, ChipFault>
     requires home { home.now.place < (C.told chip.old).places }
     requires few { IsFew home.now.pieces }
@@ -81,21 +80,20 @@ fn move_page<C: Chip>(
     ensures tells { ChartsThroughout
         (MovesPage (from_home home.now status.now.numbers log.now) place head.now.generation page)
         (IsAside place) result (C.told chip.old) (C.told chip.new) }
-    ensures few { IfOk result (λ n. n ≤ 16) }
+    ensures few { IfOk result (λ n. n ≤ PAGE_SECTORS) }
     ensures fault { OfContents (C.told chip.old) (λ x. TellsTheFault
         (page_fault_from x (from_home home.now status.now.numbers log.now) page) result) }
     ensures spares { OnOk result (Spares place (C.told chip.old) (C.told chip.new)) }
-    ensures costs { Spends (ProgramsAt place 16 0 4) (C.told chip.old) (C.told chip.new) }
-    ensures tidy { Spends (Programs place (IsPieceSpot page 16) (is_ok result))
+    ensures costs { Spends (ProgramsAt place PAGE_SECTORS 0 4) (C.told chip.old) (C.told chip.new) }
+    ensures tidy { Spends (Programs place (IsPieceSpot page PAGE_SECTORS) (is_ok result))
         (C.told chip.old) (C.told chip.new) }
     ensures accounts { Accounts (MoveCause home.now.place) result
         (C.told chip.old) (C.told chip.new) }
 {
-    let mut slots = PageMap::empty();
     let count = u32::from(home.pieces[page as usize]);
-    read_page(chip, home.place, &home.head, page, count, &mut slots)?;
-    apply_committed(&mut slots, page, log, status);
-    program_page(chip, place, head, page, &slots)
+    read_page(chip, home.place, &home.head, page, count, slots)?;
+    apply_committed(slots, page, log, status);
+    program_page(chip, place, head, page, slots)
 }
 
 /// Moves all pages of a unit to a place without a header, as the committed records leave them, and
@@ -131,8 +129,9 @@ pub fn move_pages<C: Chip>(
         (C.told chip.old) (C.told chip.new) }
 {
     let mut pieces = [0; PAGES as usize];
+    let mut slots = PageMap::empty();
     for page in 0..PAGES {
-        let count = move_page(chip, home, log, status, place, head, page)?;
+        let count = move_page(chip, home, log, status, place, head, page, &mut slots)?;
         pieces[page as usize] = count as u8;
     }
     Ok(pieces)

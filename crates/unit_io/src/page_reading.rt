@@ -1,6 +1,7 @@
 //! The base sectors of a page, read and tested one after another.
 ghost use Rattle.std.specs.Prelude.{◌≡◌, ◌<◌, ◌≤◌, ◌+◌, ◌*◌, ◌++◌, ℕ, List, length, take, drop, true, false, Some, IfErr, IfOk, OnOk, OnErr};
 ghost use Rattle.std.specs.Bool.{OnTrue};
+ghost use Rattle.ipl_base.specs.declared.limits.TheConstants.{PAGE_LEN, PAGE_SECTORS, PAYLOAD_LEN};
 ghost use Rattle.chip_trait.specs.declared.event.Event.TheVariants.{Read};
 ghost use Rattle.chip_trait.specs.Told.{Told};
 ghost use Rattle.ipl_format.specs.Sector.{sector_in};
@@ -13,11 +14,10 @@ ghost use Rattle.unit_io.specs.Reads.{Asked, OfContents, PageAsked};
 ghost use Rattle.ipl_base.specs.First.{first_below};
 ghost use Rattle.unit_io.specs.Faults.{is_filled, is_piece, piece_fault, piece_fault_at, payload_of, text_below, page_fault, TellsChipFault, IsPageCause, HoldsPage};
 
-use crate::pages::PIECE;
 use crate::reading::read_decoded;
 use chip_trait::Chip;
-use ipl_base::ChipFault;
-use page_text::{PageMap, read};
+use ipl_base::{ChipFault, PAGE_SECTORS, PAYLOAD_LEN};
+use page_text::{PageBytes, PageMap};
 use sector_format::{Decoded, Head, payload_in};
 use unit_layout::base_sector;
 
@@ -25,7 +25,11 @@ use unit_layout::base_sector;
 fn is_filled(used: usize, is_last: bool) -> bool
     ensures { result ≡ is_filled is_last used }
 {
-    if is_last { 0 < used } else { used == PIECE }
+    if is_last {
+        0 < used
+    } else {
+        used == PAYLOAD_LEN
+    }
 }
 
 /// Whether a sector of this head that uses so many bytes is the piece with this serial, of the unit and the generation of
@@ -53,14 +57,14 @@ fn check_piece(
     is_last: bool,
 ) -> Result<usize, ChipFault>
     requires page { page < 15 }
-    requires piece { piece < 16 }
+    requires piece { piece < PAGE_SECTORS }
     ensures exact { (bytes : List ℕ) → length bytes ≡ 512 → sector_in bytes ≡ sector_read bytes answer
         → IsDecoded bytes answer → TellsChipFault (piece_fault place (base_sector_of page piece) head.now.unit
-        head.now.generation (page * 16 + piece) is_last bytes) result }
+        head.now.generation (page * PAGE_SECTORS + piece) is_last bytes) result }
     ensures payload { IfOk result (λ used. (bytes : List ℕ)
         → payload_of (sector_read bytes answer) ≡ take used (drop 32 bytes)) }
     ensures filled { IfOk result (λ used. is_filled is_last used ≡ true) }
-    ensures fits { (bytes : List ℕ) → IsDecoded bytes answer → IfOk result (λ used. used ≤ 480) }
+    ensures fits { (bytes : List ℕ) → IsDecoded bytes answer → IfOk result (λ used. used ≤ PAYLOAD_LEN) }
     ensures cause { (bytes : List ℕ) (old new : Told) → IsDecoded bytes answer
         → IfErr result (λ fault. IsPageCause place page fault old new) }
 {
@@ -73,7 +77,7 @@ fn check_piece(
             computed,
         }),
         Decoded::Sector(found, used) => {
-            let serial = u64::from(page * 16 + piece);
+            let serial = u64::from(page * PAGE_SECTORS + piece);
             if is_piece(&found, used, head, serial, is_last) {
                 Ok(used)
             } else {
@@ -85,12 +89,16 @@ fn check_piece(
 }
 
 /// Copies a payload (at most 480 bytes, from byte 32 of a sector on) into a text.
-fn put_piece(bytes: &[u8; 512], used: usize, text: &mut [u8; 7680], start: usize)
-    requires used { used ≤ 480 }
-    requires room { start + 480 ≤ 7680 }
-    ensures { text.new ≡ take start text.old ++ take used (drop 32 bytes.now) ++ drop (start + used) text.old }
+fn put_piece(bytes: &[u8; 512], used: usize, text: &mut PageBytes, start: usize)
+    requires used { used ≤ PAYLOAD_LEN }
+    requires room { start + PAYLOAD_LEN ≤ PAGE_LEN }
+    requires empty { text.old.page ≡ empty_page }
+    ensures size { length text.old.bytes ≡ PAGE_LEN }
+    ensures bytes { text.new.bytes
+        ≡ take start text.old.bytes ++ take used (drop 32 bytes.now) ++ drop (start + used) text.old.bytes }
+    ensures empty { text.new.page ≡ empty_page }
 {
-    text[start..start + used].copy_from_slice(payload_in(bytes, used));
+    text.put(start, payload_in(bytes, used));
 }
 
 /// Reads a piece (0 to 15) of a page (0 to 14) into its part of a text, and answers where that ends.
@@ -101,24 +109,26 @@ fn read_piece<C: Chip>(
     page: u32,
     piece: u32,
     is_last: bool,
-    text: &mut [u8; 7680],
+    text: &mut PageBytes,
 ) -> Result<usize, ChipFault>
     requires place { place < (C.told chip.old).places }
     requires page { page < 15 }
-    requires piece { piece < 16 }
+    requires piece { piece < PAGE_SECTORS }
+    requires empty { text.old.page ≡ empty_page }
     ensures exact { OfContents (C.told chip.old) (λ x. TellsChipFault (piece_fault place (base_sector_of page piece)
-        head.now.unit head.now.generation (page * 16 + piece) is_last (x place (base_sector_of page piece))) result) }
+        head.now.unit head.now.generation (page * PAGE_SECTORS + piece) is_last (x place (base_sector_of page piece))) result) }
     ensures text { IfOk result (λ end. OfContents (C.told chip.old) (λ x.
-        take end text.new ≡ take (480 * piece) text.old ++ payload_of (chart_of x place (base_sector_of page piece)))) }
-    ensures within { IfOk result (λ end. end ≤ 480 * piece + 480) }
-    ensures whole { is_last ≡ false → IfOk result (λ end. end ≡ 480 * piece + 480) }
+        take end text.new.bytes ≡ take (PAYLOAD_LEN * piece) text.old.bytes ++ payload_of (chart_of x place (base_sector_of page piece)))) }
+    ensures empty { text.new.page ≡ empty_page }
+    ensures within { IfOk result (λ end. end ≤ PAYLOAD_LEN * piece + PAYLOAD_LEN) }
+    ensures whole { is_last ≡ false → IfOk result (λ end. end ≡ PAYLOAD_LEN * piece + PAYLOAD_LEN) }
     ensures asks { Asked (Read place (base_sector_of page piece)) result (C.told chip.old) (C.told chip.new) }
     ensures accounts { Accounts (IsPageCause place page) result (C.told chip.old) (C.told chip.new) }
 {
     let mut bytes = [0; 512];
     let answer = read_decoded(chip, place, base_sector(page, piece), &mut bytes)?;
     let used = check_piece(answer, place, head, page, piece, is_last)?;
-    let start = piece as usize * PIECE;
+    let start = piece as usize * PAYLOAD_LEN;
     put_piece(&bytes, used, text, start);
     Ok(start + used)
 }
@@ -130,16 +140,18 @@ fn read_pieces<C: Chip>(
     head: &Head,
     page: u32,
     pieces: u32,
-    text: &mut [u8; 7680],
+    text: &mut PageBytes,
 ) -> Result<usize, ChipFault>
     requires place { place < (C.told chip.old).places }
     requires page { page < 15 }
-    requires pieces { pieces ≤ 16 }
+    requires pieces { pieces ≤ PAGE_SECTORS }
+    requires empty { text.old.page ≡ empty_page }
     ensures exact { OfContents (C.told chip.old) (λ x. TellsChipFault (first_below
         (piece_fault_at x place head.now.unit head.now.generation page pieces) pieces) result) }
     ensures text { IfOk result (λ end. OfContents (C.told chip.old) (λ x.
-        take end text.new ≡ text_below (chart_of x) place page pieces)) }
-    ensures within { IfOk result (λ end. end ≤ 7680) }
+        take end text.new.bytes ≡ text_below (chart_of x) place page pieces)) }
+    ensures empty { text.new.page ≡ empty_page }
+    ensures within { IfOk result (λ end. end ≤ PAGE_LEN) }
     ensures asks { PageAsked place page pieces result (C.told chip.old) (C.told chip.new) }
     ensures accounts { Accounts (IsPageCause place page) result (C.told chip.old) (C.told chip.new) }
 {
@@ -164,7 +176,7 @@ pub fn read_page<C: Chip>(
 ) -> Result<(), ChipFault>
     requires place { place < (C.told chip.old).places }
     requires page { page < 15 }
-    requires pieces { pieces ≤ 16 }
+    requires pieces { pieces ≤ PAGE_SECTORS }
     ensures exact { OfContents (C.told chip.old) (λ x.
         TellsChipFault (page_fault x place head.now.unit head.now.generation page pieces) result) }
     ensures page { OnOk result (OfContents (C.told chip.old) (λ x.
@@ -173,10 +185,10 @@ pub fn read_page<C: Chip>(
     ensures asks { PageAsked place page pieces result (C.told chip.old) (C.told chip.new) }
     ensures accounts { Accounts (IsPageCause place page) result (C.told chip.old) (C.told chip.new) }
 {
-    *into = PageMap::empty();
-    let mut text = [0; 7680];
-    let end = read_pieces(chip, place, head, page, pieces, &mut text)?;
-    if !read(&text[..end], into) {
+    let text = into.bytes_mut();
+    text.reset();
+    let end = read_pieces(chip, place, head, page, pieces, text)?;
+    if !text.read(end) {
         let sector = base_sector(page, 0);
         return Err(ChipFault::Malformed { place, sector });
     }

@@ -1,5 +1,6 @@
 //! The base sectors of a page.
 ghost use Rattle.std.specs.Prelude.{◌≡◌, ◌<◌, ◌≤◌, ◌+◌, ◌*◌, ℕ, length, None, IfOk, OnOk, is_ok};
+ghost use Rattle.ipl_base.specs.declared.limits.TheConstants.{PAGE_LEN, PAGE_SECTORS, PAYLOAD_LEN};
 ghost use Rattle.chip_trait.specs.Lawful.{Clean, age};
 ghost use Rattle.chip_trait.specs.Told.{Told, History};
 ghost use Rattle.ipl_rules.specs.State.{Map};
@@ -16,23 +17,20 @@ ghost use Rattle.unit_io.specs.Plain.{AddsPlain};
 
 use crate::sectors::program_aside;
 use chip_trait::Chip;
-use ipl_base::ChipFault;
-use page_text::{PageMap, write};
+use ipl_base::{ChipFault, PAGE_SECTORS, PAYLOAD_LEN};
+use page_text::PageMap;
 use sector_format::{Head, encode};
 use unit_layout::base_sector;
 
-/// How many bytes of a page's text one base sector holds.
-pub(crate) const PIECE: usize = 480;
-
 /// A piece (0 to 15) of a text: 480 bytes, or what is left.
 fn piece_of(text: &[u8], piece: u32) -> &[u8]
-    requires few { piece < 16 }
-    requires within { 480 * piece ≤ length text.now }
+    requires few { piece < PAGE_SECTORS }
+    requires within { PAYLOAD_LEN * piece ≤ length text.now }
     ensures piece { result.now ≡ piece_of text.now piece }
-    ensures fits { length result.now ≤ 480 }
+    ensures fits { length result.now ≤ PAYLOAD_LEN }
 {
-    let start = piece as usize * PIECE;
-    &text[start..text.len().min(start + PIECE)]
+    let start = piece as usize * PAYLOAD_LEN;
+    &text[start..text.len().min(start + PAYLOAD_LEN)]
 }
 
 /// Programs the base sector of a piece (0 to 15) of a page's text.
@@ -46,8 +44,8 @@ fn program_piece<C: Chip>(
 ) -> Result<(), ChipFault>
     requires place { place < (C.told chip.old).places }
     requires page { page < 15 }
-    requires few { piece < 16 }
-    requires within { 480 * piece ≤ length text.now }
+    requires few { piece < PAGE_SECTORS }
+    requires within { PAYLOAD_LEN * piece ≤ length text.now }
     ensures aside { (m : Map) (h : History) → IsSteady h (C.told chip.old) → StoryRests (C.told chip.old).places m h
         → now h place 0 ≡ None → age h.story place (base_sector_of page piece) ≡ Clean
         → KeepsMap (C.told chip.old).places m (Programs place (IsSpot (base_sector_of page piece)))
@@ -64,7 +62,7 @@ fn program_piece<C: Chip>(
         kind: Head::BASE,
         unit: head.unit,
         generation: head.generation,
-        serial: u64::from(page * 16 + piece),
+        serial: u64::from(page * PAGE_SECTORS + piece),
     };
     let mut bytes = [0; 512];
     encode(&base, piece_of(text, piece), &mut bytes);
@@ -73,11 +71,11 @@ fn program_piece<C: Chip>(
 
 /// How many pieces a text of at most 7,680 bytes is cut into.
 fn piece_count(text: &[u8]) -> u32
-    requires { length text.now ≤ 7680 }
+    requires { length text.now ≤ PAGE_LEN }
     ensures cut { IsCutInto text.now result }
-    ensures few { result ≤ 16 }
+    ensures few { result ≤ PAGE_SECTORS }
 {
-    text.len().div_ceil(PIECE) as u32
+    text.len().div_ceil(PAYLOAD_LEN) as u32
 }
 
 /// Programs all pieces of a page's text, and answers how many there are.
@@ -90,18 +88,18 @@ fn program_pieces<C: Chip>(
 ) -> Result<u32, ChipFault>
     requires place { place < (C.told chip.old).places }
     requires page { page < 15 }
-    requires fits { length text.now ≤ 7680 }
+    requires fits { length text.now ≤ PAGE_LEN }
     ensures keeps { (m : Map) (h : History) → IsSteady h (C.told chip.old) → StoryRests (C.told chip.old).places m h
-        → now h place 0 ≡ None → ((s : ℕ) → IsPieceSpot page 16 s → age h.story place s ≡ Clean)
-        → KeepsMap (C.told chip.old).places m (Programs place (IsPieceSpot page 16))
+        → now h place 0 ≡ None → ((s : ℕ) → IsPieceSpot page PAGE_SECTORS s → age h.story place s ≡ Clean)
+        → KeepsMap (C.told chip.old).places m (Programs place (IsPieceSpot page PAGE_SECTORS))
         (λ n. HasPieces place head.now.unit head.now.generation page text.now n) h (C.told chip.old) result (C.told chip.new) }
     ensures tells { IfOk result (λ n. Charts (HasPieces place head.now.unit head.now.generation page text.now n) (C.told chip.old) (C.told chip.new)) }
     ensures plain { AddsPlain (C.told chip.old) (C.told chip.new) }
     ensures cut { IfOk result (λ n. IsCutInto text.now n) }
-    ensures few { IfOk result (λ n. n ≤ 16) }
+    ensures few { IfOk result (λ n. n ≤ PAGE_SECTORS) }
     ensures spares { OnOk result (Spares place (C.told chip.old) (C.told chip.new)) }
-    ensures costs { Spends (ProgramsAt place 16 0 4) (C.told chip.old) (C.told chip.new) }
-    ensures tidy { Spends (Programs place (IsPieceSpot page 16) (is_ok result)) (C.told chip.old) (C.told chip.new) }
+    ensures costs { Spends (ProgramsAt place PAGE_SECTORS 0 4) (C.told chip.old) (C.told chip.new) }
+    ensures tidy { Spends (Programs place (IsPieceSpot page PAGE_SECTORS) (is_ok result)) (C.told chip.old) (C.told chip.new) }
     ensures accounts { Accounts IsStopped result (C.told chip.old) (C.told chip.new) }
 {
     let count = piece_count(text);
@@ -126,18 +124,16 @@ pub fn program_page<C: Chip>(
     requires place { place < (C.told chip.old).places }
     requires page { page < 15 }
     ensures keeps { (m : Map) (h : History) → IsSteady h (C.told chip.old) → StoryRests (C.told chip.old).places m h
-        → now h place 0 ≡ None → ((s : ℕ) → IsPieceSpot page 16 s → age h.story place s ≡ Clean)
-        → KeepsMap (C.told chip.old).places m (Programs place (IsPieceSpot page 16))
+        → now h place 0 ≡ None → ((s : ℕ) → IsPieceSpot page PAGE_SECTORS s → age h.story place s ≡ Clean)
+        → KeepsMap (C.told chip.old).places m (Programs place (IsPieceSpot page PAGE_SECTORS))
         (λ n. HasPage place head.now.unit head.now.generation page map.now n) h (C.told chip.old) result (C.told chip.new) }
     ensures tells { IfOk result (λ n. Charts (HasPage place head.now.unit head.now.generation page map.now n) (C.told chip.old) (C.told chip.new)) }
     ensures plain { AddsPlain (C.told chip.old) (C.told chip.new) }
-    ensures few { IfOk result (λ n. n ≤ 16) }
+    ensures few { IfOk result (λ n. n ≤ PAGE_SECTORS) }
     ensures spares { OnOk result (Spares place (C.told chip.old) (C.told chip.new)) }
-    ensures costs { Spends (ProgramsAt place 16 0 4) (C.told chip.old) (C.told chip.new) }
-    ensures tidy { Spends (Programs place (IsPieceSpot page 16) (is_ok result)) (C.told chip.old) (C.told chip.new) }
+    ensures costs { Spends (ProgramsAt place PAGE_SECTORS 0 4) (C.told chip.old) (C.told chip.new) }
+    ensures tidy { Spends (Programs place (IsPieceSpot page PAGE_SECTORS) (is_ok result)) (C.told chip.old) (C.told chip.new) }
     ensures accounts { Accounts IsStopped result (C.told chip.old) (C.told chip.new) }
 {
-    let mut text = [0; 7680];
-    let length = write(map, &mut text);
-    program_pieces(chip, place, head, page, &text[..length])
+    program_pieces(chip, place, head, page, map.text())
 }

@@ -1,5 +1,6 @@
 //! One sector read, and taken where it is of the kind wanted.
 ghost use Rattle.std.specs.Prelude.{◌≡◌, ◌<◌, ◌≤◌, ℕ, List, IfOk, IfSome, OnOk};
+ghost use Rattle.ipl_base.specs.declared.limits.TheConstants.{PAYLOAD_LEN};
 ghost use Rattle.chip_trait.specs.declared.event.Event.TheVariants.{Read};
 ghost use Rattle.chip_trait.specs.Told.{Told};
 ghost use Rattle.ipl_format.specs.Sector.{sector_in};
@@ -37,7 +38,7 @@ pub(crate) fn read_decoded<C: Chip>(
 /// The head and the used length of a sector, where it checks.
 fn named(bytes: &[u8; 512]) -> Option<(Head, usize)>
     ensures exact { sector_named bytes.now result ≡ sector_in bytes.now }
-    ensures fits { IfSome result (λ found. found.1 ≤ 480) }
+    ensures fits { IfSome result (λ found. found.1 ≤ PAYLOAD_LEN) }
     ensures whole { IsWhole bytes.now }
 {
     match decode(bytes) {
@@ -58,7 +59,7 @@ pub fn read_sector<C: Chip>(
     ensures exact { IfOk result (λ o. OfContents (C.told chip.old) (λ x.
         sector_named into.new o ≡ chart_of x spot.place spot.sector)) }
     ensures bytes { OnOk result (OfContents (C.told chip.old) (λ x. into.new ≡ x spot.place spot.sector)) }
-    ensures fits { IfOk result (λ o. IfSome o (λ found. found.1 ≤ 480)) }
+    ensures fits { IfOk result (λ o. IfSome o (λ found. found.1 ≤ PAYLOAD_LEN)) }
     ensures whole { OnOk result (OfContents (C.told chip.old) (λ x. IsWhole (x spot.place spot.sector))) }
     ensures asks { Asked (Read spot.place spot.sector) result (C.told chip.old) (C.told chip.new) }
     ensures accounts { Accounts IsReadFault result (C.told chip.old) (C.told chip.new) }
@@ -71,7 +72,7 @@ pub fn read_sector<C: Chip>(
 fn of_kinds(found: Option<(Head, usize)>, first: u8, last: u8) -> Option<(Head, usize)>
     ensures exact { (bytes : List ℕ) → sector_named bytes result ≡ of_kinds first last (sector_named bytes found) }
     ensures kind { IfSome result (λ it. (first ≤ it.0.kind) × (it.0.kind ≤ last)) }
-    ensures fits { IfSome found (λ it. it.1 ≤ 480) → IfSome result (λ it. it.1 ≤ 480) }
+    ensures fits { IfSome found (λ it. it.1 ≤ PAYLOAD_LEN) → IfSome result (λ it. it.1 ≤ PAYLOAD_LEN) }
 {
     match found {
         Some((head, used)) if first <= head.kind && head.kind <= last => Some((head, used)),
@@ -93,7 +94,7 @@ fn read_of_kinds<C: Chip>(
         sector_named into.new o ≡ of_kinds first last (chart_of x spot.place spot.sector))) }
     ensures bytes { OnOk result (OfContents (C.told chip.old) (λ x. into.new ≡ x spot.place spot.sector)) }
     ensures kind { IfOk result (λ o. IfSome o (λ found. (first ≤ found.0.kind) × (found.0.kind ≤ last))) }
-    ensures fits { IfOk result (λ o. IfSome o (λ found. found.1 ≤ 480)) }
+    ensures fits { IfOk result (λ o. IfSome o (λ found. found.1 ≤ PAYLOAD_LEN)) }
     ensures asks { Asked (Read spot.place spot.sector) result (C.told chip.old) (C.told chip.new) }
     ensures accounts { Accounts IsReadFault result (C.told chip.old) (C.told chip.new) }
 {
@@ -112,7 +113,7 @@ pub fn read_head<C: Chip>(
     ensures exact { IfOk result (λ o. OfContents (C.told chip.old) (λ x.
         sector_named into.new o ≡ header_only (chart_of x place 0))) }
     ensures kind { IfOk result (λ o. IfSome o (λ found. (1 ≤ found.0.kind) × (found.0.kind ≤ 3))) }
-    ensures fits { IfOk result (λ o. IfSome o (λ found. found.1 ≤ 480)) }
+    ensures fits { IfOk result (λ o. IfSome o (λ found. found.1 ≤ PAYLOAD_LEN)) }
     ensures asks { Asked (Read place 0) result (C.told chip.old) (C.told chip.new) }
     ensures accounts { Accounts IsReadFault result (C.told chip.old) (C.told chip.new) }
 {
@@ -137,7 +138,7 @@ pub fn read_log<C: Chip>(
     ensures exact { IfOk result (λ o. OfContents (C.told chip.old) (λ x.
         sector_named into.new o ≡ log_only (chart_of x spot.place spot.sector))) }
     ensures kind { IfOk result (λ o. IfSome o (λ found. found.0.kind ≡ 5)) }
-    ensures fits { IfOk result (λ o. IfSome o (λ found. found.1 ≤ 480)) }
+    ensures fits { IfOk result (λ o. IfSome o (λ found. found.1 ≤ PAYLOAD_LEN)) }
     ensures asks { Asked (Read spot.place spot.sector) result (C.told chip.old) (C.told chip.new) }
     ensures accounts { Accounts IsReadFault result (C.told chip.old) (C.told chip.new) }
 {
@@ -157,7 +158,7 @@ pub fn read_commit<C: Chip>(
         sector_named into.new o ≡ commit_only (chart_of x spot.place spot.sector))) }
     ensures bytes { OnOk result (OfContents (C.told chip.old) (λ x. into.new ≡ x spot.place spot.sector)) }
     ensures kind { IfOk result (λ o. IfSome o (λ found. found.0.kind ≡ 6)) }
-    ensures fits { IfOk result (λ o. IfSome o (λ found. found.1 ≤ 480)) }
+    ensures fits { IfOk result (λ o. IfSome o (λ found. found.1 ≤ PAYLOAD_LEN)) }
     ensures asks { Asked (Read spot.place spot.sector) result (C.told chip.old) (C.told chip.new) }
     ensures accounts { Accounts IsReadFault result (C.told chip.old) (C.told chip.new) }
 {

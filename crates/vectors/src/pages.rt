@@ -1,7 +1,8 @@
 //! Texts of pages: `page BYTES`, each slot that the text has, and whether it is written again as the
-//! same bytes.
-use crate::words::{bytes_of, hex_of, join, text_of};
-use anyhow::Result;
+//! same bytes; and `slots CHANGE..`, the text of a page after each change, from an empty page on.
+use crate::words::{bytes_of, hex_of, join, number, text_of, words_of};
+use anyhow::{Context, Result, ensure};
+use ipl_base::{SLOTS, Value};
 use page_text::{PageMap, read, write};
 use std::alloc::Global;
 
@@ -40,4 +41,32 @@ fn is_written(map: &PageMap, bytes: &[u8]) -> bool {
     let mut out = [0; 7680];
     let len = write(map, &mut out);
     &out[..len] == bytes
+}
+
+/// A change is `SLOT:BYTES`, a put, or `SLOT`, a delete.
+pub fn slots_row(alloc: Global, rest: &str) -> Result<String> {
+    let mut map = PageMap::empty();
+    let mut text = String::new(alloc);
+    for word in words_of(alloc, rest)? {
+        change_slot(alloc, &mut map, word)?;
+        let bytes = hex_of(alloc, map.text())?;
+        join(&mut text, bytes.as_str())?;
+    }
+    Ok(text)
+}
+
+fn change_slot(alloc: Global, map: &mut PageMap, word: &str) -> Result<()> {
+    let (slot, bytes) = match word.split_once(':') {
+        Some((slot, bytes)) => (number(slot)?, Some(bytes)),
+        None => (number(word)?, None),
+    };
+    ensure!(slot < SLOTS, "no slot");
+    match bytes {
+        Some(bytes) => {
+            let value = Value::of(&bytes_of(alloc, bytes)?).context("no value")?;
+            map.set(slot, value.bytes());
+        }
+        None => map.clear(slot),
+    }
+    Ok(())
 }

@@ -2,7 +2,7 @@
 use crate::ends::ends_row;
 use crate::headers::{base_row, data_row, log_row, overflow_row, status_row};
 use crate::log_rows::records_row;
-use crate::pages::page_row;
+use crate::pages::{page_row, slots_row};
 use crate::rooms::room_row;
 use crate::scripts::{do_row, each_row, home_row, line_row, run_row};
 use crate::sectors::{decode_row, encode_row, seal_row};
@@ -55,6 +55,7 @@ fn format_answer(alloc: Global, verb: &str, rest: &str) -> Result<String> {
         "seal" => seal_row(alloc, rest),
         "encode" => encode_row(alloc, rest),
         "page" => page_row(alloc, rest),
+        "slots" => slots_row(alloc, rest),
         "records" => records_row(alloc, rest),
         "room" => room_row(alloc, rest),
         "data" => data_row(alloc, rest),

@@ -106,7 +106,7 @@ returns-clause-loads g c = λ x told it t are.
     c.take_sectors.new.frame) c.sectors.ensures.sectors c.take_sectors.ensures in
     loaded are c.requires.unit c.current-place.ensures.place c.args.page live c.args.active.now
     (c.in_ok-read_base.ensures.page x (c.in_ok-header.ensures.looks.reads.contents ∙ told))
-    (c.in_ok-read_base.ensures.pending ∙ ap (λ f. f.pending) c.clear.ensures) taken
+    (c.in_ok-read_base.ensures.pending ∙ ap (λ f. f.pending) c.reset.ensures) taken
 
 pub returns-clause-stands : goal.returns-clause-stands
 returns-clause-stands g c = λ x told it t are m stands.

@@ -24,4 +24,4 @@ returns-clause-exact g c = λ x told.
 pub returns-clause-page : goal.returns-clause-page
 returns-clause-page g c = λ x told.
     sound_held x c.args.place c.args.head.now.unit c.args.head.now.generation c.args.page c.args.pieces _ (c.in_ok-end.ensures.exact x told)
-    (subst (λ (t : List ℕ). SpellsPage t c.read.new.map) (c.in_ok-end.ensures.text x told) c.if-not-read.ensures.page)
+    (subst (λ (t : List ℕ). SpellsPage t c.read.new.self.page) (c.in_ok-end.ensures.text x told) c.if-not-read.ensures.page)

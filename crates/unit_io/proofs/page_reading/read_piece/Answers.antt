@@ -22,8 +22,8 @@ overflow_add-result g c =
 pub returns-clause-text : goal.returns-clause-text
 returns-clause-text g c = λ x told.
     let short : c.in_ok-used.used ≤ 480 = c.in_ok-used.ensures.fits c.read_decoded.new.into c.in_ok-answer.ensures.decoded in
-    text_put (c.args.piece * 480) c.in_ok-used.used (480 * c.args.piece) c.args.text.now (take c.in_ok-used.used (drop 32 c.read_decoded.new.into)) _ c.put_piece.new.text _
-    c.put_piece.ensures (omega arith) (used_is c.read_decoded.new.into c.in_ok-used.used c.read_decoded.array_long short) (omega arith)
+    text_put (c.args.piece * 480) c.in_ok-used.used (480 * c.args.piece) c.args.text.now.bytes (take c.in_ok-used.used (drop 32 c.read_decoded.new.into)) _ c.put_piece.new.text.bytes _
+    c.put_piece.ensures.bytes (omega (arith, c.put_piece.ensures.size)) (used_is c.read_decoded.new.into c.in_ok-used.used c.read_decoded.array_long short) (omega arith)
     (rw c.base_sector.ensures.sector at (payload_is c.read_decoded.new.into _ c.in_ok-answer.answer c.in_ok-used.used (c.in_ok-answer.ensures.bytes x told) c.in_ok-answer.ensures.says
     (c.in_ok-used.ensures.payload c.read_decoded.new.into)))
 

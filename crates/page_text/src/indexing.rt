@@ -1,0 +1,55 @@
+//! Where the records of a text stand.
+ghost use Rattle.std.specs.Prelude.{◌≡◌, ◌≤◌, ◌<◌, ◌+◌, ◌↔◌, IfNone, IfSome, IsTrue, false, drop, slice_index, take};
+ghost use Rattle.std.specs.Bool.{OnTrue};
+ghost use Rattle.ipl_base.specs.declared.limits.TheConstants.{PAGE_LEN};
+ghost use Rattle.ipl_format.specs.Page.{IsPageText};
+ghost use Rattle.page_text.specs.Texts.{BeginsWith, EndsAt, HasPlaces, has_record};
+
+use crate::moving::HEAD;
+use ipl_base::{PAGE_LEN, VALUE_LEN};
+
+// Whether a whole record stands here, with a value that isn't too long.
+fn has_record(bytes: &[u8; PAGE_LEN], at: usize, end: usize) -> bool
+    requires at { at < end }
+    requires end { end ≤ PAGE_LEN }
+    ensures { result ≡ has_record bytes.now at end }
+{
+    at + HEAD <= end
+        && usize::from(bytes[at + 1]) <= VALUE_LEN
+        && at + HEAD + usize::from(bytes[at + 1]) <= end
+}
+
+// Where the record of a slot ends that may stand here: here, where there is none. None where there is
+// one that isn't whole.
+fn record_end(bytes: &[u8; PAGE_LEN], at: usize, end: usize, slot: u8) -> Option<usize>
+    requires { end ≤ PAGE_LEN }
+    ensures some { IfSome result (λ next. EndsAt bytes.now at end slot next) }
+    ensures none { IfNone result (BeginsWith bytes.now at end slot × (has_record bytes.now at end ≡ false)) }
+{
+    if at >= end || bytes[at] != slot {
+        return Some(at);
+    }
+    if has_record(bytes, at, end) {
+        Some(at + HEAD + usize::from(bytes[at + 1]))
+    } else {
+        None
+    }
+}
+
+/// Finds where the records of a text of so many bytes stand. False exactly where they aren't a page's text.
+pub(crate) fn index(bytes: &[u8; PAGE_LEN], end: usize, bounds: &mut [u16; 65]) -> bool
+    requires { end ≤ PAGE_LEN }
+    ensures exact { IsTrue result ↔ IsPageText (take end bytes.now) }
+    ensures places { OnTrue result (HasPlaces bytes.now bounds.new end) }
+{
+    let mut at = 0;
+    for slot in 0..64u8 {
+        bounds[usize::from(slot)] = at as u16;
+        match record_end(bytes, at, end, slot) {
+            Some(next) => at = next,
+            None => return false,
+        }
+    }
+    bounds[64] = at as u16;
+    at == end
+}
