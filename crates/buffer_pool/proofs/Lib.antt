@@ -9,3 +9,4 @@ pub mod CallerLemmas
 pub mod CountLemmas
 pub mod HoldingLemmas
 pub mod HeldLemmas
+pub mod PassLemmas

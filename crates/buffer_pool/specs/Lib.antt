@@ -6,3 +6,4 @@ pub mod Laws
 pub mod Holding
 pub mod HoldingLaws
 pub mod Uses
+pub mod Passes

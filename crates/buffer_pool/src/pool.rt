@@ -7,6 +7,7 @@ ghost use Rattle.buffer_pool.specs.Pools.{HasPage, IsThere, IsAbsent, MayLeave, 
 ghost use Rattle.buffer_pool.specs.Rooms.{IsRoom, IsOldest, AreAllPinned};
 ghost use Rattle.buffer_pool.specs.Lending.{LendsFrame, LendsLog};
 ghost use Rattle.buffer_pool.specs.Uses.{IsUsedLast, UsesPage};
+ghost use Rattle.buffer_pool.specs.Passes.{Passes};
 
 use crate::index::{PageIndex, page_number};
 use crate::room::{Oldest, Room, older};
@@ -165,6 +166,35 @@ impl Pool {
         }
     }
 
+    /// Gives the frame of a page, which has no pin and no records in memory, to another page (0 to 14 of
+    /// a unit), which is in no frame, and pins that. It is as if the one left its frame and the other was
+    /// brought in then, but no memory is written that isn't read.
+    pub fn pass(&mut self, unit: u32, page: u32, to_unit: u32, to_page: u32) -> Pin
+        requires page { page < 15 }
+        requires there { IsThere self.old.buffers unit page }
+        requires may { MayLeave self.old.buffers unit page }
+        requires to_page { to_page < 15 }
+        requires absent { IsAbsent self.old.buffers to_unit to_page }
+        ensures { Passes self.old self.new unit page to_unit to_page result }
+    {
+        match self.find(unit, page) {
+            Some(key) => {
+                let used = self.clock;
+                self.clock = used.saturating_add(1);
+                self.index.remove(page_number(unit, page));
+                self.index.facts();
+                self.index.add(page_number(to_unit, to_page), key);
+                give_buffer(&mut self.buffers, key, to_unit, to_page, used);
+                Pin {
+                    key,
+                    unit: to_unit,
+                    page: to_page,
+                }
+            }
+            None => unreachable!("the page is in a frame"),
+        }
+    }
+
     /// Pins a page that is in a frame, which counts as a use.
     pub fn pin(&mut self, unit: u32, page: u32) -> Pin
         requires page { page < 15 }
@@ -290,6 +320,21 @@ impl Pool {
         }
         oldest
     }
+}
+
+// Makes the buffer under a key, which has no records, one of a page that comes in now.
+fn give_buffer(buffers: &mut Slab<Buffer>, key: usize, unit: u32, page: u32, now: u64)
+    requires { (buffer : BufferFields) × (get buffers.old key ≡ Some buffer) × (buffer.log ≡ []) }
+    ensures changes { Changes buffers.old buffers.new key (λ _. new_buffer unit page now) }
+    ensures len { slab_len buffers.new ≡ slab_len buffers.old }
+    ensures capacity { buffers.new.capacity ≡ buffers.old.capacity }
+{
+    let buffer = &mut buffers[key];
+    buffer.unit = unit;
+    buffer.page = page;
+    buffer.pins = 1;
+    buffer.used = now;
+    buffer.frame.reset();
 }
 
 // The buffer under a key is used now.

@@ -21,7 +21,6 @@ use Rattle.page_frames.specs.declared.pages.Pages.{Pages}
 use Rattle.page_frames.specs.Frames.{IsUnheld}
 use Rattle.page_frames.specs.Pages.{tables_in, frames_in, IsReady, Upholds, emptied}
 use Rattle.page_frames.proofs.HeldLemmas.{unheld_frame, still_unheld}
-use Rattle.page_frames.proofs.UpholdLemmas.{upholds_then}
 
 -- the frame of the page has no records then
 emptied_frame : (frames : Frames) (u page : ℕ) (f : Frame) → frames u page ≡ Some f
@@ -40,7 +39,7 @@ leaves_unheld old new u page once then_once pins is unheld =
     (unheld_frame old u page once unheld)) unheld
 
 -- it leaves
-gone_upholds : (u page : ℕ) (f : Frame) (old new : Pages) (t : Told) → IsReady t.places old
+pub gone_upholds : (u page : ℕ) (f : Frame) (old new : Pages) (t : Told) → IsReady t.places old
     → new.parts ≡ old.parts → frames_in old u page ≡ Some f → f.log ≡ []
     → frames_in new ≡ with_frame_at (frames_in old) u page None → KeepsPins old.pool new.pool
     → Upholds {T = Unit {0}} 0 old t (Ok tt) new t
@@ -74,19 +73,3 @@ gone_upholds u page f old new t ready same there empty is pins = record {
           ∙ found in cc clash)
       | inr apart ↦ sym (frame_other (frames_in old) u page None v q apart) ∙ found
     ]
-
--- both
-pub leaves_upholds : (u page : ℕ) (first between last : Pages) (old mid : Told)
-    → AreOnce first.pool.buffers
-    → IsUnheld first.pool u page → Upholds {T = Unit {0}} 14 first old (Ok tt) between mid
-    → frames_in between ≡ emptied (frames_in first) u page
-    → frames_in last ≡ with_frame_at (frames_in between) u page None
-    → KeepsPins between.pool last.pool → last.parts ≡ between.parts
-    → Upholds {T = Unit {0}} 14 first old (Ok tt) last mid
-leaves_upholds u page first between last old mid once unheld did is gone pins same =
-    let f = frame_in unheld.buffer in
-    upholds_then 14 0 first between last (Ok tt) old mid mid did
-    (gone_upholds u page (with_frame_log f []) between last mid
-    (subst (λ (n : ℕ). IsReady n between) (sym did.accounts.counts.places) did.ready) same
-    (ap (λ (F : Frames). F u page) is ∙ emptied_frame (frames_in first) u page f
-    (unheld_frame first.pool u page once unheld)) refl gone pins)

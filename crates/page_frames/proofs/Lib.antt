@@ -8,6 +8,8 @@ pub mod RenewLemmas
 pub mod TableLemmas
 pub mod OutLemmas
 pub mod LeaveLemmas
+pub mod GiveLemmas
+pub mod FetchLemmas
 pub mod LoadLemmas
 pub mod BringLemmas
 pub mod ChangedLemmas

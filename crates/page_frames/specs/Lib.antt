@@ -4,3 +4,4 @@ pub mod Changed
 pub mod Complete
 pub mod Faulty
 pub mod Asks
+pub mod Filling

@@ -4,33 +4,36 @@ ghost use Rattle.unit_io.specs.Accounts.{Accounts};
 ghost use Rattle.unit_io.specs.Costs.{Costs, Spends};
 ghost use Rattle.unit_io.specs.ReadsAt.{Anywhere, ReadsAt};
 ghost use Rattle.merge_rules.specs.Known.{Suits};
-ghost use Rattle.buffer_pool.specs.Holding.{IsPage, KeepsPins};
-ghost use Rattle.buffer_pool.specs.Uses.{used_of, CountsNoOther, CountsNoUse, IsUsedFirst, IsUsedLast};
+ghost use Rattle.buffer_pool.specs.Pools.{PoolView};
+ghost use Rattle.buffer_pool.specs.Holding.{IsAtRest, KeepsPins};
+ghost use Rattle.buffer_pool.specs.Uses.{used_of, IsUsedLast};
 ghost use Rattle.pending_writes.specs.Frames.{logs_of};
 ghost use Rattle.log_records.specs.View.{record_of};
 ghost use Rattle.page_writing.specs.Spending.{ErasesAndLogs};
 ghost use Rattle.frame_changes.specs.Changes.{MayPut};
+ghost use Rattle.frame_changes.specs.Views.{frames_of};
 ghost use Rattle.page_frames.specs.Asks.{AsksToPrepare};
-ghost use Rattle.page_frames.specs.Frames.{IsUnheld};
+ghost use Rattle.page_frames.specs.Frames.{IsChosen, IsUnheld, MayGive, TakesFrame};
 ghost use Rattle.page_frames.specs.Complete.{Completes, CompletesLoad};
 ghost use Rattle.page_frames.specs.Faulty.{FailsAsPage, TellsFaults};
+ghost use Rattle.page_frames.specs.Filling.{Fills, with_pool};
 ghost use Rattle.page_frames.specs.Pages.{
   tables_in,
   frames_in,
   IsFramed,
   IsFresh,
   HasFreeFrame,
+  KeepsFramed,
   KeepsFramedFor,
   OnlyUses,
   IsReady,
   Upholds,
   LoadsFrame,
-  BringsPage,
   PageCause,
 };
 
 use crate::Pages;
-use crate::frames::{free_frame, is_framed, short, take_frame, use_page};
+use crate::frames::{free_frame, give_frame, is_framed, short, use_page};
 use buffer_pool::Room;
 use chip_trait::Chip;
 use frame_changes::has_room;
@@ -39,56 +42,49 @@ use log_records::Record;
 use page_rebuild::load;
 
 impl Pages {
-    /// Takes a page out of its frame, in which it has no hold, once its records are written out.
-    fn give_up<C: Chip>(&mut self, chip: &mut C, unit: u32, page: u32) -> Result<(), ChipFault>
-        requires ready { IsReady (C.told chip.old).places self.old }
-        requires page { page < 15 }
-        requires unheld { IsUnheld self.old.pool unit page }
-        requires left { self.old.parts.counter + 14 < 2 ^ 64 }
-        ensures upholds { Upholds 14 self.old (C.told chip.old) result self.new (C.told chip.new) }
-        ensures complete { Completes self.old result (C.told chip.old) }
-        ensures faults { TellsFaults self.old result (C.told chip.old) self.new }
-        ensures room { OnOk result (HasFreeFrame self.new) }
-        ensures absent { (u q : ℕ) → frames_in self.old u q ≡ None → frames_in self.new u q ≡ None }
-        ensures leaves { (v q : ℕ) → IsFramed self.old v q → ¬ IsFramed self.new v q
-            → IsPage unit page v q }
-        ensures uses { CountsNoUse self.old.pool self.new.pool }
-        ensures status { self.new.parts.status ≡ self.old.parts.status }
-        ensures costs { Spends (ErasesAndLogs self.old.parts.directory)
-            (C.told chip.old) (C.told chip.new) }
+    /// The page (unit and number) that gives its frame to another: none, where a frame is free; or that
+    /// which was used longest ago, of those that aren't held.
+    fn choose_victim(&self) -> Option<(u32, u32)>
+        requires { IsAtRest self.now.pool }
+        ensures { IsChosen self.now.pool result }
     {
         self.pool.facts();
-        self.write_out(chip, unit, page)?;
-        self.pool.facts();
-        free_frame(&mut self.pool, unit, page);
-        Ok(())
+        match self.pool.room() {
+            Room::Free => None,
+            Room::Victim(unit, page) => Some((unit, page)),
+            Room::AllPinned => unreachable!("fewer pages are held than there are frames"),
+        }
     }
 
-    /// Makes a frame free, where none is: the page that was used longest ago, of those that aren't
-    /// held, leaves it.
-    fn make_room<C: Chip>(&mut self, chip: &mut C) -> Result<(), ChipFault>
+    /// Writes the records of such a page out, where there is one, so that it may leave its frame.
+    fn empty_victim<C: Chip>(
+        &mut self,
+        chip: &mut C,
+        victim: Option<(u32, u32)>,
+    ) -> Result<(), ChipFault>
         requires ready { IsReady (C.told chip.old).places self.old }
+        requires chosen { IsChosen self.old.pool victim }
         requires left { self.old.parts.counter + 14 < 2 ^ 64 }
         ensures upholds { Upholds 14 self.old (C.told chip.old) result self.new (C.told chip.new) }
         ensures complete { Completes self.old result (C.told chip.old) }
         ensures faults { TellsFaults self.old result (C.told chip.old) self.new }
-        ensures room { OnOk result (HasFreeFrame self.new) }
+        ensures may { OnOk result (MayGive self.new.pool victim) }
         ensures absent { (u q : ℕ) → frames_in self.old u q ≡ None → frames_in self.new u q ≡ None }
-        ensures leaves { (v q : ℕ) → IsFramed self.old v q → ¬ IsFramed self.new v q
-            → IsUsedFirst self.old.pool v q }
-        ensures uses { CountsNoUse self.old.pool self.new.pool }
-        ensures idle { HasFreeFrame self.old
+        ensures framed { KeepsFramed self.old self.new }
+        ensures uses { used_of self.new.pool ≡ used_of self.old.pool }
+        ensures idle { victim ≡ None
             → IsOk result × (self.new ≡ self.old) × (C.told chip.new ≡ C.told chip.old) }
         ensures status { self.new.parts.status ≡ self.old.parts.status }
         ensures costs { Spends (ErasesAndLogs self.old.parts.directory)
             (C.told chip.old) (C.told chip.new) }
     {
+        let Some((unit, page)) = victim else {
+            return Ok(());
+        };
         self.pool.facts();
-        match self.pool.room() {
-            Room::Free => Ok(()),
-            Room::Victim(unit, page) => self.give_up(chip, unit, page),
-            Room::AllPinned => unreachable!("fewer pages are held than there are frames"),
-        }
+        self.write_out(chip, unit, page)?;
+        self.pool.facts();
+        Ok(())
     }
 
     /// Loads a page into its frame, where it has no records in memory.
@@ -128,25 +124,21 @@ impl Pages {
         )
     }
 
-    /// Loads a page that is in no frame into one that is free. Where it fails, that is free again.
-    fn load<C: Chip>(&mut self, chip: &mut C, unit: u32, page: u32) -> Result<(), ChipFault>
-        requires ready { IsReady (C.told chip.old).places self.old }
+    /// Loads a page into the frame that it was given. Where it fails, that is free again.
+    fn fill<C: Chip>(&mut self, chip: &mut C, unit: u32, page: u32) -> Result<(), ChipFault>
+        requires suits { Suits (C.told chip.old).places (tables_in self.old) }
         requires unit { unit + 4 < (C.told chip.old).places }
         requires page { page < 15 }
-        requires absent { frames_in self.old unit page ≡ None }
-        requires free { HasFreeFrame self.old }
-        ensures upholds { Upholds 0 self.old (C.told chip.old) result self.new (C.told chip.new) }
-        ensures complete { Completes self.old result (C.told chip.old) }
-        ensures faults { TellsFaults self.old result (C.told chip.old) self.new }
-        ensures exact { FailsAsPage (tables_in self.old) unit page result (C.told chip.old) }
-        ensures brings { BringsPage result unit page (frames_in self.old) (frames_in self.new) }
-        ensures others { CountsNoOther unit page self.old.pool self.new.pool }
-        ensures used { OnOk result (IsUsedLast self.new.pool unit page) }
+        requires unheld { IsUnheld self.old.pool unit page }
+        requires empty { logs_of (frames_in self.old) unit page ≡ [] }
+        ensures fills { (pool : PoolView) → IsReady (C.told chip.old).places (with_pool self.old pool)
+            → frames_of pool unit page ≡ None → TakesFrame pool self.old.pool unit page
+            → Fills unit page (with_pool self.old pool) (C.told chip.old) result self.new
+            (C.told chip.new) }
         ensures tables { tables_in self.new ≡ tables_in self.old }
         ensures status { self.new.parts.status ≡ self.old.parts.status }
         ensures costs { Spends (Costs 0 0 0 []) (C.told chip.old) (C.told chip.new) }
     {
-        take_frame(&mut self.pool, unit, page);
         match self.load_frame(chip, unit, page) {
             Ok(()) => Ok(()),
             Err(fault) => {
@@ -177,8 +169,11 @@ impl Pages {
         ensures costs { Spends (ErasesAndLogs self.old.parts.directory)
             (C.told chip.old) (C.told chip.new) }
     {
-        self.make_room(chip)?;
-        self.load(chip, unit, page)
+        let victim = self.choose_victim();
+        self.empty_victim(chip, victim)?;
+        self.pool.facts();
+        give_frame(&mut self.pool, victim, unit, page);
+        self.fill(chip, unit, page)
     }
 
     /// Brings a page into a frame, where it is in none; another page may have to leave its frame then.

@@ -3,14 +3,11 @@ ghost use Rattle.std.specs.Prelude.{◌≡◌, ◌≢◌, ◌<◌, ◌≤◌, �
 ghost use Rattle.slab.specs.Slab.{slab_len};
 ghost use Rattle.ipl_meaning.specs.Last.{size_of};
 ghost use Rattle.log_records.specs.View.{record_of};
-ghost use Rattle.page_ops.specs.Frames.{empty_frame};
 ghost use Rattle.buffer_pool.specs.Holding.{KeepsPins};
-ghost use Rattle.buffer_pool.specs.Uses.{CountsNoOther, CountsNoUse, IsUsedLast, UsesPage};
-ghost use Rattle.pending_writes.specs.Frames.{with_frame_at};
-ghost use Rattle.store_steps.specs.Views.{frame_of};
+ghost use Rattle.buffer_pool.specs.Uses.{CountsNoOther, IsUsedLast, UsesPage};
 ghost use Rattle.pending_writes.specs.Frames.{logs_of};
 ghost use Rattle.frame_changes.specs.Views.{frames_of};
-ghost use Rattle.page_frames.specs.Frames.{IsUnheld};
+ghost use Rattle.page_frames.specs.Frames.{FreesFrame, GivesTo, IsUnheld, MayGive, TakesFrame};
 
 use buffer_pool::Pool;
 use log_records::{Change, Record};
@@ -50,18 +47,12 @@ pub(crate) fn use_page(pool: &mut Pool, unit: u32, page: u32)
     pool.touch(unit, page);
 }
 
-/// Takes a free frame for a page (0 to 14 of a unit) that is in none. It is empty, nothing holds the page
-/// there, and it is the one used last.
-pub(crate) fn take_frame(pool: &mut Pool, unit: u32, page: u32)
+/// Takes a free frame for a page (0 to 14 of a unit) that is in none.
+fn take_frame(pool: &mut Pool, unit: u32, page: u32)
     requires page { page < 15 }
     requires free { slab_len pool.old.buffers < pool.old.limit }
     requires absent { frames_of pool.old unit page ≡ None }
-    ensures frames { frames_of pool.new
-        ≡ with_frame_at (frames_of pool.old) unit page (Some (frame_of empty_frame [])) }
-    ensures unheld { IsUnheld pool.new unit page }
-    ensures others { CountsNoOther unit page pool.old pool.new }
-    ensures last { IsUsedLast pool.new unit page }
-    ensures pins { KeepsPins pool.old pool.new }
+    ensures { TakesFrame pool.old pool.new unit page }
 {
     pool.facts();
     let pin = pool.bring(unit, page);
@@ -74,13 +65,40 @@ pub(crate) fn free_frame(pool: &mut Pool, unit: u32, page: u32)
     requires page { page < 15 }
     requires unheld { IsUnheld pool.old unit page }
     requires empty { logs_of (frames_of pool.old) unit page ≡ [] }
-    ensures frames { frames_of pool.new ≡ with_frame_at (frames_of pool.old) unit page None }
-    ensures free { slab_len pool.new.buffers < pool.new.limit }
-    ensures uses { CountsNoUse pool.old pool.new }
-    ensures pins { KeepsPins pool.old pool.new }
+    ensures { FreesFrame pool.old pool.new unit page }
 {
     pool.facts();
     pool.evict(unit, page);
+}
+
+/// Gives the frame of such a page to another (0 to 14 of a unit) that is in none. It is as if the one
+/// was freed and taken for the other then.
+fn pass_frame(pool: &mut Pool, unit: u32, page: u32, to_unit: u32, to_page: u32)
+    requires page { page < 15 }
+    requires unheld { IsUnheld pool.old unit page }
+    requires empty { logs_of (frames_of pool.old) unit page ≡ [] }
+    requires to_page { to_page < 15 }
+    requires absent { frames_of pool.old to_unit to_page ≡ None }
+    ensures { GivesTo (Some (unit, page)) pool.old pool.new to_unit to_page }
+{
+    pool.facts();
+    let pin = pool.pass(unit, page, to_unit, to_page);
+    pool.facts();
+    pool.unpin(pin);
+}
+
+/// Gives a page (0 to 14 of a unit) that is in no frame one: that of the victim (unit and page), or,
+/// where there is none, a free one.
+pub(crate) fn give_frame(pool: &mut Pool, victim: Option<(u32, u32)>, unit: u32, page: u32)
+    requires may { MayGive pool.old victim }
+    requires page { page < 15 }
+    requires absent { frames_of pool.old unit page ≡ None }
+    ensures { GivesTo victim pool.old pool.new unit page }
+{
+    match victim {
+        None => take_frame(pool, unit, page),
+        Some((from_unit, from_page)) => pass_frame(pool, from_unit, from_page, unit, page),
+    }
 }
 
 /// A record takes at most 120 bytes of a log sector.

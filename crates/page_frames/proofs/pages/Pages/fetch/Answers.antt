@@ -1,96 +1,171 @@
+use Rattle.std.proofs.Common.{IsSome, ℕ, [], Option, inl, inr, refl, sym, ◌∙◌, ap, subst}
 use Rattle.std.proofs.lemmas.Bool.{false≢true}
 use Rattle.std.proofs.lemmas.Result.{err_from_is_err_and}
-use Rattle.page_frames.proofs.BringLemmas.{brings_fresh}
-use Rattle.page_frames.proofs.SpendLemmas.{logs_then_reads}
-use Rattle.page_frames.proofs.UpholdLemmas.{upholds_then}
-use Rattle.page_frames.proofs.CompleteLemmas.{completes_then}
-use Rattle.std.proofs.Common.{IsSome, inl, inr, sym, subst}
-use Rattle.page_frames.specs.declared.pages.Pages.{Pages}
-use Rattle.page_frames.specs.Pages.{KeepsFramed}
-use Rattle.page_frames.proofs.FramedLemmas.{brings_framed}
-use Rattle.page_frames.proofs.TellLemmas.{tells_then}
 use Rattle.chip_trait.specs.Told.{Told}
-use Rattle.page_frames.specs.Pages.{tables_in}
+use Rattle.page_ops.specs.Frames.{empty_frame}
+use Rattle.buffer_pool.specs.Pools.{PoolView}
+use Rattle.pending_writes.specs.Frames.{Frames, logs_of}
+use Rattle.store_steps.specs.Views.{frame_of}
+use Rattle.frame_changes.specs.Views.{frames_of}
+use Rattle.page_frames.specs.declared.pages.Pages.{Pages}
 use Rattle.page_frames.specs.Faulty.{FailsAsPage}
+use Rattle.page_frames.specs.Filling.{with_pool}
+use Rattle.page_frames.specs.Pages.{tables_in, KeepsFramed}
+use Rattle.page_frames.proofs.BringLemmas.{brings_fresh}
+use Rattle.page_frames.proofs.FetchLemmas.{fetched}
+use Rattle.page_frames.proofs.FramedLemmas.{brings_framed}
+use Rattle.page_frames.proofs.GiveLemmas.{free_is_chosen, given_none, gives_count_no_use, left_first}
+use Rattle.page_frames.proofs.HeldLemmas.{taken_log}
+use Rattle.page_frames.proofs.SpendLemmas.{logs_then_reads}
 use Rattle.page_frames.proofs.pages.Pages.fetch.Goals as goal
+
+pub fill-requires-clause-empty : goal.fill-requires-clause-empty
+fill-requires-clause-empty g c =
+    let it = c.give_frame.ensures in
+    ap (λ (F : Frames). logs_of F c.args.unit c.args.page) it.takes.frames
+    ∙ taken_log (frames_of it.between) c.args.unit c.args.page (frame_of empty_frame []) refl
 
 pub returns-clause-upholds : goal.returns-clause-upholds
 returns-clause-upholds g c =
-    upholds_then 14 0 c.args.self.now c.make_room.new.self c.load.new.self c.load.result
-    (g.C.Chip.told c.args.chip.now) (g.C.Chip.told c.make_room.new.chip)
-    (g.C.Chip.told c.load.new.chip) c.in_ok-make_room.ensures.upholds
-    c.load.ensures.upholds
+    let victim = c.choose_victim-victim.result in
+    let mid = c.empty_victim.new.self in
+    let it = c.give_frame.ensures in
+    let did = c.in_ok-empty_victim.ensures in
+    let all = fetched victim c.args.unit c.args.page c.args.self.now mid c.fill.new.self it.between
+    c.fill.result (g.C.Chip.told c.args.chip.now) (g.C.Chip.told c.empty_victim.new.chip)
+    (g.C.Chip.told c.fill.new.chip) did.upholds c.facts.ensures.once did.may it.gives
+    (did.absent c.args.unit c.args.page c.requires.absent)
+    (λ ready none. c.fill.ensures.fills it.between ready none it.takes) in
+    all.upholds
+
+pub returns-clause-complete : goal.returns-clause-complete
+returns-clause-complete g c =
+    let victim = c.choose_victim-victim.result in
+    let mid = c.empty_victim.new.self in
+    let it = c.give_frame.ensures in
+    let did = c.in_ok-empty_victim.ensures in
+    let all = fetched victim c.args.unit c.args.page c.args.self.now mid c.fill.new.self it.between
+    c.fill.result (g.C.Chip.told c.args.chip.now) (g.C.Chip.told c.empty_victim.new.chip)
+    (g.C.Chip.told c.fill.new.chip) did.upholds c.facts.ensures.once did.may it.gives
+    (did.absent c.args.unit c.args.page c.requires.absent)
+    (λ ready none. c.fill.ensures.fills it.between ready none it.takes) in
+    all.complete
+
+pub returns-clause-faults : goal.returns-clause-faults
+returns-clause-faults g c =
+    let victim = c.choose_victim-victim.result in
+    let mid = c.empty_victim.new.self in
+    let it = c.give_frame.ensures in
+    let did = c.in_ok-empty_victim.ensures in
+    let all = fetched victim c.args.unit c.args.page c.args.self.now mid c.fill.new.self it.between
+    c.fill.result (g.C.Chip.told c.args.chip.now) (g.C.Chip.told c.empty_victim.new.chip)
+    (g.C.Chip.told c.fill.new.chip) did.upholds c.facts.ensures.once did.may it.gives
+    (did.absent c.args.unit c.args.page c.requires.absent)
+    (λ ready none. c.fill.ensures.fills it.between ready none it.takes) in
+    all.faults
 
 pub returns-clause-fresh : goal.returns-clause-fresh
 returns-clause-fresh g c =
-    brings_fresh c.load.result c.args.unit c.args.page c.make_room.new.self c.load.new.self
-    c.load.ensures.brings
+    let victim = c.choose_victim-victim.result in
+    let mid = c.empty_victim.new.self in
+    let it = c.give_frame.ensures in
+    let did = c.in_ok-empty_victim.ensures in
+    let all = fetched victim c.args.unit c.args.page c.args.self.now mid c.fill.new.self it.between
+    c.fill.result (g.C.Chip.told c.args.chip.now) (g.C.Chip.told c.empty_victim.new.chip)
+    (g.C.Chip.told c.fill.new.chip) did.upholds c.facts.ensures.once did.may it.gives
+    (did.absent c.args.unit c.args.page c.requires.absent)
+    (λ ready none. c.fill.ensures.fills it.between ready none it.takes) in
+    brings_fresh c.fill.result c.args.unit c.args.page (with_pool mid it.between) c.fill.new.self
+    all.fills.brings
+
+pub returns-clause-used : goal.returns-clause-used
+returns-clause-used g c =
+    let victim = c.choose_victim-victim.result in
+    let mid = c.empty_victim.new.self in
+    let it = c.give_frame.ensures in
+    let did = c.in_ok-empty_victim.ensures in
+    let all = fetched victim c.args.unit c.args.page c.args.self.now mid c.fill.new.self it.between
+    c.fill.result (g.C.Chip.told c.args.chip.now) (g.C.Chip.told c.empty_victim.new.chip)
+    (g.C.Chip.told c.fill.new.chip) did.upholds c.facts.ensures.once did.may it.gives
+    (did.absent c.args.unit c.args.page c.requires.absent)
+    (λ ready none. c.fill.ensures.fills it.between ready none it.takes) in
+    all.fills.used
 
 pub returns-clause-costs : goal.returns-clause-costs
 returns-clause-costs g c =
     logs_then_reads c.args.self.now.parts.directory (g.C.Chip.told c.args.chip.now)
-    (g.C.Chip.told c.make_room.new.chip) (g.C.Chip.told c.load.new.chip)
-    c.in_ok-make_room.ensures.costs c.load.ensures.costs
+    (g.C.Chip.told c.empty_victim.new.chip) (g.C.Chip.told c.fill.new.chip)
+    c.in_ok-empty_victim.ensures.costs c.fill.ensures.costs
 
-pub returns-clause-complete : goal.returns-clause-complete
-returns-clause-complete g c =
-    let made = c.in_ok-make_room.ensures.upholds in
-    completes_then c.args.self.now c.make_room.new.self c.load.result
-    (g.C.Chip.told c.args.chip.now) (g.C.Chip.told c.make_room.new.chip) made.accounts.counts.places
-    made.keeps c.load.ensures.complete
-
-pub returns-in_err-make_room-clause-complete : goal.returns-in_err-make_room-clause-complete
-returns-in_err-make_room-clause-complete g c =
-    let e = err_from_is_err_and c.from_residual.result c.from_residual.ensures.1 in
-    rw (e.1, e.2) c.in_err-make_room.ensures.complete
-
-pub returns-in_err-make_room-clause-framed : goal.returns-in_err-make_room-clause-framed
-returns-in_err-make_room-clause-framed g c = record {
-  stay = λ room. elim room [
-    | inl there ↦ absurd (false≢true (subst IsSome c.requires.absent there))
-    | inr free ↦ subst (KeepsFramed c.args.self.now)
-        (sym (c.in_err-make_room.ensures.idle free).1) (λ u q is. is)
-  ];
-  leaves = c.in_err-make_room.ensures.leaves;
-  uses = λ v q used apart now. c.in_err-make_room.ensures.uses v q used now;
-}
+pub returns-clause-exact : goal.returns-clause-exact
+returns-clause-exact g c =
+    let victim = c.choose_victim-victim.result in
+    let mid = c.empty_victim.new.self in
+    let it = c.give_frame.ensures in
+    let did = c.in_ok-empty_victim.ensures in
+    let all = fetched victim c.args.unit c.args.page c.args.self.now mid c.fill.new.self it.between
+    c.fill.result (g.C.Chip.told c.args.chip.now) (g.C.Chip.told c.empty_victim.new.chip)
+    (g.C.Chip.told c.fill.new.chip) did.upholds c.facts.ensures.once did.may it.gives
+    (did.absent c.args.unit c.args.page c.requires.absent)
+    (λ ready none. c.fill.ensures.fills it.between ready none it.takes) in
+    λ free.
+    let same = did.idle (free_is_chosen victim c.args.self.now.pool c.choose_victim-victim.ensures free)
+    in
+    subst (λ (told : Told). FailsAsPage (tables_in c.args.self.now) c.args.unit c.args.page
+    c.fill.result told) same.2
+    (subst (λ (pages : Pages). FailsAsPage (tables_in pages) c.args.unit c.args.page c.fill.result
+    (g.C.Chip.told c.empty_victim.new.chip)) same.1 all.fills.exact)
 
 pub returns-clause-framed : goal.returns-clause-framed
 returns-clause-framed g c =
-    let mid = c.make_room.new.self in
-    let keeps = brings_framed c.load.result c.args.unit c.args.page mid c.load.new.self
-    c.load.ensures.brings in record {
+    let victim = c.choose_victim-victim.result in
+    let mid = c.empty_victim.new.self in
+    let it = c.give_frame.ensures in
+    let did = c.in_ok-empty_victim.ensures in
+    let all = fetched victim c.args.unit c.args.page c.args.self.now mid c.fill.new.self it.between
+    c.fill.result (g.C.Chip.told c.args.chip.now) (g.C.Chip.told c.empty_victim.new.chip)
+    (g.C.Chip.told c.fill.new.chip) did.upholds c.facts.ensures.once did.may it.gives
+    (did.absent c.args.unit c.args.page c.requires.absent)
+    (λ ready none. c.fill.ensures.fills it.between ready none it.takes) in
+    let made = with_pool mid it.between in
+    let keeps = brings_framed c.fill.result c.args.unit c.args.page made c.fill.new.self
+    all.fills.brings in record {
       stay = λ room. elim room [
         | inl there ↦ absurd (false≢true (subst IsSome c.requires.absent there))
-        | inr free ↦ subst (λ (pages : Pages). KeepsFramed pages c.load.new.self)
-            (c.in_ok-make_room.ensures.idle free).1 keeps
+        | inr free ↦
+            let none = free_is_chosen victim c.args.self.now.pool c.choose_victim-victim.ensures free in
+            subst (λ (pages : Pages). KeepsFramed pages c.fill.new.self) (did.idle none).1
+            (subst (λ (p : PoolView). KeepsFramed (with_pool mid p) c.fill.new.self)
+            (given_none victim mid.pool it.between none it.gives) keeps)
       ];
-      leaves = λ v q is gone.
-          c.in_ok-make_room.ensures.leaves v q is (λ there. gone (keeps v q there));
-      uses = λ v q used apart now.
-          c.in_ok-make_room.ensures.uses v q used (c.load.ensures.others v q used apart now);
+      leaves = λ v q is gone. left_first victim c.args.self.now.pool mid.pool it.between v q
+          c.choose_victim-victim.ensures it.gives (did.framed v q is)
+          (λ there. gone (keeps v q there));
+      uses = λ v q used apart now. ap (λ (uses : ℕ → ℕ → Option ℕ). uses v q) (sym did.uses)
+          ∙ gives_count_no_use victim mid.pool it.between it.gives v q used
+          (all.fills.others v q used apart now);
     }
 
-pub returns-clause-faults : goal.returns-clause-faults
-returns-clause-faults g c =
-    let made = c.in_ok-make_room.ensures.upholds in
-    tells_then c.args.self.now c.make_room.new.self c.load.new.self c.load.result
-    (g.C.Chip.told c.args.chip.now) (g.C.Chip.told c.make_room.new.chip) made.accounts.counts.places
-    made.keeps c.load.ensures.faults
-
-pub returns-in_err-make_room-clause-faults : goal.returns-in_err-make_room-clause-faults
-returns-in_err-make_room-clause-faults g c =
+pub returns-in_err-empty_victim-clause-complete : goal.returns-in_err-empty_victim-clause-complete
+returns-in_err-empty_victim-clause-complete g c =
     let e = err_from_is_err_and c.from_residual.result c.from_residual.ensures.1 in
-    rw (e.1, e.2) c.in_err-make_room.ensures.faults
+    rw (e.1, e.2) c.in_err-empty_victim.ensures.complete
 
-pub returns-clause-exact : goal.returns-clause-exact
-returns-clause-exact g c = λ free.
-    let same = c.in_ok-make_room.ensures.idle free in
-    subst (λ (told : Told). FailsAsPage (tables_in c.args.self.now) c.args.unit c.args.page
-    c.load.result told) same.2
-    (subst (λ (pages : Pages). FailsAsPage (tables_in pages) c.args.unit c.args.page c.load.result
-    (g.C.Chip.told c.make_room.new.chip)) same.1 c.load.ensures.exact)
+pub returns-in_err-empty_victim-clause-faults : goal.returns-in_err-empty_victim-clause-faults
+returns-in_err-empty_victim-clause-faults g c =
+    let e = err_from_is_err_and c.from_residual.result c.from_residual.ensures.1 in
+    rw (e.1, e.2) c.in_err-empty_victim.ensures.faults
 
-pub returns-in_err-make_room-clause-exact : goal.returns-in_err-make_room-clause-exact
-returns-in_err-make_room-clause-exact g c = λ free. absurd
-    (false≢true (c.in_err-make_room.ensures.idle free).0)
+pub returns-in_err-empty_victim-clause-exact : goal.returns-in_err-empty_victim-clause-exact
+returns-in_err-empty_victim-clause-exact g c = λ free. absurd (false≢true
+    (c.in_err-empty_victim.ensures.idle (free_is_chosen c.choose_victim-victim.result
+    c.args.self.now.pool c.choose_victim-victim.ensures free)).0)
+
+pub returns-in_err-empty_victim-clause-framed : goal.returns-in_err-empty_victim-clause-framed
+returns-in_err-empty_victim-clause-framed g c =
+    let did = c.in_err-empty_victim.ensures in record {
+      stay = λ room. did.framed;
+      leaves = λ v q is gone. absurd (gone (did.framed v q is));
+      uses = λ v q used apart now.
+          ap (λ (uses : ℕ → ℕ → Option ℕ). uses v q) (sym did.uses) ∙ now;
+    }
