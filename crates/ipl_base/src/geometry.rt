@@ -1,6 +1,6 @@
 //! The size of a chip that can be used.
 ghost use Rattle.std.specs.Prelude.{◌≡◌, ◌+◌, ◌≤◌, ℕ, IfSome, IfNone};
-ghost use Rattle.ipl_base.specs.declared.limits.TheConstants.{MOST_PLACES, MOST_UNITS};
+ghost use Rattle.ipl_base.specs.declared.limits.TheConstants.{LEAST_PLACES, MOST_PLACES, MOST_UNITS};
 ghost use Rattle.ipl_base.specs.Places.{IsGeometry};
 
 use crate::limits::{LEAST_PLACES, MOST_PLACES, RESERVED_PLACES};
@@ -17,7 +17,7 @@ impl Model for Geometry {
 
     ghost view = { λ g. g.places };
 
-    ghost invariant = { λ g. (5 ≤ g.places) × (g.places ≤ MOST_PLACES) };
+    ghost invariant = { λ g. (LEAST_PLACES ≤ g.places) × (g.places ≤ MOST_PLACES) };
 
     ghost inverse = { λ n. record { places = n } };
 }

@@ -4,6 +4,7 @@ use Rattle.std.specs.List.{slice_split, flat_map}
 use Rattle.std.specs.Option.{option_and_then, option_map, option_map_or}
 use Rattle.std.specs.Result.{result_ok}
 use Rattle.std.specs.Str.{bytes_eq}
+use Rattle.ipl_base.specs.declared.limits.TheConstants.{SESSIONS}
 use Rattle.hex.specs.Hex.{decode_of}
 use Rattle.ipl_model.specs.declared.command.Command.{Command}
 use Rattle.ipl_model.specs.declared.command.Command.TheVariants.{Begin, Get, Share, Put, Del, Commit, Batch, Abort, List as ListRecords, Merge, Restart, Syntax}
@@ -57,7 +58,7 @@ all_numbers (s ∷ words) = option_and_then (λ session. option_map (λ more. se
 
 -- the sessions that the words of a commit name: numbers, at most 32
 abbrev pub sessions_of : List (List ℕ) → Option (List ℕ)
-sessions_of words = if nat_le (length words) 32 then all_numbers words else None
+sessions_of words = if nat_le (length words) SESSIONS then all_numbers words else None
 
 -- a commit of one session, or of several together
 abbrev pub commit_of : List ℕ → Command

@@ -1,7 +1,9 @@
 //! The commands of a script.
 ghost use Rattle.std.specs.Prelude.{◌≡◌, ◌≤◌, ◌<◌, ◌++◌, ◌∷◌, [], ℕ, List, length};
+ghost use Rattle.ipl_base.specs.declared.limits.TheConstants.{SESSIONS};
 
 use arrayvec::ArrayVec;
+use ipl_base::SESSIONS;
 use std::marker::Model;
 
 /// The bytes of a put as they stood in its line, at most 512. A contract sees them as a list.
@@ -40,10 +42,13 @@ impl PutBytes {
     }
 }
 
+/// The room for a number of each session.
+const ROOM: usize = SESSIONS as usize;
+
 /// The sessions that a commit of several names, 2 to 32, in their order. A contract sees them as a list.
 #[derive(PartialEq, Eq, Debug, Drop)]
 pub struct Sessions {
-    numbers: ArrayVec<u32, 32>,
+    numbers: ArrayVec<u32, ROOM>,
 }
 
 impl Model for Sessions {
@@ -51,7 +56,7 @@ impl Model for Sessions {
 
     ghost view = { λ v. v.numbers.items };
 
-    ghost invariant = { λ v. length v.numbers.items ≤ 32 };
+    ghost invariant = { λ v. length v.numbers.items ≤ SESSIONS };
 
     ghost inverse = { λ xs. record { numbers = record { items = xs } } };
 }
@@ -59,7 +64,7 @@ impl Model for Sessions {
 impl Sessions {
     /// These sessions, at most 32.
     pub fn of(numbers: &[u32]) -> Sessions
-        requires { length numbers.now ≤ 32 }
+        requires { length numbers.now ≤ SESSIONS }
         ensures { result ≡ numbers.now }
     {
         let mut items = ArrayVec::new();
@@ -69,7 +74,7 @@ impl Sessions {
 
     /// Puts a session behind the others, of which there are fewer than 32.
     pub fn push(&mut self, number: u32)
-        requires { length self.old < 32 }
+        requires { length self.old < SESSIONS }
         ensures { self.new ≡ self.old ++ number ∷ [] }
     {
         self.numbers.push(number);
@@ -78,7 +83,7 @@ impl Sessions {
     /// Their numbers, at most 32.
     pub fn numbers(&self) -> &[u32]
         ensures value { result.now ≡ self.now }
-        ensures fits { length result.now ≤ 32 }
+        ensures fits { length result.now ≤ SESSIONS }
     {
         self.numbers.as_slice()
     }

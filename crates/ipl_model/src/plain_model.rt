@@ -3,6 +3,7 @@ ghost use Rattle.std.specs.Prelude.{◌≡◌, ◌∷◌, ◌-◌, [], map, leng
 ghost use Rattle.std.specs.FinMap.{empty};
 ghost use Rattle.std.specs.Option.{option_copied};
 ghost use Rattle.std.specs.FinMap.{get};
+ghost use Rattle.ipl_base.specs.declared.limits.TheConstants.{SESSIONS};
 ghost use Rattle.ipl_rules.specs.State.{at_rest};
 ghost use Rattle.ipl_model.specs.Step.{step};
 ghost use Rattle.ipl_rules.specs.Slots.{opened};
@@ -17,10 +18,13 @@ mod scan;
 mod steps;
 
 use crate::{Command, Reply};
-use ipl_base::{Geometry, OutOfMemory};
+use ipl_base::{Geometry, OutOfMemory, SESSIONS};
 use log::{LoggedSession, Write};
 use std::alloc::{AllocError, Global};
 use std::array;
+
+/// The slots of sessions.
+const ROOM: usize = SESSIONS as usize;
 
 /// The model, run on logs of writes: all that were committed, and those of each open session, the
 /// oldest first.
@@ -29,13 +33,13 @@ pub struct PlainModel {
     alloc: Global,
     units: u32,
     committed: Vec<Write>,
-    sessions: [Option<LoggedSession>; 32],
+    sessions: [Option<LoggedSession>; ROOM],
 }
 
 /// Sessions of which none is open.
-fn closed() -> [Option<LoggedSession>; 32]
+fn closed() -> [Option<LoggedSession>; ROOM]
     ensures none { opened (map slot_of result) ≡ empty }
-    ensures len { length result ≡ 32 }
+    ensures len { length result ≡ SESSIONS }
 {
     array::from_fn(|_| None)
 }

@@ -1,13 +1,14 @@
 //! Tests of the numbers that a commit of several sessions names.
 ghost use Rattle.std.specs.Prelude.{◌≡◌, ◌==◌, nat_le, filter, find, length};
 ghost use Rattle.std.specs.List.{list_any, range_with_len};
+ghost use Rattle.ipl_base.specs.declared.limits.TheConstants.{SESSIONS};
 ghost use Rattle.ipl_rules.specs.Refusals.{is_twice};
 
 use ipl_base::SESSIONS;
 
 /// Whether one of these is no session's number.
 pub fn has_bad_session(numbers: &[u32]) -> bool
-    ensures { result ≡ list_any (λ s. nat_le 32 s) numbers.now }
+    ensures { result ≡ list_any (λ s. nat_le SESSIONS s) numbers.now }
 {
     numbers.iter().any(|s| *s >= SESSIONS)
 }
@@ -34,7 +35,7 @@ fn is_twice(numbers: &[u32], s: u32) -> bool
 
 /// The least session's number that stands twice in a list, or more often.
 pub fn least_twice(numbers: &[u32]) -> Option<u32>
-    ensures { result ≡ find (is_twice numbers.now) (range_with_len 0 32) }
+    ensures { result ≡ find (is_twice numbers.now) (range_with_len 0 SESSIONS) }
 {
     for s in 0..SESSIONS {
         if is_twice(numbers, s) {

@@ -1,5 +1,6 @@
 //! The records of sessions, written out before they are committed.
 ghost use Rattle.std.specs.Prelude.{◌≡◌, ℕ, ◌<◌, ◌+◌, ◌*◌, ◌^◌, All, Contains, map, OnOk};
+ghost use Rattle.ipl_base.specs.declared.limits.TheConstants.{SESSIONS};
 ghost use Rattle.record_locks.specs.Held.{written_by};
 ghost use Rattle.store_steps.specs.Numbers.{IsOut};
 ghost use Rattle.page_frames.specs.Asks.{AsksToWriteNamesOut};
@@ -35,7 +36,7 @@ fn is_on_page(names: &[Name], unit: u32, page: u32) -> bool
 
 /// Whether a name that one of these sessions (0 to 31) wrote is on a page (0 to 14) of a unit.
 fn has_page(sessions: &Sessions, numbers: &[u32], unit: u32, page: u32) -> bool
-    requires { (s : ℕ) → Contains numbers.now s → s < 32 }
+    requires { (s : ℕ) → Contains numbers.now s → s < SESSIONS }
     ensures { result ≡ is_on_page (written_by sessions.now numbers.now) unit page }
 {
     for s in numbers {
@@ -57,7 +58,7 @@ impl Pages {
         numbers: &[u32],
     ) -> Result<(), ChipFault>
         requires ready { IsReady (C.told chip.old).places self.old }
-        requires low { (s : ℕ) → Contains numbers.now s → s < 32 }
+        requires low { (s : ℕ) → Contains numbers.now s → s < SESSIONS }
         requires left { self.old.parts.counter + 14 * 64 < 2 ^ 64 }
         ensures upholds { Upholds (14 * 64) self.old (C.told chip.old)
             result self.new (C.told chip.new) }

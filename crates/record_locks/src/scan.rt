@@ -1,11 +1,12 @@
 //! Scans of all sessions.
 ghost use Rattle.std.specs.Prelude.{◌≡◌, ◌≤◌, ◌<◌, ◌^◌, ◌==◌, ◌/◌, ◌&&◌, not, map, length, false, None, [], replicate, vec_capacity};
 ghost use Rattle.std.specs.Option.{option_map_or};
+ghost use Rattle.ipl_base.specs.declared.limits.TheConstants.{SESSIONS};
 ghost use Rattle.record_locks.specs.Standing.{slot_of, session_of, keeps_from, least_holder};
 ghost use Rattle.record_locks.specs.Locks.{written_in, total};
 
 use crate::session::OpenSession;
-use ipl_base::Name;
+use ipl_base::{Name, SESSIONS};
 
 /// How many names of a unit the session in a slot wrote, if there is one.
 fn count_in_slot(slot: &Option<OpenSession>, unit: u32) -> u32
@@ -20,7 +21,7 @@ fn count_in_slot(slot: &Option<OpenSession>, unit: u32) -> u32
 
 /// How many names of a unit sessions wrote.
 pub fn count_pending(slots: &[Option<OpenSession>], unit: u32) -> u32
-    requires { length slots.now ≤ 32 }
+    requires { length slots.now ≤ SESSIONS }
     ensures { result ≡ total (λ n. n / 960 == unit) slots.now }
 {
     let mut count = 0;
@@ -67,13 +68,13 @@ pub fn find_holder(
     None
 }
 
-/// Fills an empty list with 32 slots without a session.
+/// Fills an empty list with a slot for each session, without a session.
 pub fn fill(slots: &mut Vec<Option<OpenSession>>)
     requires empty { slots.old.items ≡ [] }
-    requires room { 32 ≤ vec_capacity slots.old }
-    ensures { slots.new.items ≡ replicate 32 None }
+    requires room { SESSIONS ≤ vec_capacity slots.old }
+    ensures { slots.new.items ≡ replicate SESSIONS None }
 {
-    for _ in 0..32_usize {
+    for _ in 0..SESSIONS {
         slots.push_reserved(None);
     }
 }

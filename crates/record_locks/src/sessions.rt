@@ -1,7 +1,7 @@
 //! The open sessions of a store.
 ghost use Rattle.std.specs.Prelude.{◌≡◌, ◌≤◌, ◌<◌, ℕ, ◌==◌, ◌/◌, None, map, length, Contains, IfOk, OnOk, OnErr, replicate};
 ghost use Rattle.std.specs.Result.{result_err};
-ghost use Rattle.ipl_base.specs.declared.limits.TheConstants.{PENDING_NAMES};
+ghost use Rattle.ipl_base.specs.declared.limits.TheConstants.{PENDING_NAMES, SESSIONS};
 ghost use Rattle.ipl_rules.specs.State.{pending};
 ghost use Rattle.record_locks.specs.Held.{number_of, written_of, shared_of, after_begin, after_share, after_write, after_end, after_batch};
 ghost use Rattle.record_locks.specs.Standing.{state_of};
@@ -11,7 +11,7 @@ mod refusals;
 
 use crate::scan::{count_pending, fill, find_holder};
 use crate::session::{OpenSession, share_in, write_in};
-use ipl_base::{Name, OutOfMemory, Refusal};
+use ipl_base::{Name, OutOfMemory, Refusal, SESSIONS};
 use std::alloc::Global;
 use std::marker::Model;
 
@@ -38,16 +38,16 @@ impl Model for Sessions {
 impl Sessions {
     /// No session is open.
     pub fn new(alloc: Global) -> Result<Sessions, OutOfMemory>
-        ensures { IfOk result (λ sessions. sessions ≡ replicate 32 None) }
+        ensures { IfOk result (λ sessions. sessions ≡ replicate SESSIONS None) }
     {
-        let mut slots = Vec::with_capacity(alloc, 32)?;
+        let mut slots = Vec::with_capacity(alloc, SESSIONS as usize)?;
         fill(&mut slots);
         Ok(Sessions { slots })
     }
 
     /// Opens a session.
     pub fn begin(&mut self, s: u32, number: u64) -> Result<(), Refusal>
-        requires { s < 32 }
+        requires { s < SESSIONS }
         ensures refusal { result_err result ≡ refuses_begin self.old s }
         ensures ok { OnOk result (self.new ≡ after_begin self.old s number) }
         ensures err { OnErr result (self.new ≡ self.old) }
@@ -61,7 +61,7 @@ impl Sessions {
 
     /// Adds a name to those that a session shares, unless it wrote or shares the name.
     pub fn share(&mut self, s: u32, name: Name) -> Result<(), Refusal>
-        requires { s < 32 }
+        requires { s < SESSIONS }
         ensures refusal { result_err result ≡ refuses_share self.old s name.0 }
         ensures ok { OnOk result (self.new ≡ after_share self.old s name.0) }
         ensures err { OnErr result (self.new ≡ self.old) }
@@ -75,7 +75,7 @@ impl Sessions {
 
     /// Adds a name to those that a session wrote, unless it is among them.
     pub fn write(&mut self, s: u32, name: Name) -> Result<(), Refusal>
-        requires { s < 32 }
+        requires { s < SESSIONS }
         ensures refusal { result_err result ≡ refuses_write self.old s name.0 }
         ensures ok { OnOk result (self.new ≡ after_write self.old s name.0) }
         ensures err { OnErr result (self.new ≡ self.old) }
@@ -89,7 +89,7 @@ impl Sessions {
 
     /// Closes a session, for a commit or an abort.
     pub fn end(&mut self, s: u32) -> Result<(), Refusal>
-        requires { s < 32 }
+        requires { s < SESSIONS }
         ensures refusal { result_err result ≡ refuses_end self.old s }
         ensures ok { OnOk result (self.new ≡ after_end self.old s) }
         ensures err { OnErr result (self.new ≡ self.old) }
@@ -117,7 +117,7 @@ impl Sessions {
 
     /// Closes all sessions. It takes no memory.
     pub fn reset(&mut self)
-        ensures { self.new ≡ replicate 32 None }
+        ensures { self.new ≡ replicate SESSIONS None }
     {
         self.slots.clear();
         fill(&mut self.slots);
@@ -141,7 +141,7 @@ impl Sessions {
     /// What always holds: there are 32 slots, no name is written by two sessions, and at most 48
     /// names of each unit are pending.
     pub fn facts(&self)
-        ensures all { length self.now ≡ 32 }
+        ensures all { length self.now ≡ SESSIONS }
         ensures one_writer { OneWriter self.now }
         ensures few { FewPending self.now }
     {
@@ -150,7 +150,7 @@ impl Sessions {
 
     /// The transaction number of a session, where it is open.
     pub fn number(&self, s: u32) -> Option<u64>
-        requires { s < 32 }
+        requires { s < SESSIONS }
         ensures { result ≡ number_of self.now s }
     {
         match &self.slots[s as usize] {
@@ -161,7 +161,7 @@ impl Sessions {
 
     /// The names that a session wrote, the oldest first; none where it isn't open.
     pub fn written(&self, s: u32) -> &[Name]
-        requires { s < 32 }
+        requires { s < SESSIONS }
         ensures names { map (λ n. n.0) result.now ≡ written_of self.now s }
         ensures fits { length result.now ≤ 256 }
     {
@@ -173,7 +173,7 @@ impl Sessions {
 
     /// The names that a session shares, the oldest first; none where it isn't open.
     pub fn shared(&self, s: u32) -> &[Name]
-        requires { s < 32 }
+        requires { s < SESSIONS }
         ensures names { map (λ n. n.0) result.now ≡ shared_of self.now s }
         ensures fits { length result.now ≤ 256 }
     {
@@ -187,7 +187,7 @@ impl Sessions {
 impl Sessions {
     /// Closes a session, if it is open.
     fn close(&mut self, s: u32)
-        requires { s < 32 }
+        requires { s < SESSIONS }
         ensures { self.new ≡ after_end self.old s }
     {
         self.slots[s as usize] = None;
@@ -195,7 +195,7 @@ impl Sessions {
 
     /// Closes these sessions, each that is open.
     fn close_all(&mut self, numbers: &[u32])
-        requires { (s : ℕ) → Contains numbers.now s → s < 32 }
+        requires { (s : ℕ) → Contains numbers.now s → s < SESSIONS }
         ensures { self.new ≡ after_batch self.old numbers.now }
     {
         for s in numbers {

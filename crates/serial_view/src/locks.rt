@@ -1,5 +1,6 @@
 //! Which commands of a run are refused.
 ghost use Rattle.std.specs.Prelude.{◌≡◌, ◌-◌, nat_lt, replicate, None, IfOk};
+ghost use Rattle.ipl_base.specs.declared.limits.TheConstants.{SESSIONS};
 ghost use Rattle.serial_view.specs.Locks.{limits_of, TakesCommand};
 ghost use Rattle.ipl_model.specs.declared.command.Command.TheVariants as command;
 
@@ -20,7 +21,7 @@ pub struct Locks {
 impl Locks {
     /// No session is open.
     pub fn new(alloc: Global, geometry: Geometry) -> Result<Locks, OutOfMemory>
-        ensures sessions { IfOk result (λ locks. locks.sessions ≡ replicate 32 None) }
+        ensures sessions { IfOk result (λ locks. locks.sessions ≡ replicate SESSIONS None) }
         ensures units { IfOk result (λ locks. locks.units ≡ geometry - 4) }
     {
         Ok(Locks {

@@ -1,9 +1,11 @@
 //! What is kept of a run while its serial view is made.
 ghost use Rattle.std.specs.Prelude.{◌≡◌, ◌<◌, ◌≤◌, ◌++◌, ◌∷◌, [], ℕ, length, replicate, slice_index, Contains, OnOk};
 ghost use Rattle.std.specs.List.{flat_map};
+ghost use Rattle.ipl_base.specs.declared.limits.TheConstants.{SESSIONS};
 ghost use Rattle.serial_view.specs.Serial.{session_of};
 ghost use Rattle.serial_view.specs.Turns.{KeptTurns, after_refused, after_accepted, is_turn_of, turns_from, HasSlot, kept_of};
 
+use ipl_base::SESSIONS;
 use ipl_model::Command;
 use std::alloc::{AllocError, Global};
 
@@ -58,10 +60,10 @@ fn append_turns(
 fn append_batch(
     order: &mut Vec<usize>,
     turns: &[Option<u32>],
-    begun: &[usize; 32],
+    begun: &[usize; ROOM],
     sessions: &[u32],
 ) -> Result<(), AllocError>
-    requires { (s : ℕ) → Contains sessions.now s → s < 32 }
+    requires { (s : ℕ) → Contains sessions.now s → s < SESSIONS }
     ensures { OnOk result (order.new.items ≡ order.old.items
         ++ flat_map (λ s. turns_from turns.now s (slice_index begun.now s)) sessions.now) }
 {
@@ -72,12 +74,15 @@ fn append_batch(
     Ok(())
 }
 
+/// The positions of sessions that are kept.
+const ROOM: usize = SESSIONS as usize;
+
 /// Whose turn each command was, none where it was refused or belongs to no transaction; where each of 32
 /// sessions last began; and the positions of the view so far. A contract sees it by `kept_of`.
 #[derive(Drop)]
 pub struct TurnTable {
     turns: Vec<Option<u32>>,
-    begun: [usize; 32],
+    begun: [usize; ROOM],
     order: Vec<usize>,
 }
 
@@ -86,11 +91,11 @@ impl TurnTable {
     pub fn new(alloc: Global) -> TurnTable
         ensures turns { (kept_of result).turns ≡ [] }
         ensures order { (kept_of result).order ≡ [] }
-        ensures begun { (kept_of result).begun ≡ replicate 32 0 }
+        ensures begun { (kept_of result).begun ≡ replicate SESSIONS 0 }
     {
         TurnTable {
             turns: Vec::new(alloc),
-            begun: [0; 32],
+            begun: [0; ROOM],
             order: Vec::new(alloc),
         }
     }

@@ -1,5 +1,6 @@
 //! The numbers of sessions that are committed.
 ghost use Rattle.std.specs.Prelude.{◌≡◌, ◌<◌, ◌≤◌, ◌+◌, ◌^◌, [], ◌∷◌, length, OnOk, OnErr, is_ok};
+ghost use Rattle.ipl_base.specs.declared.limits.TheConstants.{SESSIONS};
 ghost use Rattle.unit_io.specs.Accounts.{Accounts};
 ghost use Rattle.unit_io.specs.Charts.{Charts};
 ghost use Rattle.unit_io.specs.Costs.{ProgramsAt, Spends};
@@ -28,7 +29,7 @@ pub fn add_numbers<C: Chip>(
     requires place { status.old.place < (C.told chip.old).places }
     requires room { 0 < room_of status.old }
     requires some { 1 ≤ length tids.now }
-    requires few { length tids.now ≤ 32 }
+    requires few { length tids.now ≤ SESSIONS }
     requires left { counter.old + 1 < 2 ^ 64 }
     ensures added { OnOk result (status.new ≡ after_add status.old tids.now) }
     ensures same { OnErr result (status.new ≡ status.old) }

@@ -1,5 +1,6 @@
 //! Sessions are committed, one or several together.
 ghost use Rattle.std.specs.Prelude.{◌≡◌, ◌<◌, ◌≤◌, ◌+◌, ◌*◌, ◌^◌, length, OnOk};
+ghost use Rattle.ipl_base.specs.declared.limits.TheConstants.{SESSIONS};
 ghost use Rattle.unit_io.specs.Costs.{ProgramsAt, Spends};
 ghost use Rattle.txn_status.specs.Status.{room_of};
 ghost use Rattle.ipl_rules.specs.Operations.{after_batch};
@@ -107,7 +108,7 @@ impl Transactions {
     ) -> Result<(), ChipFault>
         requires order { IsInOrder (C.told chip.old).places self.old }
         requires open { AreOpenSessions self.old.sessions numbers.now }
-        requires few { length numbers.now ≤ 32 }
+        requires few { length numbers.now ≤ SESSIONS }
         requires left { self.old.pages.parts.counter + 2 ^ 15 < 2 ^ 64 }
         ensures turns { Turns (λ state. after_batch state numbers.now) (2 ^ 15)
             self.old (C.told chip.old) result self.new (C.told chip.new) }

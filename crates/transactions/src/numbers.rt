@@ -1,6 +1,7 @@
 //! The numbers of open sessions: of all, as the tables have them, and of those that a commit adds.
 ghost use Rattle.std.specs.Prelude.{◌≡◌, ◌≤◌, ◌<◌, ℕ, [], ◌∷◌, Contains, length};
 ghost use Rattle.std.specs.Option.{option_map_or};
+ghost use Rattle.ipl_base.specs.declared.limits.TheConstants.{SESSIONS};
 ghost use Rattle.record_locks.specs.Held.{
   numbers_in,
   number_of,
@@ -28,7 +29,7 @@ pub fn active_numbers(sessions: &Sessions) -> Active
 
 /// The number of a session (0 to 31), where it wrote something.
 fn writer_number(sessions: &Sessions, s: u32) -> Option<u64>
-    requires { s < 32 }
+    requires { s < SESSIONS }
     ensures { writer_number (written_of sessions.now s) (number_of sessions.now s)
         ≡ option_map_or (λ tid. tid ∷ []) result [] }
 {
@@ -41,8 +42,8 @@ fn writer_number(sessions: &Sessions, s: u32) -> Option<u64>
 /// The numbers of those of these sessions (at most 32, each 0 to 31) that wrote something, in their
 /// order.
 pub fn writer_numbers(sessions: &Sessions, numbers: &[u32]) -> Active
-    requires low { (s : ℕ) → Contains numbers.now s → s < 32 }
-    requires few { length numbers.now ≤ 32 }
+    requires low { (s : ℕ) → Contains numbers.now s → s < SESSIONS }
+    requires few { length numbers.now ≤ SESSIONS }
     ensures { result ≡ writer_numbers sessions.now numbers.now }
 {
     let mut tids = Active::none();

@@ -1,5 +1,6 @@
 //! A commit of several sessions in the plain model.
 ghost use Rattle.std.specs.Prelude.{◌≡◌, ◌<◌, ◌++◌, ℕ, None, Contains, IfOk, OnOk, OnErr};
+ghost use Rattle.ipl_base.specs.declared.limits.TheConstants.{SESSIONS};
 ghost use Rattle.ipl_rules.specs.State.{writes_of};
 ghost use Rattle.ipl_rules.specs.Refusals.{refuses_batch};
 ghost use Rattle.ipl_rules.specs.Operations.{after_batch};
@@ -61,7 +62,7 @@ impl PlainModel {
 
     /// Closes these sessions, and their writes are gone.
     fn close_sessions(&mut self, sessions: &[u32])
-        requires { (s : ℕ) → Contains sessions.now s → s < 32 }
+        requires { (s : ℕ) → Contains sessions.now s → s < SESSIONS }
         ensures state { state_of self.new ≡ with_closed (state_of self.old) sessions.now }
         ensures units { self.new.units ≡ self.old.units }
     {

@@ -1,5 +1,6 @@
 //! What an operation of the plain model does that isn't refused.
 ghost use Rattle.std.specs.Prelude.{◌≡◌, ◌<◌, ◌++◌, [], OnOk, OnErr};
+ghost use Rattle.ipl_base.specs.declared.limits.TheConstants.{SESSIONS};
 ghost use Rattle.ipl_rules.specs.Operations.{after_begin, after_share, after_write, after_commit, after_abort, after_restart};
 ghost use Rattle.ipl_model.specs.Plain.{state_of, newest_first, slot_of, writes_in, with_share};
 
@@ -29,7 +30,7 @@ fn move_writes(
 impl PlainModel {
     /// Opens a session.
     pub fn open_session(&mut self, s: u32)
-        requires { s < 32 }
+        requires { s < SESSIONS }
         ensures state { state_of self.new ≡ after_begin (state_of self.old) s }
         ensures units { self.new.units ≡ self.old.units }
     {
@@ -41,7 +42,7 @@ impl PlainModel {
 
     /// Adds a name to those that a session shares.
     pub fn add_share(&mut self, s: u32, name: u32) -> Result<(), AllocError>
-        requires { s < 32 }
+        requires { s < SESSIONS }
         ensures ok { OnOk result (state_of self.new ≡ with_share (state_of self.old) s name) }
         ensures err { OnErr result (state_of self.new ≡ state_of self.old) }
         ensures units { self.new.units ≡ self.old.units }
@@ -54,7 +55,7 @@ impl PlainModel {
 
     /// Adds a write to those of a session.
     pub fn add_write(&mut self, s: u32, name: u32, value: Option<Value>) -> Result<(), AllocError>
-        requires { s < 32 }
+        requires { s < SESSIONS }
         ensures ok { OnOk result (
             state_of self.new ≡ after_write (state_of self.old) s (name, value)) }
         ensures err { OnErr result (state_of self.new ≡ state_of self.old) }
@@ -68,7 +69,7 @@ impl PlainModel {
 
     /// Closes a session, and its writes become records.
     pub fn apply_writes(&mut self, s: u32) -> Result<(), AllocError>
-        requires { s < 32 }
+        requires { s < SESSIONS }
         ensures ok { OnOk result (state_of self.new ≡ after_commit (state_of self.old) s) }
         ensures err { OnErr result (state_of self.new ≡ state_of self.old) }
         ensures units { self.new.units ≡ self.old.units }
@@ -79,7 +80,7 @@ impl PlainModel {
 
     /// Closes a session, and its writes are gone.
     pub fn close_session(&mut self, s: u32)
-        requires { s < 32 }
+        requires { s < SESSIONS }
         ensures state { state_of self.new ≡ after_abort (state_of self.old) s }
         ensures units { self.new.units ≡ self.old.units }
     {

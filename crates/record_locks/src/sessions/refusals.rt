@@ -1,6 +1,7 @@
 //! When the calls on sessions are refused.
 ghost use Rattle.std.specs.Prelude.{◌≡◌, ◌<◌, length, nat_le, not};
 ghost use Rattle.std.specs.List.{list_any};
+ghost use Rattle.ipl_base.specs.declared.limits.TheConstants.{SESSIONS};
 ghost use Rattle.ipl_rules.specs.State.{is_open, writes_of, shared_of, written_names};
 ghost use Rattle.ipl_rules.specs.Refusals.{is_new_write, is_new_share};
 ghost use Rattle.record_locks.specs.Standing.{state_of};
@@ -15,7 +16,7 @@ impl Sessions {
     /// Whether a session is open.
     #[tactic(auto, using(crate::proofs::StandingLemmas::open_at))]
     pub fn is_open(&self, s: u32) -> bool
-        requires { s < 32 }
+        requires { s < SESSIONS }
         ensures { result ≡ is_open (state_of self.now) s }
     {
         self.slots[s as usize].is_some()
@@ -39,7 +40,7 @@ impl Sessions {
     /// Whether a session did not write a name.
     #[tactic(auto, using(crate::proofs::StandingLemmas::new_write_at))]
     fn is_new_write(&self, s: u32, name: Name) -> bool
-        requires { s < 32 }
+        requires { s < SESSIONS }
         ensures { result ≡ is_new_write (state_of self.now) s name.0 }
     {
         !is_listed(self.written(s), name)
@@ -48,7 +49,7 @@ impl Sessions {
     /// Whether a session neither wrote nor shares a name.
     #[tactic(auto, using(crate::proofs::StandingLemmas::new_share_at))]
     fn is_new_share(&self, s: u32, name: Name) -> bool
-        requires { s < 32 }
+        requires { s < SESSIONS }
         ensures { result ≡ is_new_share (state_of self.now) s name.0 }
     {
         !is_listed(self.written(s), name) && !is_listed(self.shared(s), name)
@@ -57,7 +58,7 @@ impl Sessions {
     /// Whether a session wrote 256 names.
     #[tactic(auto, using(crate::proofs::TotalLemmas::names_counted))]
     fn has_full_writes(&self, s: u32) -> bool
-        requires { s < 32 }
+        requires { s < SESSIONS }
         ensures { result ≡ nat_le 256 (length (written_names (writes_of (state_of self.now) s))) }
     {
         let _ = &self.slots;
@@ -67,7 +68,7 @@ impl Sessions {
     /// Whether a session shares 256 names.
     #[tactic(auto, using(crate::proofs::StandingLemmas::shares_counted))]
     fn has_full_shares(&self, s: u32) -> bool
-        requires { s < 32 }
+        requires { s < SESSIONS }
         ensures { result ≡ nat_le 256 (length (shared_of (state_of self.now) s)) }
     {
         self.shared(s).len() >= 256
@@ -75,7 +76,7 @@ impl Sessions {
 
     /// Why a share is refused, if it is.
     pub fn refuses_share(&self, s: u32, name: Name) -> Option<Refusal>
-        requires { s < 32 }
+        requires { s < SESSIONS }
         ensures { result ≡ refuses_share self.now s name.0 }
     {
         if !self.is_open(s) {
@@ -92,7 +93,7 @@ impl Sessions {
 
     /// Why a write is refused, if it is.
     pub fn refuses_write(&self, s: u32, name: Name) -> Option<Refusal>
-        requires { s < 32 }
+        requires { s < SESSIONS }
         ensures { result ≡ refuses_write self.now s name.0 }
     {
         if !self.is_open(s) {
