@@ -1,15 +1,15 @@
 """Cases of what is wrong with a chip, and of which fault is told first."""
 from asking import Picture, case, wants, wants_fault, wants_letters, wants_records
-from images import (COMMIT, DATA, LOG, OVERFLOW, PUT_RECORD, STATUS, base, commit, data_header,
-                    first_record, formatted, log, overflow_header, raw_sector, record, sector,
-                    status_header, text_of)
+from images import (COMMIT, DATA, FIRST_PUT_RECORD, LOG, OVERFLOW, PUT_RECORD, STATUS, base, commit,
+                    data_header, first_record, formatted, log, overflow_header, raw_sector, record,
+                    sector, status_header, text_of)
 
 
 @case
 def a_damaged_base_sector_is_named_with_its_sums():
     image = first_record()
-    image.bytes[262691] = ord("j")
-    note = "damaged place 2 sector 1 stored d098d148 computed 5574a417"
+    image.bytes[262692] = ord("j")
+    note = "damaged place 2 sector 1 stored 94126694 computed 1d57e1c6"
     wants_fault("a changed byte", image, note)
     wants_letters("a changed byte", image, (2, 0, "H!."))
 
@@ -30,11 +30,17 @@ def a_long_page_stands_in_pieces():
 
 @case
 def texts_that_are_no_page_are_malformed():
-    texts = ["03 00 00 00", "03 00 03 00", "40 00", "00 6d" + 109 * " 00", "00 02 68",
-             "00 02 68 69 03"]
+    texts = ["03 00 00 00 00 00", "03 00 00 03 00 00", "40 00 00", "00 00 6d" + 109 * " 00",
+             "00 00 02 68", "00 00 02 68 69 03"]
     for text in texts:
         image = first_record().put(2, 1, base(4, 0, bytes.fromhex(text)))
         wants_fault(text, image, "malformed place 2 sector 1")
+    firsts = ["03 00 00 00", "03 00 03 00", "40 00", "00 6d" + 109 * " 00", "00 02 68",
+              "00 02 68 69 03"]
+    for text in firsts:
+        image = formatted().put(2, 1, base(4, 0, bytes.fromhex(text), version=1))
+        image.put(2, 0, data_header(4, counts={0: 1}, version=1))
+        wants_fault(text + " of version 1", image, "malformed place 2 sector 1")
     whole = text_of({slot: b"x" * 108 for slot in range(5)})
     image = formatted().put(2, 0, data_header(4, counts={3: 2}))
     image.put(2, 49, base(4, 3, whole[:480])).put(2, 50, base(4, 3, whole[480:-1], piece=1))
@@ -46,20 +52,28 @@ def base_sectors_of_other_pages_are_malformed():
     text = text_of({5: b"hi"})
     others = [base(5, 0, text), base(4, 1, text), base(4, 0, text, piece=1),
               base(4, 0, text, unit=1), sector(LOG, 0, 4, 0, text), base(4, 0, b""), b"\xff" * 512,
-              raw_sector(base(4, 0, text)[:28], text + bytes(475) + b"\x01")]
+              base(4, 0, text_of({5: b"hi"}, version=1), version=1),
+              raw_sector(base(4, 0, text)[:28], text + bytes(474) + b"\x01")]
     for other in others:
         wants_fault("another sector", first_record().put(2, 1, other), "malformed place 2 sector 1")
 
 
 @case
 def log_payloads_out_of_the_grammar_are_malformed():
-    payloads = [b"\x00\x03" + PUT_RECORD[2:], b"\x00\x02\x05\x01" + bytes(8) + b"a",
-                PUT_RECORD[:11], b"\x0f" + PUT_RECORD[1:], b"\x00\x01\x40" + PUT_RECORD[3:],
+    # Of kind 3, a delete with a value, too short, of page 15, of kind 0, and others.
+    payloads = [b"\x00\xc5" + PUT_RECORD[2:], b"\x00\x85\x00\x01" + bytes(8) + b"a",
+                PUT_RECORD[:11], b"\x0f" + PUT_RECORD[1:], b"\x00\x05" + PUT_RECORD[2:],
                 PUT_RECORD[:-1], PUT_RECORD + b"\x00", record(0, 0, 4, b"x" * 109)]
-    for payload in payloads:
-        image = formatted().put(0, 250, sector(LOG, 0, 1, 9, payload))
+    # The same of version 1, and of slot 64.
+    put = FIRST_PUT_RECORD
+    firsts = [b"\x00\x03" + put[2:], b"\x00\x02\x05\x01" + bytes(8) + b"a", put[:11],
+              b"\x0f" + put[1:], b"\x00\x00" + put[2:], b"\x00\x01\x40" + put[3:], put[:-1],
+              put + b"\x00", record(0, 0, 4, b"x" * 109, version=1)]
+    for payload, version in [(p, 2) for p in payloads] + [(p, 1) for p in firsts]:
+        live, dead = (sector(LOG, 0, own, 9, payload, version) for own in (1, 3))
+        image = formatted().put(0, 250, live)
         wants_fault(payload.hex(), image, "malformed place 0 sector 250")
-        wants_records("dead ones", formatted().put(0, 250, sector(LOG, 0, 3, 9, payload)), [])
+        wants_records("dead ones", formatted().put(0, 250, dead), [])
     wants_records("an empty one", formatted().put(0, 250, log(1, 9)), [])
 
 
@@ -156,7 +170,8 @@ def strange_sectors_are_told_from_torn_ones():
     whole = log(1, 9, record(0, 0, 4, b"\x01"))
     head, payload = whole[:28], whole[32:]
     strange = [(b"IPL2" + head[4:], payload), (head[:4] + b"\x07" + head[5:], payload),
-               (head[:4] + b"\x00" + head[5:], payload), (head[:5] + b"\x02" + head[6:], payload),
+               (head[:4] + b"\x00" + head[5:], payload), (head[:5] + b"\x03" + head[6:], payload),
+               (head[:5] + b"\x00" + head[6:], payload),
                (head[:6] + b"\x01\xe1" + head[8:], payload), (head, payload[:479] + b"\x01")]
     for parts in strange:
         image = formatted().put(0, 241, raw_sector(*parts)).put(1, 1, commit(2, 9, 4))

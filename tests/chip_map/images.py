@@ -8,17 +8,27 @@ PUT, DELETE = 1, 2
 
 # The examples at the end of docs/FORMAT.md: bytes 0..28 of a sector, its sum, its payload.
 FORMATTED_HEADER = (
+    "49 50 4c 31 01 02 00 14 00 00 00 00 00 00 00 00 00 00 00 01 00 00 00 00 00 00 00 01",
+    "56 a7 da 44", "00 00 00 01" + 16 * " 00")
+STATUS_HEADER = (
+    "49 50 4c 31 02 02 00 04 00 00 00 00 00 00 00 00 00 00 00 02 00 00 00 00 00 00 00 02",
+    "b9 0e 54 c3", "00 00 00 01")
+BASE_SECTOR = (
+    "49 50 4c 31 04 02 00 05 00 00 00 00 00 00 00 00 00 00 00 04 00 00 00 00 00 00 00 00",
+    "94 12 66 94", "05 00 02 68 69")
+PUT_RECORD = bytes.fromhex("00 45 00 02 00 00 00 00 00 00 00 07 68 69")
+DELETE_RECORD = bytes.fromhex("0e bf 00 00 00 00 00 00 00 00 00 04")
+PAGE_TEXT = bytes.fromhex("00 00 02 68 69 03 00 00")
+# The same of version 1.
+FIRST_HEADER = (
     "49 50 4c 31 01 01 00 14 00 00 00 00 00 00 00 00 00 00 00 01 00 00 00 00 00 00 00 01",
     "06 e4 b2 58", "00 00 00 01" + 16 * " 00")
-STATUS_HEADER = (
-    "49 50 4c 31 02 01 00 04 00 00 00 00 00 00 00 00 00 00 00 02 00 00 00 00 00 00 00 02",
-    "e9 4d 3c df", "00 00 00 01")
-BASE_SECTOR = (
+FIRST_BASE_SECTOR = (
     "49 50 4c 31 04 01 00 04 00 00 00 00 00 00 00 00 00 00 00 04 00 00 00 00 00 00 00 00",
     "d0 98 d1 48", "05 02 68 69")
-PUT_RECORD = bytes.fromhex("00 01 05 02 00 00 00 00 00 00 00 07 68 69")
-DELETE_RECORD = bytes.fromhex("0e 02 3f 00 00 00 00 00 00 00 00 04")
-PAGE_TEXT = bytes.fromhex("00 02 68 69 03 00")
+FIRST_PUT_RECORD = bytes.fromhex("00 01 05 02 00 00 00 00 00 00 00 07 68 69")
+FIRST_DELETE_RECORD = bytes.fromhex("0e 02 3f 00 00 00 00 00 00 00 00 04")
+FIRST_PAGE_TEXT = bytes.fromhex("00 02 68 69 03 00")
 
 
 def shifted(register):
@@ -51,49 +61,59 @@ def raw_sector(head, payload):
     return head + struct.pack(">I", crc32(head + payload)) + payload
 
 
-def sector(kind, unit, generation, serial, payload=b""):
-    head = struct.pack(">4sBBHIQQ", b"IPL1", kind, 1, len(payload), unit, generation, serial)
+def sector(kind, unit, generation, serial, payload=b"", version=2):
+    head = struct.pack(">4sBBHIQQ", b"IPL1", kind, version, len(payload), unit, generation, serial)
     return raw_sector(head, payload + bytes(480 - len(payload)))
 
 
-def data_header(generation, units=1, counts=None, carried=0, unit=0, serial=None):
+def data_header(generation, units=1, counts=None, carried=0, unit=0, serial=None, version=2):
     """A data header; counts has the number of base sectors of some pages, by page."""
     numbers = bytes((counts or {}).get(page, 0) for page in range(15))
     payload = struct.pack(">I", units) + numbers + bytes([carried])
-    return sector(DATA, unit, generation, generation if serial is None else serial, payload)
-
-
-def status_header(generation, units=1, serial=None):
     serial = generation if serial is None else serial
-    return sector(STATUS, 0, generation, serial, struct.pack(">I", units))
+    return sector(DATA, unit, generation, serial, payload, version)
 
 
-def overflow_header(generation, units=1):
-    return sector(OVERFLOW, 0, generation, generation, struct.pack(">I", units))
+def status_header(generation, units=1, serial=None, version=2):
+    serial = generation if serial is None else serial
+    return sector(STATUS, 0, generation, serial, struct.pack(">I", units), version)
 
 
-def text_of(slots):
+def overflow_header(generation, units=1, version=2):
+    return sector(OVERFLOW, 0, generation, generation, struct.pack(">I", units), version)
+
+
+def length_of(value, version):
+    """The bytes of a value's length: one in version 1, two from then on."""
+    return len(value).to_bytes(1 if version == 1 else 2, "big")
+
+
+def text_of(slots, version=2):
     """The text of a page from its values by slot."""
-    return b"".join(bytes([slot, len(slots[slot])]) + slots[slot] for slot in sorted(slots))
+    return b"".join(bytes([slot]) + length_of(slots[slot], version) + slots[slot]
+                    for slot in sorted(slots))
 
 
-def base(generation, page, text, piece=0, unit=0):
-    return sector(BASE, unit, generation, 16 * page + piece, text)
+def base(generation, page, text, piece=0, unit=0, version=2):
+    return sector(BASE, unit, generation, 16 * page + piece, text, version)
 
 
-def record(page, slot, transaction, value=None):
+def record(page, slot, transaction, value=None, version=2):
     """A log record; without a value it is a delete."""
     kind = DELETE if value is None else PUT
     said = value or b""
-    return struct.pack(">BBBBQ", page, kind, slot, len(said), transaction) + said
+    kind_and_slot = [kind, slot] if version == 1 else [64 * kind + slot]
+    head = bytes([page, *kind_and_slot]) + length_of(said, version)
+    return head + struct.pack(">Q", transaction) + said
 
 
-def log(generation, serial, *records, unit=0):
-    return sector(LOG, unit, generation, serial, b"".join(records))
+def log(generation, serial, *records, unit=0, version=2):
+    return sector(LOG, unit, generation, serial, b"".join(records), version)
 
 
-def commit(generation, serial, *numbers):
-    return sector(COMMIT, 0, generation, serial, struct.pack(f">{len(numbers)}Q", *numbers))
+def commit(generation, serial, *numbers, version=2):
+    payload = struct.pack(f">{len(numbers)}Q", *numbers)
+    return sector(COMMIT, 0, generation, serial, payload, version)
 
 
 class Image:

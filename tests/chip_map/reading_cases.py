@@ -1,7 +1,8 @@
 """Cases of what counts on a chip and which records it stands for."""
 from asking import Picture, case, wants, wants_fault, wants_letters, wants_records
-from images import (BASE_SECTOR, DELETE_RECORD, FORMATTED_HEADER, Image, LOG, PAGE_TEXT, PUT_RECORD,
-                    STATUS_HEADER, base, commit, crc32, data_header, first_record, formatted,
+from images import (BASE_SECTOR, DELETE_RECORD, FIRST_BASE_SECTOR, FIRST_DELETE_RECORD, FIRST_HEADER,
+                    FIRST_PAGE_TEXT, FIRST_PUT_RECORD, FORMATTED_HEADER, Image, LOG, PAGE_TEXT,
+                    PUT_RECORD, STATUS_HEADER, base, commit, crc32, data_header, first_record, formatted,
                     full_log, log, merged_log, overflow_header, record, sector, sixteen_commits,
                     spelled, status_header, text_of)
 
@@ -13,10 +14,30 @@ def sums_are_those_of_the_format():
     wants("sum of 512 bytes FF", crc32(b"\xff" * 512), 0xBD7BC39F)
     wants("the worked header", data_header(1), spelled(*FORMATTED_HEADER))
     wants("the worked status header", status_header(2), spelled(*STATUS_HEADER))
-    wants("the worked base sector", base(4, 0, b"\x05\x02hi"), spelled(*BASE_SECTOR))
+    wants("the worked base sector", base(4, 0, b"\x05\x00\x02hi"), spelled(*BASE_SECTOR))
     wants("the worked put", record(0, 5, 7, b"hi"), PUT_RECORD)
     wants("the worked delete", record(14, 63, 4), DELETE_RECORD)
     wants("the worked text", text_of({3: b"", 0: b"hi"}), PAGE_TEXT)
+
+
+@case
+def version_1_is_spelled_as_it_was():
+    wants("the header", data_header(1, version=1), spelled(*FIRST_HEADER))
+    wants("the base sector", base(4, 0, b"\x05\x02hi", version=1), spelled(*FIRST_BASE_SECTOR))
+    wants("the put", record(0, 5, 7, b"hi", version=1), FIRST_PUT_RECORD)
+    wants("the delete", record(14, 63, 4, version=1), FIRST_DELETE_RECORD)
+    wants("the text", text_of({3: b"", 0: b"hi"}, version=1), FIRST_PAGE_TEXT)
+
+
+@case
+def each_payload_is_read_by_the_version_of_its_sector():
+    image = Image().put(1, 0, status_header(2, version=1)).put(1, 1, commit(2, 9, 3))
+    image.put(0, 0, data_header(4, counts={0: 1}, version=1))
+    image.put(0, 1, spelled(*FIRST_BASE_SECTOR))
+    image.put(0, 241, log(4, 6, record(0, 6, 3, b"a", version=1), version=1))
+    image.put(0, 242, log(4, 7, record(0, 7, 3, b"b")))
+    image.put(1, 2, commit(2, 10, 8, version=1))
+    wants_records("log sectors of both versions", image, ["5 6869", "6 61", "7 62"])
 
 
 @case

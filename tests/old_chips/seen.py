@@ -49,10 +49,10 @@ class Seen:
 
     def has_open_in_overflow(self) -> bool:
         """Whether a record that isn't committed stands in an overflow place."""
-        payloads = (sector.payload for spot, sector in self.layout.live.items()
-                    if spot.place in self.layout.overflow_places)
+        sectors = (sector for spot, sector in self.layout.live.items()
+                   if spot.place in self.layout.overflow_places)
         return any(record.transaction not in self.layout.committed
-                   for payload in payloads for record in log_records(payload))
+                   for sector in sectors for record in log_records(sector))
 
     def numbers(self) -> List[int]:
         """For each commit sector of the status place, how many numbers it has."""

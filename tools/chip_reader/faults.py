@@ -52,7 +52,7 @@ def log_faults(layout: Layout) -> Iterator[Fault]:
         before = elsewhere.get(sector.unit, 0)
         is_surplus = is_elsewhere and before >= MOST_SPOTS_ELSEWHERE
         is_repeated = (sector.unit, sector.serial) in serials
-        if is_surplus or is_repeated or log_records(sector.payload) is None:
+        if is_surplus or is_repeated or log_records(sector) is None:
             yield malformed(spot)
         serials.add((sector.unit, sector.serial))
         elsewhere[sector.unit] = before + is_elsewhere
@@ -73,7 +73,7 @@ def transactions_in(sector: Sector) -> List[int]:
     if sector.kind == Kind.COMMIT:
         return transaction_numbers(sector.payload) or []
     if sector.kind == Kind.LOG:
-        return [record.transaction for record in log_records(sector.payload) or []]
+        return [record.transaction for record in log_records(sector) or []]
     return []
 
 

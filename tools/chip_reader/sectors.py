@@ -18,6 +18,7 @@ PAGES = 15
 SLOTS = 64
 MOST_PIECES = 16
 PIECE_BYTES = 480
+MOST_TEXT_BYTES = MOST_PIECES * PIECE_BYTES
 MOST_VALUE_BYTES = 108
 MOST_CARRIED = 12
 MOST_COMMITTED = 60
@@ -27,7 +28,8 @@ FIRST_LOG_SECTOR = 241
 HEAD = struct.Struct(">4sBBHIQQI")
 RECORD_HEAD = struct.Struct(">BBBBQ")
 MARKER = b"IPL1"
-VERSION = 1
+# In the first version a length has one byte, and from then on two.
+FIRST_VERSION, LAST_VERSION = 1, 2
 SUM_AT = 28
 PUT, DELETE = 1, 2
 BLANK = b"\xff" * SECTOR_BYTES
@@ -69,8 +71,9 @@ class Strange:
 
 @dataclass(frozen=True)
 class Sector:
-    """A sector that checks, and what it says."""
+    """A sector that checks, and what it says. Its payload is read by its own version."""
     kind: Kind
+    version: int
     unit: int
     generation: int
     serial: int
@@ -100,10 +103,11 @@ def class_of(sector: bytes) -> SectorClass:
     computed = sum_of(sector)
     if stored != computed:
         return Bad(stored, computed)
-    is_known = marker == MARKER and kind in KINDS and version == VERSION
+    is_known = marker == MARKER and kind in KINDS and FIRST_VERSION <= version <= LAST_VERSION
     if not is_known or used > PIECE_BYTES or any(sector[HEAD.size + used:]):
         return Strange()
-    return Sector(Kind(kind), unit, generation, serial, sector[HEAD.size:HEAD.size + used])
+    return Sector(Kind(kind), version, unit, generation, serial,
+                  sector[HEAD.size:HEAD.size + used])
 
 
 def count_places(length: int) -> int:
@@ -158,19 +162,22 @@ def data_header(payload: bytes) -> Optional[DataHeader]:
     return header
 
 
-def page_slots(text: bytes) -> Optional[Dict[int, bytes]]:
+def page_slots(text: bytes, version: int) -> Optional[Dict[int, bytes]]:
     """The records of a page's text by slot, or none where it is no page's text."""
     slots: Dict[int, bytes] = {}
     at, least = 0, 0
+    head = 2 if version == FIRST_VERSION else 3
+    if len(text) > MOST_TEXT_BYTES:
+        return None
     while at < len(text):
-        if len(text) < at + 2:
+        if len(text) < at + head:
             return None
-        slot, length = text[at], text[at + 1]
-        value = text[at + 2:at + 2 + length]
+        slot, length = text[at], int.from_bytes(text[at + 1:at + head], "big")
+        value = text[at + head:at + head + length]
         if not least <= slot < SLOTS or length > MOST_VALUE_BYTES or len(value) < length:
             return None
         slots[slot] = value
-        at, least = at + 2 + length, slot + 1
+        at, least = at + head + length, slot + 1
     return slots
 
 
@@ -183,11 +190,14 @@ class LogRecord:
     value: Optional[bytes]
 
 
-def log_record_at(payload: bytes, at: int) -> Optional[Tuple[LogRecord, int]]:
+def log_record_at(payload: bytes, at: int, version: int) -> Optional[Tuple[LogRecord, int]]:
     """The record that begins at a byte of a log payload, and where the next one begins."""
     if len(payload) < at + RECORD_HEAD.size:
         return None
     page, kind, slot, length, transaction = RECORD_HEAD.unpack_from(payload, at)
+    if version != FIRST_VERSION:
+        # Kind and slot share a byte, and the length has the two behind it.
+        kind, slot, length = kind // SLOTS, kind % SLOTS, slot << 8 | length
     start = at + RECORD_HEAD.size
     value = payload[start:start + length]
     if page >= PAGES or slot >= SLOTS or length > MOST_VALUE_BYTES or len(value) < length:
@@ -197,12 +207,12 @@ def log_record_at(payload: bytes, at: int) -> Optional[Tuple[LogRecord, int]]:
     return LogRecord(page, slot, transaction, value if kind == PUT else None), start + length
 
 
-def log_records(payload: bytes) -> Optional[List[LogRecord]]:
-    """The records of a log payload in order, or none where it isn't in the grammar."""
+def log_records(sector: Sector) -> Optional[List[LogRecord]]:
+    """The records of a log sector in order, or none where its payload isn't in the grammar."""
     records = []
     at = 0
-    while at < len(payload):
-        read = log_record_at(payload, at)
+    while at < len(sector.payload):
+        read = log_record_at(sector.payload, at, sector.version)
         if read is None:
             return None
         record, at = read

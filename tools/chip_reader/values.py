@@ -40,8 +40,9 @@ def base_fault(layout: Layout, unit: int, spot: Spot, is_last: bool) -> Optional
     if not isinstance(sector, Sector) or sector.kind != Kind.BASE:
         return malformed(spot)
     # Piece i of page p has serial 16 p + i, and stands in the sector of the next number.
-    wanted = unit, layout.home_header(unit).generation, spot.sector - 1
-    is_its_own = (sector.unit, sector.generation, sector.serial) == wanted
+    header = layout.home_header(unit)
+    wanted = header.version, unit, header.generation, spot.sector - 1
+    is_its_own = (sector.version, sector.unit, sector.generation, sector.serial) == wanted
     is_filled = len(sector.payload) > 0 if is_last else len(sector.payload) == PIECE_BYTES
     return None if is_its_own and is_filled else malformed(spot)
 
@@ -61,14 +62,14 @@ def base_page(layout: Layout, unit: int, page: int) -> Union[Slots, Fault]:
         if fault:
             return fault
         text += layout.payload_at(spot)
-    slots = page_slots(text)
+    slots = page_slots(text, layout.home_header(unit).version)
     return malformed(spots[0]) if slots is None else slots
 
 
 def unit_log(layout: Layout, unit: int) -> List[LogRecord]:
     """The records of a unit's log in the order in which they apply, committed or not."""
     sectors = [layout.live[spot] for spot in layout.logs.get(unit, [])]
-    return [record for sector in sectors for record in log_records(sector.payload) or []]
+    return [record for sector in sectors for record in log_records(sector) or []]
 
 
 def unit_records(layout: Layout, unit: int) -> Dict[Tuple[int, int], bytes]:

@@ -1,5 +1,5 @@
 -- The places and the counts of a chip, over one call after another.
-use Rattle.std.proofs.Common.{◌≡◌, ◌∙◌, refl, arith}
+use Rattle.std.proofs.Common.{◌∙◌, refl, arith}
 use Rattle.chip_trait.specs.Told.{Told, Counts}
 
 -- with no call

@@ -1,7 +1,6 @@
 -- Histories and contents that are told, over one part of events after another.
 use Rattle.std.proofs.Common.{◌≡◌, [], ◌∷◌, ◌++◌, Option, Some, None, refl, sym, ap, append_assoc}
 use Rattle.std.specs.Option.{option_map}
-use Rattle.chip_trait.specs.declared.event.Event.{Event}
 use Rattle.chip_trait.specs.Story.{Story, Contents, after, held}
 use Rattle.chip_trait.specs.Told.{History, adds_all}
 

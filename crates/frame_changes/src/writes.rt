@@ -1,7 +1,7 @@
 //! A record put into the frame of its page, and the records of a page dropped.
 ghost use Rattle.std.specs.Prelude.{◌≡◌, ◌<◌, ◌↔◌, IsSome, IsTrue};
-ghost use Rattle.ipl_format.specs.Record.{SpellsLog};
-ghost use Rattle.log_records.specs.View.{record_of};
+ghost use Rattle.ipl_base.specs.declared.limits.TheConstants.{VERSION};
+ghost use Rattle.log_records.specs.View.{record_of, Spells};
 ghost use Rattle.buffer_pool.specs.Holding.{KeepsPins};
 ghost use Rattle.buffer_pool.specs.Uses.{used_of};
 ghost use Rattle.pending_writes.specs.Frames.{IsWrittenFrame, logs_of};
@@ -50,7 +50,8 @@ pub fn put_record(pool: &mut Pool, unit: u32, rec: &Record)
 /// log sector; an empty one where the page is in no frame.
 pub fn log_payload(pool: &Pool, unit: u32, page: u32) -> Payload
     requires { page < 15 }
-    ensures { SpellsLog result (logs_of (frames_of pool.now) unit page) }
+    ensures records { Spells result (logs_of (frames_of pool.now) unit page) }
+    ensures version { result.version ≡ VERSION }
 {
     match pool.records(unit, page) {
         Some(log) => log.payload(),

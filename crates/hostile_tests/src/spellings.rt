@@ -6,6 +6,7 @@ use crate::desks::{ROOM, all_said, ends, left_by};
 use chip_mem::MemChip;
 use chip_trait::Chip;
 use crc_sum::crc32_parts;
+use ipl_base::VERSION;
 use ipl_cli::MemDesk;
 use sector_format::{Head, encode};
 use std::alloc::Global;
@@ -15,6 +16,7 @@ use std::test::Fail;
 /// Sectors of unit 0 at place 0: its header, the first piece of its first page and a log sector.
 const DATA: Head = Head {
     kind: Head::DATA_HEADER,
+    version: VERSION,
     unit: 0,
     generation: 1,
     serial: 1,
@@ -31,6 +33,13 @@ const LOG: Head = Head {
     serial: 5,
     ..DATA
 };
+
+/// The same of version 1.
+const FIRST_DATA: Head = Head { version: 1, ..DATA };
+
+const FIRST_BASE: Head = Head { version: 1, ..BASE };
+
+const FIRST_LOG: Head = Head { version: 1, ..LOG };
 
 /// Sectors of the status place, which is place 1: its header and a commit sector.
 const STATUS: Head = Head {
@@ -50,15 +59,19 @@ const ONE_PIECE: [u8; 21] = [
     0, 0, 0, 1, 1, 0, 0, 0, 0, 0, 0, 0, 0, 0, 0, 0, 0, 0, 0, 0, 0,
 ];
 
-/// The text of a page with the value `hi` in its first slot, and what a list says of it.
-const TEXT: &[u8] = &[0, 2, 0x68, 0x69];
+/// The text of a page with the value `hi` in its first slot, in each version, and what a list says of
+/// it.
+const TEXT: &[u8] = &[0, 0, 2, 0x68, 0x69];
+
+const FIRST_TEXT: &[u8] = &[0, 2, 0x68, 0x69];
 
 const RECORD: &[u8] = b"0 6869\nend\n";
 
 /// The first byte of each sector: with it, nothing is changed.
 const SAME: (usize, u8) = (0, b'I');
 
-const VERSION: (usize, u8) = (5, 2);
+/// There is no version 3.
+const NO_VERSION: (usize, u8) = (5, 3);
 
 const LAST: (usize, u8) = (511, 1);
 
@@ -70,6 +83,7 @@ fn put(rt: &impl Abort, chip: &mut MemChip, spelled: Spelled<'_>) {
     let ((place, sector), head, payload, (index, byte)) = spelled;
     let mut bytes = [0; 512];
     assert!(rt; payload.len() <= 480 && 1 <= head.kind && head.kind <= 6);
+    assert!(rt; 1 <= head.version && head.version <= VERSION);
     encode(&head, payload, &mut bytes);
     assert!(rt; index < 512);
     bytes[index] = byte;
@@ -79,13 +93,18 @@ fn put(rt: &impl Abort, chip: &mut MemChip, spelled: Spelled<'_>) {
     chip.alter(place, sector, &bytes);
 }
 
-/// A formatted chip whose unit has one record, but for a sector that is put there.
+/// A formatted chip whose unit has one record, in the version of a sector, but for that sector, which
+/// is put there.
 fn spelled_chip(rt: &impl Abort, alloc: Global, spelled: Spelled<'_>) -> Result<MemChip, Fail> {
     let mut desk = MemDesk::new(alloc, MemChip::new(alloc, 5, ROOM)?, b"", &[])?;
     assert_eq!(rt; ends(alloc, "format ram:5", &mut desk)?, 0);
     let mut chip = left_by(alloc, &desk)?;
-    put(rt, &mut chip, ((0, 0), DATA, &ONE_PIECE[..20], SAME));
-    put(rt, &mut chip, ((0, 1), BASE, TEXT, SAME));
+    let (data, base, text) = match spelled.1.version {
+        1 => (FIRST_DATA, FIRST_BASE, FIRST_TEXT),
+        _ => (DATA, BASE, TEXT),
+    };
+    put(rt, &mut chip, ((0, 0), data, &ONE_PIECE[..20], SAME));
+    put(rt, &mut chip, ((0, 1), base, text, SAME));
     put(rt, &mut chip, spelled);
     Ok(chip)
 }
@@ -109,37 +128,94 @@ fn check(rt: &impl Abort, alloc: Global, spelled: Spelled<'_>, fault: &str) -> R
 
 #[test]
 fn refused_spellings_are_malformed(rt: HostRuntime) -> Result<(), Fail> {
-    let cases: [(Spelled<'_>, &str); 12] = [
-        // A page text with slots 3 and 0, with slot 3 twice, and with a value of 109 bytes.
+    let cases: [(Spelled<'_>, &str); 21] = [
+        // A page text with slots 3 and 0, with slot 3 twice, and with values of 109 and of 256 bytes.
         (
-            ((0, 1), BASE, &[3, 0, 0, 0], SAME),
+            ((0, 1), BASE, &[3, 0, 0, 0, 0, 0], SAME),
             "malformed place 0 sector 1",
         ),
         (
-            ((0, 1), BASE, &[3, 0, 3, 0], SAME),
+            ((0, 1), BASE, &[3, 0, 0, 3, 0, 0], SAME),
             "malformed place 0 sector 1",
         ),
         (
-            ((0, 1), BASE, &[0; 111], (33, 109)),
+            ((0, 1), BASE, &[0; 112], (34, 109)),
+            "malformed place 0 sector 1",
+        ),
+        (
+            ((0, 1), BASE, &[0; 259], (33, 1)),
             "malformed place 0 sector 1",
         ),
         // A log record of kind 3, a delete with length 1, and 11 bytes.
         (
-            ((0, 241), LOG, &[0, 3, 5, 0, 0, 0, 0, 0, 0, 0, 0, 7], SAME),
+            (
+                (0, 241),
+                LOG,
+                &[0, 0xc5, 0, 0, 0, 0, 0, 0, 0, 0, 0, 7],
+                SAME,
+            ),
             "malformed place 0 sector 241",
         ),
         (
             (
                 (0, 241),
                 LOG,
+                &[0, 0x85, 0, 1, 0, 0, 0, 0, 0, 0, 0, 7, 0],
+                SAME,
+            ),
+            "malformed place 0 sector 241",
+        ),
+        (
+            ((0, 241), LOG, &[0, 0x85, 0, 0, 0, 0, 0, 0, 0, 0, 0], SAME),
+            "malformed place 0 sector 241",
+        ),
+        // The same of version 1, but for the value of 256 bytes; and what is none in the other version.
+        (
+            ((0, 1), FIRST_BASE, &[3, 0, 0, 0], SAME),
+            "malformed place 0 sector 1",
+        ),
+        (
+            ((0, 1), FIRST_BASE, &[3, 0, 3, 0], SAME),
+            "malformed place 0 sector 1",
+        ),
+        (
+            ((0, 1), FIRST_BASE, &[0; 111], (33, 109)),
+            "malformed place 0 sector 1",
+        ),
+        (
+            (
+                (0, 241),
+                FIRST_LOG,
+                &[0, 3, 5, 0, 0, 0, 0, 0, 0, 0, 0, 7],
+                SAME,
+            ),
+            "malformed place 0 sector 241",
+        ),
+        (
+            (
+                (0, 241),
+                FIRST_LOG,
                 &[0, 2, 5, 1, 0, 0, 0, 0, 0, 0, 0, 7, 0],
                 SAME,
             ),
             "malformed place 0 sector 241",
         ),
         (
-            ((0, 241), LOG, &[0, 2, 5, 0, 0, 0, 0, 0, 0, 0, 0], SAME),
+            (
+                (0, 241),
+                FIRST_LOG,
+                &[0, 2, 5, 0, 0, 0, 0, 0, 0, 0, 0],
+                SAME,
+            ),
             "malformed place 0 sector 241",
+        ),
+        (
+            ((0, 1), FIRST_BASE, TEXT, SAME),
+            "malformed place 0 sector 1",
+        ),
+        (
+            ((0, 1), BASE, FIRST_TEXT, SAME),
+            "malformed place 0 sector 1",
         ),
         // No committed number, and one and a half.
         (((1, 1), COMMIT, &[], SAME), "malformed place 1 sector 1"),
@@ -173,14 +249,15 @@ fn refused_spellings_are_malformed(rt: HostRuntime) -> Result<(), Fail> {
 
 #[test]
 fn strange_sectors_count_for_none(rt: HostRuntime) -> Result<(), Fail> {
-    for change in [VERSION, LAST] {
-        let cases: [(Spelled<'_>, &str); 6] = [
+    for change in [NO_VERSION, LAST] {
+        let cases: [(Spelled<'_>, &str); 7] = [
             (((0, 0), DATA, &ONE_PIECE[..20], change), "missing unit 0"),
             (((1, 0), STATUS, &[0, 0, 0, 1], change), "not formatted"),
             (((0, 1), BASE, TEXT, change), "malformed place 0 sector 1"),
             (((0, 241), LOG, &[0], change), ""),
             (((1, 1), COMMIT, &[], change), ""),
             (((0, 0), DATA, &ONE_PIECE[..20], SAME), ""),
+            (((0, 0), FIRST_DATA, &ONE_PIECE[..20], SAME), ""),
         ];
         for (spelled, fault) in cases {
             check(&rt, rt.alloc(), spelled, fault)?;

@@ -6,8 +6,14 @@ pub const SECTORS: u32 = 256;
 /// The bytes of a sector behind its head of 32 bytes.
 pub const PAYLOAD_LEN: usize = 480;
 
+/// The version of all that is written.
+pub const VERSION: u8 = 2;
+
 /// The bytes of a value, at most.
 pub const VALUE_LEN: usize = 108;
+
+/// The bytes of a value in what is written in version 1, at most.
+pub const SHORT_LEN: usize = 108;
 
 /// The bytes of a log record before its value.
 pub const RECORD_HEAD: usize = 12;

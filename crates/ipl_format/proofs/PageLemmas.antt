@@ -1,82 +1,204 @@
 -- Page texts: one reading, their length, and their pieces.
-use Rattle.std.proofs.Common.{◌≡◌, ◌≤◌, ◌<◌, ◌+◌, ◌*◌, ℕ, zero, suc, List, [], ◌∷◌, ◌++◌, ◌∙◌, ap, ap₂, sym, refl, arith, length, replicate, get_or, take, drop, All, Option, Some, None, length-append, length-drop}
-use Rattle.std.proofs.lemmas.List.{take_at, drop_at, take-append-drop, drop-drop, length-replicate}
+use Rattle.std.proofs.Common.{◌≡◌, ◌≤◌, ◌<◌, ◌+◌, ◌*◌, ℕ, zero, suc, List, [], ◌∷◌, ◌++◌, ◌∙◌, ap, ap₂, sym, refl, arith, length, replicate, get_or, take, drop, All, Option, Some, None, length-append, length-drop, append_assoc}
+use Rattle.std.proofs.lemmas.List.{take-append-drop, drop-drop, length-replicate}
 use Rattle.std.proofs.lemmas.List.Elements.{All-nil, All-cons}
-use Rattle.ipl_format.specs.Page.{Slots, IsShort, empty_page, text_from, piece_of}
-use Rattle.ipl_format.specs.Laws.{PagesSpellOnce, EmptyPagesSpellNothing, PagesHaveRoom, PiecesSayOnce}
+use Rattle.std.proofs.Common.{◌==◌, false, ne_eqb}
+use Rattle.ipl_base.specs.declared.limits.TheConstants.{SHORT_LEN, VERSION}
+use Rattle.ipl_format.specs.Version.{most_len, len_bytes}
+use Rattle.ipl_format.specs.Page.{SpellsPage, Slots, IsShort, empty_page, text_from, piece_of}
+use Rattle.ipl_format.specs.Laws.{PagesSpellOnce, EmptyPagesSpellNothing, PagesGrow, LaterPagesAreAlike, ShortPagesHaveRoom, PiecesSayOnce}
+use Rattle.ipl_format.proofs.ListLemmas.{parts_once}
+use Rattle.ipl_format.proofs.VersionLemmas.{length-len, len_alike, len_parts, len_size-le, most_alike, most_len-ge}
 
 -- a text begins with a slot from k on
-pub first_from : (k : ℕ) (xs : Slots) (a : ℕ) (t : List ℕ) → text_from k xs ≡ a ∷ t → k ≤ a
+pub first_from : (version k : ℕ) (xs : Slots) (a : ℕ) (t : List ℕ) → text_from version k xs ≡ a ∷ t
+    → k ≤ a
 unfolding text_from
-first_from k [] a t e = absurd (omega (arith, ap length e))
-first_from k (None ∷ xs) a t e = let h = first_from (suc k) xs a t e in omega (arith, h)
-first_from k (Some v ∷ xs) a t e = let h : k ≡ a = ap (λ (l : List ℕ). get_or l 0 0) e in omega (arith, h)
+first_from version k [] a t e = absurd (omega (arith, ap length e))
+first_from version k (None ∷ xs) a t e = let h = first_from version (suc k) xs a t e in
+    omega (arith, h)
+first_from version k (Some v ∷ xs) a t e = let h : k ≡ a = ap (λ (l : List ℕ). get_or l 0 0) e in
+    omega (arith, h)
 
 -- two texts with the same first slot go on alike
-pub same_tails : (k : ℕ) (v w t u : List ℕ) → ◌≡◌ {A = List ℕ} (k ∷ length v ∷ (v ++ t)) (k ∷ length w ∷ (w ++ u)) → t ≡ u
-same_tails k v w t u e =
-    let size : length v ≡ length w = ap (λ (l : List ℕ). get_or l 1 0) e in
-    let tails : v ++ t ≡ w ++ u = ap (λ (l : List ℕ). drop 2 l) e in
-    sym (drop_at v t (length v) refl) ∙ (ap (drop (length v)) tails ∙ drop_at w u (length v) (sym size))
+pub same_parts : (version k : ℕ) (v w t u : List ℕ) → length v ≤ most_len version
+    → length w ≤ most_len version
+    → ◌≡◌ {A = List ℕ} (k ∷ ((len_bytes version (length v) ++ v) ++ t))
+    (k ∷ ((len_bytes version (length w) ++ w) ++ u)) → (v ≡ w) × (t ≡ u)
+same_parts version k v w t u low less e =
+    let behind : (len_bytes version (length v) ++ v) ++ t ≡ (len_bytes version (length w) ++ w)
+    ++ u = ap (λ (l : List ℕ). drop 1 l) e in
+    let (size, tails) = len_parts version (length v) (length w) (v ++ t) (w ++ u) low less
+    (sym (append_assoc (len_bytes version (length v)) v t) ∙ behind
+    ∙ append_assoc (len_bytes version (length w)) w u) in
+    parts_once v w t u size tails
 
-same_value : (k : ℕ) (v w t u : List ℕ) → ◌≡◌ {A = List ℕ} (k ∷ length v ∷ (v ++ t)) (k ∷ length w ∷ (w ++ u)) → v ≡ w
-same_value k v w t u e =
-    let size : length v ≡ length w = ap (λ (l : List ℕ). get_or l 1 0) e in
-    let tails : v ++ t ≡ w ++ u = ap (λ (l : List ℕ). drop 2 l) e in
-    sym (take_at v t (length v) refl) ∙ (ap (take (length v)) tails ∙ take_at w u (length v) (sym size))
+later_short : (version : ℕ) (x : Option (List ℕ)) (xs : Slots) → All (IsShort version) (x ∷ xs)
+    → All (IsShort version) xs
+later_short version x xs each = λ i d within. each (suc i) d (omega (arith, within))
 
-same_slots : (k : ℕ) (xs ys : Slots) → length xs ≡ length ys → text_from k xs ≡ text_from k ys → xs ≡ ys
+same_slots : (version k : ℕ) (xs ys : Slots) → All (IsShort version) xs → All (IsShort version) ys
+    → length xs ≡ length ys
+    → text_from version k xs ≡ text_from version k ys → xs ≡ ys
 unfolding text_from
-same_slots k [] [] n e = refl
-same_slots k [] (y ∷ ys) n e = absurd (omega arith)
-same_slots k (x ∷ xs) [] n e = absurd (omega arith)
-same_slots k (None ∷ xs) (None ∷ ys) n e = ap (λ (zs : Slots). None ∷ zs) (same_slots (suc k) xs ys (omega arith) e)
-same_slots k (Some v ∷ xs) (None ∷ ys) n e =
-    let late = first_from (suc k) ys k (length v ∷ (v ++ text_from (suc k) xs)) (sym e) in absurd (omega arith)
-same_slots k (None ∷ xs) (Some w ∷ ys) n e =
-    let late = first_from (suc k) xs k (length w ∷ (w ++ text_from (suc k) ys)) e in absurd (omega arith)
-same_slots k (Some v ∷ xs) (Some w ∷ ys) n e =
-    ap₂ (λ (z : List ℕ) (zs : Slots). Some z ∷ zs) (same_value k v w (text_from (suc k) xs) (text_from (suc k) ys) e)
-    (same_slots (suc k) xs ys (omega arith) (same_tails k v w (text_from (suc k) xs) (text_from (suc k) ys) e))
+same_slots version k [] [] f g n e = refl
+same_slots version k [] (y ∷ ys) f g n e = absurd (omega (arith, n))
+same_slots version k (x ∷ xs) [] f g n e = absurd (omega (arith, n))
+same_slots version k (None ∷ xs) (None ∷ ys) f g n e =
+    ap (λ (zs : Slots). None ∷ zs)
+    (same_slots version (suc k) xs ys (later_short version None xs f)
+    (later_short version None ys g) (omega (arith, n)) e)
+same_slots version k (Some v ∷ xs) (None ∷ ys) f g n e =
+    let late =
+    first_from version (suc k) ys k ((len_bytes version (length v) ++ v)
+    ++ text_from version (suc k) xs) (sym e) in absurd (omega (arith, late))
+same_slots version k (None ∷ xs) (Some w ∷ ys) f g n e =
+    let late =
+    first_from version (suc k) xs k ((len_bytes version (length w) ++ w)
+    ++ text_from version (suc k) ys) e in absurd (omega (arith, late))
+same_slots version k (Some v ∷ xs) (Some w ∷ ys) f g n e =
+    let (value, tails) =
+    same_parts version k v w (text_from version (suc k) xs) (text_from version (suc k) ys)
+    (f 0 None (omega arith)) (g 0 None (omega arith)) e in
+    ap₂ (λ (z : List ℕ) (zs : Slots). Some z ∷ zs) value
+    (same_slots version (suc k) xs ys (later_short version (Some v) xs f)
+    (later_short version (Some w) ys g) (omega (arith, n)) tails)
 
 pub pages_spell_once : PagesSpellOnce
-pages_spell_once bytes p q h k = same_slots 0 p q (h.slots.slots ∙ sym k.slots.slots) (sym h.text ∙ k.text)
+pages_spell_once version bytes p q h k =
+    same_slots version 0 p q h.slots.short k.slots.short (h.slots.slots ∙ sym k.slots.slots)
+    (sym h.text ∙ k.text)
 
 -- ---- a page with nothing
 
-short_none : (n : ℕ) → All IsShort (replicate n None)
-short_none zero = All-nil IsShort
-short_none (suc n) = All-cons IsShort None (replicate n None) tt (short_none n)
+short_none : (version n : ℕ) → All (IsShort version) (replicate n None)
+short_none version zero = All-nil (IsShort version)
+short_none version (suc n) =
+    All-cons (IsShort version) None (replicate n None) tt (short_none version n)
 
-none_text : (k n : ℕ) → text_from k (replicate n None) ≡ []
+none_text : (version k n : ℕ) → text_from version k (replicate n None) ≡ []
 unfolding text_from
-none_text k zero = refl
-none_text k (suc n) = none_text (suc k) n
+none_text version k zero = refl
+none_text version k (suc n) = none_text version (suc k) n
 
 pub empty_pages_spell_nothing : EmptyPagesSpellNothing
 unfolding empty_page
-empty_pages_spell_nothing = record {
-  slots = record { slots = length-replicate {A = Option (List ℕ)} 64 None; short = short_none 64 };
-  text = sym (none_text 0 64);
+empty_pages_spell_nothing version = record {
+  slots = record {
+    slots = length-replicate {A = Option (List ℕ)} 64 None;
+    short = short_none version 64;
+    fits = omega (arith, ap length (none_text version 0 64));
+  };
+  text = sym (none_text version 0 64);
 }
 
 -- ---- how long a text is
 
-text_short : (k : ℕ) (xs : Slots) → All IsShort xs → length (text_from k xs) ≤ 110 * length xs
+text_short : (k : ℕ) (xs : Slots) → All (IsShort 1) xs
+    → length (text_from 1 k xs) ≤ (2 + SHORT_LEN) * length xs
 unfolding text_from
 text_short k [] each = omega arith
 text_short k (None ∷ xs) each =
-    let rest = text_short (suc k) xs (λ i d within. each (suc i) d (omega arith)) in omega (arith, rest)
+    let rest = text_short (suc k) xs (later_short 1 None xs each) in omega (arith, rest)
 text_short k (Some v ∷ xs) each =
     let first = each 0 None (omega arith) in
-    let rest = text_short (suc k) xs (λ i d within. each (suc i) d (omega arith)) in
-    omega (arith, first, rest, length-append v (text_from (suc k) xs))
+    let rest = text_short (suc k) xs (later_short 1 (Some v) xs each) in
+    omega (
+      arith,
+      first,
+      rest,
+      length-append (len_bytes 1 (length v) ++ v) (text_from 1 (suc k) xs),
+      length-append (len_bytes 1 (length v)) v,
+    )
 
-pub pages_have_room : PagesHaveRoom
-pages_have_room bytes page spelled =
-    let size = ap length spelled.text in
-    let most = text_short 0 page spelled.slots.short in
-    omega (arith, size, most, spelled.slots.slots)
+pub short_pages_have_room : ShortPagesHaveRoom
+short_pages_have_room page slots short =
+    record {
+      slots = slots;
+      short = short;
+      fits = let most = text_short 0 page short in
+          omega (arith, most, slots);
+    }
+
+-- in another version each record has one byte more
+text_grows : (version k : ℕ) (xs : Slots) → All (IsShort 1) xs
+    → length (text_from version k xs) ≤ (3 + SHORT_LEN) * length xs
+unfolding text_from
+text_grows version k [] each = omega arith
+text_grows version k (None ∷ xs) each =
+    let rest = text_grows version (suc k) xs (later_short 1 None xs each) in omega (arith, rest)
+text_grows version k (Some v ∷ xs) each =
+    let first = each 0 None (omega arith) in
+    let rest = text_grows version (suc k) xs (later_short 1 (Some v) xs each) in
+    let len = len_bytes version (length v) in
+    omega (
+      arith,
+      first,
+      rest,
+      length-append (len ++ v) (text_from version (suc k) xs),
+      length-append len v,
+      length-len version (length v),
+      len_size-le version,
+    )
+
+wider : (version : ℕ) (xs : Slots) → All (IsShort 1) xs → All (IsShort version) xs
+wider version [] each = All-nil (IsShort version)
+wider version (None ∷ xs) each =
+    All-cons (IsShort version) None xs tt (wider version xs (later_short 1 None xs each))
+wider version (Some v ∷ xs) each =
+    All-cons (IsShort version) (Some v) xs
+    (let first = each 0 None (omega arith) in omega (arith, first, most_len-ge version))
+    (wider version xs (later_short 1 (Some v) xs each))
+
+pub pages_grow : PagesGrow
+pages_grow version page is =
+    record {
+      slots = is.slots;
+      short = wider version page is.short;
+      fits = let most = text_grows version 0 page is.short in omega (arith, most, is.slots);
+    }
+
+-- ---- all versions but the first
+
+text_alike : (v w k : ℕ) (xs : Slots) → (v == 1) ≡ false → (w == 1) ≡ false
+    → text_from v k xs ≡ text_from w k xs
+unfolding text_from
+text_alike v w k [] p q = refl
+text_alike v w k (None ∷ xs) p q = text_alike v w (suc k) xs p q
+text_alike v w k (Some x ∷ xs) p q =
+    ap₂ (λ (len t : List ℕ). k ∷ ((len ++ x) ++ t)) (len_alike v w (length x) p q)
+    (text_alike v w (suc k) xs p q)
+
+short_alike : (v w : ℕ) (xs : Slots) → (v == 1) ≡ false → (w == 1) ≡ false
+    → All (IsShort v) xs → All (IsShort w) xs
+short_alike v w [] p q each = All-nil (IsShort w)
+short_alike v w (None ∷ xs) p q each =
+    All-cons (IsShort w) None xs tt (short_alike v w xs p q (later_short v None xs each))
+short_alike v w (Some x ∷ xs) p q each =
+    let first = each 0 None (omega arith) in
+    All-cons (IsShort w) (Some x) xs (omega (arith, first, most_alike v w p q))
+    (short_alike v w xs p q (later_short v (Some x) xs each))
+
+spells_alike : (v w : ℕ) (bytes : List ℕ) (page : Slots) → (v == 1) ≡ false → (w == 1) ≡ false
+    → SpellsPage v bytes page → SpellsPage w bytes page
+spells_alike v w bytes page p q h =
+    let same = text_alike v w 0 page p q in
+    let fits = h.slots.fits in
+    record {
+      slots = record {
+        slots = h.slots.slots;
+        short = short_alike v w page p q h.slots.short;
+        fits = omega (arith, fits, ap length same);
+      };
+      text = h.text ∙ same;
+    }
+
+pub later_pages_are_alike : LaterPagesAreAlike
+later_pages_are_alike version bytes page later =
+    let other : (version == 1) ≡ false = ne_eqb version 1 later in (
+      spells_alike VERSION version bytes page refl other,
+      spells_alike version VERSION bytes page other refl,
+    )
 
 -- ---- pieces
 

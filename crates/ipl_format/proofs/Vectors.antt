@@ -3,7 +3,7 @@ use Rattle.std.proofs.Common.{◌≡◌, ◌≢◌, ℕ, List, [], ◌∷◌, �
 use Rattle.crc_sum.specs.Crc.{shifted, shifted_8, with_byte, crc}
 use Rattle.ipl_format.specs.Numbers.{half, word, long, half_at, word_at, long_at}
 use Rattle.ipl_format.specs.Sector.{front, is_formed, said_in, sector_in}
-use Rattle.ipl_format.specs.Record.{record_bytes}
+use Rattle.ipl_format.specs.Record.{record_bytes, record_head}
 use Rattle.ipl_format.specs.Commit.{SpellsCommit}
 use Rattle.ipl_format.specs.Header.{SpellsDataHeader, data_header_bytes}
 use Rattle.ipl_format.specs.Page.{page_text, text_from}
@@ -27,13 +27,15 @@ unfolding sector_in is_formed said_in half_at word_at long_at crc with_byte shif
 first_sector = refl
 
 -- a put of `hi` at page 0, slot 5 by transaction 7
-a_put : record_bytes (record { page = 0; slot = 5; tid = 7; change = Some (104 ∷ 105 ∷ []) }) ≡ 0 ∷ 1 ∷ 5 ∷ 2 ∷ 0 ∷ 0 ∷ 0 ∷ 0 ∷ 0 ∷ 0 ∷ 0 ∷ 7 ∷ 104 ∷ 105 ∷ []
-unfolding record_bytes long
+a_put : record_bytes 1 (record { page = 0; slot = 5; tid = 7; change = Some (104 ∷ 105 ∷ []) })
+    ≡ 0 ∷ 1 ∷ 5 ∷ 2 ∷ 0 ∷ 0 ∷ 0 ∷ 0 ∷ 0 ∷ 0 ∷ 0 ∷ 7 ∷ 104 ∷ 105 ∷ []
+unfolding record_bytes record_head long
 a_put = refl
 
 -- a delete of page 14, slot 63 by transaction 4
-a_delete : record_bytes (record { page = 14; slot = 63; tid = 4; change = None }) ≡ 14 ∷ 2 ∷ 63 ∷ 0 ∷ 0 ∷ 0 ∷ 0 ∷ 0 ∷ 0 ∷ 0 ∷ 0 ∷ 4 ∷ []
-unfolding record_bytes long
+a_delete : record_bytes 1 (record { page = 14; slot = 63; tid = 4; change = None })
+    ≡ 14 ∷ 2 ∷ 63 ∷ 0 ∷ 0 ∷ 0 ∷ 0 ∷ 0 ∷ 0 ∷ 0 ∷ 0 ∷ 4 ∷ []
+unfolding record_bytes record_head long
 a_delete = refl
 
 -- the commit payload of transaction 4
@@ -42,7 +44,8 @@ unfolding long
 a_commit = refl
 
 -- slot 0 `hi`, slot 3 empty
-two_slots : page_text (Some (104 ∷ 105 ∷ []) ∷ None ∷ None ∷ Some [] ∷ replicate 60 None) ≡ 0 ∷ 2 ∷ 104 ∷ 105 ∷ 3 ∷ 0 ∷ []
+two_slots : page_text 1 (Some (104 ∷ 105 ∷ []) ∷ None ∷ None ∷ Some [] ∷ replicate 60 None)
+    ≡ 0 ∷ 2 ∷ 104 ∷ 105 ∷ 3 ∷ 0 ∷ []
 unfolding text_from
 two_slots = refl
 
@@ -54,5 +57,32 @@ twelve_bytes : (payload numbers : List ℕ) → length payload ≡ 12 → Spells
 twelve_bytes payload numbers twelve spelled = let size = commits_have_sizes payload numbers spelled in omega (arith, size, twelve)
 
 -- no data header has another length than 20, as 19 or 21
-other_length : (payload : List ℕ) (units : ℕ) (pieces : List ℕ) → length payload ≢ 20 → SpellsDataHeader units pieces payload → ⊥
-other_length payload units pieces other spelled = other (data_headers_have_sizes payload units pieces spelled)
+other_length : (version : ℕ) (payload : List ℕ) (units : ℕ) (pieces : List ℕ) → length payload ≢ 20
+    → SpellsDataHeader version units pieces payload → ⊥
+other_length version payload units pieces other spelled =
+    other (data_headers_have_sizes version payload units pieces spelled)
+
+-- ---- version 2
+
+-- a put of `hi` at page 0, slot 5 by transaction 7
+a_put_of_two : record_bytes 2 (record {
+  page = 0;
+  slot = 5;
+  tid = 7;
+  change = Some (104 ∷ 105 ∷ []);
+})
+    ≡ 0 ∷ 69 ∷ 0 ∷ 2 ∷ 0 ∷ 0 ∷ 0 ∷ 0 ∷ 0 ∷ 0 ∷ 0 ∷ 7 ∷ 104 ∷ 105 ∷ []
+unfolding record_bytes record_head half long
+a_put_of_two = refl
+
+-- a delete of page 14, slot 63 by transaction 4
+a_delete_of_two : record_bytes 2 (record { page = 14; slot = 63; tid = 4; change = None })
+    ≡ 14 ∷ 191 ∷ 0 ∷ 0 ∷ 0 ∷ 0 ∷ 0 ∷ 0 ∷ 0 ∷ 0 ∷ 0 ∷ 4 ∷ []
+unfolding record_bytes record_head half long
+a_delete_of_two = refl
+
+-- slot 0 `hi`, slot 3 empty
+two_slots_of_two : page_text 2 (Some (104 ∷ 105 ∷ []) ∷ None ∷ None ∷ Some [] ∷ replicate 60 None)
+    ≡ 0 ∷ 0 ∷ 2 ∷ 104 ∷ 105 ∷ 3 ∷ 0 ∷ 0 ∷ []
+unfolding text_from half
+two_slots_of_two = refl

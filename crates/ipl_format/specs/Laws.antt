@@ -1,12 +1,13 @@
 -- Laws of the formats: what is spelled says what was spelled, and there is no other spelling.
-use Rattle.std.specs.Prelude.{ℕ, ◌≡◌, ◌≤◌, ◌<◌, ◌+◌, ◌*◌, List, [], ◌++◌, length, Some, None}
+use Rattle.std.specs.Prelude.{ℕ, ◌≡◌, ◌≢◌, ◌↔◌, ◌<◌, ◌+◌, ◌*◌, List, [], ◌++◌, length, Some, None, All}
 use Rattle.chip_trait.specs.Story.{blank}
+use Rattle.ipl_base.specs.declared.limits.TheConstants.{RECORD_HEAD, SLOTS, VERSION}
 use Rattle.ipl_format.specs.Numbers.{IsBytes}
 use Rattle.ipl_format.specs.Sector.{Sector, IsSector, sector_bytes, sector_in}
 use Rattle.ipl_format.specs.Record.{Record, IsRecord, SpellsLog, record_bytes, value_of}
 use Rattle.ipl_format.specs.Commit.{SpellsCommit}
 use Rattle.ipl_format.specs.Header.{SpellsDataHeader, SpellsUnits}
-use Rattle.ipl_format.specs.Page.{Slots, SpellsPage, IsCutInto, empty_page, piece_of}
+use Rattle.ipl_format.specs.Page.{Slots, IsShort, IsPage, SpellsPage, IsCutInto, empty_page, piece_of}
 
 -- ---- sectors
 
@@ -25,22 +26,33 @@ BlankSaysNothing = sector_in blank ≡ None
 
 -- ---- log records
 
--- a record has 12 bytes and its value's
+-- a record has 12 bytes and its value's, in each version
 abbrev pub RecordsHaveSizes : Type 0
-RecordsHaveSizes = (r : Record) → length (record_bytes r) ≡ 12 + length (value_of r.change)
+RecordsHaveSizes =
+    (version : ℕ) (r : Record)
+    → length (record_bytes version r) ≡ RECORD_HEAD + length (value_of r.change)
 
 -- no record's spelling begins another's
 abbrev pub RecordsEndThemselves : Type 0
-RecordsEndThemselves = (r s : Record) (x y : List ℕ) → IsRecord r → IsRecord s → record_bytes r ++ x ≡ record_bytes s ++ y
+RecordsEndThemselves = (version : ℕ) (r s : Record) (x y : List ℕ) → IsRecord version r
+    → IsRecord version s
+    → record_bytes version r ++ x ≡ record_bytes version s ++ y
     → (r ≡ s) × (x ≡ y)
+
+-- a record of each version is one of the version that is written
+abbrev pub RecordsStay : Type 0
+RecordsStay = (version : ℕ) (r : Record) → IsRecord version r → IsRecord VERSION r
 
 -- a payload is one list of records
 abbrev pub LogsSpellOnce : Type 0
-LogsSpellOnce = (payload : List ℕ) (a b : List Record) → SpellsLog payload a → SpellsLog payload b → a ≡ b
+LogsSpellOnce = (version : ℕ) (payload : List ℕ) (a b : List Record) → SpellsLog version payload a
+    → SpellsLog version payload b → a ≡ b
 
 -- two lists of records, one after the other
 abbrev pub LogsJoin : Type 0
-LogsJoin = (x y : List ℕ) (a b : List Record) → SpellsLog x a → SpellsLog y b → SpellsLog (x ++ y) (a ++ b)
+LogsJoin = (version : ℕ) (x y : List ℕ) (a b : List Record) → SpellsLog version x a
+    → SpellsLog version y b
+    → SpellsLog version (x ++ y) (a ++ b)
 
 -- ---- commit payloads
 
@@ -61,34 +73,48 @@ pub record AreOneHeader (units u : ℕ) (pieces q : List ℕ) (carried k : ℕ) 
   pub same_carried : carried ≡ k
 
 abbrev pub DataHeadersSpellOnce : Type 0
-DataHeadersSpellOnce = (payload : List ℕ) (units u : ℕ) (pieces q : List ℕ)
-    (one : SpellsDataHeader units pieces payload) (other : SpellsDataHeader u q payload)
+DataHeadersSpellOnce = (version : ℕ) (payload : List ℕ) (units u : ℕ) (pieces q : List ℕ)
+    (one : SpellsDataHeader version units pieces payload)
+    (other : SpellsDataHeader version u q payload)
     → AreOneHeader units u pieces q one.carried other.carried
 
 -- each data header has 20 bytes
 abbrev pub DataHeadersHaveSizes : Type 0
-DataHeadersHaveSizes = (payload : List ℕ) (units : ℕ) (pieces : List ℕ) → SpellsDataHeader units pieces payload → length payload ≡ 20
+DataHeadersHaveSizes = (version : ℕ) (payload : List ℕ) (units : ℕ) (pieces : List ℕ)
+    → SpellsDataHeader version units pieces payload → length payload ≡ 20
 
 -- a status or overflow header says one number, in four bytes
 abbrev pub UnitsSpellOnce : Type 0
-UnitsSpellOnce = (payload : List ℕ) (units u : ℕ) → SpellsUnits units payload → SpellsUnits u payload → units ≡ u
+UnitsSpellOnce = (version : ℕ) (payload : List ℕ) (units u : ℕ)
+    → SpellsUnits version units payload → SpellsUnits version u payload → units ≡ u
 
 abbrev pub UnitsHaveSizes : Type 0
-UnitsHaveSizes = (payload : List ℕ) (units : ℕ) → SpellsUnits units payload → length payload ≡ 4
+UnitsHaveSizes = (version : ℕ) (payload : List ℕ) (units : ℕ)
+    → SpellsUnits version units payload → length payload ≡ 4
 
 -- ---- pages
 
 -- bytes are the text of one page
 abbrev pub PagesSpellOnce : Type 0
-PagesSpellOnce = (bytes : List ℕ) (p q : Slots) → SpellsPage bytes p → SpellsPage bytes q → p ≡ q
+PagesSpellOnce = (version : ℕ) (bytes : List ℕ) (p q : Slots) → SpellsPage version bytes p
+    → SpellsPage version bytes q → p ≡ q
 
 -- a page with nothing has no text
 abbrev pub EmptyPagesSpellNothing : Type 0
-EmptyPagesSpellNothing = SpellsPage [] empty_page
+EmptyPagesSpellNothing = (version : ℕ) → SpellsPage version [] empty_page
 
--- no page is ever full: a text has at most 7040 bytes, 15 base sectors
-abbrev pub PagesHaveRoom : Type 0
-PagesHaveRoom = (bytes : List ℕ) (page : Slots) → SpellsPage bytes page → length bytes ≤ 7040
+-- a page of version 1 is one of each version
+abbrev pub PagesGrow : Type 0
+PagesGrow = (version : ℕ) (page : Slots) → IsPage 1 page → IsPage version page
+
+-- all versions but the first have the same pages, and the same texts of them
+abbrev pub LaterPagesAreAlike : Type 0
+LaterPagesAreAlike = (version : ℕ) (bytes : List ℕ) (page : Slots) → version ≢ 1
+    → SpellsPage VERSION bytes page ↔ SpellsPage version bytes page
+
+-- in version 1 no page is ever full
+abbrev pub ShortPagesHaveRoom : Type 0
+ShortPagesHaveRoom = (page : Slots) → length page ≡ SLOTS → All (IsShort 1) page → IsPage 1 page
 
 -- the pieces of a text say what it is
 abbrev pub PiecesSayOnce : Type 0

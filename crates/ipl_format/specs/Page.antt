@@ -1,6 +1,7 @@
 -- A page of 64 slots, and its text, which the payloads of its base sectors hold (docs/FORMAT.md, "Page text").
 use Rattle.std.specs.Prelude.{ℕ, suc, ◌≡◌, ◌≤◌, ◌<◌, ◌+◌, ◌*◌, List, [], ◌∷◌, ◌++◌, length, take, drop, replicate, slice_index_or, Option, Some, None, All}
-use Rattle.ipl_base.specs.declared.limits.TheConstants.{PAYLOAD_LEN, VALUE_LEN, SLOTS}
+use Rattle.ipl_base.specs.declared.limits.TheConstants.{PAYLOAD_LEN, PAGE_LEN, SLOTS}
+use Rattle.ipl_format.specs.Version.{most_len, len_bytes}
 
 -- what each slot holds
 abbrev pub Slots : Type 0
@@ -14,38 +15,39 @@ value_in page slot = slice_index_or page slot None
 unfoldable pub empty_page : Slots
 empty_page = replicate SLOTS None
 
--- a slot's value has at most 108 bytes
-abbrev pub IsShort : Option (List ℕ) → Type 0
-IsShort None = Unit {0}
-IsShort (Some value) = length value ≤ VALUE_LEN
-
--- a page has 64 slots, and short values
-pub record IsPage (page : Slots) : Type 0 where
-  pub slots : length page ≡ SLOTS
-  pub short : All IsShort page
+-- a slot's value has no more bytes than the version has
+abbrev pub IsShort : ℕ → Option (List ℕ) → Type 0
+IsShort version None = Unit {0}
+IsShort version (Some value) = length value ≤ most_len version
 
 -- the record of a slot: its number, the length, the value; an empty slot has none
-abbrev pub slot_bytes : ℕ → Option (List ℕ) → List ℕ
-slot_bytes slot None = []
-slot_bytes slot (Some value) = slot ∷ length value ∷ value
+abbrev pub slot_bytes : ℕ → ℕ → Option (List ℕ) → List ℕ
+slot_bytes version slot None = []
+slot_bytes version slot (Some value) = slot ∷ (len_bytes version (length value) ++ value)
 
 -- the records of the slots from this one on, by rising slots
-unfoldable pub text_from : ℕ → Slots → List ℕ
-text_from slot [] = []
-text_from slot (o ∷ rest) = slot_bytes slot o ++ text_from (suc slot) rest
+unfoldable pub text_from : ℕ → ℕ → Slots → List ℕ
+text_from version slot [] = []
+text_from version slot (o ∷ rest) = slot_bytes version slot o ++ text_from version (suc slot) rest
 
 -- the text of the page
-abbrev pub page_text : Slots → List ℕ
-page_text page = text_from 0 page
+abbrev pub page_text : ℕ → Slots → List ℕ
+page_text version page = text_from version 0 page
+
+-- a page has 64 slots, short values, and a text that 16 base sectors hold
+pub record IsPage (version : ℕ) (page : Slots) : Type 0 where
+  pub slots : length page ≡ SLOTS
+  pub short : All (IsShort version) page
+  pub fits : length (page_text version page) ≤ PAGE_LEN
 
 -- the bytes are the text of this page
-pub record SpellsPage (bytes : List ℕ) (page : Slots) : Type 0 where
-  pub slots : IsPage page
-  pub text : bytes ≡ page_text page
+pub record SpellsPage (version : ℕ) (bytes : List ℕ) (page : Slots) : Type 0 where
+  pub slots : IsPage version page
+  pub text : bytes ≡ page_text version page
 
 -- the bytes are the text of a page
-abbrev pub IsPageText : List ℕ → Type 0
-IsPageText bytes = (page : Slots) × SpellsPage bytes page
+abbrev pub IsPageText : ℕ → List ℕ → Type 0
+IsPageText version bytes = (page : Slots) × SpellsPage version bytes page
 
 -- the i-th piece of a text, which one base sector holds
 abbrev pub piece_of : List ℕ → ℕ → List ℕ

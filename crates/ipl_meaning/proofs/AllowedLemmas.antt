@@ -24,6 +24,7 @@ module _ (places : ℕ) (c y : Chart) (it : Layout) (u page : ℕ) (laid : Laid 
     base = was.base;
     reads = record { fits = r.fits; cut = r.cut; here = λ i within. same (it.units u).home _ (inl (refl, inr (i, within, refl))) ∙ r.here i within };
     says = λ slot less. was.says slot less ∙ sym (page_applied it.committed page slot (it.units u).log (value_in was.base slot));
+    room = was.room;
   }
 
 pub allowed_sectors_suffice : AllowedSectorsSuffice

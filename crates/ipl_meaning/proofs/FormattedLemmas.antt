@@ -3,12 +3,14 @@ use Rattle.std.proofs.Common.{◌≡◌, ◌≢◌, ◌⊎◌, ℕ, ◌<◌, ◌
 use Rattle.std.proofs.lemmas.Bool.{cases_eq, cases_lt, eq-eqb, ne_eqb, lt-ltb, le-ltb}
 use Rattle.std.proofs.lemmas.List.{get_or-replicate, get_or_past}
 use Rattle.std.proofs.lemmas.List.Elements.{All-replicate}
-use Rattle.ipl_format.specs.Sector.{Sector}
 use Rattle.std.specs.Ordering.{nat_cmp}
 use Rattle.std.specs.FinMap.{empty, get-empty}
+use Rattle.ipl_format.specs.Sector.{Sector}
 use Rattle.ipl_format.specs.Header.{IsCount}
+use Rattle.ipl_base.specs.declared.limits.TheConstants.{VERSION}
 use Rattle.ipl_format.specs.Page.{empty_page, page_text, value_in}
 use Rattle.ipl_format.proofs.PageLemmas.{empty_pages_spell_nothing}
+use Rattle.ipl_meaning.proofs.SizeLemmas.{no_size}
 use Rattle.ipl_meaning.specs.Chart.{Chart, IsLive}
 use Rattle.ipl_meaning.specs.Layout.{Shape, IsUnit, Layout, Laid}
 use Rattle.ipl_meaning.specs.Stands.{Shows, Says, page_in}
@@ -102,8 +104,8 @@ module _ (places : ℕ) (least : 5 ≤ places) (most : places ≤ 1028) where
     | inr high ↦ get_or_past no_pieces page 0 high
   ]
 
-  no_text : page_text empty_page ≡ []
-  no_text = sym empty_pages_spell_nothing.text
+  no_text : page_text VERSION empty_page ≡ []
+  no_text = sym (empty_pages_spell_nothing VERSION).text
 
   -- an empty page shows nothing
   no_value : (slot : ℕ) → slot < 64 → value_in empty_page slot ≡ None
@@ -114,7 +116,7 @@ module _ (places : ℕ) (least : 5 ≤ places) (most : places ≤ 1028) where
   shows u page = record {
     base = empty_page;
     reads = record {
-      fits = empty_pages_spell_nothing.slots;
+      fits = (empty_pages_spell_nothing VERSION).slots;
       cut = record {
         enough = rw no_text (omega arith);
         needed = rw (no_text, no_count page) (omega arith);
@@ -122,6 +124,12 @@ module _ (places : ℕ) (least : 5 ≤ places) (most : places ≤ 1028) where
       here = λ i within. absurd (omega (arith, within, no_count page));
     };
     says = λ slot low. get-empty nat_cmp (960 * u + 64 * page + slot) ∙ sym (no_value slot low);
+    room =
+        omega (
+          arith,
+          no_size (page_in empty u page)
+              (λ slot. get-empty nat_cmp (960 * u + 64 * page + slot)),
+        );
   }
 
 -- its pages show no record

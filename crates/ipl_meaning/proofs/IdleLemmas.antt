@@ -98,6 +98,7 @@ idle_places_do_not_count places c it p y laid idle same nothing = (
     base = was.base;
     reads = record { fits = r.fits; cut = r.cut; here = λ i within. same (it.units u).home _ (idle.not_home u low) ∙ r.here i within };
     says = was.says;
+    room = was.room;
   },
 )
 

@@ -4,6 +4,7 @@ use Rattle.std.specs.List.{All, flat_map, list_any}
 use Rattle.std.proofs.lemmas.List.Elements.{All-nil, All-cons}
 use Rattle.std.proofs.lemmas.Bool.{cases_Bool, leb-true, and_parts, eqb-true}
 use Rattle.std.proofs.lemmas.List.Sums.{sum_by-append}
+use Rattle.ipl_base.specs.declared.limits.TheConstants.{VERSION}
 use Rattle.ipl_format.specs.Record.{Record, IsRecord}
 use Rattle.ipl_meaning.specs.Values.{counts_for, after_records}
 use Rattle.ipl_meaning.specs.Last.{last_that, has_room, size_of, pack_after, applied, is_number}
@@ -25,10 +26,11 @@ packs_are_the_list [] = refl
 packs_are_the_list (r ∷ records) = joined-pack_after (r ∷ []) records
 
 -- each sector is within its 480 bytes
-fits-pack_after : (full records : List Record) → IsWithin full → All IsRecord records → All IsWithin (pack_after full records)
+fits-pack_after : (full records : List Record) → IsWithin full → All (IsRecord VERSION) records
+    → All IsWithin (pack_after full records)
 fits-pack_after full [] small each = All-cons IsWithin full [] small (All-nil IsWithin)
 fits-pack_after full (r ∷ records) small each =
-    let later : All IsRecord records = λ k d low. each (suc k) d (omega (arith, low)) in
+    let later : All (IsRecord VERSION) records = λ k d low. each (suc k) d (omega (arith, low)) in
     elim (cases_Bool (has_room full r)) [
       | inl fits ↦ rw fits (fits-pack_after (full ++ r ∷ []) records (omega (arith, leb-true _ _ fits, sum_by-append size_of full (r ∷ []))) later)
       | inr over ↦ rw over (All-cons IsWithin full (pack_after (r ∷ []) records) small

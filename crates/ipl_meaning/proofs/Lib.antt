@@ -1,3 +1,4 @@
+pub mod SizeLemmas
 pub mod PutLemmas
 pub mod IdleLemmas
 pub mod OutsideLemmas
@@ -27,3 +28,4 @@ pub mod MergeFollowLemmas
 pub mod RenewalFollowLemmas
 pub mod OverflowFollowLemmas
 pub mod AgreeLemmas
+pub mod RoomLemmas

@@ -3,9 +3,9 @@ use Rattle.std.proofs.Common.{slice_index, ◌≡◌, ◌⊎◌, ℕ, zero, suc,
 use Rattle.std.specs.List.{All, Contains}
 use Rattle.std.proofs.lemmas.Bool.{cases_lt}
 use Rattle.std.proofs.lemmas.List.Elements.{All-contains}
-use Rattle.ipl_format.specs.Sector.{Sector}
 use Rattle.std.specs.FinMap.{get, same_map, nat_cmp-IsAntisymmetric}
 use Rattle.std.specs.Cmp.{nat_cmp_total}
+use Rattle.ipl_format.specs.Sector.{Sector}
 use Rattle.ipl_rules.specs.State.{Map}
 use Rattle.ipl_format.specs.Record.{Record}
 use Rattle.ipl_format.specs.Page.{Slots, value_in, page_text}
@@ -85,7 +85,9 @@ entries_once : (c : Chart) (places u home generation : ℕ) (e f : Entry) → Is
 entries_once c places u home generation e f is is_too place number =
     let both : Some f.sector ≡ Some e.sector = sym is_too.live.here ∙ ap₂ c place number ∙ is.live.here in
     let sector : f.sector ≡ e.sector = cc both in
-    let records : f.records ≡ e.records = logs_spell_once e.sector.payload f.records e.records (rw sector at is_too.records) is.records in
+    let records : f.records ≡ e.records =
+    logs_spell_once e.sector.version e.sector.payload f.records e.records
+    (rw sector at is_too.records) is.records in
     same_entry place number sector records
   where
     same_entry : {p q a b : ℕ} {s t : Sector} {l m : List Record} → p ≡ q → a ≡ b → s ≡ t → l ≡ m → ◌≡◌ {A = Entry} (record { place = p; number = a; sector = s; records = l }) (record { place = q; number = b; sector = t; records = m })
@@ -106,7 +108,9 @@ log_is_one c places u home generation a b one other = logs_same a b one.rising o
 shape_once : (c : Chart) (places u : ℕ) (a b : Shape) → IsUnit c places u a → IsUnit c places u b → a ≡ b
 shape_once c places u a b one other =
     let (home, head) = chosen_once c places (IsDataHeader u) a.home b.home a.head b.head one.chosen other.chosen in
-    let header = data_headers_spell_once b.head.payload (places - 4) (places - 4) a.pieces b.pieces (rw head at one.counts) other.counts in
+    let header =
+    data_headers_spell_once b.head.version b.head.payload (places - 4)
+    (places - 4) a.pieces b.pieces (rw head at one.counts) other.counts in
     let pieces : a.pieces ≡ b.pieces = header.same_pieces in
     let log : a.log ≡ b.log = log_is_one c places u b.home b.head.generation a.log b.log (rw (home, head) at one.log) other.log in
     same_shape home head pieces log
@@ -146,11 +150,18 @@ laid_once places c it jt one other = record {
 -- the base sectors of a page read as one page
 pub reads_once : (c : Chart) (u : ℕ) (it : Shape) (page : ℕ) (a b : Slots) → ReadsWell c u it page a → ReadsWell c u it page b → a ≡ b
 reads_once c u it page a b one other =
-    let text : page_text a ≡ page_text b = pieces_say_once (slice_index it.pieces page) (page_text a) (page_text b) one.cut other.cut (λ i within.
-    let both : Some (base_sector u it.head.generation page i (page_text a)) ≡ Some (base_sector u it.head.generation page i (page_text b)) = sym (one.here i within) ∙ other.here i within in
-    let same : base_sector u it.head.generation page i (page_text a) ≡ base_sector u it.head.generation page i (page_text b) = cc both in
+    let v = it.head.version in
+    let text : page_text v a ≡ page_text v b =
+    pieces_say_once (slice_index it.pieces page) (page_text v a)
+    (page_text v b) one.cut other.cut (λ i within.
+    let both : Some (base_sector v u it.head.generation page i (page_text v a))
+    ≡ Some (base_sector v u it.head.generation page i (page_text v b)) =
+    sym (one.here i within) ∙ other.here i within in
+    let same : base_sector v u it.head.generation page i (page_text v a)
+    ≡ base_sector v u it.head.generation page i (page_text v b) = cc both in
     ap (λ (s : Sector). s.payload) same) in
-    pages_spell_once (page_text a) a b (record { slots = one.fits; text = refl }) (record { slots = other.fits; text = text })
+    pages_spell_once v (page_text v a) a b (record { slots = one.fits; text = refl })
+    (record { slots = other.fits; text = text })
 
 -- two showings of a page are the same
 pub shows_once : (c : Chart) (committed other : ℕ → Bool) (u : ℕ) (it : Shape) (page : ℕ) (now after : Values) → ((tid : ℕ) → committed tid ≡ other tid) → Shows c committed u it page now → Shows c other u it page after

@@ -84,5 +84,6 @@ outside_does_not_count places c it y laid same = (
         base = was.base;
         reads = record { fits = r.fits; cut = r.cut; here = λ i within. same (it.units u).home _ unit.chosen.within (omega (arith, few, within, most)) ∙ r.here i within };
         says = was.says;
+        room = was.room;
       },
 )

@@ -7,6 +7,7 @@ use Rattle.std.proofs.lemmas.Map.Made.{length-le_from_is_member, is_member-Decid
 use Rattle.std.proofs.lemmas.Bool.{cases_Bool, leb-false, and_parts, and_from, eqb-true, eq-eqb, ne_eqb}
 use Rattle.std.proofs.lemmas.List.Elements.{All-nil, All-cons, All-push}
 use Rattle.std.proofs.lemmas.List.Sums.{sum_by-append}
+use Rattle.ipl_base.specs.declared.limits.TheConstants.{VERSION}
 use Rattle.ipl_format.specs.Record.{Record, IsRecord}
 use Rattle.ipl_meaning.specs.Values.{counts_for}
 use Rattle.ipl_meaning.specs.Layout.{records_of}
@@ -14,10 +15,11 @@ use Rattle.ipl_meaning.specs.Last.{has_room, size_of, size_of_all, pack_after, p
 use Rattle.ipl_meaning.specs.RecordLaws.{FewAreCarried}
 
 -- a record has at most 120 bytes
-size_short : (r : Record) → IsRecord r → size_of r ≤ 120
+size_short : (r : Record) → IsRecord VERSION r → size_of r ≤ 120
 size_short r is = let short = is.value in omega (arith, short)
 
-all_short : (records : List Record) → All IsRecord records → size_of_all records ≤ 120 * length records
+all_short : (records : List Record) → All (IsRecord VERSION) records
+    → size_of_all records ≤ 120 * length records
 all_short [] each = omega arith
 all_short (r ∷ records) each =
     let first = size_short r (each 0 r (omega arith)) in
@@ -26,15 +28,20 @@ all_short (r ∷ records) each =
     omega (arith, first, rest, sum)
 
 -- a closed sector holds at least four
-sectors_few : (full records : List Record) → All IsRecord full → All IsRecord records → 1 ≤ length full → 4 * length (pack_after full records) ≤ length full + length records + 3
+sectors_few : (full records : List Record) → All (IsRecord VERSION) full
+    → All (IsRecord VERSION) records → 1 ≤ length full
+    → 4 * length (pack_after full records) ≤ length full + length records + 3
 sectors_few full [] filled each some = omega (arith, some)
 sectors_few full (r ∷ records) filled each some =
-    let is : IsRecord r = each 0 r (omega arith) in
-    let later : All IsRecord records = λ k d low. each (suc k) d (omega (arith, low)) in
-    let one : All IsRecord (r ∷ []) = All-cons IsRecord r [] is (All-nil IsRecord) in
+    let is : IsRecord VERSION r = each 0 r (omega arith) in
+    let later : All (IsRecord VERSION) records = λ k d low. each (suc k) d (omega (arith, low)) in
+    let one : All (IsRecord VERSION) (r ∷ []) =
+    All-cons (IsRecord VERSION) r [] is (All-nil (IsRecord VERSION)) in
     elim (cases_Bool (has_room full r)) [
       | inl fits ↦
-          let more = sectors_few (full ++ r ∷ []) records (All-push IsRecord full r filled is) later (omega (arith, length-append full (r ∷ []))) in
+          let more =
+          sectors_few (full ++ r ∷ []) records (All-push (IsRecord VERSION) full r filled is)
+          later (omega (arith, length-append full (r ∷ []))) in
           rw fits (omega (arith, more, length-append full (r ∷ [])))
       | inr over ↦
           let more = sectors_few (r ∷ []) records one later (omega arith) in
@@ -42,24 +49,32 @@ sectors_few full (r ∷ records) filled each some =
           rw over (omega (arith, more, four, all_short full filled, size_short r is))
     ]
 
-pack_few : (records : List Record) → All IsRecord records → 4 * length (pack records) ≤ length records + 3
+pack_few : (records : List Record) → All (IsRecord VERSION) records
+    → 4 * length (pack records) ≤ length records + 3
 pack_few [] each = omega arith
 pack_few (r ∷ records) each =
-    let few = sectors_few (r ∷ []) records (All-cons IsRecord r [] (each 0 r (omega arith)) (All-nil IsRecord)) (λ k d low. each (suc k) d (omega (arith, low))) (omega arith) in
+    let few =
+    sectors_few (r ∷ []) records (All-cons (IsRecord VERSION) r [] (each 0 r (omega arith))
+    (All-nil (IsRecord VERSION))) (λ k d low. each (suc k) d (omega (arith, low)))
+    (omega arith) in
     omega (arith, few)
 
 -- what is carried are some of the records
-carried_valid : (active : ℕ → Bool) (records : List Record) → All IsRecord records → All IsRecord (carried active records)
+carried_valid : (active : ℕ → Bool) (records : List Record) → All (IsRecord VERSION) records
+    → All (IsRecord VERSION) (carried active records)
 carried_valid active [] each = each
 carried_valid active (r ∷ records) each =
     let later = carried_valid active records (λ k d low. each (suc k) d (omega (arith, low))) in
     elim (cases_Bool (active r.tid && not (list_any (counts_for active r.page r.slot) records))) [
-      | inl kept ↦ rw kept (All-cons IsRecord r (carried active records) (each 0 r (omega arith)) later)
+      | inl kept ↦ rw kept (All-cons (IsRecord VERSION) r (carried active records)
+          (each 0 r (omega arith)) later)
       | inr dropped ↦ rw dropped later
     ]
 
 -- a record that is carried, and one that isn't on its name, have different names
-names_differ : (active : ℕ → Bool) (r x : Record) → IsRecord r → IsRecord x → IsTrue (active x.tid) → counts_for active r.page r.slot x ≡ false → eqb (name_in_unit r) (name_in_unit x) ≡ false
+names_differ : (active : ℕ → Bool) (r x : Record) → IsRecord VERSION r → IsRecord VERSION x
+    → IsTrue (active x.tid) → counts_for active r.page r.slot x ≡ false
+    → eqb (name_in_unit r) (name_in_unit x) ≡ false
 names_differ active r x is other counts none = ne_eqb (name_in_unit r) (name_in_unit x) (λ same.
     let slot : x.slot ≡ r.slot = omega (arith, same, is.slot, other.slot) in
     let page : x.page ≡ r.page = omega (arith, same, is.slot, other.slot) in
@@ -69,11 +84,12 @@ names_differ active r x is other counts none = ne_eqb (name_in_unit r) (name_in_
 abbrev names_of : List Record → List ℕ
 names_of records = map name_in_unit records
 
-none_named : (active : ℕ → Bool) (r : Record) (records : List Record) → IsRecord r → All IsRecord records → list_any (counts_for active r.page r.slot) records ≡ false
+none_named : (active : ℕ → Bool) (r : Record) (records : List Record) → IsRecord VERSION r
+    → All (IsRecord VERSION) records → list_any (counts_for active r.page r.slot) records ≡ false
     → AllByRecursion (λ name. eqb (name_in_unit r) name ≡ false) (names_of (carried active records))
 none_named active r [] is each none = tt
 none_named active r (x ∷ records) is each none =
-    let later : All IsRecord records = λ k d low. each (suc k) d (omega (arith, low)) in
+    let later : All (IsRecord VERSION) records = λ k d low. each (suc k) d (omega (arith, low)) in
     elim (cases_Bool (counts_for active r.page r.slot x)) [
       | inl counts ↦ absurd (let clash = rw counts at none in cc clash)
       | inr other ↦
@@ -86,11 +102,12 @@ none_named active r (x ∷ records) is each none =
     ]
 
 -- each name is carried once
-names_distinct : (active : ℕ → Bool) (records : List Record) → All IsRecord records → IsDistinct eqb (names_of (carried active records))
+names_distinct : (active : ℕ → Bool) (records : List Record) → All (IsRecord VERSION) records
+    → IsDistinct eqb (names_of (carried active records))
 unfolding IsDistinct
 names_distinct active [] each = tt
 names_distinct active (r ∷ records) each =
-    let later : All IsRecord records = λ k d low. each (suc k) d (omega (arith, low)) in
+    let later : All (IsRecord VERSION) records = λ k d low. each (suc k) d (omega (arith, low)) in
     let rest = names_distinct active records later in
     elim (cases_Bool (active r.tid && not (list_any (counts_for active r.page r.slot) records))) [
       | inl kept ↦ rw kept (none_named active r records (each 0 r (omega arith)) later (not_true _ (and_parts _ _ kept).1), rest)

@@ -16,6 +16,7 @@ shows_more c y more committed u it page now was = let r = was.reads in record {
   base = was.base;
   reads = record { fits = r.fits; cut = r.cut; here = λ i low. more _ _ _ (r.here i low) };
   says = was.says;
+  room = was.room;
 }
 
 module _ (c : Chart) (p s : ℕ) (sector : Sector) (free : c p s ≡ None) where

@@ -76,6 +76,7 @@ merges_keep_pages c it u fresh merged page now few was =
     let (new, reads, same) = merged.pages page was.base few was.reads in record {
       base = new;
       reads = reads;
+      room = was.room;
       says = λ slot less. was.says slot less ∙ sym (same slot less) ∙ sym (waiting it.committed page slot (records_of fresh.log) (value_in new slot) merged.waits);
     }
 
@@ -113,6 +114,7 @@ pub kept_numbers_keep_pages : KeptNumbersKeepPages
 kept_numbers_keep_pages places c it p head committed keeps u page now low few was = record {
   base = was.base;
   reads = was.reads;
+  room = was.room;
   says = λ slot less. was.says slot less ∙ same_applied it.committed committed page slot (records_of (it.units u).log) (value_in was.base slot) (keeps u low);
 }
 

@@ -128,7 +128,15 @@ module _ (places : ℕ) (c : Chart) (it : Layout) (u p s : ℕ) (sector : Sector
       elim (cases_eq v u) [
         | inl same ↦ rw (same, eq-eqb u u refl) (
             let shown : Shows after it.committed u was page now = rw same at there in
-            record { base = shown.base; reads = let r = shown.reads in record { fits = r.fits; cut = r.cut; here = r.here }; says = λ slot less. shown.says slot less ∙ sym (same_values page slot (value_in shown.base slot)) })
+            record {
+              base = shown.base;
+              reads = let r = shown.reads in
+                  record { fits = r.fits; cut = r.cut; here = r.here };
+              room = shown.room;
+              says =
+                  λ slot less. shown.says slot less
+                  ∙ sym (same_values page slot (value_in shown.base slot));
+            })
         | inr apart ↦ rw (ne_eqb v u apart) there
       ]
 

@@ -1,6 +1,6 @@
 -- A chip that was just formatted.
 use Rattle.std.specs.Prelude.{ℕ, ◌+◌, ◌-◌, List, replicate, Option, Some, None, if◌then◌else◌, ◌==◌, nat_lt}
-use Rattle.ipl_base.specs.declared.limits.TheConstants.{RESERVED_PLACES, PAGES}
+use Rattle.ipl_base.specs.declared.limits.TheConstants.{RESERVED_PLACES, PAGES, VERSION}
 use Rattle.ipl_format.specs.Numbers.{word}
 use Rattle.ipl_format.specs.Header.{data_header_bytes}
 use Rattle.ipl_format.specs.Sector.{Sector}
@@ -14,7 +14,7 @@ no_pieces = replicate PAGES 0
 abbrev pub first_head : ℕ → ℕ → Sector
 first_head places u = record {
   kind = 1;
-  version = 1;
+  version = VERSION;
   unit = u;
   generation = u + 1;
   serial = u + 1;
@@ -25,7 +25,7 @@ first_head places u = record {
 abbrev pub first_status : ℕ → Sector
 first_status places = record {
   kind = 2;
-  version = 1;
+  version = VERSION;
   unit = 0;
   generation = places - RESERVED_PLACES + 1;
   serial = places - RESERVED_PLACES + 1;

@@ -25,7 +25,8 @@ Mentions sector n =
     (n ≡ sector.generation)
     ⊎ (n ≡ sector.serial)
     ⊎ ((sector.kind ≡ 6) × (numbers : List ℕ) × SpellsCommit sector.payload numbers × Contains numbers n)
-    ⊎ ((sector.kind ≡ 5) × (records : List Record) × SpellsLog sector.payload records × (r : Record) × Contains records r × (r.tid ≡ n))
+    ⊎ ((sector.kind ≡ 5) × (records : List Record) × SpellsLog sector.version sector.payload records
+    × (r : Record) × Contains records r × (r.tid ≡ n))
 
 -- the numbers found
 abbrev pub IsFoundNumber : ℕ → Chart → Layout → ℕ → Type 0

@@ -47,7 +47,7 @@ AllRise log = AllPairs IsBelow log
 -- the entry's sector is live for the unit, and has these records
 pub record IsEntry (c : Chart) (places u home generation : ℕ) (e : Entry) : Type 0 where
   pub live : IsLive c places u home generation e.place e.number e.sector
-  pub records : SpellsLog e.sector.payload e.records
+  pub records : SpellsLog e.sector.version e.sector.payload e.records
 
 -- the entry stands at home, or at one of these spots
 abbrev pub IsListed : List (ℕ × ℕ) → ℕ → Entry → Type 0
@@ -71,7 +71,7 @@ pub record IsLog (c : Chart) (places u home generation : ℕ) (log : List Entry)
 -- the header of the unit that counts stands at its home, and the log is its log
 pub record IsUnit (c : Chart) (places u : ℕ) (it : Shape) : Type 0 where
   pub chosen : IsChosen c places (IsDataHeader u) it.home it.head
-  pub counts : SpellsDataHeader (places - RESERVED_PLACES) it.pieces it.head.payload
+  pub counts : SpellsDataHeader it.head.version (places - RESERVED_PLACES) it.pieces it.head.payload
   pub log : IsLog c places u it.home it.head.generation it.log
 
 -- ---- committed numbers
@@ -106,7 +106,7 @@ pub record Laid (places : ℕ) (c : Chart) (it : Layout) : Type 0 where
   pub least : LEAST_PLACES ≤ places
   pub most : places ≤ MOST_PLACES
   pub chosen : IsChosen c places IsStatusHeader it.status it.head
-  pub counts : SpellsUnits (places - RESERVED_PLACES) it.head.payload
+  pub counts : SpellsUnits it.head.version (places - RESERVED_PLACES) it.head.payload
   pub commits : IsStatus c it.status it.head.generation it.committed
   pub each : (u : ℕ) → u < places - RESERVED_PLACES → IsUnit c places u (it.units u)
   -- at most two overflow places hold live sectors: these are all
@@ -120,17 +120,27 @@ IsLiveIn c places it u p s sector = IsLive c places u (it.units u).home (it.unit
 
 -- ---- base pages
 
--- a base sector: the i-th piece of the text of a page
-abbrev pub base_sector : ℕ → ℕ → ℕ → ℕ → List ℕ → Sector
-base_sector u generation page i text =
-    record { kind = 4; version = 1; unit = u; generation = generation; serial = page * PAGE_SECTORS + i; payload = piece_of text i }
+-- a base sector: the i-th piece of the text of a page, in a version
+abbrev pub base_sector : ℕ → ℕ → ℕ → ℕ → ℕ → List ℕ → Sector
+base_sector version u generation page i text =
+    record {
+      kind = 4;
+      version = version;
+      unit = u;
+      generation = generation;
+      serial = page * PAGE_SECTORS + i;
+      payload = piece_of text i;
+    }
 
--- the page's base sectors read well: they hold the text of this page, cut into as many pieces as the header says
+-- the page's base sectors read well: they hold the text of this page, in the header's version, cut
+-- into as many pieces as the header says
 pub record ReadsWell (c : Chart) (u : ℕ) (it : Shape) (page : ℕ) (slots : Slots) : Type 0 where
-  pub fits : IsPage slots
-  pub cut : IsCutInto (page_text slots) (slice_index it.pieces page)
+  pub fits : IsPage it.head.version slots
+  pub cut : IsCutInto (page_text it.head.version slots) (slice_index it.pieces page)
   pub here : (i : ℕ) → i < slice_index it.pieces page
-      → c it.home (base_sector_of page i) ≡ Some (base_sector u it.head.generation page i (page_text slots))
+      → c it.home (base_sector_of page i)
+      ≡ Some (base_sector it.head.version u it.head.generation page i
+      (page_text it.head.version slots))
 
 -- all the records of the unit's live sectors, in their order
 abbrev pub records_of : List Entry → List Record

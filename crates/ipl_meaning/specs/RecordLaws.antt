@@ -1,9 +1,11 @@
 -- Laws of lists of records.
-use Rattle.std.specs.Prelude.{ℕ, ◌≡◌, ◌≤◌, Bool, true, List, All, Contains, IsTrue, length, Option, None, if◌then◌else◌}
+use Rattle.std.specs.Prelude.{ℕ, ◌≡◌, ◌≤◌, ◌<◌, Bool, true, List, All, Contains, IsTrue, length, Option, None, if◌then◌else◌}
 use Rattle.std.specs.List.{flat_map}
-use Rattle.ipl_base.specs.declared.limits.TheConstants.{PAYLOAD_LEN, CARRIED_SECTORS, PENDING_NAMES}
+use Rattle.ipl_base.specs.declared.limits.TheConstants.{PAYLOAD_LEN, CARRIED_SECTORS, PAGE_LEN, PENDING_NAMES, SLOTS, VERSION}
+use Rattle.ipl_base.specs.Sizes.{size_of_values}
 use Rattle.ipl_format.specs.Record.{Record, IsRecord}
-use Rattle.ipl_meaning.specs.Values.{counts_for, after_records}
+use Rattle.ipl_format.specs.Page.{Slots, IsShort, page_text, value_in}
+use Rattle.ipl_meaning.specs.Values.{Values, counts_for, after_records}
 use Rattle.ipl_meaning.specs.Layout.{Entry, records_of}
 use Rattle.ipl_meaning.specs.Last.{last_that, size_of_all, pack, carried, name_in_unit, carried_count, applied, is_number, NoneIsBehind}
 
@@ -41,11 +43,22 @@ IsWithin sector = size_of_all sector ≤ PAYLOAD_LEN
 
 -- each sector of a pack is within its 480 bytes
 abbrev pub PacksFit : Type 0
-PacksFit = (records : List Record) → All IsRecord records → All IsWithin (pack records)
+PacksFit = (records : List Record) → All (IsRecord VERSION) records → All IsWithin (pack records)
 
 -- where at most 48 names of a unit have records of active numbers, a merge carries at most 12 sectors
 abbrev pub FewAreCarried : Type 0
 FewAreCarried =
-    (active : ℕ → Bool) (log : List Entry) (names : List ℕ) → All IsRecord (records_of log) → length names ≤ PENDING_NAMES
+    (active : ℕ → Bool) (log : List Entry) (names : List ℕ)
+    → All (IsRecord VERSION) (records_of log) → length names ≤ PENDING_NAMES
     → ((r : Record) → Contains (records_of log) r → IsTrue (active r.tid) → Contains names (name_in_unit r))
     → carried_count active log ≤ CARRIED_SECTORS
+
+-- the text of a page has as many bytes as its values take
+abbrev pub TextsHaveSizes : Type 0
+TextsHaveSizes = (page : Slots) → length page ≡ SLOTS
+    → length (page_text VERSION page) ≡ size_of_values (value_in page)
+
+-- 64 values of at most 108 bytes always have room
+abbrev pub ShortValuesHaveRoom : Type 0
+ShortValuesHaveRoom = (values : Values) → ((slot : ℕ) → slot < SLOTS → IsShort 1 (values slot))
+    → size_of_values values ≤ PAGE_LEN

@@ -1,8 +1,9 @@
 -- When the sectors of a chip stand for a map.
 use Rattle.std.specs.Prelude.{ℕ, ◌≡◌, ◌<◌, ◌≤◌, ◌+◌, ◌-◌, ◌*◌, None, Bool}
 use Rattle.std.specs.FinMap.{get}
-use Rattle.ipl_base.specs.declared.limits.TheConstants.{RESERVED_PLACES, PAGES, SLOTS, UNIT_NAMES}
+use Rattle.ipl_base.specs.declared.limits.TheConstants.{RESERVED_PLACES, PAGE_LEN, PAGES, SLOTS, UNIT_NAMES}
 use Rattle.ipl_rules.specs.State.{Map}
+use Rattle.ipl_base.specs.Sizes.{size_of_values}
 use Rattle.ipl_format.specs.Page.{Slots, value_in}
 use Rattle.ipl_meaning.specs.Chart.{Chart}
 use Rattle.ipl_meaning.specs.Values.{Values, after_records}
@@ -12,12 +13,14 @@ use Rattle.ipl_meaning.specs.Layout.{Shape, Layout, Laid, ReadsWell, records_of}
 abbrev pub page_in : Map → ℕ → ℕ → Values
 page_in m u page slot = get m (UNIT_NAMES * u + SLOTS * page + slot)
 
--- the base page reads well, and with the committed records of the unit's log it has these values
+-- the base page reads well, and with the committed records of the unit's log it has these values,
+-- for which a page has room
 pub record Shows (c : Chart) (committed : ℕ → Bool) (u : ℕ) (it : Shape) (page : ℕ) (now : Values) : Type 0 where
   pub base : Slots
   pub reads : ReadsWell c u it page base
   pub says : (slot : ℕ) → slot < SLOTS
       → now slot ≡ after_records committed page slot (records_of it.log) (value_in base slot)
+  pub room : size_of_values now ≤ PAGE_LEN
 
 -- the map has the values that the pages show, and no others
 pub record Says (places : ℕ) (c : Chart) (it : Layout) (m : Map) : Type 0 where

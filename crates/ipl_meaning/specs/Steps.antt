@@ -94,7 +94,7 @@ pub record MayLog (places : ℕ) (c : Chart) (it : Layout) (u p s : ℕ) (sector
   pub of_generation : sector.generation ≡ (it.units u).head.generation
   pub within : (p < places) × (s < SECTORS)
   pub counts : ((p ≡ (it.units u).home) × (FIRST_LOG_SECTOR ≤ s)) ⊎ (IsOverflow c p × (1 ≤ s))
-  pub spelled : SpellsLog sector.payload records
+  pub spelled : SpellsLog sector.version sector.payload records
   pub waits : AllWait it.committed records
   pub last : (q t : ℕ) (other : Sector) → IsLiveIn c places it u q t other → other.serial < sector.serial
   -- with the new one, these spots are all of the unit's that stand elsewhere
@@ -133,7 +133,8 @@ pub record MaySeal (places : ℕ) (c : Chart) (it : Layout) (u p : ℕ) (fresh :
   pub free : c p 0 ≡ None
   pub home : fresh.home ≡ p
   pub fits : IsDataHeader u fresh.head
-  pub counts : SpellsDataHeader (places - RESERVED_PLACES) fresh.pieces fresh.head.payload
+  pub counts : SpellsDataHeader fresh.head.version (places - RESERVED_PLACES) fresh.pieces
+      fresh.head.payload
   pub newest : (q : ℕ) (other : Sector) → q < places → c q 0 ≡ Some other → IsDataHeader u other
       → other.serial < fresh.head.serial
   pub log : IsLog c places u p fresh.head.generation fresh.log
@@ -163,7 +164,7 @@ pub record MaySwitch (places : ℕ) (c : Chart) (p : ℕ) (head : Sector) (commi
   pub within : p < places
   pub free : c p 0 ≡ None
   pub fits : IsStatusHeader head
-  pub counts : SpellsUnits (places - RESERVED_PLACES) head.payload
+  pub counts : SpellsUnits head.version (places - RESERVED_PLACES) head.payload
   pub newest : (q : ℕ) (other : Sector) → q < places → c q 0 ≡ Some other → IsStatusHeader other
       → other.serial < head.serial
   pub commits : IsStatus c p head.generation committed

@@ -57,7 +57,8 @@ abbrev pub StatusHeadersMayGo : Type 0
 StatusHeadersMayGo =
     (places : ℕ) (c : Chart) (it : Layout) (t : Tables) (p : ℕ) (head : Sector) (committed : ℕ → Bool)
     → Mirrors places c it t
-    → p < places → c p 0 ≡ None → IsStatusHeader head → SpellsUnits (places - RESERVED_PLACES) head.payload → t.next ≤ head.serial
+    → p < places → c p 0 ≡ None → IsStatusHeader head
+    → SpellsUnits head.version (places - RESERVED_PLACES) head.payload → t.next ≤ head.serial
     → IsStatus c p head.generation committed
     → MaySwitch places c p head committed
 

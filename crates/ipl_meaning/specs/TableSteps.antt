@@ -16,7 +16,7 @@ pub record IsFreshLog (it : Layout) (t : Tables) (u : ℕ) (sector : Sector) (re
   pub of_unit : sector.unit ≡ u
   pub of_generation : sector.generation ≡ (it.units u).head.generation
   pub new : t.next ≤ sector.serial
-  pub spelled : SpellsLog sector.payload records
+  pub spelled : SpellsLog sector.version sector.payload records
   pub active : All (λ r. Contains t.active r.tid) records
 
 -- a place with its log sectors, ready for a header of a new generation
@@ -25,7 +25,8 @@ pub record IsReady (places : ℕ) (c : Chart) (t : Tables) (u p : ℕ) (fresh : 
   pub bare : c p 0 ≡ None
   pub home : fresh.home ≡ p
   pub fits : IsDataHeader u fresh.head
-  pub counts : SpellsDataHeader (places - RESERVED_PLACES) fresh.pieces fresh.head.payload
+  pub counts : SpellsDataHeader fresh.head.version (places - RESERVED_PLACES) fresh.pieces
+      fresh.head.payload
   pub new_generation : t.next ≤ fresh.head.generation
   pub new_serial : t.next ≤ fresh.head.serial
   pub each : All (IsEntry c places u p fresh.head.generation) fresh.log

@@ -2,7 +2,7 @@
 ghost use Rattle.ipl_meaning.specs.Laws.{StandsOnce, LaidOnce, AllowedSectorsSuffice, KeptPagesKeepTheMap, IdlePlacesDoNotCount, OutsideDoesNotCount, LogSectorsWait, CommitSectorsAdd, HeadersSwitch, MergesKeepPages, SameUnitsKeepPages, StatusHeadersSwitch, KeptNumbersKeepPages, OverflowHeadersWait, FormattedChipsAreEmpty};
 ghost use Rattle.ipl_meaning.specs.StandingLaws.{StandsAfterIdle, StandsAfterLogs, StandsAfterCommits, StandsAfterHeaders, StandsAfterMerges, StandsAfterRenewals, StandsAfterOverflows};
 ghost use Rattle.ipl_meaning.specs.StoryLaws.{QuietImagesAreParts, HeldStands, RestsOnce, ChipsRestOnce, ClosedRests, BarriersRest, BarriersKeepEither, ReadsKeep, SaysKeep, ErasesKeep, LogSectorsKeep, AsidesKeep, ProgramsLead, EitherIsKept};
-ghost use Rattle.ipl_meaning.specs.RecordLaws.{TheLastGivesTheValue, MergesCarryTheLast, CommitsApplyTheLast, PacksAreTheList, PacksFit, FewAreCarried};
+ghost use Rattle.ipl_meaning.specs.RecordLaws.{TheLastGivesTheValue, MergesCarryTheLast, CommitsApplyTheLast, PacksAreTheList, PacksFit, FewAreCarried, TextsHaveSizes, ShortValuesHaveRoom};
 ghost use Rattle.ipl_meaning.specs.CounterLaws.{NewGenerationsWakeNothing, NewSerialsAreGreatest, NewNumbersWait, LogSectorsKeepTheCounter, CommitSectorsKeepTheCounter, HeadersKeepTheCounter, BarePlacesKeepTheCounter};
 ghost use Rattle.ipl_meaning.specs.TableLaws.{FreePlacesAreIdle, LogSectorsMayGoHome, LogSectorsMayGoElsewhere, CommitSectorsMayGo, HeadersMayGo, StatusHeadersMayGo, OverflowHeadersMayGo, FirstTablesMirror};
 ghost use Rattle.ipl_meaning.specs.FollowingLaws.{TablesFollowHomeLogs, TablesFollowOverflowLogs, TablesFollowCommits, CountedFollow};
@@ -74,8 +74,8 @@ pub fn standing_laws()
     ensures overflows { StandsAfterOverflows }
 {}
 
-/// The last record that counts gives a name's value; a merge carries it, a commit applies it. Packed, records stay what
-/// they are, and each sector fits.
+/// The last record that counts gives a name's value; a merge carries it, a commit applies it. Packed,
+/// records stay what they are, and each sector fits. A page's text has the bytes that its values take.
 pub fn record_laws()
     ensures value { TheLastGivesTheValue }
     ensures carries { MergesCarryTheLast }
@@ -83,6 +83,8 @@ pub fn record_laws()
     ensures packs { PacksAreTheList }
     ensures fits { PacksFit }
     ensures few { FewAreCarried }
+    ensures sizes { TextsHaveSizes }
+    ensures room { ShortValuesHaveRoom }
 {}
 
 /// What the counter draws is new, and the counter stays above all numbers found.

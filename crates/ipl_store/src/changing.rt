@@ -1,5 +1,6 @@
 //! Sessions change names, and are committed.
 ghost use Rattle.std.specs.Prelude.{◌≤◌, ◌^◌, [], ◌∷◌, Some, None, length, OnOk};
+ghost use Rattle.ipl_base.specs.declared.limits.TheConstants.{SESSIONS};
 ghost use Rattle.ipl_base.specs.Places.{home_of};
 ghost use Rattle.ipl_rules.specs.Operations.{after_write, after_commit, after_batch};
 ghost use Rattle.ipl_rules.specs.Refusals.{refuses_put, refuses_del, refuses_end, refuses_batch};
@@ -97,7 +98,7 @@ impl Store {
     /// all of them or of none.
     pub fn commit_all<C: Chip>(&mut self, chip: &mut C, sessions: &[u32]) -> Result<(), StoreFault>
         requires sound { IsSound (C.told chip.old).places self.old }
-        requires few { length sessions.now ≤ 32 }
+        requires few { length sessions.now ≤ SESSIONS }
         ensures calls { Calls (early_fault (entry_fault self.old)
             (refuses_batch (limits_of self.old.units) (state_of self.old.transactions.sessions)
             sessions.now)) (λ state. after_batch state sessions.now) (2 ^ 15)

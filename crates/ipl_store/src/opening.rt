@@ -1,5 +1,6 @@
 //! A chip is opened, at first and again.
 ghost use Rattle.std.specs.Prelude.{◌≡◌, ◌≤◌, ℕ, [], true, None, IfOk, OnOk, replicate};
+ghost use Rattle.ipl_base.specs.declared.limits.TheConstants.{SESSIONS};
 ghost use Rattle.page_frames.specs.Pages.{tables_in};
 ghost use Rattle.ipl_store.specs.Calls.{memory_of_store, IsMade, IsSound};
 ghost use Rattle.ipl_store.specs.Openings.{Tries, Reopens, Restarts, OpensAs};
@@ -39,7 +40,7 @@ impl Store {
 
     /// Forgets all sessions, and the pages in frames. The store is down.
     fn forget(&mut self)
-        ensures idle { self.new.transactions.sessions ≡ replicate 32 None }
+        ensures idle { self.new.transactions.sessions ≡ replicate SESSIONS None }
         ensures empty { self.new.transactions.pages.pool.buffers.slots ≡ [] }
         ensures active { self.new.transactions.pages.parts.active ≡ [] }
         ensures down { self.new.down ≡ true }

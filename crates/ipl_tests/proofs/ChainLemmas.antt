@@ -1,5 +1,5 @@
 -- The end of one run is the start of the next.
-use Rattle.std.proofs.Common.{◌≡◌, ℕ, true, [], List, Some, Ok, refl, sym, ◌∙◌, ap, subst, arith}
+use Rattle.std.proofs.Common.{ℕ, true, [], List, Some, Ok, refl, sym, ◌∙◌, ap, subst, arith}
 use Rattle.chip_trait.specs.Told.{Told, Unrisen, adds_all}
 use Rattle.ipl_rules.specs.State.{Map}
 use Rattle.ipl_meaning.specs.Rests.{StoryRests}

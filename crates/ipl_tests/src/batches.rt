@@ -44,7 +44,8 @@ fn batches_and_their_refusals(rt: HostRuntime) -> Result<(), Fail> {
         ),
         // Pages of 3, 2 and 1 in two frames, a session that wrote nothing, and one that isn't of the batch.
         (
-            b"begin 3\nbegin 2\nbegin 1\nbegin 0\nbegin 4\nput 3 300 03\nput 2 200 02\nput 1 100 01\nput 4 101 04\ncommit 1 3 0 2\nlist 0 400\nabort 4\nbegin 0\n",
+            b"begin 3\nbegin 2\nbegin 1\nbegin 0\nbegin 4\nput 3 300 03\nput 2 200 02\nput 1 100 01\n\
+              put 4 101 04\ncommit 1 3 0 2\nlist 0 400\nabort 4\nbegin 0\n",
             b"ok\nok\nok\nok\nok\nok\nok\nok\nok\nok\n100 01\n200 02\n300 03\nend\nok\nok\n",
         ),
     ];

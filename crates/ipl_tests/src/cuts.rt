@@ -1,6 +1,6 @@
-//! Runs over a chip in memory, cut after each event and failing at each call of the chip. What is left is opened, and its
-//! records are listed. The rows show `each_moment` and `is_prefix` of what the clauses `opened`, `formatted` and `stops` of `top`
-//! leave.
+//! Runs over a chip in memory, cut after each event and failing at each call of the chip. What is left is
+//! opened, and its records are listed. The rows show `each_moment` and `is_prefix` of what the clauses
+//! `opened`, `formatted` and `stops` of `top` leave.
 use crate::runs::{ONE_SESSION, ROOM, desk_with, ends, formatted, left_by, lists, run, said};
 use chip_mem::{Choice, MemChip, Pick};
 use chip_trait::Event;
@@ -45,7 +45,8 @@ fn choice(left: Left, number: usize, bytes: &[u8; 512]) -> Choice {
     }
 }
 
-/// What is left of the sectors that are open after the first `at` events. Of an erased place the first sectors are named.
+/// What is left of the sectors that are open after the first `at` events. Of an erased place the first
+/// sectors are named.
 fn picks(alloc: Global, events: &[Event], at: usize, left: Left) -> Result<Vec<Pick>, Fail> {
     let mut picks = Vec::new(alloc);
     for (number, event) in events.iter().enumerate() {
@@ -80,7 +81,8 @@ fn cut(alloc: Global, desk: &MemDesk, at: usize, left: Left) -> Result<MemChip, 
     Ok(desk.chip().image(alloc, at as u64, picks.as_slice())?)
 }
 
-/// How many events there are up to the first that programs a commit sector with numbers behind the first `start`, and it.
+/// How many events there are up to the first that programs a commit sector with numbers behind the first
+/// `start`, and it.
 pub(crate) fn commit_end(events: &[Event], start: usize) -> usize {
     for (number, event) in events.iter().enumerate() {
         if let Event::Program(_, sector, bytes) = event {
@@ -92,8 +94,9 @@ pub(crate) fn commit_end(events: &[Event], start: usize) -> usize {
     0
 }
 
-/// Cuts a desk after each of its events, from the first `start` on, and opens what is left. It lists what there was before,
-/// and from `committed` events on, the last of which programs the commit sector, what was committed.
+/// Cuts a desk after each of its events, from the first `start` on, and opens what is left. It lists what
+/// there was before, and from `committed` events on, the last of which programs the commit sector, what
+/// was committed.
 pub(crate) fn cut_each(
     rt: &impl Abort,
     alloc: Global,

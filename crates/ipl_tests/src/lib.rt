@@ -1,5 +1,6 @@
-//! Tests of the program over desks in memory: what it says and notes, what power cuts and faults of the chip leave, what is
-//! opened of changed chips, trials and serial views. They stand in a crate of their own so that the crates below are proved once.
+//! Tests of the program over desks in memory: what it says and notes, what power cuts and faults of the
+//! chip leave, what is opened of changed chips and of one of version 1, trials and serial views. They
+//! stand in a crate of their own so that the crates below are proved once.
 #![tactic(auto)]
 
 #[cfg(test)]
@@ -14,5 +15,7 @@ mod openings;
 mod runs;
 #[cfg(test)]
 mod trials;
+#[cfg(test)]
+mod versions;
 #[cfg(test)]
 mod views;

@@ -1,18 +1,21 @@
-//! Chips that a format or a run left and that were changed after it, opened; and how much an opening reads. The rows show the
-//! clauses `refuses`, `image` and `opened` of `top`.
+//! Chips that a format or a run left and that were changed after it, opened; and how much an opening
+//! reads. The rows show the clauses `refuses`, `image` and `opened` of `top`.
 use crate::runs::{ROOM, desk_with, ends, formatted, left_by, run, said};
 use chip_mem::MemChip;
 use chip_trait::{Chip, Event};
 use crc_sum::crc32_parts;
+use ipl_base::VERSION;
 use ipl_cli::MemDesk;
 use sector_format::{Head, encode};
 use std::alloc::Global;
 use std::process::Abort;
 use std::test::Fail;
 
-/// The header of unit 0 that a format of five places writes at place 0, and the status header that it writes at place 1.
+/// The header of unit 0 that a format of five places writes at place 0, and the status header that it
+/// writes at place 1.
 const DATA: Head = Head {
     kind: Head::DATA_HEADER,
+    version: VERSION,
     unit: 0,
     generation: 1,
     serial: 1,
@@ -66,13 +69,21 @@ const FIRST: [u8; 20] = [0, 0, 0, 1, 0, 0, 0, 0, 0, 0, 0, 0, 0, 0, 0, 0, 0, 0, 0
 const FOREIGN: [u8; 20] = [0, 0, 0, 2, 0, 0, 0, 0, 0, 0, 0, 0, 0, 0, 0, 0, 0, 0, 0, 0];
 
 /// A log record that deletes the last name of unit 0, without its last byte.
-const TOO_SHORT: &[u8] = &[14, 2, 63, 0, 0, 0, 0, 0, 0, 0, 0];
+const TOO_SHORT: &[u8] = &[14, 0xbf, 0, 0, 0, 0, 0, 0, 0, 0, 0];
 
 /// Puts a sector where it is no matter what stood there.
-fn put(rt: &impl Abort, chip: &mut MemChip, place: u32, sector: u32, head: Head, payload: &[u8]) {
+pub(crate) fn put(
+    rt: &impl Abort,
+    chip: &mut MemChip,
+    place: u32,
+    sector: u32,
+    head: Head,
+    payload: &[u8],
+) {
     let mut bytes = [0; 512];
     if head.kind > 0 {
         assert!(rt; payload.len() <= 480 && head.kind <= 6);
+        assert!(rt; 1 <= head.version && head.version <= VERSION);
         encode(&head, payload, &mut bytes);
     }
     assert!(rt; place < chip.units() && sector < 256);

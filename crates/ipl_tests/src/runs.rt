@@ -336,7 +336,8 @@ fn sessions_side_by_side(rt: HostRuntime) -> Result<(), Fail> {
 fn a_list_and_a_delete(rt: HostRuntime) -> Result<(), Fail> {
     let alloc = rt.alloc();
     let script =
-        b"begin 0\nput 0 7 01\nput 0 2 -\nlist 0 9\ncommit 0\nlist 0 9\nlist 9 0\nbegin 0\ndel 0 7\ncommit 0\nlist 0 9\nlist 0 960\n";
+        b"begin 0\nput 0 7 01\nput 0 2 -\nlist 0 9\ncommit 0\nlist 0 9\nlist 9 0\nbegin 0\n\
+          del 0 7\ncommit 0\nlist 0 9\nlist 0 960\n";
     let replies =
         b"ok\nok\nok\nend\nok\n2 -\n7 01\nend\nend\nok\nok\nok\n2 -\nend\nerr 3 badname\n";
     let mut desk = desk_with(alloc, script, &[], ROOM)?;

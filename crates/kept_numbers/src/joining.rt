@@ -46,9 +46,9 @@ fn add_number(set: &mut NumberSet, logged: &Record, status: &Status) -> bool
 pub fn add_payload(set: &mut NumberSet, payload: &Payload, status: &Status) -> bool
     requires { set.old.most ≡ KEPT_NUMBERS }
     ensures joined { OnTrue result (set.new ≡ with_list set.old
-        (joined status.now.numbers (records_of payload.now) set.old.list)) }
+        (joined status.now.numbers (records_of payload.now.version payload.now.bytes) set.old.list)) }
     ensures full { OnFalse result
-        (KEPT_NUMBERS < length (joined status.now.numbers (records_of payload.now) set.old.list)) }
+        (KEPT_NUMBERS < length (joined status.now.numbers (records_of payload.now.version payload.now.bytes) set.old.list)) }
     ensures most { set.new.most ≡ set.old.most }
 {
     let _ = payload.bytes();

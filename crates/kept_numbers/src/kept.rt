@@ -75,9 +75,9 @@ impl KeptNumbers {
     /// exactly where they would be more than 3,840 then, and what is kept says nothing.
     pub fn add(&mut self, payload: &Payload, status: &Status) -> bool
         ensures fits { IsTrue result
-            ↔ (length (joined status.now.numbers (records_of payload.now) self.old) ≤ KEPT_NUMBERS) }
+            ↔ (length (joined status.now.numbers (records_of payload.now.version payload.now.bytes) self.old) ≤ KEPT_NUMBERS) }
         ensures joined { OnTrue result
-            (self.new ≡ joined status.now.numbers (records_of payload.now) self.old) }
+            (self.new ≡ joined status.now.numbers (records_of payload.now.version payload.now.bytes) self.old) }
     {
         if !add_payload(&mut self.kept, payload, status) {
             return false;

@@ -39,7 +39,7 @@ fn five_places_are_erased_and_get_two_headers(rt: HostRuntime) -> Result<(), Fai
     let Event::Program(_, _, bytes) = &events[6] else {
         return Err(Fail::from("no header"));
     };
-    let head = b"IPL1\x01\x01\x00\x14\0\0\0\0\0\0\0\0\0\0\0\x01\0\0\0\0\0\0\0\x01";
+    let head = b"IPL1\x01\x02\x00\x14\0\0\0\0\0\0\0\0\0\0\0\x01\0\0\0\0\0\0\0\x01";
     assert!(rt; &bytes[..28] == head.as_slice());
     let mut payload = [0; 20];
     payload[3] = 1;

@@ -1,7 +1,7 @@
 //! Tests of single layers by their public calls, of what no clause says and no row of data can show:
-//! chips in files and in memory, what a format writes and what an opening finds, and logs that stand
-//! on a chip in an order that no store writes. They stand in a crate of their own so that the crates
-//! below are proved once.
+//! chips in files and in memory, what a format writes and what an opening finds, and tables that say
+//! something else than the chip. They stand in a crate of their own so that the crates below are proved
+//! once.
 #![tactic(auto)]
 
 #[cfg(test)]

@@ -4,7 +4,7 @@
 use crate::sectors::{Put, at, put_all};
 use chip_mem::MemChip;
 use chip_trait::Chip;
-use ipl_base::{Counter, Geometry};
+use ipl_base::{Counter, Geometry, VERSION};
 use kept_numbers::KeptNumbers;
 use overflow::Overflow;
 use restart::{Scratch, format, recover};
@@ -18,6 +18,7 @@ use unit_directory::Directory;
 /// The header of unit 0 on a formatted chip of five places.
 const FIRST: Head = Head {
     kind: Head::DATA_HEADER,
+    version: VERSION,
     unit: 0,
     generation: 1,
     serial: 1,
@@ -47,6 +48,7 @@ const DEAD: Head = Head {
 /// The header of an overflow place, of no unit.
 const OVERFLOW: Head = Head {
     kind: Head::OVERFLOW_HEADER,
+    version: VERSION,
     unit: 0,
     generation: 4,
     serial: 4,
@@ -71,7 +73,7 @@ const NO_PAGES: &[u8] = &[0, 0, 0, 1, 0, 0, 0, 0, 0, 0, 0, 0, 0, 0, 0, 0, 0, 0, 
 const TWENTY: &[u8] = &[0, 0, 0, 0, 0, 0, 0, 20];
 
 /// A record of that number: slot 5 of page 0 is deleted.
-const RECORD: &[u8] = &[0, 2, 5, 0, 0, 0, 0, 0, 0, 0, 0, 20];
+const RECORD: &[u8] = &[0, 0x85, 0, 0, 0, 0, 0, 0, 0, 0, 0, 20];
 
 /// What is found: the place of unit 0 and the next number, how many of its log sectors are listed in
 /// overflow places, whether the number 20 is committed, and how many committed numbers live records

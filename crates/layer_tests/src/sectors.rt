@@ -3,7 +3,7 @@ ghost use Rattle.std.specs.Prelude.{◌≡◌};
 
 use chip_mem::MemChip;
 use chip_trait::Chip;
-use ipl_base::Spot;
+use ipl_base::{Spot, VERSION};
 use sector_format::{Head, encode};
 use std::process::Abort;
 
@@ -21,6 +21,7 @@ fn put(rt: &impl Abort, chip: &mut MemChip, put: &Put<'_>) {
     let (spot, head, payload) = put;
     let mut bytes = [0; 512];
     assert!(rt; 1 <= head.kind && head.kind <= 6 && payload.len() <= 480);
+    assert!(rt; 1 <= head.version && head.version <= VERSION);
     encode(head, payload, &mut bytes);
     assert!(rt; spot.place < chip.units() && spot.sector < 256);
     chip.alter(spot.place, spot.sector, &bytes);

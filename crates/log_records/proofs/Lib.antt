@@ -1,3 +1,4 @@
+pub mod HeadLemmas
 pub mod RecordLemmas
 pub mod ListLemmas
 pub mod RecordsLemmas

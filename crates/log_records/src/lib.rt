@@ -1,6 +1,6 @@
 //! Log records as bytes, the payload of a log sector of at most 480 bytes. It stands on the formats
-//! of `ipl_format`, and knows no sector. A contract sees a `Payload` as its bytes, which spell a
-//! list of records.
+//! of `ipl_format`, and knows no sector. A contract sees a `Payload` as its bytes and its version,
+//! by which the bytes spell a list of records.
 //!
 //! Proved, by `Payload`, `put`, `records`, `is_list`: records put into a payload exactly where
 //! they fit, listed in order.

@@ -1,11 +1,11 @@
 //! Records that fit in one log sector.
 ghost use Rattle.std.specs.Prelude.{◌≡◌, ◌≤◌, ◌<◌, ◌+◌, ◌++◌, [], ◌∷◌, ◌↔◌, IsTrue, length};
 ghost use Rattle.std.specs.Bool.{OnTrue, OnFalse};
-ghost use Rattle.ipl_base.specs.declared.limits.TheConstants.{PAYLOAD_LEN, VALUE_LEN};
-ghost use Rattle.ipl_format.specs.Record.{IsRecord, SpellsLog, value_of};
+ghost use Rattle.ipl_base.specs.declared.limits.TheConstants.{PAYLOAD_LEN, VALUE_LEN, VERSION};
+ghost use Rattle.ipl_format.specs.Record.{IsRecord, value_of};
 ghost use Rattle.ipl_meaning.specs.Last.{size_of, size_of_all};
 ghost use Rattle.log_records.specs.Reading.{records_of};
-ghost use Rattle.log_records.specs.View.{change_of, record_of};
+ghost use Rattle.log_records.specs.View.{Spells, change_of, record_of};
 ghost use Rattle.mem_log_sector.specs.MemLogs.{without_tid, IsMemLog};
 
 use ipl_base::{PAYLOAD_LEN, RECORD_HEAD};
@@ -13,21 +13,24 @@ use log_records::{Change, Payload, Record, put, records};
 use std::marker::Model;
 use std::mem;
 
-/// Log records that aren't on the chip yet, as many as one log sector has room for. A contract sees
-/// the list, the oldest first.
+/// Log records that aren't on the chip yet, as many as one log sector has room for, in the version of
+/// all that is written. A contract sees the list, the oldest first.
 #[derive(Drop)]
 pub struct MemLog {
     payload: Payload,
 }
 
 impl Model for MemLog {
-    ghost use Rattle.std.specs.Prelude.{List};
+    ghost use Rattle.std.specs.Prelude.{◌≡◌, List};
+    ghost use Rattle.ipl_base.specs.declared.limits.TheConstants.{VERSION};
     ghost use Rattle.ipl_format.specs.Record.{Record};
     ghost use Rattle.log_records.specs.Reading.{records_of};
 
     ghost Value = { List Record };
 
-    ghost view = { λ m. records_of m.payload };
+    ghost view = { λ m. records_of m.payload.version m.payload.bytes };
+
+    ghost invariant = { λ m. m.payload.version ≡ VERSION };
 }
 
 impl MemLog {
@@ -93,16 +96,18 @@ impl MemLog {
         *self = MemLog::empty();
     }
 
-    /// A copy of the records, as the payload of a log sector.
+    /// A copy of the records, as the payload of a log sector that is written.
     pub fn payload(&self) -> Payload
-        ensures { SpellsLog result self.now }
+        ensures records { Spells result self.now }
+        ensures version { result.version ≡ VERSION }
     {
-        Payload::of(self.payload.bytes())
+        Payload::of(self.payload.bytes(), self.payload.version())
     }
 
-    /// Takes all records away, as the payload of a log sector.
+    /// Takes all records away, as the payload of a log sector that is written.
     pub fn take(&mut self) -> Payload
-        ensures payload { SpellsLog result self.old }
+        ensures payload { Spells result self.old }
+        ensures version { result.version ≡ VERSION }
         ensures empty { self.new ≡ [] }
     {
         let _ = self.payload.bytes();
@@ -112,7 +117,9 @@ impl MemLog {
 
 /// The records of a payload that are of other numbers.
 fn others(payload: &Payload, tid: u64) -> Payload
-    ensures { SpellsLog result (without_tid tid (records_of payload.now)) }
+    ensures records { Spells result
+        (without_tid tid (records_of payload.now.version payload.now.bytes)) }
+    ensures version { result.version ≡ VERSION }
 {
     let _ = payload.bytes();
     let mut kept = Payload::empty();
@@ -140,7 +147,7 @@ fn value_len(change: &Change) -> usize
 fn valid(rec: &Record)
     requires page { rec.now.page < 15 }
     requires slot { rec.now.slot < 64 }
-    ensures { IsRecord (record_of rec.now) }
+    ensures { IsRecord VERSION (record_of rec.now) }
 {
     let _ = rec.tid.to_be_bytes();
     let _ = value_len(&rec.change);

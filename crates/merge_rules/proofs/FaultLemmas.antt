@@ -29,7 +29,7 @@ IsSameBut p x y = (q s : ℕ) → q ≢ p → y q s ≡ x q s
 module _ (x y : Contents) (from : Source) (p : ℕ) (apart : from.place ≢ p) (same : IsSameBut p x y) where
   pub page_from_alike : (page : ℕ) → page_fault_from y from page ≡ page_fault_from x from page
   page_from_alike page = pages_alike x y from.place (λ s. same from.place s apart)
-      from.unit from.generation page _
+      from.version from.unit from.generation page _
 
   pub pages_from_alike : pages_fault y from ≡ pages_fault x from
   pages_from_alike = first_alike (page_fault_from y from) (page_fault_from x from) 15
@@ -46,17 +46,17 @@ module _ (x y : Contents) (from : Source) (p : ℕ) (apart : from.place ≢ p) (
 module _ (x : Contents) (from : Source) (page count : ℕ) where
   -- as the page was read, in so many pieces
   pub page_told : (e : ChipFault) → count ≡ slice_index from.pieces page
-      → TellsChipFault {T = Unit {0}} (page_fault x from.place from.unit from.generation page count) (Err e)
+      → TellsChipFault {T = Unit {0}} (page_fault x from.place from.version from.unit from.generation page count) (Err e)
       → IsTheFault (page_fault_from x from page) e
   page_told e is told = λ read stopped.
-      subst (λ (n : ℕ). page_fault x from.place from.unit from.generation page n ≡ Some e) is
+      subst (λ (n : ℕ). page_fault x from.place from.version from.unit from.generation page n ≡ Some e) is
       (told read)
 
   pub page_fine : count ≡ slice_index from.pieces page
-      → page_fault x from.place from.unit from.generation page count ≡ None
+      → page_fault x from.place from.version from.unit from.generation page count ≡ None
       → page_fault_from x from page ≡ None
   page_fine is none = subst (λ (n : ℕ).
-      page_fault x from.place from.unit from.generation page n ≡ None) is none
+      page_fault x from.place from.version from.unit from.generation page n ≡ None) is none
 
 -- ---- answers
 
@@ -112,7 +112,7 @@ faults_are_of_the_place x y t it u same =
     let from : Source = source_of t it u in
     let pages : pages_fault y from ≡ pages_fault x from =
     first_alike (page_fault_from y from) (page_fault_from x from) 15
-    (λ page low. pages_alike x y it.home same u it.head.generation page _) in
+    (λ page low. pages_alike x y it.home same it.head.version u it.head.generation page _) in
     ap (λ (o : Option ChipFault). if nat_le (carried_count (among t.active) it.log) 12 then o
     else Some (Malformed it.home 0)) pages
 
@@ -123,7 +123,7 @@ mergeable_units_have_no_fault x t it u may =
     fault_with_few x (source_of t it u) _ may.few
     ∙ first_none (page_fault_from x (source_of t it u)) 15 (λ page low.
     let (slots, reads) = may.pages page low in
-    (sound_pages_are_held x it.home u it.head.generation page _).1
+    (sound_pages_are_held x it.home it.head.version u it.head.generation page _).1
     (slots, (held_pages_read_well (chart_of x) u it page slots).1 reads))
 
 pub said_units_are_mergeable : SaidUnitsAreMergeable

@@ -2,6 +2,7 @@
 use Rattle.std.proofs.Common.{◌≡◌, ◌≢◌, ◌<◌, ◌≤◌, ◌+◌, ◌-◌, ◌⊎◌, ℕ, List, length, [], Some, None, slice_index, inl, inr, refl, sym, ◌∙◌, ap, arith}
 use Rattle.std.specs.Prelude.{slice_index_or}
 use Rattle.std.proofs.lemmas.Bool.{cases_lt}
+use Rattle.ipl_base.specs.declared.limits.TheConstants.{VERSION}
 use Rattle.ipl_format.specs.Sector.{Sector}
 use Rattle.ipl_format.specs.Record.{Record, log_bytes}
 use Rattle.ipl_meaning.specs.Chart.{Chart}
@@ -20,7 +21,7 @@ use Rattle.merge_rules.proofs.PacksLemmas.{payload_is, payloads_length}
 
 -- the i-th log sector of these packs
 abbrev pub sector_at : ℕ → ℕ → ℕ → List (List Record) → ℕ → Sector
-sector_at u g serial packs i = log_sector u g (serial + i) (log_bytes (slice_index_or packs i []))
+sector_at u g serial packs i = log_sector u g (serial + i) (log_bytes VERSION (slice_index_or packs i []))
 
 -- The place has the log sectors of these packs, and for the rest what the pages left there, which
 -- are base sectors and no header; elsewhere the chart is as it was.
@@ -58,7 +59,7 @@ module _ (places : ℕ) (c y : Chart) (it : Layout) (t : Tables) (u p : ℕ) (he
   nothing sector e = cc
 
   kind_of : (sector : Sector) (page i : ℕ) (text : List ℕ)
-      → Some sector ≡ Some (base_sector u g page i text) → sector.kind ≡ 4
+      → Some sector ≡ Some (base_sector VERSION u g page i text) → sector.kind ≡ 4
   kind_of sector page i text e = cc
 
   -- and there stands a base sector or nothing

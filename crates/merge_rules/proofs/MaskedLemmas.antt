@@ -1,5 +1,6 @@
 -- The masks of what a merge carried.
 use Rattle.std.proofs.Common.{◌≡◌, ℕ, zero, suc, ◌<◌, ◌≤◌, ◌+◌, ◌-◌, List, [], ◌∷◌, length, slice_index, refl, ◌∙◌, ap, arith}
+use Rattle.ipl_base.specs.declared.limits.TheConstants.{VERSION}
 use Rattle.ipl_format.specs.Record.{Record, log_bytes}
 use Rattle.ipl_meaning.specs.Layout.{Entry}
 use Rattle.ipl_meaning.specs.Masks.{mask_at}
@@ -24,10 +25,10 @@ pack_masked : (p u g : ℕ) (n i s serial : ℕ) (packs : List (List Record)) �
 pack_masked p u g zero i s serial packs less few = absurd (omega (arith, less))
 pack_masked p u g (suc n) i s serial [] less few = none_masked (suc n) i
 pack_masked p u g (suc n) zero s serial (records ∷ packs) less few =
-    let e : Entry = entry_at p s (log_sector u g serial (log_bytes records)) records in
+    let e : Entry = entry_at p s (log_sector u g serial (log_bytes VERSION records)) records in
     rw (stands_here e p (s + 0) refl (omega arith)) refl
 pack_masked p u g (suc n) (suc i) s serial (records ∷ packs) less few =
-    let e : Entry = entry_at p s (log_sector u g serial (log_bytes records)) records in
+    let e : Entry = entry_at p s (log_sector u g serial (log_bytes VERSION records)) records in
     rw (stands_away e p (s + suc i) (λ place number. omega (arith, number)))
     (pack_masked p u g n i (s + 1) (serial + 1) packs (omega (arith, less)) (omega (arith, few))
     ∙ ap (mask_at (entries_from p u g (s + 1) (serial + 1) packs) p) (omega arith))

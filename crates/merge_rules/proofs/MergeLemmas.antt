@@ -4,11 +4,12 @@ use Rattle.std.specs.Prelude.{slice_index_or}
 use Rattle.std.specs.List.{All, Contains}
 use Rattle.std.proofs.lemmas.List.Elements.{All-contains, All-weaker}
 use Rattle.chip_trait.specs.Chart.{with_sector}
+use Rattle.ipl_base.specs.declared.limits.TheConstants.{VERSION}
 use Rattle.ipl_rules.specs.State.{Map}
 use Rattle.ipl_format.specs.Sector.{Sector}
 use Rattle.ipl_format.specs.Record.{Record, IsRecord, SpellsLog}
 use Rattle.ipl_format.specs.Page.{Slots, value_in}
-use Rattle.ipl_format.proofs.RecordLemmas.{logs_spell_once}
+use Rattle.ipl_format.proofs.RecordLemmas.{logs_spell_once, all_stay}
 use Rattle.ipl_meaning.specs.Chart.{Chart}
 use Rattle.ipl_meaning.specs.Found.{MentionsBelow, IsPlaceBelow}
 use Rattle.ipl_meaning.specs.Last.{last_that}
@@ -58,16 +59,16 @@ module _ (places : ℕ) (c y : Chart) (it : Layout) (t : Tables) (u p : ℕ) (he
 
   -- ---- the log
 
-  valid : All IsRecord (records_of (it.units u).log)
+  valid : All (IsRecord VERSION) (records_of (it.units u).log)
   valid = all_records (it.units u).log
-      (λ k d low. ((may.mirrors.laid.each u may.low).log.each k d low).records.valid)
+      (λ k d low. all_stay _ _ ((may.mirrors.laid.each u may.low).log.each k d low).records.valid)
 
-  packed : All (All (λ r. IsRecord r × Contains t.active r.tid)) packs
-  packed = packs_all t.active (records_of (it.units u).log) IsRecord valid
+  packed : All (All (λ r. IsRecord VERSION r × Contains t.active r.tid)) packs
+  packed = packs_all t.active (records_of (it.units u).log) (IsRecord VERSION) valid
 
-  pack_valid : (i : ℕ) → i < length packs → All IsRecord (slice_index_or packs i [])
+  pack_valid : (i : ℕ) → i < length packs → All (IsRecord VERSION) (slice_index_or packs i [])
   pack_valid i low =
-      All-weaker (λ r. IsRecord r × Contains t.active r.tid) IsRecord (λ r is. is.0)
+      All-weaker (λ r. IsRecord VERSION r × Contains t.active r.tid) (IsRecord VERSION) (λ r is. is.0)
       (slice_index_or packs i []) (packed i [] low)
 
   entry : ℕ → Entry
@@ -146,12 +147,12 @@ module _ (places : ℕ) (c y : Chart) (it : Layout) (t : Tables) (u p : ℕ) (he
       let same : of.base ≡ base = reads_once c u (it.units u) page of.base base held before in (
         may.filled.moved.slots page,
         record {
-          fits = may.filled.moved.has.fits page low;
-          cut = may.filled.moved.has.cut page low;
-          here = λ i few.
+          fits = rw may.head_is.version (may.filled.moved.has.fits page low);
+          cut = rw may.head_is.version (may.filled.moved.has.cut page low);
+          here = λ i few. rw may.head_is.version (
               let most : slice_index pieces page ≤ 16 = may.few page in
               full.pages_at _ (λ is. omega (arith, is.0, few, most, low))
-              ∙ may.filled.moved.has.here page i low few;
+              ∙ may.filled.moved.has.here page i low few);
         },
         λ slot small. of.applied slot small
             ∙ ap (λ (b : Slots). after_records (among t.status.numbers) page slot
@@ -167,7 +168,7 @@ module _ (places : ℕ) (c y : Chart) (it : Layout) (t : Tables) (u p : ℕ) (he
 
   waits : AllWait it.committed (records_of log)
   waits =
-      let carried = carried_all IsRecord (among t.active) (records_of (it.units u).log) valid in
+      let carried = carried_all (IsRecord VERSION) (among t.active) (records_of (it.units u).log) valid in
       rw (entries_records p u g 241 serial packs ∙ packs_join t.active (records_of (it.units u).log))
       (λ k d low. active_wait _ (among_contains t.active _ (carried k d low).1))
 
@@ -227,14 +228,14 @@ module _ (places : ℕ) (c y : Chart) (it : Layout) (t : Tables) (u p : ℕ) (he
         absurd (omega (arith, e, commit.0))
     log_mentions i low sector is number (inr (inr (inr (kind, others, spelled, r, has, same)))) =
         let records : List Record = slice_index_or packs i [] in
-        let mine : SpellsLog sector.payload records = record {
-          bytes = ap (λ (x : Sector). x.payload) is;
-          valid = pack_valid i low;
-        } in
-        let one : others ≡ records = logs_spell_once sector.payload others records spelled mine in
+        let mine : SpellsLog sector.version sector.payload records =
+        subst (λ (x : Sector). SpellsLog x.version x.payload records) (sym is)
+        (record { bytes = refl; valid = pack_valid i low }) in
+        let one : others ≡ records =
+        logs_spell_once sector.version sector.payload others records spelled mine in
         let listed : Contains records r = subst (λ (l : List Record). Contains l r) one has in
         let below = active_below r.tid
-        (All-contains (λ (r : Record). IsRecord r × Contains t.active r.tid) records r
+        (All-contains (λ (r : Record). IsRecord VERSION r × Contains t.active r.tid) records r
         (packed i [] low) listed).1 in
         omega (arith, below, same)
 

@@ -5,13 +5,15 @@ use Rattle.std.specs.List.{All, Contains, flat_map, list_any}
 use Rattle.std.proofs.lemmas.Bool.{cases_Bool, and_parts, eqb-true, eq-eqb}
 use Rattle.std.proofs.lemmas.List.{length-map, get_or-map}
 use Rattle.std.proofs.lemmas.List.Elements.{All-nil, All-cons, All-head, All-tail, All-append, All-weaker}
+use Rattle.log_records.specs.View.{Versioned}
+use Rattle.ipl_base.specs.declared.limits.TheConstants.{VERSION}
 use Rattle.ipl_format.specs.Record.{Record, IsRecord, log_bytes}
 use Rattle.ipl_meaning.specs.Layout.{Entry, records_of}
 use Rattle.ipl_meaning.specs.Last.{carried}
 use Rattle.ipl_meaning.specs.Steps.{entry_at}
 use Rattle.ipl_meaning.specs.Values.{counts_for}
 use Rattle.ipl_meaning.proofs.LastLemmas.{packs_are_the_list}
-use Rattle.merge_rules.specs.Packs.{among, packs_of, payloads_of, log_sector, entries_from}
+use Rattle.merge_rules.specs.Packs.{among, packs_of, payloads_of, log_sector, entries_from, payload_of}
 
 -- ---- lists
 
@@ -101,8 +103,8 @@ module _ (active : List ℕ) (records : List Record) where
 -- ---- the log sectors
 
 same_entry : (p u g : ℕ) (s t serial other : ℕ) (records : List Record) → s ≡ t → serial ≡ other
-    → entry_at p s (log_sector u g serial (log_bytes records)) records
-    ≡ entry_at p t (log_sector u g other (log_bytes records)) records
+    → entry_at p s (log_sector u g serial (log_bytes VERSION records)) records
+    ≡ entry_at p t (log_sector u g other (log_bytes VERSION records)) records
 same_entry p u g s t serial other records is too = rw (is, too) refl
 
 module _ (p u g : ℕ) where
@@ -115,7 +117,7 @@ module _ (p u g : ℕ) where
   -- the i-th of them
   pub entry_is : (s serial : ℕ) (packs : List (List Record)) (i : ℕ) (d : Entry)
       → i < length packs → get_or (entries_from p u g s serial packs) i d
-      ≡ entry_at p (s + i) (log_sector u g (serial + i) (log_bytes (slice_index_or packs i [])))
+      ≡ entry_at p (s + i) (log_sector u g (serial + i) (log_bytes VERSION (slice_index_or packs i [])))
       (slice_index_or packs i [])
   entry_is s serial [] i d low = absurd (omega (arith, low))
   entry_is s serial (records ∷ packs) zero d low =
@@ -134,17 +136,18 @@ module _ (p u g : ℕ) where
 
 -- the i-th payload
 pub payload_is : (packs : List (List Record)) (i : ℕ) → i < length packs
-    → slice_index_or (payloads_of packs) i [] ≡ log_bytes (slice_index_or packs i [])
-payload_is packs i low = get_or-map log_bytes packs i [] [] low
+    → (slice_index_or (payloads_of packs) i (payload_of [])).bytes ≡ log_bytes VERSION (slice_index_or packs i [])
+payload_is packs i low =
+    ap (λ (p : Versioned). p.bytes) (get_or-map payload_of packs i [] (payload_of []) low)
 
 pub payloads_length : (packs : List (List Record)) → length (payloads_of packs) ≡ length packs
-payloads_length packs = length-map packs log_bytes
+payloads_length packs = length-map packs payload_of
 
 -- what each entry's records have, all records have
-pub all_records : (log : List Entry) → All (λ e. All IsRecord e.records) log
-    → All IsRecord (records_of log)
-all_records [] each = All-nil IsRecord
+pub all_records : (log : List Entry) → All (λ e. All (IsRecord VERSION) e.records) log
+    → All (IsRecord VERSION) (records_of log)
+all_records [] each = All-nil (IsRecord VERSION)
 all_records (e ∷ log) each =
-    All-append IsRecord e.records (records_of log)
-    (All-head (λ (e : Entry). All IsRecord e.records) e log each)
-    (all_records log (All-tail (λ (e : Entry). All IsRecord e.records) e log each))
+    All-append (IsRecord VERSION) e.records (records_of log)
+    (All-head (λ (e : Entry). All (IsRecord VERSION) e.records) e log each)
+    (all_records log (All-tail (λ (e : Entry). All (IsRecord VERSION) e.records) e log each))

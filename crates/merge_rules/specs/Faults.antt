@@ -20,7 +20,7 @@ use Rattle.merge_rules.specs.Packs.{among}
 -- what is wrong with a page where it is moved from
 abbrev pub page_fault_from : Contents → Source → ℕ → Option ChipFault
 page_fault_from x from page =
-    page_fault x from.place from.unit from.generation page (slice_index from.pieces page)
+    page_fault x from.place from.version from.unit from.generation page (slice_index from.pieces page)
 
 -- what is wrong with the first such page
 abbrev pub pages_fault : Contents → Source → Option ChipFault
@@ -29,7 +29,7 @@ pages_fault x from = first_below (page_fault_from x from) PAGES
 -- the same of a unit as it is laid out
 abbrev pub unit_fault : Contents → Shape → ℕ → Option ChipFault
 unit_fault x it u = first_below
-    (λ page. page_fault x it.home u it.head.generation page (slice_index it.pieces page)) PAGES
+    (λ page. page_fault x it.home it.head.version u it.head.generation page (slice_index it.pieces page)) PAGES
 
 -- what is wrong where so many log sectors would be carried: more than 12, or a page
 abbrev pub fault_with : Contents → Source → ℕ → Option ChipFault

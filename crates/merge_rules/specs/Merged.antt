@@ -1,6 +1,7 @@
 -- A unit merged into a place that was free.
 use Rattle.std.specs.Prelude.{ℕ, ◌≡◌, ◌<◌, ◌≤◌, ◌-◌, List, length}
-use Rattle.ipl_base.specs.declared.limits.TheConstants.{RESERVED_PLACES, PAGES, FIRST_LOG_SECTOR, CARRIED_SECTORS}
+use Rattle.log_records.specs.View.{Versioned}
+use Rattle.ipl_base.specs.declared.limits.TheConstants.{RESERVED_PLACES, PAGES, FIRST_LOG_SECTOR, CARRIED_SECTORS, VERSION}
 use Rattle.ipl_format.specs.Sector.{Sector}
 use Rattle.ipl_format.specs.Record.{Record}
 use Rattle.ipl_format.specs.Header.{SpellsDataHeader, data_header_bytes}
@@ -16,20 +17,21 @@ use Rattle.merge_rules.specs.Moved.{Source, HasMoved}
 
 -- ---- what is written
 
--- the header of a unit under a generation, for pages of so many base sectors and so many carried
--- log sectors
+-- the header of a unit under a generation, in the version that is written, for pages of so many base
+-- sectors and so many carried log sectors
 pub record IsUnitHead (units u generation : ℕ) (pieces : List ℕ) (carried : ℕ)
     (head : Sector) : Type 0 where
   pub kind : head.kind ≡ 1
+  pub version : head.version ≡ VERSION
   pub of_unit : head.unit ≡ u
   pub of_generation : head.generation ≡ generation
   pub serial : head.serial ≡ generation
   pub payload : head.payload ≡ data_header_bytes units pieces carried
-  pub counts : SpellsDataHeader units pieces head.payload
+  pub counts : SpellsDataHeader head.version units pieces head.payload
 
 -- the place was cleared, the unit's pages stand there, and the log sectors with what is carried
 pub record IsFilled (from : Source) (p generation serial : ℕ) (pieces : List ℕ)
-    (payloads : List (List ℕ)) (c y : Chart) : Type 0 where
+    (payloads : List Versioned) (c y : Chart) : Type 0 where
   pub bare : Chart
   pub paged : Chart
   pub cleared : IsCleared p c bare
@@ -46,6 +48,7 @@ packs_in t it = packs_of t.active (records_of it.log)
 abbrev pub source_of : Tables → Shape → ℕ → Source
 source_of t it u = record {
   place = it.home;
+  version = it.head.version;
   unit = u;
   generation = it.head.generation;
   pieces = it.pieces;
@@ -72,7 +75,7 @@ merged_layout t it u p head pieces serial =
 -- what is to be merged: the unit is moved from there, with what the tables and the log say, to a
 -- place that is free
 pub record IsToMerge (places : ℕ) (c : Chart) (it : Layout) (t : Tables) (u p generation serial : ℕ)
-    (from : Source) (payloads : List (List ℕ)) : Type 0 where
+    (from : Source) (payloads : List Versioned) : Type 0 where
   pub mirrors : Mirrors places c it t
   pub low : u < places - RESERVED_PLACES
   pub free : IsFree t.places p

@@ -1,6 +1,6 @@
 -- Pages moved to another place, with the committed records applied.
 use Rattle.std.specs.Prelude.{ℕ, ◌≡◌, ◌<◌, Bool, List, slice_index, None}
-use Rattle.ipl_base.specs.declared.limits.TheConstants.{SLOTS}
+use Rattle.ipl_base.specs.declared.limits.TheConstants.{SLOTS, VERSION}
 use Rattle.ipl_format.specs.Page.{Slots, IsPage, value_in}
 use Rattle.ipl_format.specs.Record.{Record}
 use Rattle.ipl_meaning.specs.Chart.{Chart}
@@ -15,10 +15,11 @@ abbrev pub IsRebased : (ℕ → Bool) → List Record → ℕ → Slots → Slot
 IsRebased committed records page base new = (slot : ℕ) → slot < SLOTS
     → value_in new slot ≡ after_records committed page slot records (value_in base slot)
 
--- where a unit is moved from: its place, its generation and how many base sectors each page has
--- there; and the log records and committed numbers that are applied
+-- where a unit is moved from: its place, its version and generation, and how many base sectors each
+-- page has there; and the log records and committed numbers that are applied
 pub record Source : Type 0 where
   pub place : ℕ
+  pub version : ℕ
   pub unit : ℕ
   pub generation : ℕ
   pub pieces : List ℕ
@@ -28,14 +29,14 @@ pub record Source : Type 0 where
 -- the page read well there, and the slots have its values with the records applied
 pub record IsFrom (from : Source) (page : ℕ) (c : Chart) (new : Slots) : Type 0 where
   pub base : Slots
-  pub held : HoldsPage c from.place from.unit from.generation page
+  pub held : HoldsPage c from.place from.version from.unit from.generation page
       (slice_index from.pieces page) base
   pub applied : IsRebased from.committed from.records page base new
 
 -- the page stands at the new place under this generation, in so many base sectors
 pub record MovesPage (from : Source) (p generation page n : ℕ) (c y : Chart) : Type 0 where
   pub new : Slots
-  pub fits : IsPage new
+  pub fits : IsPage VERSION new
   pub of : IsFrom from page c new
   pub has : HasPage p from.unit generation page new n c y
 

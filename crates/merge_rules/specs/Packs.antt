@@ -1,7 +1,8 @@
 -- The log sectors that a merge writes: what it carries, packed.
 use Rattle.std.specs.Prelude.{ℕ, zero, suc, ◌≡◌, ◌<◌, ◌≤◌, ◌+◌, ◌==◌, Bool, List, [], ◌∷◌, map, slice_index_or, Some}
 use Rattle.std.specs.List.{list_any}
-use Rattle.ipl_base.specs.declared.limits.TheConstants.{FIRST_LOG_SECTOR}
+use Rattle.log_records.specs.View.{Versioned}
+use Rattle.ipl_base.specs.declared.limits.TheConstants.{FIRST_LOG_SECTOR, VERSION}
 use Rattle.ipl_format.specs.Sector.{Sector}
 use Rattle.ipl_format.specs.Record.{Record, log_bytes}
 use Rattle.ipl_meaning.specs.Chart.{Chart}
@@ -18,15 +19,19 @@ among numbers n = list_any (λ k. k == n) numbers
 abbrev pub packs_of : List ℕ → List Record → List (List Record)
 packs_of active records = pack (carried (among active) records)
 
--- their payloads
-abbrev pub payloads_of : List (List Record) → List (List ℕ)
-payloads_of packs = map log_bytes packs
+-- the payload of these records, in the version that is written
+abbrev pub payload_of : List Record → Versioned
+payload_of records = record { version = VERSION; bytes = log_bytes VERSION records }
 
--- a log sector of a unit with this payload
+-- their payloads
+abbrev pub payloads_of : List (List Record) → List Versioned
+payloads_of packs = map payload_of packs
+
+-- a log sector of a unit with this payload, as it is written
 abbrev pub log_sector : ℕ → ℕ → ℕ → List ℕ → Sector
 log_sector u generation serial payload = record {
   kind = 5;
-  version = 1;
+  version = VERSION;
   unit = u;
   generation = generation;
   serial = serial;
@@ -37,7 +42,7 @@ log_sector u generation serial payload = record {
 abbrev pub entries_from : ℕ → ℕ → ℕ → ℕ → ℕ → List (List Record) → List Entry
 entries_from p u generation s serial [] = []
 entries_from p u generation s serial (records ∷ packs) =
-    entry_at p s (log_sector u generation serial (log_bytes records)) records
+    entry_at p s (log_sector u generation serial (log_bytes VERSION records)) records
     ∷ entries_from p u generation (s + 1) (serial + 1) packs
 
 -- the spots of the first n log sectors
@@ -46,10 +51,10 @@ IsLogSpotBelow n s = (FIRST_LOG_SECTOR ≤ s) × (s < FIRST_LOG_SECTOR + n)
 
 -- the first n of these payloads stand in the log sectors of the place, under serials from one on,
 -- and elsewhere the chart is as it was
-pub record HasLogs (p u generation serial : ℕ) (payloads : List (List ℕ)) (n : ℕ)
+pub record HasLogs (p u generation serial : ℕ) (payloads : List Versioned) (n : ℕ)
     (c y : Chart) : Type 0 where
   pub here : (i : ℕ) → i < n → y p (FIRST_LOG_SECTOR + i)
-      ≡ Some (log_sector u generation (serial + i) (slice_index_or payloads i []))
+      ≡ Some (log_sector u generation (serial + i) (slice_index_or payloads i (payload_of [])).bytes)
   pub others : (q s : ℕ) → (q ≡ p → ¬ IsLogSpotBelow n s) → y q s ≡ c q s
 
 -- which pages the log sectors of these packs name, of n log sectors; those behind them name none

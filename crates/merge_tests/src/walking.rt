@@ -6,7 +6,7 @@ use crate::payloads::{four_puts, one_put};
 use crate::tables::PLACES;
 use chip_mem::MemChip;
 use chip_trait::{Chip, Event};
-use ipl_base::ChipFault;
+use ipl_base::{ChipFault, VERSION};
 use log_records::Payload;
 use page_writing::write_out;
 use selective_merge::{Active, Parts, merge};
@@ -57,6 +57,7 @@ fn write(
     ensures { KnowsPlaces 5 (tables_of parts.new) }
 {
     assert!(rt; chip.units() == PLACES && parts.counter.next() < 10_000);
+    assert!(rt; payload.version() == VERSION);
     write_out(chip, parts, 0, payload)
 }
 

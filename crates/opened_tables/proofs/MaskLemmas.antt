@@ -26,9 +26,9 @@ stands_by u k (Some sector) e is = go (sector.unit == u) refl is
     go : (b : Bool) → (sector.unit == u) ≡ b → entry_of u k (Some sector) ≡ Some e
         → StandsBy k e × (mask_of_sector u (Some sector) ≡ mask_of e.records)
     go true own is =
-        let there : Some (record { place = k / 256; number = k % 256; sector = sector; records = records_of sector.payload }) ≡ Some e =
+        let there : Some (record { place = k / 256; number = k % 256; sector = sector; records = records_of sector.version sector.payload }) ≡ Some e =
         rw own at is in
-        let same : record { place = k / 256; number = k % 256; sector = sector; records = records_of sector.payload } ≡ e = cc in (
+        let same : record { place = k / 256; number = k % 256; sector = sector; records = records_of sector.version sector.payload } ≡ e = cc in (
           record { place = ap (λ (x : Entry). x.place) (sym same); number = ap (λ (x : Entry). x.number) (sym same) },
           rw own (ap (λ (x : Entry). mask_of x.records) same),
         )
@@ -37,7 +37,7 @@ stands_by u k (Some sector) e is = go (sector.unit == u) refl is
 none_by : (u k : ℕ) (o : Option Sector) → entry_of u k o ≡ None → mask_of_sector u o ≡ 0
 none_by u k None is = refl
 none_by u k (Some sector) is = elim (cases_Bool (sector.unit == u)) [
-  | inl own ↦ absurd (let some : Some (record { place = k / 256; number = k % 256; sector = sector; records = records_of sector.payload }) ≡ None = rw own at is in cc)
+  | inl own ↦ absurd (let some : Some (record { place = k / 256; number = k % 256; sector = sector; records = records_of sector.version sector.payload }) ≡ None = rw own at is in cc)
   | inr other ↦ rw other refl
 ]
 

@@ -40,7 +40,7 @@ generation_of (Some winner) = winner.head.generation
 -- which pages the log sector names, where it is one of the unit
 abbrev pub mask_of_sector : ℕ → Option Sector → ℕ
 mask_of_sector u None = 0
-mask_of_sector u (Some sector) = if sector.unit == u then mask_of (records_of sector.payload) else 0
+mask_of_sector u (Some sector) = if sector.unit == u then mask_of (records_of sector.version sector.payload) else 0
 
 -- which pages the live log sector of the unit at the number k names; none, where it has none there
 abbrev pub mask_found : Chart → ℕ → ℕ → ℕ → ℕ

@@ -97,7 +97,7 @@ module _ (test : ImageFault → Bool) (geometry : test Geometry ≡ false) (chip
   log_other : (heads : ℕ → Option KeptHeader) (earlier : List Mark) (k : ℕ) (o : Option Sector) → passes test (log_test heads earlier k o) ≡ false
   log_other heads earlier k None = refl
   log_other heads earlier k (Some sector) =
-      if_other test (is_log_well (mark_of heads k sector) earlier sector.payload) (malformed (k / 256) (k % 256)) (chip (k / 256) (k % 256))
+      if_other test (is_log_well (mark_of heads k sector) earlier sector.version sector.payload) (malformed (k / 256) (k % 256)) (chip (k / 256) (k % 256))
 
   logs_other : (k : ℕ) → passes test (log_fault (header_at c places) (current_at c places) c k) ≡ false
   logs_other k = log_other (header_at c places) (marks (header_at c places) (current_at c places) c k) k (live_at (header_at c places) (current_at c places) c k)
@@ -229,10 +229,10 @@ not_formatted_is_exact c places least most = (
 -- ---- log sectors
 
 bad_here : (heads : ℕ → Option KeptHeader) (earlier : List Mark) (k : ℕ) (o : Option Sector) (fault : ImageFault) → log_test heads earlier k o ≡ Some fault
-    → (sector : Sector) × (o ≡ Some sector) × (is_log_well (mark_of heads k sector) earlier sector.payload ≡ false) × (fault ≡ malformed (k / 256) (k % 256))
+    → (sector : Sector) × (o ≡ Some sector) × (is_log_well (mark_of heads k sector) earlier sector.version sector.payload ≡ false) × (fault ≡ malformed (k / 256) (k % 256))
 bad_here heads earlier k None fault e = cc
 bad_here heads earlier k (Some sector) fault e =
-    let parts = bad_parts (is_log_well (mark_of heads k sector) earlier sector.payload) (malformed (k / 256) (k % 256)) fault e in
+    let parts = bad_parts (is_log_well (mark_of heads k sector) earlier sector.version sector.payload) (malformed (k / 256) (k % 256)) fault e in
     (sector, refl, parts.0, parts.1)
   where
     bad_parts : (b : Bool) (x y : ImageFault) → cond b None (Some x) ≡ Some y → (b ≡ false) × (y ≡ x)
@@ -240,16 +240,16 @@ bad_here heads earlier k (Some sector) fault e =
     bad_parts false x y e = (refl, sym (same_Some x y e))
 
 well_here : (heads : ℕ → Option KeptHeader) (earlier : List Mark) (k : ℕ) (o : Option Sector) (sector : Sector) → o ≡ Some sector → log_test heads earlier k o ≡ None
-    → is_log_well (mark_of heads k sector) earlier sector.payload ≡ true
+    → is_log_well (mark_of heads k sector) earlier sector.version sector.payload ≡ true
 well_here heads earlier k o sector is e =
-    if_none (is_log_well (mark_of heads k sector) earlier sector.payload) (malformed (k / 256) (k % 256)) (ap (log_test heads earlier k) (sym is) ∙ e)
+    if_none (is_log_well (mark_of heads k sector) earlier sector.version sector.payload) (malformed (k / 256) (k % 256)) (ap (log_test heads earlier k) (sym is) ∙ e)
 
 -- why a log sector is not well
 cause_of : (c : Chart) (places k : ℕ) (sector : Sector) → well_at c places k sector ≡ false → HasCause c places k sector
 cause_of c places k sector bad =
     let mark : Mark = mark_of (header_at c places) k sector in
     let earlier : List Mark = marks (header_at c places) (current_at c places) c k in
-    elim (and_cases (is_log_payload sector.payload) (not (list_any (clashes mark) earlier || is_full mark earlier)) bad) [
+    elim (and_cases (is_log_payload sector.version sector.payload) (not (list_any (clashes mark) earlier || is_full mark earlier)) bad) [
       | inl no_list ↦ inl no_list
       | inr rest ↦ elim (or_cases (list_any (clashes mark) earlier) (is_full mark earlier) (not-false (list_any (clashes mark) earlier || is_full mark earlier) rest)) [
         | inl clash ↦ inr (inl (

@@ -79,10 +79,10 @@ commit_none p s None each = refl
 commit_none p s (Some sector) each = cond-true (is_commit_payload sector.payload) None (Some (malformed p s)) (each sector refl)
 
 log_none : (heads : ℕ → Option KeptHeader) (earlier : List Mark) (k : ℕ) (o : Option Sector)
-    → ((sector : Sector) → o ≡ Some sector → is_log_well (mark_of heads k sector) earlier sector.payload ≡ true) → log_test heads earlier k o ≡ None
+    → ((sector : Sector) → o ≡ Some sector → is_log_well (mark_of heads k sector) earlier sector.version sector.payload ≡ true) → log_test heads earlier k o ≡ None
 log_none heads earlier k None each = refl
 log_none heads earlier k (Some sector) each =
-    cond-true (is_log_well (mark_of heads k sector) earlier sector.payload) None (Some (malformed (k / 256) (k % 256))) (each sector refl)
+    cond-true (is_log_well (mark_of heads k sector) earlier sector.version sector.payload) None (Some (malformed (k / 256) (k % 256))) (each sector refl)
 
 -- the number of a spot
 abbrev pub number_of_spot : ℕ × ℕ → ℕ
@@ -115,7 +115,7 @@ module _ (c : Chart) (places : ℕ) (it : Layout) (laid : Laid places c it) wher
     place : entry.place ≡ k / 256
     number : entry.number ≡ k % 256
     sector_is : entry.sector ≡ sector
-    spelled : SpellsLog entry.sector.payload entry.records
+    spelled : SpellsLog entry.sector.version entry.sector.payload entry.records
 
   live_in : (k : ℕ) (sector : Sector) → live k ≡ Some sector → (sector.unit < places - 4) × IsLiveIn c places it sector.unit (k / 256) (k % 256) sector
   live_in k sector is =
@@ -157,8 +157,8 @@ module _ (c : Chart) (places : ℕ) (it : Layout) (laid : Laid places c it) wher
     mine : IsListedAs sector.unit k sector
     mine = listed_own k sector is
 
-    is_list : is_log_payload sector.payload ≡ true
-    is_list = ap (λ (s : Sector). is_log_payload s.payload) (sym mine.sector_is) ∙ (spelled_logs_pass mine.entry.sector.payload mine.entry.records mine.spelled).0
+    is_list : is_log_payload sector.version sector.payload ≡ true
+    is_list = ap (λ (s : Sector). is_log_payload s.version s.payload) (sym mine.sector_is) ∙ (spelled_logs_pass mine.entry.sector.version mine.entry.sector.payload mine.entry.records mine.spelled).0
 
     -- an earlier one with its unit and serial would be the same entry
     no_clash : (j : ℕ) (other : Mark) → j < k → mark_at heads current c j ≡ Some other → clashes mark other ≡ false
@@ -209,7 +209,7 @@ module _ (c : Chart) (places : ℕ) (it : Layout) (laid : Laid places c it) wher
           and_right mark.in_overflow _ (lt-leb 16 (count_by (shares_overflow mark) (marks heads current c k)) few)
     ]
 
-    is_well : is_log_well mark (marks heads current c k) sector.payload ≡ true
+    is_well : is_log_well mark (marks heads current c k) sector.version sector.payload ≡ true
     is_well = and_from _ _ is_list (not_from_false _ (or_from _ _
         (any_none (mark_at heads current c) (clashes mark) k (λ j other before at. no_clash j other before at)) not_full))
 
@@ -232,10 +232,10 @@ module _ (c : Chart) (places : ℕ) (it : Layout) (laid : Laid places c it) wher
   status = record { place = it.status; head = head_of (places - 4) it.head }
 
   status_well : is_status_payload (places - 4) it.head.payload ≡ true
-  status_well = spelled_status_passes (places - 4) it.head.payload laid.counts
+  status_well = spelled_status_passes it.head.version (places - 4) it.head.payload laid.counts
 
   data_well : (u : ℕ) → u < places - 4 → is_data_payload (places - 4) (it.units u).head.payload ≡ true
-  data_well u low = (spelled_data_passes (places - 4) (it.units u).pieces (it.units u).head.payload (laid.each u low).counts).0
+  data_well u low = (spelled_data_passes (it.units u).head.version (places - 4) (it.units u).pieces (it.units u).head.payload (laid.each u low).counts).0
 
   status_geometry : other_geometry (Some status) ≡ None
   status_geometry = cond-false (begins_with_other_units (places - 4) it.head.payload) (Some Geometry) None

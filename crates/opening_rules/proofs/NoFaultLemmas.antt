@@ -46,9 +46,9 @@ commit_well : (p s : ℕ) (o : Option Sector) (sector : Sector) → o ≡ Some s
 commit_well p s o sector is e = if_none (is_commit_payload sector.payload) (malformed p s) (ap (commit_test p s) (sym is) ∙ e)
 
 log_well : (heads : ℕ → Option KeptHeader) (earlier : List Mark) (k : ℕ) (o : Option Sector) (sector : Sector) → o ≡ Some sector → log_test heads earlier k o ≡ None
-    → is_log_well (mark_of heads k sector) earlier sector.payload ≡ true
+    → is_log_well (mark_of heads k sector) earlier sector.version sector.payload ≡ true
 log_well heads earlier k o sector is e =
-    if_none (is_log_well (mark_of heads k sector) earlier sector.payload) (malformed (k / 256) (k % 256)) (ap (log_test heads earlier k) (sym is) ∙ e)
+    if_none (is_log_well (mark_of heads k sector) earlier sector.version sector.payload) (malformed (k / 256) (k % 256)) (ap (log_test heads earlier k) (sym is) ∙ e)
 
 -- ---- entries
 
@@ -58,19 +58,19 @@ record IsEntryOf (u k : ℕ) (o : Option Sector) (e : Entry) : Type 0 where
   unit : e.sector.unit ≡ u
   place : e.place ≡ k / 256
   number : e.number ≡ k % 256
-  records : e.records ≡ records_of e.sector.payload
+  records : e.records ≡ records_of e.sector.version e.sector.payload
 
 entry_from : (u k : ℕ) (o : Option Sector) (e : Entry) → entry_of u k o ≡ Some e → IsEntryOf u k o e
 entry_from u k None e is = cc
 entry_from u k (Some sector) e is =
-    let made : Entry = record { place = k / 256; number = k % 256; sector = sector; records = records_of sector.payload } in
+    let made : Entry = record { place = k / 256; number = k % 256; sector = sector; records = records_of sector.version sector.payload } in
     let parts : ((sector.unit == u) ≡ true) × (made ≡ e) = cond_some (sector.unit == u) made e is in
     subst (IsEntryOf u k (Some sector)) parts.1 (record { here = refl; unit = eqb-true sector.unit u parts.0; place = refl; number = refl; records = refl })
 
 entry_to : (u k : ℕ) (o : Option Sector) (sector : Sector) → o ≡ Some sector → sector.unit ≡ u
-    → entry_of u k o ≡ Some (record { place = k / 256; number = k % 256; sector = sector; records = records_of sector.payload })
+    → entry_of u k o ≡ Some (record { place = k / 256; number = k % 256; sector = sector; records = records_of sector.version sector.payload })
 entry_to u k o sector is unit =
-    ap (entry_of u k) is ∙ cond-true (sector.unit == u) (Some (record { place = k / 256; number = k % 256; sector = sector; records = records_of sector.payload })) None
+    ap (entry_of u k) is ∙ cond-true (sector.unit == u) (Some (record { place = k / 256; number = k % 256; sector = sector; records = records_of sector.version sector.payload })) None
     (eq-eqb sector.unit u unit)
 
 -- the spot with the number k
@@ -115,7 +115,7 @@ module _ (c : Chart) (places : ℕ) (bytes : IsByteChart places c) (fine : HasNo
 
   -- ---- log sectors
 
-  well : (k : ℕ) (sector : Sector) → k < places * 256 → live k ≡ Some sector → is_log_well (mark_of heads k sector) (marks heads current c k) sector.payload ≡ true
+  well : (k : ℕ) (sector : Sector) → k < places * 256 → live k ≡ Some sector → is_log_well (mark_of heads k sector) (marks heads current c k) sector.version sector.payload ≡ true
   well k sector low is = log_well heads (marks heads current c k) k (live k) sector is (fine.formed.logs k low)
 
   -- a live sector stands on the chip
@@ -154,8 +154,8 @@ module _ (c : Chart) (places : ℕ) (bytes : IsByteChart places c) (fine : HasNo
         let stands : IsSeen c places (k / 256) (k % 256) e.sector = live_seen c places k e.sector of_it.here in
         record {
           live = here;
-          records = subst (SpellsLog e.sector.payload) (sym of_it.records)
-              (log_payloads_are_spelled e.sector.payload (bytes (k / 256) (k % 256) e.sector stands.within (omega arith) (inr (inr (seen_spot c places (k / 256) (k % 256) e.sector stands))) stands.here) list);
+          records = subst (SpellsLog e.sector.version e.sector.payload) (sym of_it.records)
+              (log_payloads_are_spelled e.sector.version e.sector.payload (bytes (k / 256) (k % 256) e.sector stands.within (omega arith) (inr (inr (seen_spot c places (k / 256) (k % 256) e.sector stands))) stands.here) list);
         }
 
     has_all : (p s : ℕ) (sector : Sector) → IsLive c places u winner.place winner.head.generation p s sector
@@ -169,7 +169,7 @@ module _ (c : Chart) (places : ℕ) (bytes : IsByteChart places c) (fine : HasNo
         subst (λ (t : ℕ). IsLive c places u winner.place winner.head.generation (k / 256) t sector) (sym number)
         (subst (λ (q : ℕ). IsLive c places u winner.place winner.head.generation q s sector) (sym place) it) in
         let here = live_to c places k u winner sector is mine in (
-          record { place = k / 256; number = k % 256; sector = sector; records = records_of sector.payload },
+          record { place = k / 256; number = k % 256; sector = sector; records = records_of sector.version sector.payload },
           sorted_has (entry_at c places u) (places * 256) k _ low (entry_to u k (live k) sector here it.of_unit),
           place,
           number,
@@ -192,8 +192,8 @@ module _ (c : Chart) (places : ℕ) (bytes : IsByteChart places c) (fine : HasNo
           let mark : Mark = mark_of heads k sector in
           let earlier : List Mark = marks heads current c k in
           let parts : (mark.in_overflow ≡ true) × ((sector.unit == u) ≡ true) = and_parts mark.in_overflow (sector.unit == u) in_overflow in
-          let tests : (is_log_payload sector.payload ≡ true) × (not (list_any (clashes mark) earlier || is_full mark earlier) ≡ true) =
-          and_parts (is_log_payload sector.payload) (not (list_any (clashes mark) earlier || is_full mark earlier)) (well k sector low at) in
+          let tests : (is_log_payload sector.version sector.payload ≡ true) × (not (list_any (clashes mark) earlier || is_full mark earlier) ≡ true) =
+          and_parts (is_log_payload sector.version sector.payload) (not (list_any (clashes mark) earlier || is_full mark earlier)) (well k sector low at) in
           let rest : (list_any (clashes mark) earlier ≡ false) × (is_full mark earlier ≡ false) =
           or_parts (list_any (clashes mark) earlier) (is_full mark earlier) (not-true (list_any (clashes mark) earlier || is_full mark earlier) tests.1) in
           let unit : sector.unit ≡ u = eqb-true sector.unit u parts.1 in
@@ -272,7 +272,7 @@ module _ (c : Chart) (places : ℕ) (bytes : IsByteChart places c) (fine : HasNo
       (sym (ap place_of it.is)) (sym (sector_is (current u) it.winner head it.is here)) in
       subst (IsUnit c places u) same (record {
         chosen = it.home.chosen;
-        counts = data_payloads_are_spelled (places - 4) head.payload (bytes it.winner.place 0 head it.home.chosen.within (omega arith) (inl refl) here) passes_it;
+        counts = data_payloads_are_spelled head.version (places - 4) head.payload (bytes it.winner.place 0 head it.home.chosen.within (omega arith) (inl refl) here) passes_it;
         log = subst (λ (g : ℕ). IsLog c places u it.winner.place g (log_in c places u)) generation (is_log u it.winner it.is);
       })
 
@@ -335,7 +335,7 @@ module _ (c : Chart) (places : ℕ) (bytes : IsByteChart places c) (fine : HasNo
           least = fine.formed.least;
           most = fine.formed.most;
           chosen = it.counts;
-          counts = status_payloads_are_spelled (places - 4) head.payload (bytes winner.place 0 head it.counts.within (omega arith) (inl refl) here) passes_it;
+          counts = status_payloads_are_spelled head.version (places - 4) head.payload (bytes winner.place 0 head it.counts.within (omega arith) (inl refl) here) passes_it;
           commits = subst (λ (g : ℕ). IsStatus c winner.place g (committed_in c (Some winner))) generation status_is;
           each = unit_is;
           overflows = passing (holds_live heads all_marks) places;

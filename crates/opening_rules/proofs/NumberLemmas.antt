@@ -43,10 +43,10 @@ commit_has sector numbers it =
     let read = spelled_commits_pass sector.payload numbers it in
     cond-true (is_commit_payload sector.payload) (numbers_in sector.payload) [] read.0 ∙ read.1
 
-log_has : (sector : Sector) (records : List Record) → SpellsLog sector.payload records → tids_told sector.payload ≡ map tid_of records
+log_has : (sector : Sector) (records : List Record) → SpellsLog sector.version sector.payload records → tids_told sector.version sector.payload ≡ map tid_of records
 log_has sector records it =
-    let read = spelled_logs_pass sector.payload records it in
-    cond-true (is_log_payload sector.payload) (map tid_of (records_of sector.payload)) [] read.0 ∙ ap (map tid_of) read.1
+    let read = spelled_logs_pass sector.version sector.payload records it in
+    cond-true (is_log_payload sector.version sector.payload) (map tid_of (records_of sector.version sector.payload)) [] read.0 ∙ ap (map tid_of) read.1
 
 head-le : (units : ℕ) (sector : Sector) (n : ℕ) → IsHeader sector → Mentions sector n → n ≤ head_number (Some (head_of units sector))
 head-le units sector n kind mentions = elim mentions [
@@ -77,14 +77,14 @@ commit-le sector n kind mentions =
 
 log-le : (sector : Sector) (n : ℕ) → sector.kind ≡ 5 → Mentions sector n → n ≤ log_number (Some sector)
 log-le sector n kind mentions =
-    let least = greatest_of-least (max sector.generation sector.serial) (tids_told sector.payload) in
+    let least = greatest_of-least (max sector.generation sector.serial) (tids_told sector.version sector.payload) in
     elim mentions [
       | inl own ↦ omega (arith, own, le-max_left sector.generation sector.serial, least)
       | inr other ↦ elim other [
         | inl own ↦ omega (arith, own, le-max_right sector.generation sector.serial, least)
         | inr inner ↦ elim inner [
           | inl commit ↦ absurd (omega (arith, kind, commit.0))
-          | inr log ↦ greatest_of-each (max sector.generation sector.serial) (tids_told sector.payload) n
+          | inr log ↦ greatest_of-each (max sector.generation sector.serial) (tids_told sector.version sector.payload) n
               (subst (λ (xs : List ℕ). Contains xs n) (sym (log_has sector log.1 log.2))
               (subst (Contains (map tid_of log.1)) log.5 (map_has log.1 log.3 log.4)))
         ]
@@ -220,17 +220,17 @@ module _ (c : Chart) (places : ℕ) (it : Layout) (laid : Laid places c it) wher
       let stands = seen_from c places (k / 256) (k % 256) sector is in
       let read : IsRead places c it (k / 256) (k % 256) sector =
       inr (inr (stands.within, omega arith, stands.here, stands.kind, spot_back (k / 256) (k % 256) stands.may)) in
-      elim (greatest_of_from (max sector.generation sector.serial) (tids_told sector.payload)) [
+      elim (greatest_of_from (max sector.generation sector.serial) (tids_told sector.version sector.payload)) [
         | inl own ↦ inr (subst (IsFoundNumber places c it) (sym own) (own_found (k / 256) (k % 256) sector read))
-        | inr told ↦ elim (cases_Bool (is_log_payload sector.payload)) [
+        | inr told ↦ elim (cases_Bool (is_log_payload sector.version sector.payload)) [
           | inl list ↦
-              let spelled = log_payloads_are_spelled sector.payload (bytes (k / 256) (k % 256) sector stands.within (omega arith) (inr (inr (seen_spot c places (k / 256) (k % 256) sector stands))) stands.here) list in
-              let from = tids_from (records_of sector.payload) (log_number (Some sector))
-              (subst (λ (xs : List ℕ). Contains xs (log_number (Some sector))) (log_has sector (records_of sector.payload) spelled) told) in
-              inr (k / 256, k % 256, sector, read, inr (inr (inr (stands.kind, records_of sector.payload, spelled, from.0, from.1, from.2))))
+              let spelled = log_payloads_are_spelled sector.version sector.payload (bytes (k / 256) (k % 256) sector stands.within (omega arith) (inr (inr (seen_spot c places (k / 256) (k % 256) sector stands))) stands.here) list in
+              let from = tids_from (records_of sector.version sector.payload) (log_number (Some sector))
+              (subst (λ (xs : List ℕ). Contains xs (log_number (Some sector))) (log_has sector (records_of sector.version sector.payload) spelled) told) in
+              inr (k / 256, k % 256, sector, read, inr (inr (inr (stands.kind, records_of sector.version sector.payload, spelled, from.0, from.1, from.2))))
           | inr other ↦
               let none : Contains [] (log_number (Some sector)) = subst (λ (xs : List ℕ). Contains xs (log_number (Some sector)))
-              (cond-false (is_log_payload sector.payload) (map tid_of (records_of sector.payload)) [] other) told in
+              (cond-false (is_log_payload sector.version sector.payload) (map tid_of (records_of sector.version sector.payload)) [] other) told in
               absurd (omega (arith, none.1))
         ]
       ]

@@ -3,7 +3,7 @@ use Rattle.std.proofs.Common.{◌≡◌, inl, inr, ◌≤◌, ◌<◌, ◌^◌, 
 use Rattle.std.specs.List.{list_all, flat_map}
 use Rattle.std.specs.Option.{option_map_or}
 use Rattle.std.proofs.lemmas.Bool.{eqb-true, leb-true, eq-eqb, le-leb, and_parts, and_from, or_cases, or_left, or_right}
-use Rattle.std.proofs.lemmas.List.{append-nil, take-append-drop, take_at, take_all, drop_at, drop-drop, length-take-le, get_or-drop, nil_from_length}
+use Rattle.std.proofs.lemmas.List.{append-nil, take-append-drop, take_all, drop_at, length-take-le, nil_from_length}
 use Rattle.std.proofs.lemmas.List.Elements.{All-nil, All-cons, All-head, All-tail}
 use Rattle.ipl_format.specs.Numbers.{IsBytes, word, long, word_at, long_at}
 use Rattle.ipl_format.specs.Record.{Record, IsRecord, SpellsLog, record_bytes, log_bytes}
@@ -30,7 +30,7 @@ counts_pass [] each = refl
 counts_pass (x ∷ xs) each = and_from _ _ (le-leb x 16 (All-head IsCount x xs each)) (counts_pass xs (All-tail IsCount x xs each))
 
 pub data_payloads_are_spelled : DataPayloadsAreSpelled
-data_payloads_are_spelled units payload all is =
+data_payloads_are_spelled version units payload all is =
     let a = and_parts _ _ is in
     let b = and_parts _ _ a.1 in
     let d = and_parts _ _ b.1 in
@@ -51,8 +51,8 @@ unfolding data_header_bytes
 number_again units carried pieces low = ap (word_at 0) (append_assoc (word units) pieces (carried ∷ [])) ∙ word_again units (pieces ++ carried ∷ []) low
 
 pub spelled_data_passes : SpelledDataPasses
-spelled_data_passes units pieces payload it =
-    let size = data_headers_have_sizes payload units pieces it in
+spelled_data_passes version units pieces payload it =
+    let size = data_headers_have_sizes version payload units pieces it in
     let p = header_parts units it.carried pieces it.fifteen in
     let number : word_at 0 payload ≡ units = ap (word_at 0) it.bytes ∙ number_again units it.carried pieces it.fits in
     let same : pieces_in payload ≡ pieces = ap pieces_in it.bytes ∙ p.0 in
@@ -65,7 +65,7 @@ spelled_data_passes units pieces payload it =
 -- ---- status headers
 
 pub status_payloads_are_spelled : StatusPayloadsAreSpelled
-status_payloads_are_spelled units payload all is =
+status_payloads_are_spelled version units payload all is =
     let a = and_parts _ _ is in
     let size : length payload ≡ 4 = eqb-true (length payload) 4 a.0 in
     let same : word_at 0 payload ≡ units = eqb-true (word_at 0 payload) units a.1 in
@@ -75,8 +75,8 @@ status_payloads_are_spelled units payload all is =
     }
 
 pub spelled_status_passes : SpelledStatusPasses
-spelled_status_passes units payload it =
-    and_from _ _ (eq-eqb (length payload) 4 (units_have_sizes payload units it))
+spelled_status_passes version units payload it =
+    and_from _ _ (eq-eqb (length payload) 4 (units_have_sizes version payload units it))
     (eq-eqb (word_at 0 payload) units (ap (word_at 0) (it.bytes ∙ sym (append-nil (word units))) ∙ word_again units [] it.fits))
 
 -- ---- commit sectors
@@ -135,67 +135,67 @@ spelled_commits_pass payload numbers it =
 
 -- ---- log sectors
 
-more_spelled : (bytes : List ℕ) (r : Record) (rest : List ℕ) (records : List Record) → bytes ≡ record_bytes r ++ rest → IsRecord r → SpellsLog rest records
-    → SpellsLog bytes (r ∷ records)
-more_spelled bytes r rest records e is it = record {
-  bytes = e ∙ ap (λ (xs : List ℕ). record_bytes r ++ xs) it.bytes;
-  valid = All-cons IsRecord r records is it.valid;
+more_spelled : (version : ℕ) (bytes : List ℕ) (r : Record) (rest : List ℕ) (records : List Record) → bytes ≡ record_bytes version r ++ rest → IsRecord version r → SpellsLog version rest records
+    → SpellsLog version bytes (r ∷ records)
+more_spelled version bytes r rest records e is it = record {
+  bytes = e ∙ ap (λ (xs : List ℕ). record_bytes version r ++ xs) it.bytes;
+  valid = All-cons (IsRecord version) r records is it.valid;
 }
 
 -- what is left of bytes are bytes
-rest_bytes : (bytes : List ℕ) (r : Record) (rest : List ℕ) → IsBytes bytes → bytes ≡ record_bytes r ++ rest → IsBytes rest
-rest_bytes bytes r rest all e =
-    let left : drop (length (record_bytes r)) bytes ≡ rest = ap (drop (length (record_bytes r))) e ∙ drop_at (record_bytes r) rest (length (record_bytes r)) refl in
-    subst IsBytes left (bytes-drop (length (record_bytes r)) bytes all)
+rest_bytes : (version : ℕ) (bytes : List ℕ) (r : Record) (rest : List ℕ) → IsBytes bytes → bytes ≡ record_bytes version r ++ rest → IsBytes rest
+rest_bytes version bytes r rest all e =
+    let left : drop (length (record_bytes version r)) bytes ≡ rest = ap (drop (length (record_bytes version r))) e ∙ drop_at (record_bytes version r) rest (length (record_bytes version r)) refl in
+    subst IsBytes left (bytes-drop (length (record_bytes version r)) bytes all)
 
-abbrev IsList : List ℕ → Type 0
-IsList bytes = (records : List Record) × SpellsLog bytes records
+abbrev IsList : ℕ → List ℕ → Type 0
+IsList version bytes = (records : List Record) × SpellsLog version bytes records
 
-no_record : (bytes : List ℕ) → length bytes ≡ 0 → IsList bytes
-no_record bytes none = ([], record { bytes = nil_from_length bytes none; valid = All-nil IsRecord })
+no_record : (version : ℕ) (bytes : List ℕ) → length bytes ≡ 0 → IsList version bytes
+no_record version bytes none = ([], record { bytes = nil_from_length bytes none; valid = All-nil (IsRecord version) })
 
-record_first : (n : ℕ) (bytes : List ℕ) → IsBytes bytes → ((xs : List ℕ) → IsBytes xs → is_list_within n xs ≡ true → IsList xs)
-    → (o : Option (Record × List ℕ)) → record_at bytes ≡ o → option_map_or (λ (p : Record × List ℕ). is_list_within n p.1) o false ≡ true → IsList bytes
-record_first n bytes all later None e is = cc
-record_first n bytes all later (Some p) e is =
-    let t = takes bytes p.0 p.1 all e in
-    let on = later p.1 (rest_bytes bytes p.0 p.1 all t.spelled) is in
-    (p.0 ∷ on.0, more_spelled bytes p.0 p.1 on.0 t.spelled t.entry on.1)
+record_first : (version n : ℕ) (bytes : List ℕ) → IsBytes bytes → ((xs : List ℕ) → IsBytes xs → is_list_within version n xs ≡ true → IsList version xs)
+    → (o : Option (Record × List ℕ)) → record_at version bytes ≡ o → option_map_or (λ (p : Record × List ℕ). is_list_within version n p.1) o false ≡ true → IsList version bytes
+record_first version n bytes all later None e is = cc
+record_first version n bytes all later (Some p) e is =
+    let t = takes version bytes p.0 p.1 all e in
+    let on = later p.1 (rest_bytes version bytes p.0 p.1 all t.spelled) is in
+    (p.0 ∷ on.0, more_spelled version bytes p.0 p.1 on.0 t.spelled t.entry on.1)
 
 -- bytes that pass are a list
-list_spelled : (n : ℕ) (bytes : List ℕ) → IsBytes bytes → is_list_within n bytes ≡ true → IsList bytes
-list_spelled zero bytes all is = no_record bytes (eqb-true (length bytes) 0 is)
-list_spelled (suc n) bytes all is = elim (or_cases _ _ is) [
-  | inl none ↦ no_record bytes (eqb-true (length bytes) 0 none)
-  | inr some ↦ record_first n bytes all (λ xs bytes_too passes. list_spelled n xs bytes_too passes) (record_at bytes) refl some
+list_spelled : (version n : ℕ) (bytes : List ℕ) → IsBytes bytes → is_list_within version n bytes ≡ true → IsList version bytes
+list_spelled version zero bytes all is = no_record version bytes (eqb-true (length bytes) 0 is)
+list_spelled version (suc n) bytes all is = elim (or_cases _ _ is) [
+  | inl none ↦ no_record version bytes (eqb-true (length bytes) 0 none)
+  | inr some ↦ record_first version n bytes all (λ xs bytes_too passes. list_spelled version n xs bytes_too passes) (record_at version bytes) refl some
 ]
 
 pub log_payloads_are_spelled : LogPayloadsAreSpelled
 unfolding is_log_payload
-log_payloads_are_spelled payload all is =
-    let it = list_spelled (length payload) payload all is in
-    subst (λ (records : List Record). SpellsLog payload records) (sym (records_list it.0 payload it.1)) it.1
+log_payloads_are_spelled version payload all is =
+    let it = list_spelled version (length payload) payload all is in
+    subst (λ (records : List Record). SpellsLog version payload records) (sym (records_list version it.0 payload it.1)) it.1
 
-passes_with : (n : ℕ) (bytes : List ℕ) (r : Record) (rest : List ℕ) → record_at bytes ≡ Some (r, rest) → is_list_within n rest ≡ true
-    → is_list_within (suc n) bytes ≡ true
-passes_with n bytes r rest e passes =
-    or_right (eqb (length bytes) 0) _ (ap (λ (o : Option (Record × List ℕ)). option_map_or (λ (p : Record × List ℕ). is_list_within n p.1) o false) e ∙ passes)
+passes_with : (version n : ℕ) (bytes : List ℕ) (r : Record) (rest : List ℕ) → record_at version bytes ≡ Some (r, rest) → is_list_within version n rest ≡ true
+    → is_list_within version (suc n) bytes ≡ true
+passes_with version n bytes r rest e passes =
+    or_right (eqb (length bytes) 0) _ (ap (λ (o : Option (Record × List ℕ)). option_map_or (λ (p : Record × List ℕ). is_list_within version n p.1) o false) e ∙ passes)
 
 -- a list passes
-list_passes : (records : List Record) (n : ℕ) (bytes : List ℕ) → SpellsLog bytes records → length bytes ≤ n → is_list_within n bytes ≡ true
-list_passes [] zero bytes it long_enough = eq-eqb (length bytes) 0 (ap length it.bytes)
-list_passes [] (suc n) bytes it long_enough = or_left (eqb (length bytes) 0) _ (eq-eqb (length bytes) 0 (ap length it.bytes))
-list_passes (r ∷ records) n bytes it long_enough =
-    let first : record_at bytes ≡ Some (r, log_bytes records) = ap record_at it.bytes ∙ again r (log_bytes records) (All-head IsRecord r records it.valid) in
-    let less = shorter bytes r (log_bytes records) first in
-    more_passes n (log_bytes records) first less long_enough
-    (λ m short. list_passes records m (log_bytes records) (record { bytes = refl; valid = All-tail IsRecord r records it.valid }) short)
+list_passes : (version : ℕ) (records : List Record) (n : ℕ) (bytes : List ℕ) → SpellsLog version bytes records → length bytes ≤ n → is_list_within version n bytes ≡ true
+list_passes version [] zero bytes it long_enough = eq-eqb (length bytes) 0 (ap length it.bytes)
+list_passes version [] (suc n) bytes it long_enough = or_left (eqb (length bytes) 0) _ (eq-eqb (length bytes) 0 (ap length it.bytes))
+list_passes version (r ∷ records) n bytes it long_enough =
+    let first : record_at version bytes ≡ Some (r, log_bytes version records) = ap (record_at version) it.bytes ∙ again version r (log_bytes version records) (All-head (IsRecord version) r records it.valid) in
+    let less = shorter version bytes r (log_bytes version records) first in
+    more_passes n (log_bytes version records) first less long_enough
+    (λ m short. list_passes version records m (log_bytes version records) (record { bytes = refl; valid = All-tail (IsRecord version) r records it.valid }) short)
   where
-    more_passes : (n : ℕ) (rest : List ℕ) → record_at bytes ≡ Some (r, rest) → length rest < length bytes → length bytes ≤ n
-        → ((m : ℕ) → length rest ≤ m → is_list_within m rest ≡ true) → is_list_within n bytes ≡ true
+    more_passes : (n : ℕ) (rest : List ℕ) → record_at version bytes ≡ Some (r, rest) → length rest < length bytes → length bytes ≤ n
+        → ((m : ℕ) → length rest ≤ m → is_list_within version m rest ≡ true) → is_list_within version n bytes ≡ true
     more_passes zero rest first less long_enough later = absurd (omega (arith, less, long_enough))
-    more_passes (suc n) rest first less long_enough later = passes_with n bytes r rest first (later n (omega (arith, less, long_enough)))
+    more_passes (suc n) rest first less long_enough later = passes_with version n bytes r rest first (later n (omega (arith, less, long_enough)))
 
 pub spelled_logs_pass : SpelledLogsPass
 unfolding is_log_payload
-spelled_logs_pass payload records it = (list_passes records (length payload) payload it (omega arith), records_list records payload it)
+spelled_logs_pass version payload records it = (list_passes version records (length payload) payload it (omega arith), records_list version records payload it)

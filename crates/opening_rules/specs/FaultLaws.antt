@@ -33,7 +33,7 @@ MissingIsLeast = (c : Chart) (places u : ℕ) → first_fault c places ≡ Some 
 -- the live log sector at the number k is well, after those before it
 abbrev pub well_at : Chart → ℕ → ℕ → Sector → Bool
 well_at c places k sector =
-    is_log_well (mark_of (header_at c places) k sector) (marks_in c places k) sector.payload
+    is_log_well (mark_of (header_at c places) k sector) (marks_in c places k) sector.version sector.payload
 
 -- a live log sector of the unit stands at the number k, in an overflow place
 abbrev pub is_overflow_of : Chart → ℕ → ℕ → ℕ → Bool
@@ -57,7 +57,7 @@ pub record IsBeyond16 (c : Chart) (places k : ℕ) (sector : Sector) : Type 0 wh
 -- why a live log sector is at fault: it holds no list of records, has a serial again, or is the 17th in overflow places
 abbrev pub HasCause : Chart → ℕ → ℕ → Sector → Type 0
 HasCause c places k sector =
-    (is_log_payload sector.payload ≡ false) ⊎ HasTwin c places k sector ⊎ IsBeyond16 c places k sector
+    (is_log_payload sector.version sector.payload ≡ false) ⊎ HasTwin c places k sector ⊎ IsBeyond16 c places k sector
 
 -- the live log sector at this number is at fault, and all before it are well
 pub record IsFirstBadLog (c : Chart) (places k : ℕ) (fault : ImageFault) : Type 0 where

@@ -93,15 +93,16 @@ is_full mark earlier =
     mark.in_overflow && nat_le OVERFLOW_SECTORS (count_by (shares_overflow mark) earlier)
 
 -- a live log sector is tested for its payload, and against those before it
-abbrev pub is_log_well : Mark → List Mark → List ℕ → Bool
-is_log_well mark earlier payload =
-    is_log_payload payload && not (list_any (clashes mark) earlier || is_full mark earlier)
+abbrev pub is_log_well : Mark → List Mark → ℕ → List ℕ → Bool
+is_log_well mark earlier version payload =
+    is_log_payload version payload && not (list_any (clashes mark) earlier || is_full mark earlier)
 
 -- the fault of the one at the number k, after those with these marks
 abbrev pub log_test : (ℕ → Option KeptHeader) → List Mark → ℕ → Option Sector → Option ImageFault
 log_test heads earlier k None = None
 log_test heads earlier k (Some sector) =
-    if is_log_well (mark_of heads k sector) earlier sector.payload then None else Some (malformed (k / SECTORS) (k % SECTORS))
+    if is_log_well (mark_of heads k sector) earlier sector.version sector.payload then None
+    else Some (malformed (k / SECTORS) (k % SECTORS))
 
 -- the same, after all those before it
 abbrev pub log_fault : (ℕ → Option KeptHeader) → (ℕ → Option Winner) → Chart → ℕ → Option ImageFault
@@ -126,7 +127,7 @@ commit_number (Some sector) = greatest_of (max sector.generation sector.serial) 
 -- in a log sector
 abbrev pub log_number : Option Sector → ℕ
 log_number None = 0
-log_number (Some sector) = greatest_of (max sector.generation sector.serial) (tids_told sector.payload)
+log_number (Some sector) = greatest_of (max sector.generation sector.serial) (tids_told sector.version sector.payload)
 
 -- in the headers
 abbrev pub greatest_of_heads : (ℕ → Option KeptHeader) → ℕ → ℕ

@@ -49,7 +49,7 @@ abbrev pub entry_of : ℕ → ℕ → Option Sector → Option Entry
 entry_of u k None = None
 entry_of u k (Some sector) =
     if sector.unit == u
-    then Some (record { place = k / SECTORS; number = k % SECTORS; sector = sector; records = records_of sector.payload })
+    then Some (record { place = k / SECTORS; number = k % SECTORS; sector = sector; records = records_of sector.version sector.payload })
     else None
 
 -- that at the number k

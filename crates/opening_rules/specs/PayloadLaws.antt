@@ -10,25 +10,26 @@ use Rattle.opening_rules.specs.Payloads.{pieces_in, is_data_payload, is_status_p
 -- bytes that pass as a data header's payload say how many pieces each page has
 abbrev pub DataPayloadsAreSpelled : Type 0
 DataPayloadsAreSpelled =
-    (units : ℕ) (payload : List ℕ) → IsBytes payload → is_data_payload units payload ≡ true
-    → SpellsDataHeader units (pieces_in payload) payload
+    (version units : ℕ) (payload : List ℕ) → IsBytes payload → is_data_payload units payload ≡ true
+    → SpellsDataHeader version units (pieces_in payload) payload
 
 -- a data header's payload passes, and has its pieces
 abbrev pub SpelledDataPasses : Type 0
 SpelledDataPasses =
-    (units : ℕ) (pieces payload : List ℕ) → SpellsDataHeader units pieces payload
+    (version units : ℕ) (pieces payload : List ℕ) → SpellsDataHeader version units pieces payload
     → (is_data_payload units payload ≡ true) × (pieces_in payload ≡ pieces)
 
 -- bytes that pass as a status header's payload say how many units there are
 abbrev pub StatusPayloadsAreSpelled : Type 0
 StatusPayloadsAreSpelled =
-    (units : ℕ) (payload : List ℕ) → IsBytes payload → is_status_payload units payload ≡ true
-    → SpellsUnits units payload
+    (version units : ℕ) (payload : List ℕ) → IsBytes payload → is_status_payload units payload ≡ true
+    → SpellsUnits version units payload
 
 -- a status header's payload passes
 abbrev pub SpelledStatusPasses : Type 0
 SpelledStatusPasses =
-    (units : ℕ) (payload : List ℕ) → SpellsUnits units payload → is_status_payload units payload ≡ true
+    (version units : ℕ) (payload : List ℕ) → SpellsUnits version units payload
+    → is_status_payload units payload ≡ true
 
 -- bytes that pass as a commit sector's payload say its numbers
 abbrev pub CommitPayloadsAreSpelled : Type 0
@@ -44,10 +45,11 @@ SpelledCommitsPass =
 -- bytes that pass as a log sector's payload say its records
 abbrev pub LogPayloadsAreSpelled : Type 0
 LogPayloadsAreSpelled =
-    (payload : List ℕ) → IsBytes payload → is_log_payload payload ≡ true → SpellsLog payload (records_of payload)
+    (version : ℕ) (payload : List ℕ) → IsBytes payload → is_log_payload version payload ≡ true
+    → SpellsLog version payload (records_of version payload)
 
 -- a log sector's payload passes, and has its records
 abbrev pub SpelledLogsPass : Type 0
 SpelledLogsPass =
-    (payload : List ℕ) (records : List Record) → SpellsLog payload records
-    → (is_log_payload payload ≡ true) × (records_of payload ≡ records)
+    (version : ℕ) (payload : List ℕ) (records : List Record) → SpellsLog version payload records
+    → (is_log_payload version payload ≡ true) × (records_of version payload ≡ records)

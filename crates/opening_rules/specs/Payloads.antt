@@ -50,14 +50,16 @@ is_commit_payload payload =
 
 -- ---- log sectors
 
--- the bytes are a list of at most n records, nothing left over
-abbrev pub is_list_within : ℕ → List ℕ → Bool
-is_list_within zero bytes = length bytes == 0
-is_list_within (suc n) bytes = (length bytes == 0) || option_map_or (λ p. is_list_within n p.1) (record_at bytes) false
+-- the bytes are a list of at most n records in this version, nothing left over
+abbrev pub is_list_within : ℕ → ℕ → List ℕ → Bool
+is_list_within version zero bytes = length bytes == 0
+is_list_within version (suc n) bytes =
+    (length bytes == 0)
+    || option_map_or (λ p. is_list_within version n p.1) (record_at version bytes) false
 
--- a log sector's payload: a list of records
-unfoldable pub is_log_payload : List ℕ → Bool
-is_log_payload payload = is_list_within (length payload) payload
+-- a log sector's payload: a list of records, by the version of the sector
+unfoldable pub is_log_payload : ℕ → List ℕ → Bool
+is_log_payload version payload = is_list_within version (length payload) payload
 
 -- ---- the numbers that they hold, where they are in their grammar
 
@@ -70,5 +72,6 @@ abbrev pub tid_of : Record → ℕ
 tid_of r = r.tid
 
 -- of transactions that have records
-abbrev pub tids_told : List ℕ → List ℕ
-tids_told payload = if is_log_payload payload then map tid_of (records_of payload) else []
+abbrev pub tids_told : ℕ → List ℕ → List ℕ
+tids_told version payload =
+    if is_log_payload version payload then map tid_of (records_of version payload) else []

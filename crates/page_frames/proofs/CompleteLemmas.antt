@@ -56,7 +56,8 @@ renew_completes pages result told complete x there slots it state fits says =
 pub no_base_fault : (x : Contents) (it : Layout) (u page : ℕ) (now : Values)
     → Shows (chart_of x) it.committed u (it.units u) page now → base_fault x it u page ≡ None
 no_base_fault x it u page now shows =
-    (sound_pages_are_held x (it.units u).home u (it.units u).head.generation page _).1
+    (sound_pages_are_held x (it.units u).home (it.units u).head.version u
+    (it.units u).head.generation page _).1
     (shows.base, (held_pages_read_well (chart_of x) u (it.units u) page shows.base).1 shows.reads)
 
 fault_told : {T : Type 0} (fault : Option ChipFault) (result : Result T ChipFault)

@@ -5,7 +5,13 @@ use Rattle.std.specs.Option.{option_or}
 use Rattle.std.proofs.lemmas.Bool.{false≢true}
 use Rattle.std.proofs.lemmas.List.Elements.{All-get_or}
 use Rattle.std.proofs.lemmas.Option.{same_Some}
+use Rattle.std.specs.List.{All}
 use Rattle.chip_trait.specs.Story.{Contents}
+use Rattle.merge_rules.proofs.PacksLemmas.{all_records}
+use Rattle.ipl_format.proofs.RecordLemmas.{all_stay}
+use Rattle.ipl_meaning.proofs.RoomLemmas.{shown_room}
+use Rattle.ipl_format.specs.Record.{IsRecord}
+use Rattle.ipl_base.specs.declared.limits.TheConstants.{VERSION}
 use Rattle.ipl_base.specs.First.{first_below}
 use Rattle.ipl_base.specs.declared.fault.ChipFault.{ChipFault}
 use Rattle.ipl_base.specs.declared.fault.ChipFault.TheVariants.{Damaged, Malformed}
@@ -51,12 +57,12 @@ fault_as : (place page : ℕ) (f e : ChipFault) → IsOfPage place page f → So
     → IsOfPage place page e
 fault_as place page f e of same = subst (IsOfPage place page) (same_Some f e same) of
 
-piece_of_page : (place page i u g serial : ℕ) (last : Bool) (bytes : List ℕ) (e : ChipFault)
-    → i < 16 → piece_fault place (base_sector_of page i) u g serial last bytes ≡ Some e
+piece_of_page : (place page i v u g serial : ℕ) (last : Bool) (bytes : List ℕ) (e : ChipFault)
+    → i < 16 → piece_fault place (base_sector_of page i) v u g serial last bytes ≡ Some e
     → IsOfPage place page e
 unfolding piece_fault
-piece_of_page place page i u g serial last bytes e few found =
-    by_tests (is_damaged bytes) (is_piece u g serial last (sector_in bytes)) refl found
+piece_of_page place page i v u g serial last bytes e few found =
+    by_tests (is_damaged bytes) (is_piece v u g serial last (sector_in bytes)) refl found
   where
     by_tests : (a b : Bool) → is_damaged bytes ≡ a
         → (if a then Some (Damaged place (base_sector_of page i) (stored_sum bytes) (computed_sum bytes))
@@ -73,9 +79,9 @@ piece_of_page place page i u g serial last bytes e few found =
         fault_as place page (Malformed place (base_sector_of page i)) e
         (refl, (omega arith, omega (arith, few))) is
 
-text_of_page : (place page : ℕ) (text : List ℕ) (e : ChipFault)
-    → text_fault place page text ≡ Some e → IsOfPage place page e
-text_of_page place page text e found = by_test (is_page_text text) found
+text_of_page : (place v page : ℕ) (text : List ℕ) (e : ChipFault)
+    → text_fault place v page text ≡ Some e → IsOfPage place page e
+text_of_page place v page text e found = by_test (is_page_text v text) found
   where
     by_test : (a : Bool) → (if a then None else Some (Malformed place (base_sector_of page 0))) ≡ Some e
         → IsOfPage place page e
@@ -85,17 +91,17 @@ text_of_page place page text e found = by_test (is_page_text text) found
         (refl, (omega arith, omega arith)) is
 
 -- the fault of a page of at most 16 pieces is of that page
-pub page_of_page : (x : Contents) (place u g page pieces : ℕ) (e : ChipFault) → pieces ≤ 16
-    → page_fault x place u g page pieces ≡ Some e → IsOfPage place page e
+pub page_of_page : (x : Contents) (place v u g page pieces : ℕ) (e : ChipFault) → pieces ≤ 16
+    → page_fault x place v u g page pieces ≡ Some e → IsOfPage place page e
 unfolding page_fault
-page_of_page x place u g page pieces e few found =
-    elim (or_some (first_below (piece_fault_at x place u g page pieces) pieces)
-    (text_fault place page (text_below (chart_of x) place page pieces)) e found) [
+page_of_page x place v u g page pieces e few found =
+    elim (or_some (first_below (piece_fault_at x place v u g page pieces) pieces)
+    (text_fault place v page (text_below (chart_of x) place page pieces)) e found) [
       | inl piece ↦
-          let (i, low, is) = first_some (piece_fault_at x place u g page pieces) pieces e piece in
-          piece_of_page place page i u g (page * 16 + i) (i + 1 == pieces)
+          let (i, low, is) = first_some (piece_fault_at x place v u g page pieces) pieces e piece in
+          piece_of_page place page i v u g (page * 16 + i) (i + 1 == pieces)
           (x place (base_sector_of page i)) e (omega (arith, low, few)) is
-      | inr text ↦ text_of_page place page (text_below (chart_of x) place page pieces) e text
+      | inr text ↦ text_of_page place v page (text_below (chart_of x) place page pieces) e text
     ]
 
 -- that of a page of a unit is so at the unit's home
@@ -104,7 +110,7 @@ pub base_of_page : (places : ℕ) (x : Contents) (it : Layout) (t : Tables) (u p
     → base_fault x it u page ≡ Some e → IsOfPage (it.units u).home page e
 base_of_page places x it t u page e mirrors low few found =
     let counts = (mirrors.laid.each u low).counts in
-    page_of_page x (it.units u).home u (it.units u).head.generation page
+    page_of_page x (it.units u).home (it.units u).head.version u (it.units u).head.generation page
     (slice_index (it.units u).pieces page) e
     (All-get_or IsCount (it.units u).pieces page 0 (omega (arith, few, counts.fifteen)) counts.each)
     found
@@ -150,11 +156,12 @@ fits_map places c it memory state m fits = record {
 }
 
 -- a page without a fault shows some values, and so those of some map
-sound_shows : (x : Contents) (it : Layout) (u page : ℕ) → base_fault x it u page ≡ None
+sound_shows : (x : Contents) (it : Layout) (u page : ℕ)
+    → All (IsRecord VERSION) (records_of (it.units u).log) → base_fault x it u page ≡ None
     → (m : Map) × Shows (chart_of x) it.committed u (it.units u) page (page_in m u page)
-sound_shows x it u page none =
+sound_shows x it u page valid none =
     let shape = it.units u in
-    let (slots, held) = (sound_pages_are_held x shape.home u shape.head.generation page _).0 none in
+    let (slots, held) = (sound_pages_are_held x shape.home shape.head.version u shape.head.generation page _).0 none in
     let now : Values = λ slot. after_records it.committed page slot (records_of shape.log)
     (value_in slots slot) in (
       page_map u page now,
@@ -162,6 +169,10 @@ sound_shows x it u page none =
         base = slots;
         reads = (held_pages_read_well (chart_of x) u shape page slots).0 held;
         says = λ slot less. page_has u page now slot less;
+        room = shown_room (chart_of x) it.committed u shape page slots
+            (page_in (page_map u page now) u page)
+            ((held_pages_read_well (chart_of x) u shape page slots).0 held) valid
+            (λ slot less. page_has u page now slot less);
       },
     )
 
@@ -173,10 +184,12 @@ pub still_sound : (places : ℕ) (x y : Contents) (it new : Layout) (before afte
     → MemoryFits places (chart_of x) it before state → Mirrors places (chart_of y) new after.tables
     → base_fault x it u page ≡ None → base_fault y new u page ≡ None
 still_sound places x y it new before after state u page low few keeps fits mirrors none =
-    let (m, shows) = sound_shows x it u page none in
+    let log = (fits.mirrors.laid.each u low).log in
+    let (m, shows) = sound_shows x it u page (all_records (it.units u).log
+    (λ k d within. all_stay _ _ (log.each k d within).records.valid)) none in
     let other : State = record { map = m; sessions = state.sessions } in
     let on = keeps other (fits_map places (chart_of x) it before state m fits) in
     let one = laid_once places (chart_of y) on.layout new on.fits.mirrors.laid mirrors.laid in
-    ap (λ (s : Shape). page_fault y s.home u s.head.generation page (slice_index s.pieces page))
+    ap (λ (s : Shape). page_fault y s.home s.head.version u s.head.generation page (slice_index s.pieces page))
     (sym (one.units u low))
     ∙ no_base_fault y on.layout u page _ (on.shows.pages u page low few shows)

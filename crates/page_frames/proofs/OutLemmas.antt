@@ -1,11 +1,11 @@
 -- The records of a page, written out from its frame.
-use Rattle.std.proofs.Common.{◌≡◌, ◌≤◌, ◌+◌, ℕ, List, [], Option, Some, Result, Ok, Err, refl, sym, ◌∙◌, ap, subst}
+use Rattle.std.proofs.Common.{◌≡◌, ◌≤◌, ◌+◌, ℕ, [], Option, Some, Result, Ok, Err, refl, sym, ◌∙◌, ap, subst}
 use Rattle.std.specs.Prelude.{IsSome}
 use Rattle.std.specs.Option.{option_map, option_map_or}
 use Rattle.chip_trait.specs.Told.{Told}
+use Rattle.log_records.specs.View.{Versioned, Spells}
 use Rattle.ipl_base.specs.declared.fault.ChipFault.{ChipFault}
 use Rattle.ipl_base.specs.declared.fault.ChipFault.TheVariants.{ReadFault, Stopped, Damaged, Malformed}
-use Rattle.ipl_format.specs.Record.{SpellsLog}
 use Rattle.ipl_meaning.specs.Tables.{Tables}
 use Rattle.unit_io.specs.Accounts.{Accounts}
 use Rattle.selective_merge.specs.Moving.{Holds}
@@ -49,9 +49,9 @@ frames_then (Ok v) frames u page f there =
     ap (with_frame_at frames u page) (sym (ap (option_map (λ g. with_frame_log g [])) there))
 frames_then (Err e) frames u page f there = refl
 
-out_keeps : (t after : Tables) (frames : Frames) (u page : ℕ) (payload : List ℕ)
+out_keeps : (t after : Tables) (frames : Frames) (u page : ℕ) (payload : Versioned)
     (old new : Told) (result : Result (Unit {0}) ChipFault) → IsSome (frames u page)
-    → SpellsLog payload (logs_of frames u page)
+    → Spells payload (logs_of frames u page)
     → WritesOut old.places u payload t after old result new
     → WritesOutInSteps old.places payload t after old result new
     → Accounts (WritingCause t u) result old new
@@ -61,14 +61,14 @@ out_keeps t after frames u page payload old new result there spelled tells steps
     subst (λ (later : Frames). KeepsState t frames old result after later new)
     (frames_then result frames u page f is)
     (writings_keep_states t after frames u page f payload old new result is
-    (subst (SpellsLog payload) (ap (λ (o : Option Frame). option_map_or (λ g. g.log) o []) is) spelled)
+    (subst (Spells payload) (ap (λ (o : Option Frame). option_map_or (λ g. g.log) o []) is) spelled)
     tells steps accounts.cause)
 
 -- ---- not done
 
-pub out_failed : (u page : ℕ) (payload : List ℕ) (old new : Pages) (e : ChipFault)
+pub out_failed : (u page : ℕ) (payload : Versioned) (old new : Pages) (e : ChipFault)
     (before after : Told) → IsReady before.places old → new.pool ≡ old.pool
-    → IsSome (frames_in old u page) → SpellsLog payload (logs_of (frames_in old) u page)
+    → IsSome (frames_in old u page) → Spells payload (logs_of (frames_in old) u page)
     → WritesOut before.places u payload (tables_in old) (tables_in new) before (Err e) after
     → WritesOutInSteps before.places payload (tables_in old) (tables_in new) before (Err e) after
     → Holds before.places (tables_in old) (tables_in new)
@@ -92,8 +92,8 @@ cleared_frames old new u page did =
     did.frames ∙ ap (with_frame_at old u page) (ap Some did.changes
     ∙ sym (ap (option_map (λ g. with_frame_log g [])) did.there))
 
-pub out_done : (u page : ℕ) (payload : List ℕ) (old new : Pages) (before after : Told)
-    → IsReady before.places old → SpellsLog payload (logs_of (frames_in old) u page)
+pub out_done : (u page : ℕ) (payload : Versioned) (old new : Pages) (before after : Told)
+    → IsReady before.places old → Spells payload (logs_of (frames_in old) u page)
     → FrameChanges IsClearedFrame (frames_in old) (frames_in new) u page → KeepsPins old.pool new.pool
     → WritesOut before.places u payload (tables_in old) (tables_in new) before (Ok tt) after
     → WritesOutInSteps before.places payload (tables_in old) (tables_in new) before (Ok tt) after

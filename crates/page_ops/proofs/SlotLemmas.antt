@@ -1,11 +1,11 @@
 -- Slot by slot over a frame.
-use Rattle.std.proofs.Common.{◌≡◌, ◌≢◌, ℕ, zero, suc, ◌<◌, ◌≤◌, ◌+◌, Bool, true, false, List, [], ◌∷◌, length, get_or, set, replicate, Option, Some, None, refl, sym, ◌∙◌, ap, ap₂, subst, inl, inr, arith}
+use Rattle.std.proofs.Common.{◌≡◌, ◌≢◌, ℕ, zero, suc, ◌<◌, ◌≤◌, ◌+◌, Bool, true, false, List, [], ◌∷◌, length, get_or, set, replicate, Option, Some, None, refl, sym, ◌∙◌, ap, ap₂, inl, inr, arith}
 use Rattle.std.specs.Prelude.{◌==◌, if◌then◌else◌}
 use Rattle.std.specs.Option.{option_map_or}
 use Rattle.std.proofs.lemmas.Bool.{cases_eq, false≢true, eq-eqb, ne_eqb}
-use Rattle.std.proofs.lemmas.List.{ext_get_or, length-replicate, get_or-replicate, get_or-set_same, get_or-set_other, length-set}
-use Rattle.ipl_format.specs.Page.{Slots, empty_page, value_in}
-use Rattle.page_ops.specs.Pending.{Pending, Pendings, seen_by, without_pending, with_pending}
+use Rattle.std.proofs.lemmas.List.{length-replicate, get_or-set_same, get_or-set_other, length-set}
+use Rattle.ipl_format.specs.Page.{Slots, empty_page}
+use Rattle.page_ops.specs.Pending.{Pendings, seen_by, without_pending, with_pending}
 use Rattle.page_ops.specs.Frames.{FrameView, AreOfPending, values_in, pending_in, pending_of, pendings_of, empty_frame}
 
 -- ---- one slot

@@ -2,7 +2,7 @@
 ghost use Rattle.std.specs.Prelude.{◌≡◌, ◌≢◌, ◌≤◌, ◌<◌, ◌==◌, ℕ, false, IfSome, length, option_map, slice_set};
 ghost use Rattle.std.specs.Borrow.{sem};
 ghost use Rattle.std.specs.Option.{option_map_or};
-ghost use Rattle.ipl_base.specs.declared.limits.TheConstants.{VALUE_LEN};
+ghost use Rattle.ipl_base.specs.declared.limits.TheConstants.{VALUE_LEN, VERSION};
 ghost use Rattle.ipl_format.specs.Page.{IsPage, value_in};
 ghost use Rattle.log_records.specs.View.{change_of};
 ghost use Rattle.page_ops.specs.Pending.{seen_by, without_pending, with_pending};
@@ -166,9 +166,10 @@ fn is_of(number: Option<u64>, tid: u64) -> bool
 /// Gives a slot (0 to 63) of a page what the same slot of another holds.
 fn copy_slot(from: &PageMap, slot: u32, to: &mut PageMap)
     requires { slot < 64 }
-    ensures page { IsPage to.new }
+    ensures page { IsPage VERSION to.new }
     ensures copied { to.new ≡ slice_set to.old slot (value_in from.now slot) }
 {
+    let _ = to.text();
     match from.get(slot) {
         Some(value) => to.set(slot, value),
         None => to.clear(slot),

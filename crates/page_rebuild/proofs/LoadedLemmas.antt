@@ -6,21 +6,23 @@ use Rattle.std.proofs.lemmas.List.{get_or-replicate}
 use Rattle.std.proofs.lemmas.List.Elements.{All-filter}
 use Rattle.chip_trait.specs.Story.{Contents}
 use Rattle.ipl_rules.specs.State.{Map}
-use Rattle.ipl_format.specs.Page.{Slots, IsCutInto, page_text, value_in}
-use Rattle.ipl_format.specs.Place.{base_sector_of}
+use Rattle.ipl_base.specs.declared.limits.TheConstants.{VERSION}
+use Rattle.ipl_format.specs.Page.{Slots, IsPage, value_in}
 use Rattle.ipl_format.specs.Record.{Record}
 use Rattle.log_records.proofs.RecordsLemmas.{records_list}
 use Rattle.ipl_meaning.specs.Chart.{Chart}
 use Rattle.ipl_meaning.specs.Values.{counts_for, after_records}
 use Rattle.ipl_meaning.specs.Last.{last_that}
-use Rattle.ipl_meaning.specs.Layout.{Entry, Shape, Layout, Laid, IsEntry, ReadsWell, base_sector, records_of as log_records_of}
+use Rattle.ipl_meaning.specs.Layout.{Entry, Shape, Layout, Laid, IsEntry, ReadsWell, records_of as log_records_of}
 use Rattle.ipl_meaning.specs.Stands.{Shows, Stands, page_in}
 use Rattle.ipl_meaning.specs.Tables.{Places, OverflowLists, Status, Tables}
 use Rattle.ipl_meaning.proofs.OnceLemmas.{laid_once, shows_once}
+use Rattle.ipl_meaning.proofs.SizeLemmas.{texts_have_sizes}
 use Rattle.ipl_meaning.proofs.SwitchLemmas.{same_applied}
 use Rattle.number_set.specs.Numbers.{among}
 use Rattle.number_set.proofs.AmongLemmas.{among_from}
 use Rattle.unit_io.specs.Faults.{page_fault, HoldsPage}
+use Rattle.unit_io.proofs.HeldLemmas.{held_pages_read_well}
 use Rattle.unit_log.specs.declared.scratch.LogSector.{LogSector}
 use Rattle.unit_log.specs.declared.live.UnitHead.{UnitHead}
 use Rattle.unit_log.specs.Kept.{kept_of, records_kept}
@@ -39,7 +41,8 @@ kept_records : (c : Chart) (places u home generation : ℕ) (log : List Entry)
 kept_records c places u home generation [] each = refl
 kept_records c places u home generation (e ∷ log) each =
     let first : IsEntry c places u home generation e = each 0 e (omega arith) in
-    ap₂ (λ (a b : List Record). a ++ b) (records_list e.records e.sector.payload first.records)
+    ap₂ (λ (a b : List Record). a ++ b) (records_list e.sector.version e.records e.sector.payload
+    first.records)
     (kept_records c places u home generation log (λ i d low. each (suc i) d (omega (arith, low))))
 
 -- nothing is pending in a frame to which nothing was done
@@ -64,9 +67,9 @@ module _ {places u place : ℕ} {c : Chart} {it : Layout} {t : Tables} {director
   count_is = ap (λ (l : List ℕ). slice_index l page) live.pieces
 
   pub fault_is : (x : Contents)
-      → page_fault x place u head.generation page (slice_index head.pieces page)
+      → page_fault x place head.version u head.generation page (slice_index head.pieces page)
       ≡ base_fault x it u page
-  fault_is x = rw (place_is, live.generation, live.pieces) refl
+  fault_is x = rw (place_is, live.version, live.generation, live.pieces) refl
 
   committed_is : (tid : ℕ) → it.committed tid ≡ among status.numbers tid
   committed_is tid =
@@ -81,15 +84,11 @@ module _ {places u place : ℕ} {c : Chart} {it : Layout} {t : Tables} {director
       (are.mirrored.mirrors.laid.each u (within are low)).log.each)
 
   reads_well : (base : Slots)
-      → HoldsPage c place u head.generation page (slice_index head.pieces page) base
+      → HoldsPage c place head.version u head.generation page (slice_index head.pieces page) base
       → ReadsWell c u (it.units u) page base
-  reads_well base held = record {
-    fits = held.fits;
-    cut = subst (IsCutInto (page_text base)) count_is held.cut;
-    here = λ i less. ap (λ (p : ℕ). c p (base_sector_of page i)) (sym place_is)
-        ∙ held.here i (omega (arith, less, count_is))
-        ∙ ap (λ (g : ℕ). Some (base_sector u g page i (page_text base))) live.generation;
-  }
+  reads_well base held =
+      (held_pages_read_well c u (it.units u) page base).0
+      (rw (place_is, live.version, live.generation, live.pieces) at held)
 
   -- the records of the log give the values and the pending changes
   values_shown : (slot : ℕ) (value : Option (List ℕ))
@@ -114,15 +113,16 @@ module _ {places u place : ℕ} {c : Chart} {it : Layout} {t : Tables} {director
       ∙ ap pending_of (page_last active page slot (it.units u).log None)
 
   pub loaded : {f g : FrameView} (active : List ℕ)
-      → HoldsPage c place u head.generation page (slice_index head.pieces page) f.page
+      → HoldsPage c place head.version u head.generation page (slice_index head.pieces page) f.page
       → f.pending ≡ replicate 64 None
       → AreTaken (among status.numbers) (among active) page (records_kept kept) f g
-      → IsLoaded c it (among active) u page g
-  loaded {f} {g} active held none taken = record {
+      → IsPage VERSION g.page → IsLoaded c it (among active) u page g
+  loaded {f} {g} active held none taken is = record {
     shows = record {
       base = f.page;
       reads = reads_well f.page held;
       says = λ slot less. taken.values slot less ∙ values_shown slot (value_in f.page slot);
+      room = let fits = is.fits in omega (arith, fits, texts_have_sizes g.page is.slots);
     };
     pending = λ slot less. taken.pending slot less
         ∙ pending_left (among active) slot f none less;

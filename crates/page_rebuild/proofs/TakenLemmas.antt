@@ -3,6 +3,7 @@ use Rattle.std.proofs.Common.{◌≡◌, ◌<◌, ℕ, suc, Bool, List, [], ◌�
 use Rattle.std.specs.List.{All}
 use Rattle.std.specs.Option.{option_or}
 use Rattle.std.proofs.lemmas.Bool.{cases_Bool}
+use Rattle.ipl_base.specs.declared.limits.TheConstants.{VERSION}
 use Rattle.ipl_format.specs.Record.{Record, IsRecord}
 use Rattle.ipl_meaning.specs.Values.{counts_for, after_records}
 use Rattle.ipl_meaning.specs.Last.{last_that}
@@ -95,7 +96,7 @@ module _ (committed active : ℕ → Bool) (page : ℕ) where
 
 -- ---- of those that are left each is in form
 
-pub later_valid : (left after : List Record) (r : Record) → All IsRecord left → left ≡ r ∷ after
-    → All IsRecord after
+pub later_valid : (left after : List Record) (r : Record) → All (IsRecord VERSION) left → left ≡ r ∷ after
+    → All (IsRecord VERSION) after
 later_valid left after r all step =
-    λ i d within. (subst (All IsRecord) step all) (suc i) d (omega (arith, within))
+    λ i d within. (subst (All (IsRecord VERSION)) step all) (suc i) d (omega (arith, within))

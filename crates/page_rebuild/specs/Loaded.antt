@@ -49,8 +49,8 @@ OfTables told directory overflow status P = OfContents told (λ x. (it : Layout)
 
 -- what is wrong with the base page, where the layout has it
 abbrev pub base_fault : Contents → Layout → ℕ → ℕ → Option ChipFault
-base_fault x it u page = page_fault x (it.units u).home u (it.units u).head.generation page
-    (slice_index (it.units u).pieces page)
+base_fault x it u page = page_fault x (it.units u).home (it.units u).head.version u
+    (it.units u).head.generation page (slice_index (it.units u).pieces page)
 
 -- ---- what is read
 

@@ -7,8 +7,8 @@
 //! chip stands for, and in each slot the change of the last record there of an active number is
 //! pending. Where the tables mirror the chip, it fails only where a read failed, or with the exact
 //! fault of the base page; and it adds nothing but reads of sectors from which the page may be
-//! rebuilt, at most 17 and one for each log sector that has a record of the page. However it ends, what the story rested on and the tables that agreed do so still.
-//! After a fault the frame is empty.
+//! rebuilt, at most 17 and one for each log sector that has a record of the page. However it ends, what
+//! the story rested on and the tables that agreed do so still. After a fault the frame is empty.
 #![tactic(auto)]
 
 mod loading;

@@ -42,10 +42,10 @@ fn read_base<C: Chip>(
     requires few { All (λ n. n ≤ PAGE_SECTORS) header.now.pieces }
     requires page { page < 15 }
     ensures exact { OfContents (C.told chip.old) (λ x. TellsChipFault
-        (page_fault x place unit header.now.generation page (slice_index header.now.pieces page))
-        result) }
+        (page_fault x place header.now.version unit header.now.generation page
+        (slice_index header.now.pieces page)) result) }
     ensures page { OnOk result (OfContents (C.told chip.old) (λ x. HoldsPage (chart_of x)
-        place unit header.now.generation page (slice_index header.now.pieces page)
+        place header.now.version unit header.now.generation page (slice_index header.now.pieces page)
         frame.new.page)) }
     ensures empty { OnErr result (frame.new.page ≡ empty_page) }
     ensures pending { frame.new.pending ≡ frame.old.pending }
@@ -57,6 +57,7 @@ fn read_base<C: Chip>(
 {
     let head = Head {
         kind: Head::DATA_HEADER,
+        version: header.version,
         unit,
         generation: header.generation,
         serial: header.generation,
@@ -66,9 +67,9 @@ fn read_base<C: Chip>(
 }
 
 /// Loads a page (0 to 14) into a frame. The unit's header is read, those of its live log sectors that
-/// have a record of the page, and then the base sectors of the page. Records of committed numbers become values; of those of active numbers the
-/// last one on each slot is pending there. What was in the frame and in the scratch memory before
-/// is gone, however the call ends, and after a fault the frame is empty.
+/// have a record of the page, and then the base sectors of the page. Records of committed numbers become
+/// values; of those of active numbers the last one on each slot is pending there. What was in the frame
+/// and in the scratch memory before is gone, however the call ends, and after a fault the frame is empty.
 ///
 /// Where the tables mirror what the chip holds, it fails only where a read failed or the base page
 /// reads badly. Else it may find a sector malformed that isn't what the tables say.
@@ -119,5 +120,7 @@ pub fn load<C: Chip>(
     let header = read_page_log(chip, directory, overflow, unit, page, scratch)?;
     read_base(chip, place, unit, &header, page, frame)?;
     take_sectors(frame, page, scratch.sectors(), status, active);
+    // What is kept in memory as a text has room for it.
+    let _ = frame.committed().text();
     Ok(())
 }

@@ -59,7 +59,7 @@ fn take_record(frame: &mut Frame, page: u32, logged: &Record, status: &Status, a
 /// Takes the records of a payload, in order.
 fn take_payload(frame: &mut Frame, page: u32, payload: &Payload, status: &Status, active: &[u64])
     ensures { AreTaken (among status.now.numbers) (among active.now) page
-        (records_of payload.now) frame.old frame.new }
+        (records_of payload.now.version payload.now.bytes) frame.old frame.new }
 {
     // The bytes are a list of records, so each slot is one of 64.
     let _ = payload.bytes();

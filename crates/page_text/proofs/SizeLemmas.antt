@@ -1,12 +1,15 @@
 -- How many bytes records have, and a text around one of them.
-use Rattle.std.proofs.Common.{◌≡◌, ◌≤◌, ◌<◌, ◌+◌, ◌*◌, ℕ, zero, suc, List, [], ◌∷◌, ◌++◌, ◌∙◌, ap, sym, refl, arith, length, get_or, set, take, drop, All, Option, Some, None, append_assoc, length-append}
-use Rattle.ipl_format.specs.Page.{Slots, IsShort, slot_bytes, text_from}
+use Rattle.std.proofs.Common.{◌≡◌, ◌≤◌, ◌<◌, ◌+◌, ℕ, zero, suc, List, [], ◌∷◌, ◌++◌, ◌∙◌, ap, sym, refl, arith, length, get_or, set, take, drop, Option, Some, None, append_assoc, length-append}
+use Rattle.ipl_base.specs.declared.limits.TheConstants.{VERSION}
+use Rattle.ipl_format.specs.Numbers.{half}
+use Rattle.ipl_format.specs.Page.{Slots, slot_bytes, text_from}
+use Rattle.ipl_format.proofs.NumberLemmas.{length-half}
 use Rattle.page_text.specs.Texts.{size_of, size_below}
 
 -- a record has its bytes
-pub record_size : (k : ℕ) (o : Option (List ℕ)) → length (slot_bytes k o) ≡ size_of o
+pub record_size : (k : ℕ) (o : Option (List ℕ)) → length (slot_bytes VERSION k o) ≡ size_of o
 record_size k None = refl
-record_size k (Some v) = omega arith
+record_size k (Some v) = omega (arith, length-append (half (length v)) v, length-half (length v))
 
 -- ---- sizes
 
@@ -48,22 +51,10 @@ below_same zero (suc i) (x ∷ xs) o p = absurd (omega arith)
 below_same (suc n) (suc i) (x ∷ xs) o p = let more = below_same n i xs o (omega arith) in
     omega (arith, more)
 
--- short values have short records
-pub below_short : (n : ℕ) (xs : Slots) → All IsShort xs → size_below n xs ≤ 110 * n
-unfolding size_below
-below_short zero xs each = omega arith
-below_short (suc n) [] each = omega arith
-below_short (suc n) (None ∷ xs) each =
-    let more = below_short n xs (λ i d within. each (suc i) d (omega arith)) in omega (arith, more)
-below_short (suc n) (Some v ∷ xs) each =
-    let first = each 0 None (omega arith) in
-    let more = below_short n xs (λ i d within. each (suc i) d (omega arith)) in
-    omega (arith, first, more)
-
 -- ---- texts
 
 pub text_size : (k n : ℕ) (xs : Slots) → n ≤ length xs
-    → length (text_from k (take n xs)) ≡ size_below n xs
+    → length (text_from VERSION k (take n xs)) ≡ size_below n xs
 unfolding text_from size_below
 text_size k zero xs h = refl
 text_size k (suc n) [] h = absurd (omega arith)
@@ -73,34 +64,37 @@ text_size k (suc n) (x ∷ xs) h =
       arith,
       more,
       record_size k x,
-      length-append (slot_bytes k x)
-          (text_from (suc k) (take n xs)),
+      length-append (slot_bytes VERSION k x)
+          (text_from VERSION (suc k) (take n xs)),
     )
 
 -- the text around the record of a slot
 pub text_split : (k n m : ℕ) (xs : Slots) → m ≡ k + n → n < length xs
-    → text_from k xs ≡ text_from k (take n xs) ++ (slot_bytes m (get_or xs n None) ++ text_from
+    → text_from VERSION k xs ≡ text_from VERSION k (take n xs)
+    ++ (slot_bytes VERSION m (get_or xs n None) ++ text_from VERSION
     (suc m) (drop (suc n) xs))
 unfolding text_from
 text_split k n m [] e h = absurd (omega arith)
-text_split k zero m (x ∷ xs) e h = ap (λ (i : ℕ). slot_bytes i x ++ text_from (suc i) xs)
+text_split k zero m (x ∷ xs) e h =
+    ap (λ (i : ℕ). slot_bytes VERSION i x ++ text_from VERSION (suc i) xs)
     (omega (arith, e))
 text_split k (suc n) m (x ∷ xs) e h =
-    ap (λ (t : List ℕ). slot_bytes k x ++ t) (text_split (suc k) n m xs (omega (arith, e))
+    ap (λ (t : List ℕ). slot_bytes VERSION k x ++ t) (text_split (suc k) n m xs (omega (arith, e))
     (omega arith))
-    ∙ sym (append_assoc (slot_bytes k x) (text_from (suc k) (take n xs))
-    (slot_bytes m (get_or xs n None) ++ text_from (suc m) (drop (suc n) xs)))
+    ∙ sym (append_assoc (slot_bytes VERSION k x) (text_from VERSION (suc k) (take n xs))
+    (slot_bytes VERSION m (get_or xs n None) ++ text_from VERSION (suc m) (drop (suc n) xs)))
 
 -- another record in its place
 pub text_set : (k n m : ℕ) (xs : Slots) (o : Option (List ℕ)) → m ≡ k + n → n < length xs
-    → text_from k (set xs n o) ≡ text_from k (take n xs)
-    ++ (slot_bytes m o ++ text_from (suc m) (drop (suc n) xs))
+    → text_from VERSION k (set xs n o) ≡ text_from VERSION k (take n xs)
+    ++ (slot_bytes VERSION m o ++ text_from VERSION (suc m) (drop (suc n) xs))
 unfolding text_from
 text_set k n m [] o e h = absurd (omega arith)
-text_set k zero m (x ∷ xs) o e h = ap (λ (i : ℕ). slot_bytes i o ++ text_from (suc i) xs)
+text_set k zero m (x ∷ xs) o e h =
+    ap (λ (i : ℕ). slot_bytes VERSION i o ++ text_from VERSION (suc i) xs)
     (omega (arith, e))
 text_set k (suc n) m (x ∷ xs) o e h =
-    ap (λ (t : List ℕ). slot_bytes k x ++ t) (text_set (suc k) n m xs o (omega (arith, e))
+    ap (λ (t : List ℕ). slot_bytes VERSION k x ++ t) (text_set (suc k) n m xs o (omega (arith, e))
     (omega arith))
-    ∙ sym (append_assoc (slot_bytes k x) (text_from (suc k) (take n xs))
-    (slot_bytes m o ++ text_from (suc m) (drop (suc n) xs)))
+    ∙ sym (append_assoc (slot_bytes VERSION k x) (text_from VERSION (suc k) (take n xs))
+    (slot_bytes VERSION m o ++ text_from VERSION (suc m) (drop (suc n) xs)))

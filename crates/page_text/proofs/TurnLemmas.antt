@@ -1,5 +1,5 @@
 -- Bytes that are moved by a turn of the part between the two places.
-use Rattle.std.proofs.Common.{◌≡◌, ◌≤◌, ◌<◌, ◌+◌, ◌-◌, ℕ, zero, suc, List, [], ◌∷◌, ◌++◌, ◌∙◌, ap, ap₂, sym, refl, arith, length, take, drop, append_assoc, length-drop, take-take}
+use Rattle.std.proofs.Common.{◌≡◌, ◌≤◌, ◌+◌, ℕ, zero, suc, List, [], ◌∷◌, ◌++◌, ◌∙◌, ap, sym, refl, arith, length, take, drop, length-drop, take-take}
 use Rattle.std.proofs.lemmas.List.{take_at, drop-drop, length-take-le}
 
 drop_of_take : (i j : ℕ) (l : List ℕ) (k : ℕ) → j ≡ i + k → drop i (take j l) ≡ take k (drop i l)

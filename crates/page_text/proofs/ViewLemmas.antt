@@ -3,10 +3,13 @@ use Rattle.std.proofs.Common.{◌≡◌, ◌≢◌, ◌≤◌, ◌<◌, ◌+◌,
 use Rattle.std.specs.Prelude.{◌==◌, slice_index, if◌then◌else◌}
 use Rattle.std.proofs.lemmas.List.{take_at, drop_at, drop-drop, take-append-drop, take_all, ext_get_or, get_or-replicate, length-replicate}
 use Rattle.std.proofs.lemmas.Bool.{eq-eqb, eqb-true, cases_Bool}
+use Rattle.ipl_base.specs.declared.limits.TheConstants.{PAGE_LEN, VALUE_LEN, VERSION}
+use Rattle.ipl_format.specs.Numbers.{half}
+use Rattle.ipl_format.proofs.NumberLemmas.{length-half}
 use Rattle.ipl_format.specs.Page.{Slots, IsPage, IsShort, SpellsPage, slot_bytes, text_from, page_text, empty_page}
 use Rattle.ipl_format.proofs.PageLemmas.{empty_pages_spell_nothing}
 use Rattle.page_text.specs.Texts.{size_of, size_below, value_between, page_in, BytesView, IsIndexed, AreBounds}
-use Rattle.page_text.proofs.SizeLemmas.{record_size, below_more, below_rise, below_short, text_size, text_split}
+use Rattle.page_text.proofs.SizeLemmas.{record_size, below_more, below_rise, text_size, text_split}
 
 -- ---- slot by slot
 
@@ -35,23 +38,25 @@ page_slot bytes bounds i h = slot_from bytes bounds i h
 
 -- a record that stands between two places gives its slot's value
 pub value_is : (k from until : ℕ) (o : Option (List ℕ)) (front rest bytes : List ℕ)
-    → bytes ≡ front ++ (slot_bytes k o ++ rest)
+    → bytes ≡ front ++ (slot_bytes VERSION k o ++ rest)
     → length front ≡ from → until ≡ from + size_of o → value_between bytes from until ≡ o
 value_is k from until None front rest bytes e size ends =
-    ap (λ (b : Bool). if b then None else Some (take (until - (from + 2)) (drop (from + 2) bytes)))
+    ap (λ (b : Bool). if b then None else Some (take (until - (from + 3)) (drop (from + 3) bytes)))
     (eq-eqb from until (omega (arith, ends)))
 value_is k from until (Some v) front rest bytes e size ends =
     elim (cases_Bool (from == until)) [
       | inl same ↦ absurd (let x = eqb-true from until same in omega (arith, x, ends))
       | inr other ↦ ap (λ (b : Bool). if b then None else Some
-          (take (until - (from + 2)) (drop (from + 2) bytes))) other
+          (take (until - (from + 3)) (drop (from + 3) bytes))) other
           ∙ ap (λ (t : List ℕ). Some t) (ap₂ (λ (n : ℕ) (t : List ℕ). take n t)
           (omega (arith, ends)) behind ∙ take_at v rest (length v) refl)
     ]
   where
-    behind : drop (from + 2) bytes ≡ v ++ rest
-    behind = sym (drop-drop 2 from bytes) ∙ ap (drop 2) (ap (drop from) e
-        ∙ drop_at front (slot_bytes k (Some v) ++ rest) from size)
+    behind : drop (from + 3) bytes ≡ v ++ rest
+    behind = sym (drop-drop 3 from bytes) ∙ (ap (drop 3) (ap (drop from) e
+        ∙ drop_at front (slot_bytes VERSION k (Some v) ++ rest) from size)
+        ∙ (ap (drop 2) (append_assoc (half (length v)) v rest)
+        ∙ drop_at (half (length v)) (v ++ rest) 2 (length-half (length v))))
 
 -- ---- the parts of a text
 
@@ -60,28 +65,30 @@ pub record Around (slot : ℕ) (o : Option (List ℕ)) (bytes : List ℕ) (page 
   pub front : List ℕ
   pub back : List ℕ
   pub rest : List ℕ
-  pub bytes_are : bytes ≡ front ++ (slot_bytes slot o ++ (back ++ rest))
-  pub front_is : front ≡ text_from 0 (take slot page)
-  pub back_is : back ≡ text_from (suc slot) (drop (suc slot) page)
+  pub bytes_are : bytes ≡ front ++ (slot_bytes VERSION slot o ++ (back ++ rest))
+  pub front_is : front ≡ text_from VERSION 0 (take slot page)
+  pub back_is : back ≡ text_from VERSION (suc slot) (drop (suc slot) page)
   pub front_size : length front ≡ size_below slot page
   pub all_size : length front + size_of o + length back ≡ size_below 64 page
 
-pub whole_size : (page : Slots) → IsPage page → length (page_text page) ≡ size_below 64 page
+pub whole_size : (page : Slots) → IsPage VERSION page
+    → length (page_text VERSION page) ≡ size_below 64 page
 whole_size page is =
     let long = is.slots in
-    ap (λ (xs : Slots). length (text_from 0 xs)) (sym (take_all 64 page (omega (arith, long))))
+    ap (λ (xs : Slots). length (text_from VERSION 0 xs))
+    (sym (take_all 64 page (omega (arith, long))))
     ∙ text_size 0 64 page (omega (arith, long))
 
-pub around : (bytes : List ℕ) (page : Slots) (slot : ℕ) → IsPage page → slot < 64
-    → take (size_below 64 page) bytes ≡ page_text page
+pub around : (bytes : List ℕ) (page : Slots) (slot : ℕ) → IsPage VERSION page → slot < 64
+    → take (size_below 64 page) bytes ≡ page_text VERSION page
     → Around slot (get_or page slot None) bytes page
 around bytes page slot is below text =
     let long = is.slots in
-    let front = text_from 0 (take slot page) in
-    let part = slot_bytes slot (get_or page slot None) in
-    let back = text_from (suc slot) (drop (suc slot) page) in
+    let front = text_from VERSION 0 (take slot page) in
+    let part = slot_bytes VERSION slot (get_or page slot None) in
+    let back = text_from VERSION (suc slot) (drop (suc slot) page) in
     let rest = drop (size_below 64 page) bytes in
-    let split : page_text page ≡ front ++ (part ++ back) =
+    let split : page_text VERSION page ≡ front ++ (part ++ back) =
     text_split 0 slot slot page (omega arith) (omega (arith, long)) in
     record {
       front = front;
@@ -127,8 +134,8 @@ pub are_bounds : (bytes bounds : List ℕ) (page : Slots) → IsIndexed bytes bo
 are_bounds bytes bounds page h = record {
   rise = λ i j low high. let a = h.places i (omega (arith, low, high)) in let b = h.places j high in
       let c = below_rise i j page low in omega (arith, a, b, c);
-  within = let a = h.places 64 (omega arith) in let b = below_short 64 page h.slots.short in
-      omega (arith, a, b);
+  within = let a = h.places 64 (omega arith) in let b = whole_size page h.slots in
+      let d = h.slots.fits in omega (arith, a, b, d);
 }
 
 none_below : (k n : ℕ) → size_below k (replicate n None) ≡ 0
@@ -142,17 +149,17 @@ pub nothing_in : (bytes bounds : List ℕ) → bounds ≡ replicate 65 0
     → IsIndexed bytes bounds empty_page
 unfolding empty_page
 nothing_in bytes bounds is = record {
-  slots = empty_pages_spell_nothing.slots;
+  slots = (empty_pages_spell_nothing VERSION).slots;
   places = λ k within. ap (λ (l : List ℕ). slice_index l k) is
       ∙ (get_or-replicate 65 k 0 0 (omega (arith, within)) ∙ sym (none_below k 64));
-  text = ap (λ (n : ℕ). take n bytes) (none_below 64 64) ∙ empty_pages_spell_nothing.text;
+  text = ap (λ (n : ℕ). take n bytes) (none_below 64 64) ∙ (empty_pages_spell_nothing VERSION).text;
 }
 
 -- ---- what is read
 
 -- the text
 pub text_is : (bytes bounds : List ℕ) (page : Slots) → IsIndexed bytes bounds page
-    → SpellsPage (take (slice_index bounds 64) bytes) page
+    → SpellsPage VERSION (take (slice_index bounds 64) bytes) page
 text_is bytes bounds page h = record {
   slots = h.slots;
   text =
@@ -163,16 +170,16 @@ text_is bytes bounds page h = record {
 pub record Lies (bytes bounds : List ℕ) (page : Slots) (slot : ℕ) : Type 0 where
   pub value : get_or page slot None ≡ value_between bytes (slice_index bounds slot)
       (slice_index bounds (slot + 1))
-  pub within : slice_index bounds (slot + 1) ≤ 7680
-  pub most : slice_index bounds (slot + 1) ≤ slice_index bounds slot + 110
+  pub within : slice_index bounds (slot + 1) ≤ PAGE_LEN
+  pub most : slice_index bounds (slot + 1) ≤ slice_index bounds slot + (3 + VALUE_LEN)
   pub least : slice_index bounds slot ≢ slice_index bounds (slot + 1)
-      → slice_index bounds slot + 2 ≤ slice_index bounds (slot + 1)
+      → slice_index bounds slot + 3 ≤ slice_index bounds (slot + 1)
 
-short_size : (o : Option (List ℕ)) → IsShort o → size_of o ≤ 110
+short_size : (o : Option (List ℕ)) → IsShort VERSION o → size_of o ≤ 3 + VALUE_LEN
 short_size None s = omega arith
 short_size (Some v) s = omega (arith, s)
 
-some_size : (o : Option (List ℕ)) → (size_of o ≡ 0) ⊎ (2 ≤ size_of o)
+some_size : (o : Option (List ℕ)) → (size_of o ≡ 0) ⊎ (3 ≤ size_of o)
 some_size None = inl refl
 some_size (Some v) = inr (omega arith)
 
@@ -218,5 +225,6 @@ nothing_stays bytes bounds now view count h same empty =
     record {
       slots = was.slots;
       places = was.places;
-      text = ap (λ (n : ℕ). take n now) (none_below 64 64) ∙ empty_pages_spell_nothing.text;
+      text = ap (λ (n : ℕ). take n now) (none_below 64 64)
+          ∙ (empty_pages_spell_nothing VERSION).text;
     }

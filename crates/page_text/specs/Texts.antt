@@ -1,6 +1,7 @@
 -- A page's text in memory, and where the record of each slot stands in it.
 use Rattle.std.specs.Prelude.{ℕ, zero, suc, ◌&&◌, Bool, true, nat_le, ◌≡◌, ◌≤◌, ◌<◌, ◌+◌, ◌-◌, ◌==◌, ◌⊎◌, List, [], ◌∷◌, length, take, drop, slice_index, Option, Some, None, if◌then◌else◌}
-use Rattle.ipl_base.specs.declared.limits.TheConstants.{PAGE_LEN, SLOTS, VALUE_LEN}
+use Rattle.ipl_base.specs.declared.limits.TheConstants.{PAGE_LEN, SLOTS, VALUE_LEN, VERSION}
+use Rattle.ipl_format.specs.Numbers.{half_at}
 use Rattle.ipl_format.specs.Page.{Slots, IsPage, page_text}
 use Rattle.page_text.specs.declared.moving.TheConstants.{HEAD}
 
@@ -28,9 +29,9 @@ page_in bytes (a ∷ b ∷ rest) = value_between bytes a b ∷ page_in bytes (b 
 
 -- the bytes begin with the page's text, and these are the places of its records
 pub record IsIndexed (bytes bounds : List ℕ) (page : Slots) : Type 0 where
-  pub slots : IsPage page
+  pub slots : IsPage VERSION page
   pub places : (k : ℕ) → k ≤ SLOTS → slice_index bounds k ≡ size_below k page
-  pub text : take (size_below SLOTS page) bytes ≡ page_text page
+  pub text : take (size_below SLOTS page) bytes ≡ page_text VERSION page
 
 -- all bytes that there are, and the page whose text they begin with
 pub record BytesView : Type 0 where
@@ -59,8 +60,8 @@ pub record HasPlaces (bytes bounds : List ℕ) (until : ℕ) : Type 0 where
 abbrev pub has_record : List ℕ → ℕ → ℕ → Bool
 has_record bytes at until =
     nat_le (at + HEAD) until
-    && (nat_le (slice_index bytes (at + 1)) VALUE_LEN
-    && nat_le (at + HEAD + slice_index bytes (at + 1)) until)
+    && (nat_le (half_at (at + 1) bytes) VALUE_LEN
+    && nat_le (at + HEAD + half_at (at + 1) bytes) until)
 
 -- something stands here, and its first byte is the slot's number
 abbrev pub BeginsWith : List ℕ → ℕ → ℕ → ℕ → Type 0
@@ -71,4 +72,4 @@ abbrev pub EndsAt : List ℕ → ℕ → ℕ → ℕ → ℕ → Type 0
 EndsAt bytes at until slot next =
     ((BeginsWith bytes at until slot → ⊥) × (next ≡ at))
     ⊎ (BeginsWith bytes at until slot × (has_record bytes at until ≡ true)
-    × (next ≡ at + HEAD + slice_index bytes (at + 1)))
+    × (next ≡ at + HEAD + half_at (at + 1) bytes))

@@ -1,12 +1,23 @@
 //! Where the records of a text stand.
-ghost use Rattle.std.specs.Prelude.{◌≡◌, ◌≤◌, ◌<◌, ◌+◌, ◌↔◌, IfNone, IfSome, IsTrue, false, drop, slice_index, take};
+ghost use Rattle.std.specs.Prelude.{◌≡◌, ◌≤◌, ◌<◌, ◌+◌, ◌↔◌, IfNone, IfSome, IsTrue, false, take};
 ghost use Rattle.std.specs.Bool.{OnTrue};
-ghost use Rattle.ipl_base.specs.declared.limits.TheConstants.{PAGE_LEN};
+ghost use Rattle.ipl_base.specs.declared.limits.TheConstants.{PAGE_LEN, VERSION};
+ghost use Rattle.ipl_format.specs.Numbers.{half_at};
 ghost use Rattle.ipl_format.specs.Page.{IsPageText};
 ghost use Rattle.page_text.specs.Texts.{BeginsWith, EndsAt, HasPlaces, has_record};
 
 use crate::moving::HEAD;
 use ipl_base::{PAGE_LEN, VALUE_LEN};
+use ipl_format::half_at;
+
+// The length of the value of a record that stands here.
+fn value_len(bytes: &[u8; PAGE_LEN], at: usize) -> usize
+    requires { at + 3 ≤ PAGE_LEN }
+    ensures len { result ≡ half_at (at + 1) bytes.now }
+    ensures few { result < 65536 }
+{
+    usize::from(half_at(bytes, at + 1))
+}
 
 // Whether a whole record stands here, with a value that isn't too long.
 fn has_record(bytes: &[u8; PAGE_LEN], at: usize, end: usize) -> bool
@@ -14,9 +25,7 @@ fn has_record(bytes: &[u8; PAGE_LEN], at: usize, end: usize) -> bool
     requires end { end ≤ PAGE_LEN }
     ensures { result ≡ has_record bytes.now at end }
 {
-    at + HEAD <= end
-        && usize::from(bytes[at + 1]) <= VALUE_LEN
-        && at + HEAD + usize::from(bytes[at + 1]) <= end
+    at + HEAD <= end && value_len(bytes, at) <= VALUE_LEN && at + HEAD + value_len(bytes, at) <= end
 }
 
 // Where the record of a slot ends that may stand here: here, where there is none. None where there is
@@ -30,7 +39,7 @@ fn record_end(bytes: &[u8; PAGE_LEN], at: usize, end: usize, slot: u8) -> Option
         return Some(at);
     }
     if has_record(bytes, at, end) {
-        Some(at + HEAD + usize::from(bytes[at + 1]))
+        Some(at + HEAD + value_len(bytes, at))
     } else {
         None
     }
@@ -39,7 +48,7 @@ fn record_end(bytes: &[u8; PAGE_LEN], at: usize, end: usize, slot: u8) -> Option
 /// Finds where the records of a text of so many bytes stand. False exactly where they aren't a page's text.
 pub(crate) fn index(bytes: &[u8; PAGE_LEN], end: usize, bounds: &mut [u16; 65]) -> bool
     requires { end ≤ PAGE_LEN }
-    ensures exact { IsTrue result ↔ IsPageText (take end bytes.now) }
+    ensures exact { IsTrue result ↔ IsPageText VERSION (take end bytes.now) }
     ensures places { OnTrue result (HasPlaces bytes.now bounds.new end) }
 {
     let mut at = 0;

@@ -1,15 +1,16 @@
 //! What the slots of a page hold.
-ghost use Rattle.std.specs.Prelude.{◌≡◌, ◌≤◌, ◌<◌, Some, None, IfSome, length, option_map, slice_set};
+ghost use Rattle.std.specs.Prelude.{◌≡◌, ◌≤◌, ◌<◌, ◌↔◌, Some, None, IfSome, IsTrue, length, option_map, slice_set};
 ghost use Rattle.std.specs.Borrow.{sem};
-ghost use Rattle.ipl_base.specs.declared.limits.TheConstants.{PAGE_LEN, VALUE_LEN};
-ghost use Rattle.ipl_format.specs.Page.{IsPage, SpellsPage, empty_page, value_in};
+ghost use Rattle.ipl_base.specs.declared.limits.TheConstants.{PAGE_LEN, VALUE_LEN, VERSION};
+ghost use Rattle.ipl_format.specs.Page.{IsPage, SpellsPage, empty_page, page_text, value_in};
 ghost use Rattle.page_text.specs.Lending.{LendsBytes};
 
 use crate::PageBytes;
+use ipl_base::PAGE_LEN;
 use std::marker::Model;
 
 /// What each of the 64 slots of a page holds: nothing, or at most 108 bytes. It is kept as the page's
-/// text. A contract sees the list of the slots.
+/// text, in the version of all that is written. A contract sees the list of the slots.
 #[derive(Drop)]
 pub struct PageMap {
     text: PageBytes,
@@ -40,9 +41,9 @@ impl PageMap {
         self.text.reset();
     }
 
-    /// The text of the page.
+    /// The text of the page, in the version of all that is written.
     pub fn text(&self) -> &[u8]
-        ensures text { SpellsPage result.now self.now }
+        ensures text { SpellsPage VERSION result.now self.now }
         ensures fits { length result.now ≤ PAGE_LEN }
     {
         self.text.text()
@@ -59,18 +60,31 @@ impl PageMap {
     /// What a slot (0 to 63) holds.
     pub fn get(&self, slot: u32) -> Option<&[u8]>
         requires { slot < 64 }
-        ensures page { IsPage self.now }
+        ensures page { IsPage VERSION self.now }
         ensures value { option_map (λ bytes. bytes.now) result ≡ value_in self.now slot }
         ensures short { IfSome result (λ bytes. length bytes.now ≤ VALUE_LEN) }
     {
         self.text.get(slot)
     }
 
-    /// Puts at most 108 bytes into a slot (0 to 63); the others stay.
+    /// Whether the text has room for a value of at most 108 bytes in a slot (0 to 63).
+    pub fn has_room(&self, slot: u32, value: &[u8]) -> bool
+        requires slot { slot < 64 }
+        requires short { length value.now ≤ VALUE_LEN }
+        ensures { IsTrue result
+            ↔ (length (page_text VERSION (slice_set self.now slot (Some value.now))) ≤ PAGE_LEN) }
+    {
+        self.text.len_with(slot, value) <= PAGE_LEN
+    }
+
+    /// Puts at most 108 bytes into a slot (0 to 63), for which the text has room (see `has_room`);
+    /// the others stay.
     pub fn set(&mut self, slot: u32, value: &[u8])
         requires slot { slot < 64 }
         requires short { length value.now ≤ VALUE_LEN }
-        ensures page { IsPage self.new }
+        requires room { length (page_text VERSION (slice_set self.old slot (Some value.now)))
+            ≤ PAGE_LEN }
+        ensures page { IsPage VERSION self.new }
         ensures set { self.new ≡ slice_set self.old slot (Some value.now) }
     {
         self.text.set(slot, value);
@@ -79,7 +93,7 @@ impl PageMap {
     /// Empties a slot (0 to 63); the others stay.
     pub fn clear(&mut self, slot: u32)
         requires { slot < 64 }
-        ensures page { IsPage self.new }
+        ensures page { IsPage VERSION self.new }
         ensures cleared { self.new ≡ slice_set self.old slot None }
     {
         self.text.clear(slot);

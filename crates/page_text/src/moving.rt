@@ -1,13 +1,14 @@
 //! Records in the text of a page, moved and written where they stay.
 ghost use Rattle.std.specs.Prelude.{◌≡◌, ◌≢◌, ◌≤◌, ◌<◌, ◌+◌, ◌-◌, ◌++◌, Some, None, IfSome, ℕ, drop, length, option_map, slice_index, take};
-ghost use Rattle.ipl_base.specs.declared.limits.TheConstants.{PAGE_LEN, VALUE_LEN};
+ghost use Rattle.ipl_base.specs.declared.limits.TheConstants.{PAGE_LEN, VALUE_LEN, VERSION};
+ghost use Rattle.page_text.specs.declared.moving.TheConstants.{HEAD};
 ghost use Rattle.ipl_format.specs.Page.{slot_bytes};
 ghost use Rattle.page_text.specs.Texts.{AreBounds, AreMoved, value_between};
 
 use ipl_base::PAGE_LEN;
 
-/// The bytes of a record before its value: the slot and the length.
-pub(crate) const HEAD: usize = 2;
+/// The bytes of a record before its value: the slot, and the length in two bytes.
+pub(crate) const HEAD: usize = 3;
 
 // Moves the places behind a slot (0 to 63): what was at `from` is at `to` now.
 fn move_bounds(bounds: &mut [u16; 65], slot: u32, from: u16, to: u16)
@@ -72,9 +73,9 @@ pub(crate) fn resize(
 
 /// The value of the record between two places, where there is one.
 pub(crate) fn value_between(bytes: &[u8; PAGE_LEN], from: usize, until: usize) -> Option<&[u8]>
-    requires record { from ≢ until → from + 2 ≤ until }
+    requires record { from ≢ until → from + HEAD ≤ until }
     requires within { until ≤ PAGE_LEN }
-    requires short { until ≤ from + 110 }
+    requires short { until ≤ from + (HEAD + VALUE_LEN) }
     ensures value { option_map (λ b. b.now) result ≡ value_between bytes.now from until }
     ensures short { IfSome result (λ b. length b.now ≤ VALUE_LEN) }
 {
@@ -85,15 +86,18 @@ pub(crate) fn value_between(bytes: &[u8; PAGE_LEN], from: usize, until: usize) -
 }
 
 /// Writes a slot's number, the length of its value and the value.
+#[tactic(auto, unfolding(ipl_format::specs::Numbers::half))]
 pub(crate) fn put_record(bytes: &mut [u8; PAGE_LEN], at: usize, slot: u32, value: &[u8])
     requires slot { slot < 64 }
     requires short { length value.now ≤ VALUE_LEN }
-    requires room { at + (2 + length value.now) ≤ PAGE_LEN }
-    ensures { bytes.new ≡ take at bytes.old ++ slot_bytes slot (Some value.now)
-        ++ drop (at + (2 + length value.now)) bytes.old }
+    requires room { at + (HEAD + length value.now) ≤ PAGE_LEN }
+    ensures { bytes.new ≡ take at bytes.old ++ slot_bytes VERSION slot (Some value.now)
+        ++ drop (at + (HEAD + length value.now)) bytes.old }
 {
     bytes[at] = slot as u8;
-    bytes[at + 1] = value.len() as u8;
+    let len = (value.len() as u16).to_be_bytes();
+    bytes[at + 1] = len[0];
+    bytes[at + 2] = len[1];
     bytes[at + HEAD..at + HEAD + value.len()].copy_from_slice(value);
 }
 

@@ -1,7 +1,7 @@
 //! The text of a page, in the place where it stays.
 ghost use Rattle.std.specs.Prelude.{◌≡◌, ◌≤◌, ◌<◌, ◌+◌, ◌++◌, ◌↔◌, ℕ, Some, None, IfSome, IsTrue, drop, length, option_map, slice_set, take};
 ghost use Rattle.std.specs.Bool.{OnTrue, OnFalse};
-ghost use Rattle.ipl_base.specs.declared.limits.TheConstants.{PAGE_LEN, VALUE_LEN};
+ghost use Rattle.ipl_base.specs.declared.limits.TheConstants.{PAGE_LEN, VALUE_LEN, VERSION};
 ghost use Rattle.ipl_format.specs.Page.{IsPage, IsPageText, SpellsPage, empty_page, page_text, value_in};
 
 use crate::indexing::index;
@@ -63,8 +63,8 @@ impl PageBytes {
     /// nothing then.
     pub fn read(&mut self, end: usize) -> bool
         requires { end ≤ PAGE_LEN }
-        ensures exact { IsTrue result ↔ IsPageText (take end self.old.bytes) }
-        ensures page { OnTrue result (SpellsPage (take end self.old.bytes) self.new.page) }
+        ensures exact { IsTrue result ↔ IsPageText VERSION (take end self.old.bytes) }
+        ensures page { OnTrue result (SpellsPage VERSION (take end self.old.bytes) self.new.page) }
         ensures empty { OnFalse result (self.new.page ≡ empty_page) }
         ensures bytes { self.new.bytes ≡ self.old.bytes }
     {
@@ -75,9 +75,17 @@ impl PageBytes {
         false
     }
 
+    /// The first bytes, so many of them.
+    pub fn front(&self, end: usize) -> &[u8]
+        requires { end ≤ PAGE_LEN }
+        ensures { result.now ≡ take end self.now.bytes }
+    {
+        &self.bytes[..end]
+    }
+
     /// The text of the page.
     pub(crate) fn text(&self) -> &[u8]
-        ensures text { SpellsPage result.now self.now.page }
+        ensures text { SpellsPage VERSION result.now self.now.page }
         ensures fits { length result.now ≤ PAGE_LEN }
     {
         &self.bytes[..usize::from(self.bounds[64])]
@@ -86,7 +94,7 @@ impl PageBytes {
     /// What a slot (0 to 63) holds.
     pub(crate) fn get(&self, slot: u32) -> Option<&[u8]>
         requires { slot < 64 }
-        ensures page { IsPage self.now.page }
+        ensures page { IsPage VERSION self.now.page }
         ensures value { option_map (λ bytes. bytes.now) result ≡ value_in self.now.page slot }
         ensures short { IfSome result (λ bytes. length bytes.now ≤ VALUE_LEN) }
     {
@@ -95,11 +103,25 @@ impl PageBytes {
         value_between(&self.bytes, start, end)
     }
 
-    /// Puts at most 108 bytes into a slot (0 to 63); the others stay.
+    /// How many bytes the text has with a value of at most 108 bytes in a slot (0 to 63).
+    pub(crate) fn len_with(&self, slot: u32, value: &[u8]) -> usize
+        requires slot { slot < 64 }
+        requires short { length value.now ≤ VALUE_LEN }
+        ensures { result
+            ≡ length (page_text VERSION (slice_set self.now.page slot (Some value.now))) }
+    {
+        let start = usize::from(self.bounds[slot as usize]);
+        let end = usize::from(self.bounds[slot as usize + 1]);
+        usize::from(self.bounds[64]) + start + HEAD + value.len() - end
+    }
+
+    /// Puts at most 108 bytes into a slot (0 to 63), for which the text has room; the others stay.
     pub(crate) fn set(&mut self, slot: u32, value: &[u8])
         requires slot { slot < 64 }
         requires short { length value.now ≤ VALUE_LEN }
-        ensures page { IsPage self.new.page }
+        requires room { length (page_text VERSION (slice_set self.old.page slot (Some value.now)))
+            ≤ PAGE_LEN }
+        ensures page { IsPage VERSION self.new.page }
         ensures set { self.new.page ≡ slice_set self.old.page slot (Some value.now) }
     {
         let start = resize(&mut self.bytes, &mut self.bounds, slot, HEAD + value.len());
@@ -109,7 +131,7 @@ impl PageBytes {
     /// Empties a slot (0 to 63); the others stay.
     pub(crate) fn clear(&mut self, slot: u32)
         requires { slot < 64 }
-        ensures page { IsPage self.new.page }
+        ensures page { IsPage VERSION self.new.page }
         ensures cleared { self.new.page ≡ slice_set self.old.page slot None }
     {
         resize(&mut self.bytes, &mut self.bounds, slot, 0);

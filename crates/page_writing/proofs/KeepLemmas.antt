@@ -2,9 +2,10 @@
 use Rattle.std.proofs.Common.{◌≡◌, ◌≢◌, ℕ, List, false, [], Some, Ok, Err, inl, inr, refl, sym, ◌∙◌, ap, subst, arith}
 use Rattle.std.specs.List.{All}
 use Rattle.chip_trait.specs.Told.{Told}
+use Rattle.log_records.specs.View.{Versioned, Spells}
 use Rattle.ipl_base.specs.declared.fault.ChipFault.{ChipFault}
 use Rattle.ipl_base.specs.declared.fault.ChipFault.TheVariants.{Stopped}
-use Rattle.ipl_format.specs.Record.{Record, SpellsLog}
+use Rattle.ipl_format.specs.Record.{Record}
 use Rattle.ipl_rules.specs.State.{State}
 use Rattle.ipl_meaning.specs.Chart.{Chart, chart_of}
 use Rattle.ipl_meaning.specs.Layout.{Layout}
@@ -36,8 +37,8 @@ use Rattle.page_writing.proofs.RoomLemmas.{merged_records}
 
 -- its records are of open sessions
 payload_of_frame : (places : ℕ) (c : Chart) (it : Layout) (t : Tables) (frames : Frames)
-    (slots : Slots) (state : State) (u page : ℕ) (f : Frame) (payload : List ℕ)
-    → Fits places c it t frames slots state → frames u page ≡ Some f → SpellsLog payload f.log
+    (slots : Slots) (state : State) (u page : ℕ) (f : Frame) (payload : Versioned)
+    → Fits places c it t frames slots state → frames u page ≡ Some f → Spells payload f.log
     → IsPayloadOf t payload f.log
 payload_of_frame places c it t frames slots state u page f payload fits there spelled = record {
   spelled = spelled;
@@ -69,7 +70,7 @@ unit_fits places c y it t u after frames slots state new fits (inr (is, same)) m
     is.keeps)
 
 out_fits : (places : ℕ) (c y : Chart) (it : Layout) (t after : Tables) (frames : Frames)
-    (slots : Slots) (state : State) (u page : ℕ) (f : Frame) (payload : List ℕ)
+    (slots : Slots) (state : State) (u page : ℕ) (f : Frame) (payload : Versioned)
     → Fits places c it t frames slots state → frames u page ≡ Some f
     → IsWrittenOut places c it t u payload f.log y after
     → FitsOn places c it state.map y

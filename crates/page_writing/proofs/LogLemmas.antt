@@ -5,6 +5,7 @@ use Rattle.std.proofs.lemmas.List.Elements.{All-contains}
 use Rattle.chip_trait.specs.Chart.{with_sector}
 use Rattle.chip_trait.specs.Lawful.{Clean, age}
 use Rattle.chip_trait.specs.Told.{History, Told}
+use Rattle.log_records.specs.View.{Versioned}
 use Rattle.ipl_base.specs.declared.fault.ChipFault.{ChipFault}
 use Rattle.ipl_base.specs.declared.spot.Spot.{Spot}
 use Rattle.ipl_format.specs.Record.{Record, SpellsLog}
@@ -35,7 +36,7 @@ use Rattle.page_writing.specs.Writing.{mask_by, IsAfterLog, IsLogOf, IsToLog, Ha
 use Rattle.page_writing.proofs.SpotLemmas.{spot_counted, spot_of_log, log_active}
 
 module _ (places : ℕ) (c : Chart) (it : Layout) (t : Tables) (u : ℕ) (at : Spot)
-    (payload : List ℕ) (records : List Record) (sector : Sector) (low : u < places - 4)
+    (payload : Versioned) (records : List Record) (sector : Sector) (low : u < places - 4)
     (asked : IsToLog places c it t payload records)
     (is : IsLogOf u (slice_index t.places.generations u) t.next payload sector) where
   abbrev p : ℕ
@@ -47,8 +48,11 @@ module _ (places : ℕ) (c : Chart) (it : Layout) (t : Tables) (u : ℕ) (at : S
   abbrev mirrors : Mirrors places c it t
   mirrors = asked.mirrors
 
-  here : SpellsLog sector.payload records
-  here = subst (λ (l : List ℕ). SpellsLog l records) (sym is.payload_is) asked.payload_of.spelled
+  here : SpellsLog sector.version sector.payload records
+  here =
+      subst (λ (l : List ℕ). SpellsLog sector.version l records) (sym is.payload_is)
+      (subst (λ (v : ℕ). SpellsLog v payload.bytes records) (sym is.version_is)
+      asked.payload_of.spelled)
 
   fresh : IsFreshLog it t u sector records
   fresh = record {
@@ -96,7 +100,7 @@ module _ (places : ℕ) (c : Chart) (it : Layout) (t : Tables) (u : ℕ) (at : S
   mentions n (inr (inr (inl commit))) =
       let e = is.kind in absurd (omega (arith, commit.0, e))
   mentions n (inr (inr (inr (kind, others, says, r, listed, same)))) =
-      let one : others ≡ records = logs_spell_once sector.payload others records says here in
+      let one : others ≡ records = logs_spell_once sector.version sector.payload others records says here in
       let mine : Contains records r = subst (λ (l : List Record). Contains l r) one listed in
       let open_one = All-contains (λ (x : Record). Contains t.active x.tid) records r
       asked.payload_of.active mine in
@@ -107,7 +111,7 @@ module _ (places : ℕ) (c : Chart) (it : Layout) (t : Tables) (u : ℕ) (at : S
   -- ---- the tables follow
 
   mask_is : mask_by payload ≡ mask_of records
-  mask_is = ap mask_of (records_list records payload asked.payload_of.spelled)
+  mask_is = ap mask_of (records_list payload.version records payload.bytes asked.payload_of.spelled)
 
   abbrev entry : Entry
   entry = entry_at p s sector records
@@ -160,7 +164,7 @@ JoinsLog places p s sector old result new =
     → MayLog places (now h) it u p s sector records → age h.story p s ≡ Clean
     → KeepsMap places m (Programs p (IsSpot s)) (λ done. Gains p s sector) h old result new
 
-module _ (places u : ℕ) (at : Spot) (payload : List ℕ) (t after : Tables) (sector : Sector)
+module _ (places u : ℕ) (at : Spot) (payload : Versioned) (t after : Tables) (sector : Sector)
     (old new : Told) (low : u < places - 4) (is : IsLogOf u (slice_index t.places.generations u) t.next payload sector)
   where
     pub log_told : IsAfterLog t after u at.place at.sector (mask_by payload) (t.next + 1)

@@ -2,6 +2,7 @@
 use Rattle.std.proofs.Common.{◌≡◌, ℕ, List, Result, Ok, Err, sym, subst}
 use Rattle.std.specs.List.{All, Contains}
 use Rattle.chip_trait.specs.Told.{History, Told, Counts, adds_all}
+use Rattle.log_records.specs.View.{Versioned}
 use Rattle.ipl_base.specs.declared.fault.ChipFault.{ChipFault}
 use Rattle.ipl_base.specs.declared.fault.ChipFault.TheVariants.{Stopped}
 use Rattle.ipl_format.specs.Record.{Record}
@@ -16,7 +17,7 @@ use Rattle.page_writing.specs.Rooms.{MakesLogRoom, RestsWithLogRoom, FindsRoomIn
 use Rattle.page_writing.specs.Writing.{IsPayloadOf, WritesLog, WritesLogInSteps, WritesRecords, WritesOut, WritesOutInSteps}
 
 -- the same sessions are open
-payload_still : (t after : Tables) (payload : List ℕ) (records : List Record)
+payload_still : (t after : Tables) (payload : Versioned) (records : List Record)
     → after.active ≡ t.active → IsPayloadOf t payload records → IsPayloadOf after payload records
 payload_still t after payload records same is = record {
   spelled = is.spelled;
@@ -24,11 +25,11 @@ payload_still t after payload records same is = record {
 }
 
 -- a write failed, so that nothing is said of what the chip holds
-pub stopped_told : (places u : ℕ) (payload : List ℕ) (t after : Tables) (e : ChipFault)
+pub stopped_told : (places u : ℕ) (payload : Versioned) (t after : Tables) (e : ChipFault)
     (old new : Told) → e ≡ Stopped → WritesOut places u payload t after old (Err e) new
 stopped_told places u payload t after e old new is = λ soft. absurd (soft is)
 
-module _ (places u : ℕ) (at : Spot) (payload : List ℕ) (t between after : Tables)
+module _ (places u : ℕ) (at : Spot) (payload : Versioned) (t between after : Tables)
     (old mid new : Told) where
   pub out_told : Charts (MakesLogRoom places u t between at) old mid
       → Charts (WritesLog places u at payload between after) mid new

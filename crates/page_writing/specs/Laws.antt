@@ -1,8 +1,8 @@
 -- What a store with frames keeps whose records are written out.
-use Rattle.std.specs.Prelude.{ℕ, ◌≡◌, List, [], Some, Result, Ok, Err, IfErr}
+use Rattle.std.specs.Prelude.{ℕ, ◌≡◌, [], Some, Result, Ok, Err, IfErr}
 use Rattle.chip_trait.specs.Told.{Told}
+use Rattle.log_records.specs.View.{Versioned, Spells}
 use Rattle.ipl_base.specs.declared.fault.ChipFault.{ChipFault}
-use Rattle.ipl_format.specs.Record.{SpellsLog}
 use Rattle.ipl_meaning.specs.Tables.{Tables}
 use Rattle.pending_writes.specs.Frames.{Frame, Frames, with_frame_at, with_frame_log}
 use Rattle.store_steps.specs.Advances.{KeepsState}
@@ -18,8 +18,8 @@ frames_out (Err e) frames u page f = frames
 -- page's frame: each state is kept, with these frames.
 abbrev pub WritingsKeepStates : Type 0
 WritingsKeepStates = (t after : Tables) (frames : Frames) (u page : ℕ) (f : Frame)
-    (payload : List ℕ) (old new : Told) (result : Result (Unit {0}) ChipFault)
-    → frames u page ≡ Some f → SpellsLog payload f.log
+    (payload : Versioned) (old new : Told) (result : Result (Unit {0}) ChipFault)
+    → frames u page ≡ Some f → Spells payload f.log
     → WritesOut old.places u payload t after old result new
     → WritesOutInSteps old.places payload t after old result new
     → IfErr result (λ fault. WritingCause t u fault old new)

@@ -1,4 +1,5 @@
 //! The records of a page, written as one log sector of its unit.
+ghost use Rattle.ipl_base.specs.declared.limits.TheConstants.{VERSION};
 ghost use Rattle.std.specs.Prelude.{◌≡◌, ◌<◌, ◌≤◌, ◌+◌, ◌^◌, [], length, false, OnOk, OnErr, IsTrue};
 ghost use Rattle.unit_io.specs.Accounts.{Accounts};
 ghost use Rattle.unit_io.specs.Charts.{Charts};
@@ -21,7 +22,7 @@ ghost use Rattle.page_writing.specs.Writing.{
 };
 
 use chip_trait::Chip;
-use ipl_base::{ChipFault, Spot};
+use ipl_base::{ChipFault, Spot, VERSION};
 use log_records::Payload;
 use overflow::overflow_laws;
 use sector_format::Head;
@@ -73,6 +74,7 @@ fn write_log<C: Chip>(
     requires unit { unit + 4 < (C.told chip.old).places }
     requires spot { IsSpotFor (tables_of parts.old) unit at.place at.sector }
     requires left { parts.old.counter + 1 < 2 ^ 64 }
+    requires version { payload.now.version ≡ VERSION }
     ensures tells { OnOk result (Charts (WritesLog (C.told chip.old).places unit at payload.now
         (tables_of parts.old) (tables_of parts.new)) (C.told chip.old) (C.told chip.new)) }
     ensures steps { WritesLogInSteps (C.told chip.old).places unit at payload.now
@@ -92,6 +94,7 @@ fn write_log<C: Chip>(
     let mask = mask_of(payload);
     let head = Head {
         kind: Head::LOG,
+        version: VERSION,
         unit,
         generation: parts.directory.generation(unit),
         serial: parts.counter.draw(),
@@ -102,9 +105,9 @@ fn write_log<C: Chip>(
 }
 
 /// Writes the records of a page that are in memory only to the chip, as one log sector of its unit,
-/// and empties the list. Where a log sector is clean at the unit's home, that is one program, with no
-/// erase and no barrier. Where none is, a merge of the unit or a new overflow place may come first, by
-/// the rules of `log_place`.
+/// and empties the list. They are in the version that is written. Where a log sector is clean at the
+/// unit's home, that is one program, with no erase and no barrier. Where none is, a merge of the unit
+/// or a new overflow place may come first, by the rules of `log_place`.
 ///
 /// Whatever a power cut leaves at any moment stands for the map on which the story rested, and where
 /// no write failed, it rests on that map at the end: nothing makes sure of the sector, which is for
@@ -120,6 +123,7 @@ pub fn write_out<C: Chip>(
     requires known { KnowsPlaces (C.told chip.old).places (tables_of parts.old) }
     requires unit { unit + 4 < (C.told chip.old).places }
     requires left { parts.old.counter + 14 < 2 ^ 64 }
+    requires version { payload.old.version ≡ VERSION }
 
     // What the chip holds then, and what a power cut leaves.
     ensures tells { WritesOut (C.told chip.old).places unit payload.old
@@ -137,7 +141,7 @@ pub fn write_out<C: Chip>(
         (tables_of parts.new) result (C.told chip.old) }
 
     // What is in memory, whatever the chip tells.
-    ensures empty { OnOk result (payload.new ≡ []) }
+    ensures empty { OnOk result (payload.new ≡ record { version = VERSION; bytes = [] }) }
     ensures kept { OnErr result (payload.new ≡ payload.old) }
     ensures holds { Holds (C.told chip.old).places (tables_of parts.old) (tables_of parts.new) }
     ensures draws { (parts.old.counter ≤ parts.new.counter)

@@ -1,7 +1,7 @@
 -- A store fits after a session is aborted.
 use Rattle.std.proofs.Common.{Bool, None, refl, ℕ, ◌-◌, ◌≡◌}
 use Rattle.std.specs.List.{filter}
-use Rattle.ipl_rules.specs.Operations.{after_abort, after_commit}
+use Rattle.ipl_rules.specs.Operations.{after_abort}
 use Rattle.record_locks.specs.Held.{after_end, number_of}
 use Rattle.record_locks.proofs.KeepLemmas.{keeps_names}
 use Rattle.page_ops.specs.Pending.{without_pending}

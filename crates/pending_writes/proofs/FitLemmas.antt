@@ -87,6 +87,7 @@ says_keep places c y it new m before after u page shown low few shows =
           shows_once c it.committed it.committed u (it.units u) page shown (page_in m u page) (λ tid. refl) shows
           (before.pages u page low few) slot less
           ∙ there.says slot less;
+      room = shows.room;
     }
 
 pub resting_pages_keep : RestingPagesKeep

@@ -3,6 +3,7 @@ use Rattle.std.proofs.Common.{Bool, List, None, Option, Some, ap, eqb, false, in
 use Rattle.std.specs.List.{Contains, filter, list_any}
 use Rattle.std.proofs.lemmas.Bool.{ne_eqb, not_from_false, both_ways, false_from_ne_true}
 use Rattle.std.proofs.lemmas.Option.{none-some, same_Some}
+use Rattle.ipl_meaning.proofs.RoomLemmas.{shown_room}
 use Rattle.ipl_rules.specs.State.{State}
 use Rattle.ipl_format.specs.Page.{value_in}
 use Rattle.ipl_format.specs.Record.{Record}
@@ -115,6 +116,8 @@ commits_keep_frames places c y it logs numbers state active rest after s tid u p
         base = framed.shows.base;
         reads = framed.shows.reads;
         says = says;
+        room = shown_room c after u (it.units u) page framed.shows.base
+            (λ slot. seen_by tid (values slot) (pending slot)) framed.shows.reads (has.valid u low) says;
       });
       changes = λ slot less.
           ap (without_pending tid) (framed.changes slot less)

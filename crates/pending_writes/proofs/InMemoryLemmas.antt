@@ -4,6 +4,7 @@ use Rattle.std.specs.List.{All, filter}
 use Rattle.std.proofs.lemmas.Bool.{eq-eqb, not-true, both_ways}
 use Rattle.std.proofs.lemmas.List.Elements.{All-contains, All-nil, All-push, All-weaker}
 use Rattle.std.proofs.lemmas.Option.{none-some, same_Some}
+use Rattle.ipl_base.specs.declared.limits.TheConstants.{VERSION}
 use Rattle.ipl_format.specs.Record.{IsRecord, Record}
 use Rattle.pending_writes.specs.Pending.{Logs, Numbers, with_records, is_other, without_number, with_number, IsPending, ArePending, HasOtherNumber, IsWrittenOut}
 use Rattle.pending_writes.specs.PendingLaws.{RecordsStayPending}
@@ -35,7 +36,7 @@ module _ (numbers : Numbers) (logs : Logs) (are : ArePending numbers logs) where
       none-some r.tid (sym closed ∙ ap numbers (sym same) ∙ is.open_as)))
       (logs u page) (are u page)
 
-  writes : (s u : ℕ) (r : Record) → numbers s ≡ Some r.tid → IsRecord r
+  writes : (s u : ℕ) (r : Record) → numbers s ≡ Some r.tid → IsRecord VERSION r
       → ArePending numbers (with_records logs u r.page (logs u r.page ++ r ∷ []))
   writes s u r mine valid v q = elim (cases_page u r.page v q) [
     | inr apart ↦

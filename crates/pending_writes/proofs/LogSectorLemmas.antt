@@ -4,6 +4,7 @@ use Rattle.std.specs.List.{All, list_any}
 use Rattle.std.proofs.lemmas.Bool.{cases_eq, false_from_ne_true}
 use Rattle.std.proofs.lemmas.List.Concat.{flat_map-append}
 use Rattle.std.proofs.lemmas.List.Elements.{All-append, All-contains, All-weaker}
+use Rattle.ipl_base.specs.declared.limits.TheConstants.{VERSION}
 use Rattle.ipl_rules.specs.State.{State}
 use Rattle.ipl_format.specs.Record.{IsRecord, Record}
 use Rattle.ipl_meaning.specs.Last.{NoneIsBehind, is_number, last_that}
@@ -86,13 +87,13 @@ module _ (units : ℕ) (it : Layout) (logs : Logs) (numbers : Numbers) (state : 
         (has.none_behind s tid v mine low) waits)
   ]
 
-  valid : (v : ℕ) → v < units → All IsRecord (records_of (new.units v).log)
+  valid : (v : ℕ) → v < units → All (IsRecord VERSION) (records_of (new.units v).log)
   valid v low = elim (cases_eq v u) [
-    | inr other ↦ subst (All IsRecord) (sym (live_other v other)) (has.valid v low)
+    | inr other ↦ subst (All (IsRecord VERSION)) (sym (live_other v other)) (has.valid v low)
     | inl same ↦
-        subst (All IsRecord) (sym (live_here v same))
-        (All-append IsRecord (records_of (it.units v).log) (logs v page) (has.valid v low)
-        (All-weaker (IsPending numbers page) IsRecord (λ r is. is.valid) (logs v page) (has.in_memory v page)))
+        subst (All (IsRecord VERSION)) (sym (live_here v same))
+        (All-append (IsRecord VERSION) (records_of (it.units v).log) (logs v page) (has.valid v low)
+        (All-weaker (IsPending numbers page) (IsRecord VERSION) (λ r is. is.valid) (logs v page) (has.in_memory v page)))
   ]
 
   logged : HasPending units new after numbers state

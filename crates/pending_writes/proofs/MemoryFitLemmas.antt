@@ -5,6 +5,8 @@ use Rattle.std.specs.List.{All}
 use Rattle.std.proofs.lemmas.Bool.{both_ways}
 use Rattle.std.proofs.lemmas.List.Elements.{All-append, All-contains}
 use Rattle.std.proofs.lemmas.Option.{none-some}
+use Rattle.ipl_format.proofs.RecordLemmas.{all_stay}
+use Rattle.ipl_base.specs.declared.limits.TheConstants.{VERSION}
 use Rattle.ipl_rules.specs.State.{State, at_rest}
 use Rattle.record_locks.specs.Held.{Slots, after_begin, after_share, after_write, is_among, number_of}
 use Rattle.record_locks.proofs.KeepLemmas.{keeps_names}
@@ -103,7 +105,7 @@ shares_fit places c it t frames slots state s n fits within locked =
 module _ (places : ℕ) (c : Chart) (it : Layout) (t : Tables) (frames : Frames) (slots : Slots) (state : State)
     (s u : ℕ)
     (r : Record) (f g : Frame) (fits : Fits places c it t frames slots state) (within : s < length slots)
-    (mine : number_of slots s ≡ Some r.tid) (low : u < places - 4) (valid : IsRecord r)
+    (mine : number_of slots s ≡ Some r.tid) (low : u < places - 4) (valid : IsRecord VERSION r)
     (there : frames u r.page ≡ Some f) (written : IsWrittenFrame r f g) where
   abbrev name : ℕ
   name = name_at u r.page r.slot
@@ -200,10 +202,11 @@ evictions_fit places c it t frames slots state u page f fits there empty =
 -- ---- a chip is opened
 
 log_valid : (places : ℕ) (c : Chart) (it : Layout) → Laid places c it → (u : ℕ) → u < places - 4
-    → All IsRecord (records_of (it.units u).log)
+    → All (IsRecord VERSION) (records_of (it.units u).log)
 log_valid places c it laid u low =
     let log = (laid.each u low).log in
-    all_records IsRecord (it.units u).log (λ k d within. (log.each k d within).records.valid)
+    all_records (IsRecord VERSION) (it.units u).log
+    (λ k d within. all_stay _ _ (log.each k d within).records.valid)
 
 pub openings_fit : OpeningsFit
 openings_fit places c it t slots m mirrors none_lost nothing closed sessions = record {

@@ -3,6 +3,7 @@ use Rattle.std.proofs.Common.{List, [], arith, eqb, inl, inr, suc, ℕ, ◌<◌,
 use Rattle.std.specs.List.{All, Contains}
 use Rattle.std.proofs.lemmas.Bool.{and_from, and_left, and_right, cases_eq, cond-false, cond-true, eq-eqb, ne_eqb}
 use Rattle.std.proofs.lemmas.List.Elements.{All-append, All-contains, All-nil, Contains-append_cases}
+use Rattle.ipl_base.specs.declared.limits.TheConstants.{VERSION}
 use Rattle.ipl_rules.specs.State.{State}
 use Rattle.ipl_format.specs.Record.{IsRecord, Record}
 use Rattle.ipl_meaning.specs.Layout.{Entry, Layout, Shape, records_of}
@@ -64,10 +65,10 @@ all_records P (e ∷ log) each =
 -- each record that a page is read through is in form
 pub valid_at : (units : ℕ) (it : Layout) (logs : Logs) (numbers : Numbers) (state : State)
     → HasPending units it logs numbers state → (u page : ℕ) (r : Record) → u < units
-    → Contains (records_at it logs u page) r → IsRecord r
+    → Contains (records_at it logs u page) r → IsRecord VERSION r
 valid_at units it logs numbers state has u page r low there =
     elim (Contains-append_cases (records_of (it.units u).log) (logs u page) r there) [
-      | inl live ↦ All-contains IsRecord (records_of (it.units u).log) r (has.valid u low) live
+      | inl live ↦ All-contains (IsRecord VERSION) (records_of (it.units u).log) r (has.valid u low) live
       | inr waits ↦
           let is = All-contains (IsPending numbers page) (logs u page) r (has.in_memory u page) waits in
           is.valid

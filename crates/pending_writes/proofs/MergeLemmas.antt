@@ -3,6 +3,7 @@ use Rattle.std.proofs.Common.{Bool, List, None, Some, ap, false, inl, inr, subst
 use Rattle.std.specs.List.{All}
 use Rattle.std.proofs.lemmas.Bool.{cases_eq}
 use Rattle.std.proofs.lemmas.List.Elements.{All-contains, Contains-append_left}
+use Rattle.ipl_base.specs.declared.limits.TheConstants.{VERSION}
 use Rattle.ipl_rules.specs.State.{State}
 use Rattle.ipl_format.specs.Record.{IsRecord, Record}
 use Rattle.ipl_meaning.specs.Last.{NoneIsBehind, carried, is_number, last_that}
@@ -68,10 +69,10 @@ module _ (units : ℕ) (it : Layout) (logs : Logs) (numbers : Numbers) (state : 
       let (s, mine) = (tells r.tid).0 (carried_some active (records_of (it.units v).log) r there).1 in
       has.waits s r.tid mine)
 
-  carried_valid : (v : ℕ) → v < units → All IsRecord (carried active (records_of (it.units v).log))
-  carried_valid v low = all_listed IsRecord (carried active (records_of (it.units v).log)) (λ r there.
+  carried_valid : (v : ℕ) → v < units → All (IsRecord VERSION) (carried active (records_of (it.units v).log))
+  carried_valid v low = all_listed (IsRecord VERSION) (carried active (records_of (it.units v).log)) (λ r there.
       let was = (carried_some active (records_of (it.units v).log) r there).0 in
-      All-contains IsRecord (records_of (it.units v).log) r (has.valid v low) was)
+      All-contains (IsRecord VERSION) (records_of (it.units v).log) r (has.valid v low) was)
 
   merged : HasPending units moved logs numbers state
   merged = record {
@@ -89,8 +90,8 @@ module _ (units : ℕ) (it : Layout) (logs : Logs) (numbers : Numbers) (state : 
           (behind_waiting it.committed tid (carried active (records_of (it.units v).log)) (carried_wait v))
     ];
     valid = λ v low. elim (cases_eq v u) [
-      | inr other ↦ subst (All IsRecord) (sym (merged_other v other)) (has.valid v low)
-      | inl same ↦ subst (All IsRecord) (sym (merged_here v same)) (carried_valid v low)
+      | inr other ↦ subst (All (IsRecord VERSION)) (sym (merged_other v other)) (has.valid v low)
+      | inl same ↦ subst (All (IsRecord VERSION)) (sym (merged_here v same)) (carried_valid v low)
     ];
     in_memory = has.in_memory;
   }
@@ -116,6 +117,6 @@ same_logs_keep_pending units it new logs numbers state has same keeps waits = re
       (behind_other it.committed new.committed tid live (has.none_behind s tid u mine low)
       (λ r q r_is q_is its page_is slot_is is.
       sym (All-contains (λ x. new.committed x.tid ≡ it.committed x.tid) live q (keeps u low) q_is) ∙ is));
-  valid = λ u low. subst (All IsRecord) (sym (same u low)) (has.valid u low);
+  valid = λ u low. subst (All (IsRecord VERSION)) (sym (same u low)) (has.valid u low);
   in_memory = has.in_memory;
 }

@@ -1,8 +1,9 @@
 -- The same records, numbers and frames in other words; and all frames after a change of one, or of each.
-use Rattle.std.proofs.Common.{Bool, List, None, Option, Some, [], ap, ap₂, eqb, inl, inr, refl, subst, sym, ℕ, ◌++◌, ◌<◌, ◌∙◌, ◌≡◌}
+use Rattle.std.proofs.Common.{Bool, List, None, Option, Some, [], ap, ap₂, eqb, inl, inr, refl, subst, sym, ℕ, ◌++◌, ◌<◌, ◌∙◌, ◌≡◌, arith}
 use Rattle.std.specs.Option.{option_map_or}
 use Rattle.std.proofs.lemmas.Bool.{and_from, and_left, and_right, cases_eq, cond-false, cond-true, eq-eqb, ne_eqb}
 use Rattle.std.proofs.lemmas.Option.{same_Some}
+use Rattle.ipl_meaning.proofs.RoomLemmas.{same_sizes}
 use Rattle.ipl_rules.specs.State.{State}
 use Rattle.ipl_format.specs.Record.{Record}
 use Rattle.ipl_meaning.specs.Chart.{Chart}
@@ -47,6 +48,7 @@ frame_as c it logs later active u page values after pending next same to_values 
     base = framed.shows.base;
     reads = framed.shows.reads;
     says = λ slot less. to_values slot less ∙ framed.shows.says slot less;
+    room = let was = framed.shows.room in omega (arith, was, same_sizes after values to_values);
   };
   changes = λ slot less.
       let last : List Record → Option Pending = λ l.

@@ -2,6 +2,7 @@
 use Rattle.std.proofs.Common.{Bool, List, None, Option, Some, ap, refl, sym, ℕ, ◌-◌, ◌<◌, ◌∙◌, ◌≡◌}
 use Rattle.std.specs.FinMap.{get}
 use Rattle.std.specs.Option.{option_map_or}
+use Rattle.ipl_meaning.proofs.RoomLemmas.{shown_room}
 use Rattle.ipl_rules.specs.Operations.{after_commit}
 use Rattle.ipl_rules.specs.State.{State, writes_of}
 use Rattle.ipl_rules.proofs.SeenLemmas.{get-with_writes}
@@ -11,7 +12,7 @@ use Rattle.ipl_meaning.specs.Chart.{Chart}
 use Rattle.ipl_meaning.specs.Last.{applied, is_number, last_that}
 use Rattle.ipl_meaning.specs.Layout.{Layout, records_of}
 use Rattle.ipl_meaning.specs.Stands.{Shows, page_in}
-use Rattle.ipl_meaning.specs.Values.{counts_for}
+use Rattle.ipl_meaning.specs.Values.{counts_for, after_records}
 use Rattle.ipl_meaning.proofs.LastLemmas.{commits_apply_the_last}
 use Rattle.pending_writes.specs.Pending.{Logs, Numbers, name_at, records_at, change_in, HasPending, IsWrittenOut}
 use Rattle.pending_writes.specs.PendingLaws.{NumberJoins, CommitsSayWrites}
@@ -43,19 +44,25 @@ pub commit_shows : (units : ℕ) (c : Chart) (it : Layout) (logs : Logs) (number
 commit_shows units c it logs numbers state s tid after has mine out joins u page low few shows = record {
   base = shows.base;
   reads = shows.reads;
-  says = λ slot less.
-      let test = counts_for (is_number tid) page slot in
-      let live = records_of (it.units u).log in
-      let before = page_in state.map u page slot in
-      let is_last = ap change_in (on_chip it logs tid u page slot out)
-      ∙ has.last s tid u page slot mine low few less in
-      get-with_writes (writes_of state s) state.map (name_at u page slot)
-      ∙ ap (λ (o : Option Change). option_map_or (λ change. change) o before) (sym is_last)
-      ∙ sym (last_says (last_that test live None) before)
-      ∙ ap (applied (last_that test live None)) (shows.says slot less)
-      ∙ sym (commits_apply_the_last it.committed after tid live joins (has.none_behind s tid u mine low) page slot
-      (value_in shows.base slot));
+  says = says;
+  room = shown_room c after u (it.units u) page shows.base
+      (page_in (after_commit state s).map u page) shows.reads (has.valid u low) says;
 }
+  where
+    says : (slot : ℕ) → slot < 64 → page_in (after_commit state s).map u page slot
+        ≡ after_records after page slot (records_of (it.units u).log) (value_in shows.base slot)
+    says slot less =
+        let test = counts_for (is_number tid) page slot in
+        let live = records_of (it.units u).log in
+        let before = page_in state.map u page slot in
+        let is_last = ap change_in (on_chip it logs tid u page slot out)
+        ∙ has.last s tid u page slot mine low few less in
+        get-with_writes (writes_of state s) state.map (name_at u page slot)
+        ∙ ap (λ (o : Option Change). option_map_or (λ change. change) o before) (sym is_last)
+        ∙ sym (last_says (last_that test live None) before)
+        ∙ ap (applied (last_that test live None)) (shows.says slot less)
+        ∙ sym (commits_apply_the_last it.committed after tid live joins (has.none_behind s tid u mine low) page slot
+        (value_in shows.base slot))
 
 pub commits_say_writes : CommitsSayWrites
 commits_say_writes places c it logs numbers state s tid after has mine out joins says = record {

@@ -1,6 +1,7 @@
 -- The records of open sessions, after one of them writes.
 use Rattle.std.proofs.Common.{Bool, List, None, Some, [], ap, ap₂, arith, if◌then◌else◌, inl, inr, is_some, sym, true, ℕ, ◌++◌, ◌<◌, ◌∙◌, ◌∷◌, ◌≡◌, ◌≢◌}
 use Rattle.std.proofs.lemmas.Bool.{cases_Bool, cases_eq, cond-false, cond-true, eqb-true, both_ways}
+use Rattle.ipl_base.specs.declared.limits.TheConstants.{VERSION}
 use Rattle.ipl_rules.specs.Operations.{after_write}
 use Rattle.ipl_rules.specs.State.{State, Write, is_open, last_write, writes_of}
 use Rattle.ipl_format.specs.Record.{IsRecord, Record}
@@ -16,7 +17,7 @@ use Rattle.pending_writes.proofs.InMemoryLemmas.{records_stay_pending}
 
 module _ (units : ℕ) (it : Layout) (logs : Logs) (numbers : Numbers) (state : State) (s u : ℕ) (r : Record)
     (has : HasPending units it logs numbers state) (mine : numbers s ≡ Some r.tid) (low_u : u < units)
-    (valid : IsRecord r) where
+    (valid : IsRecord VERSION r) where
   abbrev put : Write
   put = (name_at u r.page r.slot, r.change)
 

@@ -1,7 +1,8 @@
 -- What each step makes of the frame of a page.
-use Rattle.std.specs.Prelude.{ℕ, ◌≡◌, ◌<◌, ◌-◌, ◌∷◌, ◌++◌, Bool, List, [], Some, None}
+use Rattle.std.specs.Prelude.{ℕ, ◌≡◌, ◌<◌, ◌-◌, ◌∷◌, ◌++◌, Bool, List, [], Some, None, ◌≤◌}
 use Rattle.std.specs.FinMap.{get}
-use Rattle.ipl_base.specs.declared.limits.TheConstants.{RESERVED_PLACES, PAGES, SLOTS}
+use Rattle.ipl_base.specs.Sizes.{size_of_values}
+use Rattle.ipl_base.specs.declared.limits.TheConstants.{RESERVED_PLACES, PAGES, SLOTS, PAGE_LEN}
 use Rattle.ipl_rules.specs.State.{State, see}
 use Rattle.ipl_format.specs.Record.{Record}
 use Rattle.ipl_format.specs.Page.{Slots, value_in}
@@ -35,7 +36,7 @@ FramesTell =
 
 -- ---- the steps
 
--- a page is read from the chip, where none of its records is in memory
+-- a page is read from the chip, where none of its records is in memory, and has room for its values
 abbrev pub LoadsMakeFrames : Type 0
 LoadsMakeFrames =
     (c : Chart) (it : Layout) (logs : Logs) (active : ℕ → Bool) (u page : ℕ) (base : Slots) (values : Values)
@@ -43,6 +44,7 @@ LoadsMakeFrames =
     → ReadsWell c u (it.units u) page base → logs u page ≡ []
     → ((slot : ℕ) → slot < SLOTS
     → values slot ≡ after_records it.committed page slot (records_of (it.units u).log) (value_in base slot))
+    → size_of_values values ≤ PAGE_LEN
     → ((slot : ℕ) → slot < SLOTS
     → pending slot ≡ pending_of (last_that (counts_for active page slot) (records_of (it.units u).log) None))
     → IsFrameOf c it logs active u page values pending

@@ -1,7 +1,7 @@
 -- What open sessions wrote and haven't committed: log records on the chip, and behind them those in memory.
 use Rattle.std.specs.Prelude.{ℕ, ◌≡◌, ◌≢◌, ◌<◌, ◌≤◌, ◌+◌, ◌*◌, ◌==◌, ◌&&◌, not, Bool, false, List, ◌++◌, filter, Option, Some, None, is_some, All, if◌then◌else◌}
 use Rattle.std.specs.Option.{option_map}
-use Rattle.ipl_base.specs.declared.limits.TheConstants.{PAGES, SLOTS, UNIT_NAMES}
+use Rattle.ipl_base.specs.declared.limits.TheConstants.{PAGES, SLOTS, UNIT_NAMES, VERSION}
 use Rattle.ipl_rules.specs.State.{State, is_open, writes_of, last_write}
 use Rattle.ipl_format.specs.Record.{Record, Change, IsRecord}
 use Rattle.ipl_meaning.specs.Values.{counts_for}
@@ -60,7 +60,7 @@ last_change tid records page slot =
 -- a record in memory is in form, of its own page, and of a session that is open
 pub record IsPending (numbers : Numbers) (page : ℕ) (r : Record) : Type 0 where
   pub page_is : r.page ≡ page
-  pub valid : IsRecord r
+  pub valid : IsRecord VERSION r
   pub session : ℕ
   pub open_as : numbers session ≡ Some r.tid
 
@@ -82,7 +82,7 @@ pub record HasPending (units : ℕ) (it : Layout) (logs : Logs) (numbers : Numbe
   pub nowhere_else : (s n : ℕ) → UNIT_NAMES * units ≤ n → last_write (writes_of state s) n ≡ None
   pub none_behind : (s tid u : ℕ) → numbers s ≡ Some tid → u < units
       → NoneIsBehind it.committed tid (records_of (it.units u).log)
-  pub valid : (u : ℕ) → u < units → All IsRecord (records_of (it.units u).log)
+  pub valid : (u : ℕ) → u < units → All (IsRecord VERSION) (records_of (it.units u).log)
   pub in_memory : ArePending numbers logs
 
 -- the record has another number

@@ -1,7 +1,7 @@
 -- What each step makes of the records of open sessions.
 use Rattle.std.specs.Prelude.{ℕ, ◌≡◌, ◌≢◌, ◌↔◌, ◌⊎◌, ◌<◌, ◌≤◌, ◌-◌, ◌∷◌, ◌++◌, Bool, true, false, IsTrue, List, [], length, Some, None, All, Contains, if◌then◌else◌}
 use Rattle.std.specs.List.{list_any}
-use Rattle.ipl_base.specs.declared.limits.TheConstants.{RESERVED_PLACES, PAGES, SLOTS, PENDING_NAMES}
+use Rattle.ipl_base.specs.declared.limits.TheConstants.{RESERVED_PLACES, PAGES, SLOTS, PENDING_NAMES, VERSION}
 use Rattle.ipl_rules.specs.State.{State, pending}
 use Rattle.ipl_rules.specs.Operations.{after_begin, after_share, after_write, after_commit, after_batch, after_abort, after_restart}
 use Rattle.ipl_format.specs.Record.{Record, IsRecord}
@@ -40,7 +40,7 @@ IsSameOrMerged active old new =
 -- the records in memory are of open sessions and of their own pages after each step
 pub record StayPending (numbers : Numbers) (logs : Logs) : Type 0 where
   pub begins : (s tid : ℕ) → numbers s ≡ None → ArePending (with_number numbers s (Some tid)) logs
-  pub writes : (s u : ℕ) (r : Record) → numbers s ≡ Some r.tid → IsRecord r
+  pub writes : (s u : ℕ) (r : Record) → numbers s ≡ Some r.tid → IsRecord VERSION r
       → ArePending numbers (with_records logs u r.page (logs u r.page ++ r ∷ []))
   pub log_sectors : (u page : ℕ) → ArePending numbers (with_records logs u page [])
   pub commits : (s tid : ℕ) → numbers s ≡ Some tid → IsWrittenOut logs tid
@@ -71,7 +71,7 @@ SharesKeepPending =
 abbrev pub WritesKeepPending : Type 0
 WritesKeepPending =
     (units : ℕ) (it : Layout) (logs : Logs) (numbers : Numbers) (state : State) (s u : ℕ) (r : Record)
-    → HasPending units it logs numbers state → numbers s ≡ Some r.tid → u < units → IsRecord r
+    → HasPending units it logs numbers state → numbers s ≡ Some r.tid → u < units → IsRecord VERSION r
     → HasPending units it (with_records logs u r.page (logs u r.page ++ r ∷ [])) numbers
     (after_write state s (name_at u r.page r.slot, r.change))
 
@@ -183,7 +183,7 @@ AbortsKeepPending =
 -- after a restart nothing is pending, whatever records are on the chip
 abbrev pub RestartsLeaveNone : Type 0
 RestartsLeaveNone =
-    (units : ℕ) (it : Layout) (state : State) → ((u : ℕ) → u < units → All IsRecord (records_of (it.units u).log))
+    (units : ℕ) (it : Layout) (state : State) → ((u : ℕ) → u < units → All (IsRecord VERSION) (records_of (it.units u).log))
     → HasPending units it (λ u page. []) (λ s. None) (after_restart state)
 
 -- ---- what follows
@@ -192,7 +192,7 @@ RestartsLeaveNone =
 abbrev pub RecordsAreWrites : Type 0
 RecordsAreWrites =
     (units : ℕ) (it : Layout) (logs : Logs) (numbers : Numbers) (state : State) (s u page : ℕ) (r : Record)
-    → HasPending units it logs numbers state → numbers s ≡ Some r.tid → u < units → r.page ≡ page → IsRecord r
+    → HasPending units it logs numbers state → numbers s ≡ Some r.tid → u < units → r.page ≡ page → IsRecord VERSION r
     → Contains (records_at it logs u page) r → wrote state s (name_at u page r.slot) ≡ true
 
 -- where the pages that a session changed have nothing in memory, no record of it is in memory

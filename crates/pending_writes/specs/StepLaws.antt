@@ -1,6 +1,6 @@
 -- What each step of a store keeps: the memory and the chip stand for the state after it.
 use Rattle.std.specs.Prelude.{ℕ, ◌≡◌, ◌<◌, ◌≤◌, ◌-◌, Bool, false, List, [], length, Some, None, All, Contains}
-use Rattle.ipl_base.specs.declared.limits.TheConstants.{RESERVED_PLACES, PAGES}
+use Rattle.ipl_base.specs.declared.limits.TheConstants.{RESERVED_PLACES, PAGES, VERSION}
 use Rattle.chip_trait.specs.Told.{History}
 use Rattle.ipl_rules.specs.State.{Map, State, at_rest}
 use Rattle.ipl_rules.specs.Refusals.{is_twice}
@@ -43,7 +43,7 @@ WritesFit =
     (places : ℕ) (c : Chart) (it : Layout) (t : Tables) (frames : Frames) (slots : Slots) (state : State) (s u : ℕ)
     (r : Record) (f g : Frame)
     → Fits places c it t frames slots state → s < length slots → number_of slots s ≡ Some r.tid → u < places - RESERVED_PLACES
-    → IsRecord r → frames u r.page ≡ Some f → IsWrittenFrame r f g
+    → IsRecord VERSION r → frames u r.page ≡ Some f → IsWrittenFrame r f g
     → LocksHold (after_write slots s (name_at u r.page r.slot))
     → Fits places c it t (with_frame_at frames u r.page (Some g)) (after_write slots s (name_at u r.page r.slot))
     (rules.after_write state s (name_at u r.page r.slot, r.change))

@@ -75,7 +75,7 @@ module _ (heads : ℕ → Option KeptHeader) (current : ℕ → Option Winner) (
       (live : is_live heads current p sector ≡ true) (it : Places) (lists : OverflowLists) (units mask : ℕ)
       (sound : IsSoundDirectory it) (sound_lists : IsSoundOverflow lists) (of_units : length it.current ≡ units)
       (listed_units : length lists.spots ≡ units) (low : sector.unit < units)
-      (mask_is : mask ≡ mask_of (records_of sector.payload))
+      (mask_is : mask ≡ mask_of (records_of sector.version sector.payload))
       (is : (u : ℕ) → found u (p * 256 + s) ≡ mask_of_sector u (kept (is_live heads current p) (Some sector)))
       (so_far : IsMasked heads current found (p * 256 + s) it lists) where
     abbrev k : ℕ
@@ -84,7 +84,7 @@ module _ (heads : ℕ → Option KeptHeader) (current : ℕ → Option Winner) (
     own : (u : ℕ) → sector.unit ≡ u → found u k ≡ mask
     own u same =
         let here : found u k ≡ mask_of_sector u (Some sector) = rw live at (is u) in
-        let mine : found u k ≡ mask_of (records_of sector.payload) = rw (eq-eqb sector.unit u same) at here in mine ∙ sym mask_is
+        let mine : found u k ≡ mask_of (records_of sector.version sector.payload) = rw (eq-eqb sector.unit u same) at here in mine ∙ sym mask_is
 
     others : (u : ℕ) → sector.unit ≢ u → found u k ≡ 0
     others u other =

@@ -74,14 +74,14 @@ record_to (f ∷ log) e r has own = elim (contains_cons f log e has) [
 abbrev pub IsLoggedAt : (ℕ → Option KeptHeader) → (ℕ → Option Winner) → Chart → ℕ → ℕ → Type 0
 IsLoggedAt heads current c n tid =
     (k : ℕ) × (k < n) × (sector : Sector) × (live_at heads current c k ≡ Some sector)
-    × IsNumberOf (records_in sector.payload) tid
+    × IsNumberOf (records_in sector.version sector.payload) tid
 
 no_numbers : AreRising []
 no_numbers = λ i j d less within. absurd (omega (arith, within))
 
 module _ (committed : List ℕ) (heads : ℕ → Option KeptHeader) (current : ℕ → Option Winner) (c : Chart) where
   at_sector : (o : Option Sector) (tid : ℕ) → IsNumberOf (records_at o) tid
-      → (sector : Sector) × (o ≡ Some sector) × IsNumberOf (records_in sector.payload) tid
+      → (sector : Sector) × (o ≡ Some sector) × IsNumberOf (records_in sector.version sector.payload) tid
   at_sector None tid (r, has, is) = absurd (let within = has.1 in omega (arith, within))
   at_sector (Some sector) tid of_it = (sector, refl, of_it)
 
@@ -102,7 +102,7 @@ module _ (committed : List ℕ) (heads : ℕ → Option KeptHeader) (current : �
       ]
 
   found_to : (n tid k : ℕ) (sector : Sector) → Contains committed tid → k < n → live_at heads current c k ≡ Some sector
-      → IsNumberOf (records_in sector.payload) tid → Contains (numbers_below committed heads current c n) tid
+      → IsNumberOf (records_in sector.version sector.payload) tid → Contains (numbers_below committed heads current c n) tid
   unfolding numbers_below
   found_to zero tid k sector there low live own = absurd (omega (arith, low))
   found_to (suc n) tid k sector there low live own =
@@ -129,7 +129,7 @@ module _ (committed : List ℕ) (heads : ℕ → Option KeptHeader) (current : �
 -- ---- the logs of the layout
 
 entry_from : (u k : ℕ) (o : Option Sector) (e : Entry) → entry_of u k o ≡ Some e
-    → (sector : Sector) × (o ≡ Some sector) × (e.records ≡ records_in sector.payload)
+    → (sector : Sector) × (o ≡ Some sector) × (e.records ≡ records_in sector.version sector.payload)
 entry_from u k None e is = absurd (cc is)
 entry_from u k (Some sector) e is = elim (cases_Bool (sector.unit == u)) [
   | inl of_it ↦
@@ -147,13 +147,13 @@ module _ (c : Chart) (places : ℕ) where
       (it.number, it.within, sector, live, (r, subst (λ (rs : List Record). Contains rs r) records own, is))
 
   logged_to : (k tid : ℕ) (sector : Sector) → k < places * 256 → live_in c places k ≡ Some sector
-      → IsNumberOf (records_in sector.payload) tid → IsLogged (log_in c places sector.unit) tid
+      → IsNumberOf (records_in sector.version sector.payload) tid → IsLogged (log_in c places sector.unit) tid
   logged_to k tid sector low live (r, has, is) =
       let entry : Entry = record {
         place = k / 256;
         number = k % 256;
         sector = sector;
-        records = records_in sector.payload;
+        records = records_in sector.version sector.payload;
       } in
       let own : entry_of sector.unit k (Some sector) ≡ Some entry = rw (eq-eqb sector.unit sector.unit refl) refl in
       let here : entry_at c places sector.unit k ≡ Some entry = ap (entry_of sector.unit k) live ∙ own in

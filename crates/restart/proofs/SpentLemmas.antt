@@ -81,7 +81,7 @@ commits_unspent c status = below_unspent (commit_fault c status) sectors (commit
 log_test_unspent : (heads : ℕ → Option KeptHeader) (earlier : List Mark) (k : ℕ) (o : Option Sector) → log_test heads earlier k o ≢ Some Spent
 log_test_unspent heads earlier k None = λ is. absurd (cc is)
 log_test_unspent heads earlier k (Some sector) =
-    if_unspent (is_log_well (mark_of heads k sector) earlier sector.payload) _ (λ is. absurd (cc is))
+    if_unspent (is_log_well (mark_of heads k sector) earlier sector.version sector.payload) _ (λ is. absurd (cc is))
 
 pub logs_unspent : (heads : ℕ → Option KeptHeader) (current : ℕ → Option Winner) (c : Chart) (n : ℕ) → first_below (log_fault heads current c) n ≢ Some Spent
 logs_unspent heads current c n =

@@ -16,7 +16,7 @@ use Rattle.opening_rules.specs.Live.{live_at}
 -- the records of a log sector, where there is one
 abbrev pub records_at : Option Sector → List Record
 records_at None = []
-records_at (Some sector) = records_of sector.payload
+records_at (Some sector) = records_of sector.version sector.payload
 
 -- of the records of the live log sectors below the number k, by these headers, the numbers that are among these, in rising
 -- order

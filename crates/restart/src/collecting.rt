@@ -25,15 +25,16 @@ pub(crate) fn collect(
     numbers: &mut KeptNumbers,
     status: &Status,
     payload: &[u8],
+    version: u8,
     fits: bool,
 ) -> bool
-    requires list { is_log_payload payload.now ≡ true }
+    requires list { is_log_payload version payload.now ≡ true }
     requires fits { length payload.now ≤ PAYLOAD_LEN }
     ensures { (found : List ℕ) → AreKept found fits numbers.old
-        → AreKept (joined status.now.numbers (records_of payload.now) found) result numbers.new }
+        → AreKept (joined status.now.numbers (records_of version payload.now) found) result numbers.new }
 {
     if !fits {
         return false;
     }
-    numbers.add(&Payload::of(payload), status)
+    numbers.add(&Payload::of(payload, version), status)
 }

@@ -100,29 +100,29 @@ pub(crate) fn is_live(
         && is_generation(current_of(current, head.unit), head.generation)
 }
 
-/// Whether the payload is a list of records.
-pub(crate) fn is_log_payload(payload: &[u8]) -> bool
-    ensures { result ≡ is_log_payload payload.now }
+/// Whether the payload is a list of records, by the version of its sector.
+pub(crate) fn is_log_payload(payload: &[u8], version: u8) -> bool
+    ensures { result ≡ is_log_payload version payload.now }
 {
-    is_list(payload)
+    is_list(payload, version)
 }
 
 /// Which pages the records of a log sector name: bit p is page p's.
-pub(crate) fn pages_of(payload: &[u8]) -> u16
-    requires list { is_log_payload payload.now ≡ true }
+pub(crate) fn pages_of(payload: &[u8], version: u8) -> u16
+    requires list { is_log_payload version payload.now ≡ true }
     requires fits { length payload.now ≤ PAYLOAD_LEN }
-    ensures { result ≡ mask_of (records_of payload.now) }
+    ensures { result ≡ mask_of (records_of version payload.now) }
 {
-    mask_of(&Payload::of(payload))
+    mask_of(&Payload::of(payload, version))
 }
 
 /// The greatest transaction number in a list of records, and at least this.
-fn greatest_tid(payload: &[u8], least: u64) -> u64
-    requires list { is_log_payload payload.now ≡ true }
+fn greatest_tid(payload: &[u8], version: u8, least: u64) -> u64
+    requires list { is_log_payload version payload.now ≡ true }
     requires fits { length payload.now ≤ PAYLOAD_LEN }
-    ensures { result ≡ greatest_of least (map tid_of (records_of payload.now)) }
+    ensures { result ≡ greatest_of least (map tid_of (records_of version payload.now)) }
 {
-    let payload = Payload::of(payload);
+    let payload = Payload::of(payload, version);
     let mut greatest = least;
     for record in records(&payload) {
         greatest = greatest.max(record.tid);
@@ -136,8 +136,8 @@ pub(crate) fn log_number(head: &Head, payload: &[u8]) -> u64
     ensures { result ≡ log_number (Some (sector_of head.now payload.now)) }
 {
     let own = head.generation.max(head.serial);
-    if is_log_payload(payload) {
-        greatest_tid(payload, own)
+    if is_log_payload(payload, head.version) {
+        greatest_tid(payload, head.version, own)
     } else {
         own
     }

@@ -56,10 +56,10 @@ fn check_log(
         (Some (sector_of head.now payload.now))) result }
     ensures room { OnOk result (is_overflow_place (at heads.now spot.place) ≡ true
         → overflow_count_of overflow.now head.now.unit < OVERFLOW_SECTORS) }
-    ensures list { OnOk result (is_log_payload payload.now ≡ true) }
+    ensures list { OnOk result (is_log_payload head.now.version payload.now ≡ true) }
     ensures image { IfErr result (λ e. is_image e ≡ true) }
 {
-    if !is_log_payload(payload)
+    if !is_log_payload(payload, head.version)
         || noted.has(head.unit, head.serial)
         || (is_overflow_place(heads, spot.place)
             && overflow.count(head.unit) as usize >= OVERFLOW_SECTORS)
@@ -155,9 +155,9 @@ fn take_log(
         overflow.facts();
         check_log(heads, noted, overflow, spot, head, payload)?;
         noted.add(head.unit, head.serial, spot.place);
-        let mask = pages_of(payload);
+        let mask = pages_of(payload, head.version);
         list_log(heads, directory, overflow, head.unit, spot, mask);
-        return Ok(collect(numbers, status, payload, fits));
+        return Ok(collect(numbers, status, payload, head.version, fits));
     }
     Ok(fits)
 }

@@ -41,8 +41,7 @@ strange_says_nothing bytes e = tested bytes false (eqb (stored_sum bytes) (compu
 
 said_is : (bytes : List ℕ) → is_formed bytes ≡ true → said_in bytes ≡ sector_of (head_in bytes) (take (used_length bytes) (drop 32 bytes))
 unfolding said_in
-said_is bytes formed =
-    ap (λ (n : ℕ). let s : SaidSector = record (sector_of (head_in bytes) (take (used_length bytes) (drop 32 bytes))) { version = n } in s) (formed_facts bytes formed).version
+said_is bytes formed = refl
 
 -- a sector that checks is said
 pub formed_is_said : (bytes : List ℕ) (head : Head) (used : ℕ) → is_formed bytes ≡ true → stored_sum bytes ≡ computed_sum bytes → head ≡ head_in bytes
@@ -59,7 +58,13 @@ formed_is_short bytes used formed e = let short = (formed_facts bytes formed).sh
 
 same_head : (head h : Head) (payload q : List ℕ) → sector_of head payload ≡ sector_of h q → h ≡ head
 same_head head h payload q e =
-    ap (λ (s : SaidSector). let x : Head = record { kind = s.kind; unit = s.unit; generation = s.generation; serial = s.serial } in x) (sym e)
+    ap (λ (s : SaidSector). let x : Head = record {
+      kind = s.kind;
+      version = s.version;
+      unit = s.unit;
+      generation = s.generation;
+      serial = s.serial;
+    } in x) (sym e)
 
 some_once : (s t : SaidSector) → Some s ≡ Some t → s ≡ t
 some_once s t e = cc e

@@ -3,8 +3,10 @@ use Rattle.std.proofs.Common.{◌≡◌, ◌≢◌, ◌≤◌, ℕ, List, ◌++�
 use Rattle.std.proofs.lemmas.Option.{none-some}
 use Rattle.byteorder.specs.Endian.{big_bytes}
 use Rattle.chip_trait.specs.Story.{blank}
+use Rattle.ipl_base.specs.declared.limits.TheConstants.{PAYLOAD_LEN}
 use Rattle.crc_sum.specs.Crc.{crc}
 use Rattle.ipl_format.specs.Numbers.{IsBytes, half, word, long}
+use Rattle.ipl_format.specs.Version.{IsVersion}
 use Rattle.ipl_format.specs.Sector.{Sector, IsKind, IsSector, front, filled, sector_bytes, sector_in, computed_sum}
 use Rattle.ipl_format.proofs.SectorLemmas.{length-front, sectors_are_said, blank_says_nothing}
 use Rattle.sector_format.specs.declared.sector.Head.{Head}
@@ -45,10 +47,12 @@ encoded head payload out fronted whole part sum long f w e p =
     (f ∙ ap (λ (xs : List ℕ). xs ++ drop 28 out) (front_of_head head payload)) w e p
 
 -- a head and a payload that can be written make a sector
-pub makes_sector : (head : Head) (payload : List ℕ) → IsKind head.kind → HasRange head → length payload ≤ 480 → IsBytes payload → IsSector (sector_of head payload)
-makes_sector head payload kind range short bytes = record {
+pub makes_sector : (head : Head) (payload : List ℕ) → IsKind head.kind → IsVersion head.version
+    → HasRange head → length payload ≤ PAYLOAD_LEN → IsBytes payload
+    → IsSector (sector_of head payload)
+makes_sector head payload kind version range short bytes = record {
   kind = kind;
-  version = refl;
+  version = version;
   unit = range.unit;
   generation = range.generation;
   serial = range.serial;

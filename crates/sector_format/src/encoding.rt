@@ -2,6 +2,7 @@
 ghost use Rattle.std.specs.Prelude.{◌≡◌, ◌≢◌, ◌≤◌, ◌+◌, ◌-◌, ◌++◌, Some, drop, length, replicate, take};
 ghost use Rattle.ipl_base.specs.declared.limits.TheConstants.{PAYLOAD_LEN};
 ghost use Rattle.chip_trait.specs.Story.{blank};
+ghost use Rattle.ipl_format.specs.Version.{IsVersion};
 ghost use Rattle.ipl_format.specs.Sector.{IsKind, filled, sector_bytes, sector_in};
 ghost use Rattle.sector_format.specs.Decode.{HasRange, head_bytes, sector_of};
 
@@ -17,6 +18,7 @@ fn write_front(head: &Head, used: u16, out: &mut [u8; 512])
 {
     let Head {
         kind,
+        version,
         unit,
         generation,
         serial,
@@ -26,7 +28,7 @@ fn write_front(head: &Head, used: u16, out: &mut [u8; 512])
     out[2] = b'L';
     out[3] = b'1';
     out[4] = kind;
-    out[5] = 1;
+    out[5] = version;
     BigEndian::write_u16(&mut out[6..8], used);
     BigEndian::write_u32(&mut out[8..12], unit);
     BigEndian::write_u64(&mut out[12..20], generation);
@@ -58,10 +60,12 @@ fn write_payload(payload: &[u8], out: &mut [u8; 512])
     clear_from(32 + payload.len(), out);
 }
 
-/// Writes the sector of this head (of a kind that there is) and a payload of at most 480 bytes, whatever stood there.
+/// Writes the sector of this head (of a kind and a version that there are) and a payload of at most
+/// 480 bytes, whatever stood there.
 pub fn encode(head: &Head, payload: &[u8], out: &mut [u8; 512])
     requires fits { length payload.now ≤ PAYLOAD_LEN }
     requires known { IsKind head.now.kind }
+    requires version { IsVersion head.now.version }
     ensures bytes { out.new ≡ sector_bytes (sector_of head.now payload.now) }
     ensures said { sector_in out.new ≡ Some (sector_of head.now payload.now) }
     ensures written { out.new ≢ blank }

@@ -8,7 +8,7 @@ ghost use Rattle.sector_format.specs.Decode.{head_in};
 
 use crate::Head;
 use crc_sum::crc32_parts;
-use ipl_base::PAYLOAD_LEN;
+use ipl_base::{PAYLOAD_LEN, VERSION};
 use ipl_format::{half_at, long_at, word_at};
 
 /// The payload of a sector that uses so many bytes of it, 0 to 480.
@@ -81,7 +81,7 @@ pub(crate) fn is_formed(bytes: &[u8; 512]) -> bool
     is_marked(bytes)
         && bytes[4] >= 1
         && bytes[4] <= 6
-        && bytes[5] == 1
+        && (bytes[5] >= 1 && bytes[5] <= VERSION)
         && used <= PAYLOAD_LEN
         && is_zero_from(bytes, 32 + used)
 }
@@ -89,8 +89,10 @@ pub(crate) fn is_formed(bytes: &[u8; 512]) -> bool
 pub(crate) fn head_in(bytes: &[u8; 512]) -> Head
     ensures { result ≡ head_in bytes.now }
 {
+    // What stands in a sector has its own version, whatever is written now.
     Head {
         kind: bytes[4],
+        version: bytes[5],
         unit: word_at(bytes, 8),
         generation: long_at(bytes, 12),
         serial: long_at(bytes, 20),

@@ -1,10 +1,16 @@
 //! What a sector's head says, and what 512 bytes may be.
+ghost use Rattle.std.specs.Prelude.{◌≡◌};
+ghost use Rattle.sector_format.specs.Written.{written_head};
+
+use ipl_base::VERSION;
 
 /// The numbers of a sector's head. The table is in docs/FORMAT.md, "The sector".
 #[derive(Clone, Copy, Debug, PartialEq, Eq)]
 pub struct Head {
     /// One of the six kinds that are named below.
     pub kind: u8,
+    /// The version of the format by which its payload is read, from 1 to `VERSION`.
+    pub version: u8,
     /// The logical unit; 0 in what is of no unit.
     pub unit: u32,
     /// Which writing of its place the sector belongs to.
@@ -32,6 +38,21 @@ impl Head {
 
     /// Numbers of committed transactions.
     pub const COMMIT: u8 = 6;
+}
+
+impl Head {
+    /// The head of a sector that is written now, of one of the six kinds.
+    pub fn written(kind: u8, unit: u32, generation: u64, serial: u64) -> Head
+        ensures { result ≡ written_head kind unit generation serial }
+    {
+        Head {
+            kind,
+            version: VERSION,
+            unit,
+            generation,
+            serial,
+        }
+    }
 }
 
 /// What a sector's bytes are.

@@ -1,11 +1,12 @@
 -- How many log sectors are carried where a merge is done, and where it fails.
 use Rattle.std.proofs.Common.{◌≡◌, ◌<◌, ◌≤◌, ℕ, List, Result, Ok, Err, IfErr, inl, inr, length, arith, refl, sym, ◌∙◌, ap}
+use Rattle.std.proofs.lemmas.List.{length-map}
 use Rattle.chip_trait.specs.Told.{Told}
+use Rattle.log_records.specs.View.{Versioned}
 use Rattle.ipl_base.specs.declared.fault.ChipFault.{ChipFault}
 use Rattle.ipl_base.specs.declared.fault.ChipFault.TheVariants.{ReadFault, Stopped, Damaged, Malformed}
-use Rattle.ipl_format.specs.Record.{Record, log_bytes}
-use Rattle.merge_rules.specs.Packs.{packs_of, payloads_of}
-use Rattle.std.proofs.lemmas.List.{length-map}
+use Rattle.ipl_format.specs.Record.{Record}
+use Rattle.merge_rules.specs.Packs.{packs_of, payloads_of, payload_of}
 use Rattle.selective_merge.specs.Homes.{MoveCause}
 use Rattle.selective_merge.specs.Merging.{CarriesFew}
 
@@ -38,10 +39,10 @@ pub few_unread : (T : Type 0) (place n : ℕ) (fault : ChipFault) → fault ≡ 
 few_unread T place n fault is = (λ same. absurd (cc (sym is ∙ same)), λ many. inl is)
 
 -- what is carried is what was packed
-pub packs_few : (active : List ℕ) (log : List Record) (closed payloads : List (List ℕ))
+pub packs_few : (active : List ℕ) (log : List Record) (closed payloads : List Versioned)
     → payloads ≡ closed → closed ≡ payloads_of (packs_of active log) → length payloads ≤ 12
     → length (packs_of active log) ≤ 12
 packs_few active log closed payloads is packed few =
     let same : length payloads ≡ length (packs_of active log) =
-    ap length (is ∙ packed) ∙ length-map (packs_of active log) log_bytes in
+    ap length (is ∙ packed) ∙ length-map (packs_of active log) payload_of in
     omega (arith, few, same)

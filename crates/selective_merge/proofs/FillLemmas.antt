@@ -4,6 +4,7 @@ use Rattle.std.proofs.lemmas.Bool.{false≢true}
 use Rattle.chip_trait.specs.Story.{Story, pieces}
 use Rattle.chip_trait.specs.Lawful.{Clean, age, IsLawful}
 use Rattle.chip_trait.specs.Told.{History, Told, Counts, adds_all}
+use Rattle.log_records.specs.View.{Versioned}
 use Rattle.ipl_base.specs.declared.fault.ChipFault.{ChipFault}
 use Rattle.ipl_rules.specs.State.{Map}
 use Rattle.ipl_meaning.specs.Chart.{Chart}
@@ -132,7 +133,7 @@ paged_unsealed from p g pieces c d e paged aside = record {
       ∙ paged.cleared.others q s apart);
 }
 
-filled_by : (from : Source) (p g serial u : ℕ) (pieces : List ℕ) (payloads : List (List ℕ))
+filled_by : (from : Source) (p g serial u : ℕ) (pieces : List ℕ) (payloads : List Versioned)
     (c d e : Chart) → u ≡ from.unit → IsPaged from p g pieces c d
     → HasLogs p u g serial payloads (length payloads) d e
     → IsFilled from p g serial pieces payloads c e
@@ -146,7 +147,7 @@ filled_by from p g serial u pieces payloads c d e unit_is paged logs = record {
 
 -- ---- what the calls leave
 
-module _ (places : ℕ) (from : Source) (p g serial u : ℕ) (payloads : List (List ℕ))
+module _ (places : ℕ) (from : Source) (p g serial u : ℕ) (payloads : List Versioned)
     (unit_is : u ≡ from.unit) (m : Map) (h : History) (old : Told) where
   -- the erase failed
   pub erase_failed : (e f : ChipFault) (new : Told)
@@ -242,7 +243,7 @@ module _ (places : ℕ) (from : Source) (p g serial u : ℕ) (payloads : List (L
 
 -- ---- what is told of the contents
 
-module _ (from : Source) (p g serial u : ℕ) (payloads : List (List ℕ))
+module _ (from : Source) (p g serial u : ℕ) (payloads : List Versioned)
     (unit_is : u ≡ from.unit) where
   pub paged_told : (old mid late : Told) (result : Result (List ℕ) ChipFault)
       → Charts (IsCleared p) old mid

@@ -7,8 +7,11 @@ use Rattle.std.proofs.lemmas.List.Elements.{All-contains, All-weaker}
 use Rattle.chip_trait.specs.Lawful.{AreClean}
 use Rattle.chip_trait.specs.Story.{Story}
 use Rattle.chip_trait.specs.Told.{History, Told, adds_all}
+use Rattle.log_records.specs.View.{Versioned}
+use Rattle.ipl_format.proofs.RecordLemmas.{all_stay}
+use Rattle.ipl_base.specs.declared.limits.TheConstants.{VERSION}
 use Rattle.ipl_base.specs.declared.fault.ChipFault.{ChipFault}
-use Rattle.ipl_format.specs.Record.{Record, IsRecord, log_bytes}
+use Rattle.ipl_format.specs.Record.{Record, IsRecord}
 use Rattle.ipl_format.specs.Sector.{Sector}
 use Rattle.ipl_rules.specs.State.{Map}
 use Rattle.ipl_meaning.specs.Agrees.{IsTidy}
@@ -25,7 +28,7 @@ use Rattle.ipl_meaning.proofs.MirrorLemmas.{free_places_are_idle}
 use Rattle.unit_io.specs.Spots.{Rewrites}
 use Rattle.merge_rules.specs.Merged.{source_of, packs_in, IsToMerge, IsWritten, IsMergedUnit}
 use Rattle.merge_rules.specs.Moved.{Source, IsUnsealed}
-use Rattle.merge_rules.specs.Packs.{packs_of, payloads_of, masks_of_packs}
+use Rattle.merge_rules.specs.Packs.{packs_of, payloads_of, masks_of_packs, payload_of}
 use Rattle.merge_rules.proofs.MergeLemmas.{tables_follow_filling}
 use Rattle.merge_rules.proofs.MaskedLemmas.{packs_are_told}
 use Rattle.merge_rules.proofs.PacksLemmas.{packs_all, all_records}
@@ -97,7 +100,7 @@ module _ (t after : Tables) (u p used g : ℕ)
 
 -- what the tables and the log that was read make of the unit
 pub to_merge : (places : ℕ) (c : Chart) (it : Layout) (t : Tables) (u p g serial : ℕ)
-    (from : Source) (payloads closed : List (List ℕ)) (active : List ℕ) (log : List Record)
+    (from : Source) (payloads closed : List Versioned) (active : List ℕ) (log : List Record)
     → Mirrors places c it t → u + 4 < places → IsFree t.places p → p < places
     → from ≡ source_of t (it.units u) u → t.next ≤ g → g < serial → payloads ≡ closed
     → closed ≡ payloads_of (packs_of active log) → active ≡ t.active → log ≡ from.records
@@ -118,11 +121,11 @@ to_merge places c it t u p g serial from payloads closed active log mirrors low 
     }
 
 pub many_packs : (places : ℕ) (c : Chart) (it : Layout) (t : Tables) (u p g serial : ℕ)
-    (from : Source) (payloads : List (List ℕ))
+    (from : Source) (payloads : List Versioned)
     → IsToMerge places c it t u p g serial from payloads
     → length payloads ≡ length (packs_in t (it.units u))
 many_packs places c it t u p g serial from payloads what =
-    ap length what.carried ∙ length-map (packs_in t (it.units u)) log_bytes
+    ap length what.carried ∙ length-map (packs_in t (it.units u)) payload_of
 
 -- the tables tell of the unit there: its generation, and the masks of these packs
 pub record TellsPacks (t after : Tables) (u generation : ℕ) (packs : List (List Record)) : Type 0 where
@@ -132,7 +135,7 @@ pub record TellsPacks (t after : Tables) (u generation : ℕ) (packs : List (Lis
 
 -- those of the payloads are
 pub tells_packs : (places : ℕ) (c : Chart) (it : Layout) (t taken_t after : Tables) (u p g serial : ℕ) (from : Source)
-    (payloads : List (List ℕ)) (masks : List ℕ) → IsToMerge places c it t u p g serial from payloads
+    (payloads : List Versioned) (masks : List ℕ) → IsToMerge places c it t u p g serial from payloads
     → masks ≡ masks_of_payloads 15 payloads → TellsUnit taken_t after u g masks
     → taken_t.places ≡ with_use t.places p true → taken_t.overflow ≡ t.overflow
     → TellsPacks t after u g (packs_in t (it.units u))
@@ -144,10 +147,10 @@ tells_packs places c it t taken_t after u p g serial from payloads masks what ar
   elsewhere = told.elsewhere ∙ ap (λ (o : OverflowLists). slice_set o.masks u []) same;
 }
   where
-    valid : All (All IsRecord) (packs_in t (it.units u))
-    valid = λ k d low. All-weaker (λ r. IsRecord r × Contains t.active r.tid) IsRecord (λ r is. is.0) (get_or (packs_in t (it.units u)) k d)
-        (packs_all t.active (records_of (it.units u).log) IsRecord
-        (all_records (it.units u).log (λ k d low. ((what.mirrors.laid.each u what.low).log.each k d low).records.valid)) k d low)
+    valid : All (All (IsRecord VERSION)) (packs_in t (it.units u))
+    valid = λ k d low. All-weaker (λ r. IsRecord VERSION r × Contains t.active r.tid) (IsRecord VERSION) (λ r is. is.0) (get_or (packs_in t (it.units u)) k d)
+        (packs_all t.active (records_of (it.units u).log) (IsRecord VERSION)
+        (all_records (it.units u).log (λ k d low. all_stay _ _ ((what.mirrors.laid.each u what.low).log.each k d low).records.valid)) k d low)
 
 -- once the tables have it there
 pub merged_there : (places : ℕ) (it : Layout) (t : Tables) (u p g serial n : ℕ) (after : Tables)

@@ -2,6 +2,7 @@
 use Rattle.std.proofs.Common.{◌≡◌, ◌≢◌, ◌<◌, ◌≤◌, ◌+◌, ℕ, List, [], length, cond, eqb, replicate, inl, inr, refl, sym, ◌∙◌, arith, slice_index, slice_set, get_or-set_same, get_or-set_other}
 use Rattle.std.proofs.lemmas.Bool.{cases_eq, cases_lt, eq-eqb, ne_eqb}
 use Rattle.std.proofs.lemmas.List.{get_or-replicate, get_or_past, length-replicate}
+use Rattle.ipl_base.specs.declared.limits.TheConstants.{VERSION}
 use Rattle.ipl_format.specs.Page.{Slots, IsPage}
 use Rattle.ipl_format.specs.Place.{base_sector_of}
 use Rattle.ipl_meaning.specs.Chart.{Chart}
@@ -39,7 +40,7 @@ module _ (pieces : List ℕ) (k n : ℕ) (room : k < length pieces) (few : IsFew
 
   -- one page more
   pages_more : (p u g : ℕ) (slots : ℕ → Slots) (c mid y : Chart)
-      → HasPages p u g slots pieces k c mid → IsPage (slots k)
+      → HasPages p u g slots pieces k c mid → IsPage VERSION (slots k)
       → HasPage p u g k (slots k) n mid y → HasPages p u g slots later (k + 1) c y
   pages_more p u g slots c mid y before fits page_there = record {
     fits = λ page low. elim (cases_eq page k) [

@@ -56,7 +56,7 @@ pub record IsOverflowHead (units g : ℕ) (head : Sector) : Type 0 where
   pub kind : head.kind ≡ 3
   pub of_generation : head.generation ≡ g
   pub serial : head.serial ≡ g
-  pub counts : SpellsUnits units head.payload
+  pub counts : SpellsUnits head.version units head.payload
 
 opened_by : (p units g : ℕ) (c bare y : Chart) (head : Sector) → IsOverflowHead units g head
     → IsCleared p c bare → Gains p 0 head bare y → IsOpened p units g c y

@@ -4,6 +4,7 @@ use Rattle.std.proofs.lemmas.Bool.{false≢true, cases_Bool, cases_eq, and_parts
 use Rattle.std.proofs.lemmas.List.{length-map, length-set, get_or-map}
 use Rattle.std.proofs.Math.Seq.{drop-length}
 use Rattle.std.specs.List.{All}
+use Rattle.ipl_base.specs.declared.limits.TheConstants.{VERSION}
 use Rattle.ipl_format.specs.Page.{Slots, IsPage, value_in}
 use Rattle.ipl_format.specs.Record.{Record as LogRecord, IsRecord}
 use Rattle.ipl_meaning.specs.Values.{after_records, counts_for}
@@ -14,7 +15,7 @@ use Rattle.selective_merge.specs.Homes.{value_with}
 
 -- a record that counts does what it says
 pub counts_here : (committed : ℕ → Bool) (page slot : ℕ) (r : LogRecord) (old new : Slots)
-    → r.page ≡ page → committed r.tid ≡ true → r.slot < 64 → IsPage new
+    → r.page ≡ page → committed r.tid ≡ true → r.slot < 64 → IsPage VERSION new
     → new ≡ with_record old r
     → value_in new slot ≡ value_with committed page slot r (value_in old slot)
 counts_here committed page slot r old new here is low page_is applied =
@@ -65,7 +66,7 @@ applied_all committed page slot records i v all past is =
 
 -- an item of valid records is valid
 pub item_slot : (records : List Record) (i : ℕ) (r : Record)
-    → All IsRecord (map record_of records) → i < length records → r ≡ get_or records i r
+    → All (IsRecord VERSION) (map record_of records) → i < length records → r ≡ get_or records i r
     → r.slot < 64
 item_slot records i r valid low is =
     let at : get_or (map record_of records) i (record_of r) ≡ record_of r =

@@ -2,6 +2,7 @@
 use Rattle.std.proofs.Common.{◌≡◌, ◌≢◌, ◌<◌, ◌≤◌, ◌+◌, ℕ, List, length, true, false, None, Result, Ok, Err, IfErr, IfOk, is_ok, refl, ◌∙◌, ap, subst, arith, slice_index, slice_set}
 use Rattle.chip_trait.specs.Lawful.{Clean, age}
 use Rattle.chip_trait.specs.Told.{History, Told, Counts, adds_all}
+use Rattle.ipl_base.specs.declared.limits.TheConstants.{VERSION}
 use Rattle.ipl_base.specs.declared.fault.ChipFault.{ChipFault}
 use Rattle.ipl_rules.specs.State.{Map}
 use Rattle.ipl_format.specs.Page.{Slots, IsPage}
@@ -42,26 +43,26 @@ module _ (places : ℕ) (from : Source) (p g page : ℕ) where
       (reads_program (λ q s. q ≡ from.place) p (IsPieceSpot page 16) false old new did)
       (aside_none p)
 
-  module _ (base slots : Slots) (fits : IsPage base → IsPage slots)
+  module _ (base slots : Slots) (fits : IsPage VERSION slots)
       (rebased : IsRebased from.committed from.records page base slots) (old mid late : Told)
       (did : ReadsAt (λ q s. q ≡ from.place) old mid) (count : ℕ)
       (count_is : count ≡ slice_index from.pieces page) (unit : ℕ) (unit_is : unit ≡ from.unit)
       (held_with : OfContents old (λ x.
-      HoldsPage (chart_of x) from.place from.unit from.generation page count base)) where
+      HoldsPage (chart_of x) from.place from.version from.unit from.generation page count base)) where
     abbrev Held : Chart → Type 0
-    Held c = HoldsPage c from.place from.unit from.generation page
+    Held c = HoldsPage c from.place from.version from.unit from.generation page
         (slice_index from.pieces page) base
 
     held_there : OfContents old (λ x. Held (chart_of x))
     held_there x told = subst (λ (n : ℕ).
-        HoldsPage (chart_of x) from.place from.unit from.generation page n base) count_is
+        HoldsPage (chart_of x) from.place from.version from.unit from.generation page n base) count_is
         (held_with x told)
 
     moves : (n : ℕ) (c d y : Chart) → (d ≡ c) × Held c → HasPage p unit g page slots n d y
         → MovesPage from p g page n c y
     moves n c d y is has = record {
       new = slots;
-      fits = fits is.1.fits;
+      fits = fits;
       of = record { base = base; held = is.1; applied = rebased };
       has = subst (λ (k : ℕ). HasPage p k g page slots n c y) unit_is
           (subst (λ (z : Chart). HasPage p unit g page slots n z y) is.0 has);

@@ -4,12 +4,14 @@ use Rattle.std.specs.Bool.{OnTrue, OnFalse}
 use Rattle.std.specs.List.{list_any}
 use Rattle.std.proofs.lemmas.Bool.{cases_Bool, cases_lt, eqb-true, eq-eqb}
 use Rattle.std.proofs.lemmas.List.{take_all}
-use Rattle.ipl_format.specs.Record.{Record as LogRecord, IsRecord, SpellsLog, record_bytes}
+use Rattle.merge_rules.specs.Packs.{payload_of}
+use Rattle.ipl_base.specs.declared.limits.TheConstants.{VERSION}
+use Rattle.ipl_format.specs.Record.{Record as LogRecord, IsRecord, record_bytes}
 use Rattle.ipl_format.proofs.RecordLemmas.{records_have_sizes}
 use Rattle.log_records.specs.declared.record.Record.{Record}
-use Rattle.log_records.specs.View.{record_of}
-use Rattle.selective_merge.specs.Packing.{is_kept, IsAdded}
-use Rattle.selective_merge.proofs.CarryLemmas.{begun}
+use Rattle.log_records.specs.View.{record_of, Versioned}
+use Rattle.selective_merge.specs.Packing.{is_kept, IsAdded, IsPayload}
+use Rattle.selective_merge.proofs.CarryLemmas.{begun, with_entry}
 
 pub any_mapped : {X Y : Type 0} (p : Y → Bool) (f : X → Y) (xs : List X)
     → list_any (λ x. p (f x)) xs ≡ list_any p (map f xs)
@@ -40,22 +42,27 @@ never_false true P is = tt
 never_false false P is = absurd (cc is)
 
 -- a record fits into an empty payload
-pub fits_alone : (last : List ℕ) (r : LogRecord) → last ≡ [] → IsRecord r
-    → length last + length (record_bytes r) ≤ 480
+pub fits_alone : (last : Versioned) (r : LogRecord) → last ≡ payload_of [] → IsRecord VERSION r
+    → length last.bytes + length (record_bytes last.version r) ≤ 480
 fits_alone last r none is = let short = is.value in
-    omega (arith, ap length none, records_have_sizes r, short)
+    omega (
+      arith,
+      ap (λ (p : Versioned). length p.bytes) none,
+      records_have_sizes last.version r,
+      short,
+    )
 
 -- the next payload, behind one that was full
-pub begun_by : (closed after : List (List ℕ)) (full : List LogRecord) (r : LogRecord)
-    (last put_last empty then_last : List ℕ) → SpellsLog last full → IsRecord r
-    → 480 < length last + length (record_bytes r) → put_last ≡ last
-    → after ≡ closed ++ put_last ∷ [] → empty ≡ []
-    → then_last ≡ empty ++ record_bytes r → IsAdded closed full r after then_last
+pub begun_by : (closed after : List Versioned) (full : List LogRecord) (r : LogRecord)
+    (last put_last empty then_last : Versioned) → IsPayload last full → IsRecord VERSION r
+    → 480 < length last.bytes + length (record_bytes last.version r) → put_last ≡ last
+    → after ≡ closed ++ put_last ∷ [] → empty ≡ payload_of []
+    → then_last ≡ with_entry empty r → IsAdded closed full r after then_last
 begun_by closed after full r last put_last empty then_last spelled is over same moved none put =
-    subst (λ (l : List (List ℕ)). IsAdded closed full r l then_last)
-    (sym (moved ∙ ap (λ (b : List ℕ). closed ++ b ∷ []) same))
+    subst (λ (l : List Versioned). IsAdded closed full r l then_last)
+    (sym (moved ∙ ap (λ (b : Versioned). closed ++ b ∷ []) same))
     (begun closed full r last then_last spelled is over
-    (put ∙ ap (λ (l : List ℕ). l ++ record_bytes r) none))
+    (put ∙ ap (λ (l : Versioned). with_entry l r) none))
 
 slice_rest : {X : Type 0} (xs : List X) (n : ℕ) → take (length xs - n) (drop n xs) ≡ drop n xs
 slice_rest xs n = take_all (length xs - n) (drop n xs) (omega (arith, length-drop n xs))

@@ -4,10 +4,11 @@ use Rattle.std.proofs.lemmas.List.{length-map}
 use Rattle.chip_trait.specs.Chart.{with_sector}
 use Rattle.chip_trait.specs.Lawful.{Clean, age}
 use Rattle.chip_trait.specs.Told.{History, Told, Counts, adds_all}
+use Rattle.log_records.specs.View.{Versioned}
+use Rattle.merge_rules.specs.Packs.{payload_of}
 use Rattle.ipl_base.specs.declared.fault.ChipFault.{ChipFault}
 use Rattle.ipl_rules.specs.State.{Map}
 use Rattle.ipl_format.specs.Header.{SpellsDataHeader, data_header_bytes}
-use Rattle.ipl_format.specs.Record.{log_bytes}
 use Rattle.ipl_format.specs.Sector.{Sector}
 use Rattle.ipl_meaning.specs.Chart.{Chart}
 use Rattle.ipl_meaning.specs.Layout.{Layout, Laid, Shape, records_of}
@@ -73,6 +74,7 @@ says_of places c it m laid stands =
           units there in record {
             base = here.base;
             reads = here.reads;
+            room = here.room;
             says = λ slot small. here.says slot small
                 ∙ sym (same_applied it.committed stands.layout.committed page slot
                 (records_of (it.units u).log) _ (λ k d within. sym (one.committed _)));
@@ -82,7 +84,7 @@ says_of places c it m laid stands =
 
 -- ---- a unit written
 
-module _ (places units p g serial carried : ℕ) (from : Source) (payloads : List (List ℕ))
+module _ (places units p g serial carried : ℕ) (from : Source) (payloads : List Versioned)
     (pieces : List ℕ) (sized : units + 4 ≡ places) (few : IsFew pieces)
     (carried_is : carried ≡ length payloads) where
   -- what is known of a place that was filled gives what a merge asks
@@ -96,13 +98,14 @@ module _ (places units p g serial carried : ℕ) (from : Source) (payloads : Lis
       let all : units ≡ places - 4 = omega (arith, sized) in
       let gen : head.generation ≡ g = is.of_generation in
       let many : length payloads ≡ length (packs_in t (it.units u)) =
-      ap length what.carried ∙ length-map (packs_in t (it.units u)) log_bytes in record {
+      ap length what.carried ∙ length-map (packs_in t (it.units u)) payload_of in record {
         mirrors = what.mirrors;
         low = what.low;
         free = what.free;
         within = what.within;
         head_is = record {
           kind = is.kind;
+          version = is.version;
           of_unit = is.of_unit ∙ unit;
           of_generation = refl;
           serial = is.serial ∙ sym gen;
@@ -110,14 +113,14 @@ module _ (places units p g serial carried : ℕ) (from : Source) (payloads : Lis
               (length (packs_in t (it.units u)))) all
               (subst (λ (k : ℕ). head.payload ≡ data_header_bytes units pieces k)
               (carried_is ∙ many) is.payload);
-          counts = subst (λ (k : ℕ). SpellsDataHeader k pieces head.payload) all is.counts;
+          counts = subst (λ (k : ℕ). SpellsDataHeader head.version k pieces head.payload) all is.counts;
         };
         new = omega (arith, what.new, gen);
         later = omega (arith, what.later, gen);
         few = few;
         twelve = omega (arith, what.twelve, many);
         filled = subst
-            (λ (l : List (List ℕ)). IsFilled (source_of t (it.units u) u) p head.generation serial
+            (λ (l : List Versioned). IsFilled (source_of t (it.units u) u) p head.generation serial
             pieces l c y) what.carried
             (subst (λ (s : Source). IsFilled s p head.generation serial pieces payloads c y)
             what.source
@@ -207,7 +210,7 @@ module _ (places units p g serial carried : ℕ) (from : Source) (payloads : Lis
       each (Err e) = tt
 
 -- the place wasn't filled
-pub fill_failed : (places p g serial : ℕ) (from : Source) (payloads : List (List ℕ)) (m : Map)
+pub fill_failed : (places p g serial : ℕ) (from : Source) (payloads : List Versioned) (m : Map)
     (it : Layout) (t : Tables) (u : ℕ) (h : History) (old new : Told) (e f : ChipFault)
     → KeepsThroughout {T = List ℕ} places m (Fills p (length payloads))
     (λ pieces. IsFilled from p g serial pieces payloads) (IsUnsealed p) h (Err e) old new

@@ -30,7 +30,7 @@ use Rattle.selective_merge.proofs.ThroughoutLemmas.{settled_later}
 -- the unit that was read is the one that is merged
 pub source_is : (home : Home) (t : Tables) (it : Shape) (u : ℕ) (log : List Record)
     → IsHomeOf home it u log → from_home home t.status.numbers log ≡ source_of t it u
-source_is home t it u log is = rw (is.place, is.unit, is.generation, is.pieces, is.log_is) refl
+source_is home t it u log is = rw (is.place, is.version, is.unit, is.generation, is.pieces, is.log_is) refl
 
 -- ---- a call that failed, where only reads were made
 

@@ -5,6 +5,7 @@ use Rattle.std.proofs.lemmas.Bool.{cases_Bool, cases_eq, and_parts, eqb-true, eq
 use Rattle.chip_trait.specs.Chart.{with_sector}
 use Rattle.chip_trait.specs.Lawful.{Clean, age}
 use Rattle.chip_trait.specs.Told.{History, Told, adds_all}
+use Rattle.log_records.specs.View.{Versioned}
 use Rattle.ipl_base.specs.declared.fault.ChipFault.{ChipFault}
 use Rattle.ipl_format.specs.Sector.{Sector}
 use Rattle.ipl_rules.specs.State.{Map}
@@ -15,7 +16,7 @@ use Rattle.unit_io.specs.Leads.{IsSteady}
 use Rattle.unit_io.specs.Spots.{Programs, IsSpot}
 use Rattle.unit_io.proofs.LeadsLemmas.{leads_none, leads_then, leads_failed}
 use Rattle.unit_io.proofs.SpotLemmas.{programs_none, programs_then, programs_wider}
-use Rattle.merge_rules.specs.Packs.{log_sector, IsLogSpotBelow, HasLogs}
+use Rattle.merge_rules.specs.Packs.{log_sector, IsLogSpotBelow, HasLogs, payload_of}
 use Rattle.merge_rules.specs.Moved.{IsAside}
 use Rattle.selective_merge.specs.Writing.{WritesLog, KeepsLogs}
 
@@ -32,14 +33,14 @@ put_apart c p s sector q t apart = elim (cases_Bool (eqb p q && eqb s t)) [
   | inr none ↦ rw none refl
 ]
 
-pub logs_none : (p u g serial : ℕ) (payloads : List (List ℕ)) (c : Chart)
+pub logs_none : (p u g serial : ℕ) (payloads : List Versioned) (c : Chart)
     → HasLogs p u g serial payloads 0 c c
 logs_none p u g serial payloads c =
     record { here = λ i low. absurd (omega (arith, low)); others = λ q s apart. refl }
 
-pub logs_more : (p u g serial : ℕ) (payloads : List (List ℕ)) (k : ℕ) (c mid y : Chart)
+pub logs_more : (p u g serial : ℕ) (payloads : List Versioned) (k : ℕ) (c mid y : Chart)
     → HasLogs p u g serial payloads k c mid
-    → Gains p (241 + k) (log_sector u g (serial + k) (slice_index_or payloads k [])) mid y
+    → Gains p (241 + k) (log_sector u g (serial + k) (slice_index_or payloads k (payload_of [])).bytes) mid y
     → HasLogs p u g serial payloads (k + 1) c y
 logs_more p u g serial payloads k c mid y before gains = record {
   here = λ i low. elim (cases_eq i k) [
@@ -53,14 +54,14 @@ logs_more p u g serial payloads k c mid y before gains = record {
 }
 
 -- the header is as it was
-pub logs_aside : (p u g serial : ℕ) (payloads : List (List ℕ)) (k : ℕ) (c y : Chart)
+pub logs_aside : (p u g serial : ℕ) (payloads : List Versioned) (k : ℕ) (c y : Chart)
     → HasLogs p u g serial payloads k c y → IsAside p c y
 logs_aside p u g serial payloads k c y logs = record {
   header = logs.others p 0 (λ same is. omega (arith, is.0));
   others = λ q s apart. logs.others q s (λ same. absurd (apart same));
 }
 
-module _ (places p u g serial : ℕ) (payloads : List (List ℕ)) (m : Map) (h : History) where
+module _ (places p u g serial : ℕ) (payloads : List Versioned) (m : Map) (h : History) where
   pub keeps_none : (t : Told) → IsSteady h t → StoryRests places m h
       → KeepsLogs places p u g serial payloads 0 m h t (Ok tt) t
   keeps_none t steady rests =
@@ -75,10 +76,10 @@ module _ (places p u g serial : ℕ) (payloads : List (List ℕ)) (m : Map) (h :
       → (result : Result (Unit {0}) ChipFault)
       → KeepsLogs places p u g serial payloads i m h old (Ok tt) mid
       → WritesLog places p (241 + i)
-      (log_sector u g (serial + i) (slice_index_or payloads i [])) mid result new
+      (log_sector u g (serial + i) (slice_index_or payloads i (payload_of [])).bytes) mid result new
       → KeepsLogs places p u g serial payloads (i + 1) m h old result new
   keeps_more total i few bare clean old mid new result so one =
-      let sector = log_sector u g (serial + i) (slice_index_or payloads i []) in
+      let sector = log_sector u g (serial + i) (slice_index_or payloads i (payload_of [])).bytes in
       let k = adds_all so.added h in
       leads_then (EachStands places m) (Programs p (IsLogSpotBelow i))
       (Programs p (IsSpot (241 + i))) (Programs p (IsLogSpotBelow (i + 1)))

@@ -19,6 +19,7 @@ use Rattle.selective_merge.specs.declared.home.Home.{Home}
 abbrev pub from_home : Home → List ℕ → List Record → Source
 from_home home numbers records = record {
   place = home.place;
+  version = home.head.version;
   unit = home.head.unit;
   generation = home.head.generation;
   pieces = home.pieces;
@@ -36,6 +37,7 @@ value_with committed page slot r value =
 -- the unit stands there, with this header and these records
 pub record IsHomeOf (home : Home) (it : Shape) (u : ℕ) (log : List Record) : Type 0 where
   pub place : home.place ≡ it.home
+  pub version : home.head.version ≡ it.head.version
   pub unit : home.head.unit ≡ u
   pub generation : home.head.generation ≡ it.head.generation
   pub pieces : home.pieces ≡ it.pieces

@@ -32,7 +32,7 @@ pub record IsOpened (p units generation : ℕ) (c y : Chart) : Type 0 where
   pub kind : head.kind ≡ 3
   pub of_generation : head.generation ≡ generation
   pub serial : head.serial ≡ generation
-  pub counts : SpellsUnits units head.payload
+  pub counts : SpellsUnits head.version units head.payload
   pub gains : Gains p 0 head bare y
 
 -- a free place, opened

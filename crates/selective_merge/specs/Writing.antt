@@ -1,5 +1,6 @@
 -- What the calls leave that write a unit to a place: page by page, sector by sector, and sealed.
 use Rattle.std.specs.Prelude.{ℕ, ◌≡◌, ◌≢◌, ◌⊎◌, ◌≤◌, ◌+◌, List, [], ◌++◌, length, Bool, true, None, Result}
+use Rattle.log_records.specs.View.{Versioned}
 use Rattle.ipl_base.specs.declared.limits.TheConstants.{PAGES, PAGE_SECTORS, FIRST_LOG_SECTOR}
 use Rattle.chip_trait.specs.Chart.{with_sector}
 use Rattle.chip_trait.specs.Lawful.{Clean, age, IsLawful}
@@ -64,14 +65,14 @@ WritesLog places p s sector old result new = (m : Map) (h : History)
     → KeepsMap places m (Programs p (IsSpot s)) (λ done. Gains p s sector) h old result new
 
 -- the first n log sectors with these payloads
-abbrev pub KeepsLogs : ℕ → ℕ → ℕ → ℕ → ℕ → List (List ℕ) → ℕ → Map
+abbrev pub KeepsLogs : ℕ → ℕ → ℕ → ℕ → ℕ → List Versioned → ℕ → Map
     → History → Told → Result (Unit {0}) ChipFault → Told → Type 0
 KeepsLogs places p u generation serial payloads n m h old result new =
     KeepsMap places m (Programs p (IsLogSpotBelow n))
     (λ done. HasLogs p u generation serial payloads n) h old result new
 
 -- all of them
-abbrev pub WritesLogs : ℕ → ℕ → ℕ → ℕ → ℕ → List (List ℕ)
+abbrev pub WritesLogs : ℕ → ℕ → ℕ → ℕ → ℕ → List Versioned
     → Told → Result (Unit {0}) ChipFault → Told → Type 0
 WritesLogs places p u generation serial payloads old result new = (m : Map) (h : History)
     → IsSteady h old → StoryRests places m h → now h p 0 ≡ None
@@ -81,7 +82,7 @@ WritesLogs places p u generation serial payloads old result new = (m : Map) (h :
 -- ---- the whole place
 
 -- an idle place, filled
-abbrev pub FillsPlace : ℕ → Source → ℕ → ℕ → ℕ → List (List ℕ)
+abbrev pub FillsPlace : ℕ → Source → ℕ → ℕ → ℕ → List Versioned
     → Told → Result (List ℕ) ChipFault → Told → Type 0
 FillsPlace places from p generation serial payloads old result new =
     (m : Map) (it : Layout) (h : History)
@@ -106,7 +107,7 @@ SealsUnit places p units u generation pieces carried old result new = (m : Map) 
     (λ done. IsSealed p units u generation pieces carried) h old result new
 
 -- a unit, written to a place that is free
-abbrev pub WritesUnit : ℕ → Source → ℕ → ℕ → ℕ → List (List ℕ)
+abbrev pub WritesUnit : ℕ → Source → ℕ → ℕ → ℕ → List Versioned
     → Told → Result (Unit {0}) ChipFault → Told → Type 0
 WritesUnit places from p generation serial payloads old result new =
     (m : Map) (it : Layout) (t : Tables) (u : ℕ) (h : History)
@@ -116,7 +117,7 @@ WritesUnit places from p generation serial payloads old result new =
     (λ done c y. IsWritten places c y it t u p generation serial) (IsUnsealed p) h result old new
 
 -- whatever layout and tables asked for it
-abbrev pub TellsWritten : ℕ → Source → ℕ → ℕ → ℕ → List (List ℕ) → Chart → Chart → Type 0
+abbrev pub TellsWritten : ℕ → Source → ℕ → ℕ → ℕ → List Versioned → Chart → Chart → Type 0
 TellsWritten places from p generation serial payloads c y = (it : Layout) (t : Tables) (u : ℕ)
     → IsToMerge places c it t u p generation serial from payloads
     → IsWritten places c y it t u p generation serial

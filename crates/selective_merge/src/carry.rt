@@ -2,7 +2,7 @@
 ghost use Rattle.std.specs.Prelude.{◌≡◌, ◌<◌, ◌+◌, List, All, map, drop, length};
 ghost use Rattle.std.specs.Bool.{OnTrue, OnFalse};
 ghost use Rattle.std.specs.List.{list_any};
-ghost use Rattle.ipl_base.specs.declared.limits.TheConstants.{CARRIED_SECTORS};
+ghost use Rattle.ipl_base.specs.declared.limits.TheConstants.{CARRIED_SECTORS, VERSION};
 ghost use Rattle.ipl_format.specs.Record.{IsRecord, Record as LogRecord};
 ghost use Rattle.ipl_meaning.specs.Last.{pack, carried};
 ghost use Rattle.ipl_meaning.specs.Values.{counts_for};
@@ -34,7 +34,7 @@ fn is_kept(logged: &Record, later: &[Record], active: &Active) -> bool
 /// payloads.
 fn carry_one(records: &[Record], i: usize, active: &Active, packs: &mut Packs) -> bool
     requires within { i < length records.now }
-    requires valid { All IsRecord (map record_of records.now) }
+    requires valid { All (IsRecord VERSION) (map record_of records.now) }
     ensures packs { (all : List LogRecord)
         → IsPacking (among active.now) all (map record_of (drop i records.now))
         packs.old.closed.items packs.old.last

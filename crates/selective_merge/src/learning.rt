@@ -17,6 +17,7 @@ use unit_log::{UnitHead, read_live};
 /// Where a unit stands whose header says this.
 fn home_at(place: u32, unit: u32, head: UnitHead) -> Home
     ensures place { result.place ≡ place }
+    ensures version { result.head.version ≡ head.version }
     ensures unit { result.head.unit ≡ unit }
     ensures generation { result.head.generation ≡ head.generation }
     ensures pieces { result.pieces ≡ head.pieces }
@@ -26,6 +27,7 @@ fn home_at(place: u32, unit: u32, head: UnitHead) -> Home
         place,
         head: Head {
             kind: Head::DATA_HEADER,
+            version: head.version,
             unit,
             generation: head.generation,
             serial: head.generation,

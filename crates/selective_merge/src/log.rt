@@ -1,6 +1,6 @@
 //! The records of a unit's live log sectors, in their order.
 ghost use Rattle.std.specs.Prelude.{◌≡◌, ◌<◌, ◌≤◌, ◌+◌, ◌++◌, [], ◌∷◌, All, length, map, IfOk};
-ghost use Rattle.ipl_base.specs.declared.limits.TheConstants.{LIVE_RECORDS, LIVE_SECTORS};
+ghost use Rattle.ipl_base.specs.declared.limits.TheConstants.{LIVE_RECORDS, LIVE_SECTORS, VERSION};
 ghost use Rattle.ipl_format.specs.Record.{IsRecord};
 ghost use Rattle.log_records.specs.Reading.{records_of};
 ghost use Rattle.log_records.specs.View.{record_of};
@@ -21,7 +21,7 @@ pub struct Log {
 
 impl Model for Log {
     ghost use Rattle.std.specs.Prelude.{List, ◌≤◌, All, length, map, vec_capacity};
-    ghost use Rattle.ipl_base.specs.declared.limits.TheConstants.{LIVE_RECORDS};
+    ghost use Rattle.ipl_base.specs.declared.limits.TheConstants.{LIVE_RECORDS, VERSION};
     ghost use Rattle.ipl_format.specs.Record.{Record as LogRecord, IsRecord};
     ghost use Rattle.log_records.specs.View.{record_of};
 
@@ -30,7 +30,7 @@ impl Model for Log {
     ghost view = { λ l. map record_of l.records.items };
 
     ghost invariant = { λ l. (LIVE_RECORDS ≤ vec_capacity l.records)
-        × All IsRecord (map record_of l.records.items) };
+        × All (IsRecord VERSION) (map record_of l.records.items) };
 }
 
 impl Log {
@@ -45,7 +45,7 @@ impl Log {
     /// The records.
     pub fn records(&self) -> &[Record]
         ensures records { map record_of result.now ≡ self.now }
-        ensures valid { All IsRecord (map record_of result.now) }
+        ensures valid { All (IsRecord VERSION) (map record_of result.now) }
     {
         &self.records
     }
@@ -53,7 +53,7 @@ impl Log {
     /// Puts a record behind the others, of which there are fewer than 1240.
     fn push(&mut self, logged: Record)
         requires room { length self.old < LIVE_RECORDS }
-        requires valid { IsRecord (record_of logged) }
+        requires valid { IsRecord VERSION (record_of logged) }
         ensures { self.new ≡ self.old ++ record_of logged ∷ [] }
     {
         self.records.push_reserved(logged);
@@ -62,7 +62,7 @@ impl Log {
     /// Puts the records of a payload behind the others, of which there are at most 1200.
     fn push_all(&mut self, payload: &Payload)
         requires { length self.old ≤ 1200 }
-        ensures all { self.new ≡ self.old ++ records_of payload.now }
+        ensures all { self.new ≡ self.old ++ records_of payload.now.version payload.now.bytes }
         ensures few { length self.new ≤ length self.old + 40 }
     {
         let _ = payload.bytes();

@@ -10,7 +10,7 @@ ghost use Rattle.merge_rules.specs.Packs.{log_sector, IsLogSpotBelow, HasLogs};
 ghost use Rattle.selective_merge.specs.Writing.{WritesLog, WritesLogs};
 
 use chip_trait::Chip;
-use ipl_base::{ChipFault, Counter, Spot};
+use ipl_base::{ChipFault, Counter, Spot, VERSION};
 use log_records::Payload;
 use sector_format::Head;
 use unit_io::program_log;
@@ -29,10 +29,10 @@ fn write_log<C: Chip>(
     requires i { i < 15 }
     requires left { counter.old + 1 < 2 ^ 64 }
     ensures writes { WritesLog (C.told chip.old).places place (241 + i)
-        (log_sector head.now.unit head.now.generation counter.old payload.now)
+        (log_sector head.now.unit head.now.generation counter.old payload.now.bytes)
         (C.told chip.old) result (C.told chip.new) }
     ensures tells { OnOk result (Charts (Gains place (241 + i)
-        (log_sector head.now.unit head.now.generation counter.old payload.now))
+        (log_sector head.now.unit head.now.generation counter.old payload.now.bytes))
         (C.told chip.old) (C.told chip.new)) }
     ensures spares { OnOk result (Spares place (C.told chip.old) (C.told chip.new)) }
     ensures drawn { counter.new ≡ counter.old + 1 }
@@ -43,6 +43,7 @@ fn write_log<C: Chip>(
 {
     let log = Head {
         kind: Head::LOG,
+        version: VERSION,
         unit: head.unit,
         generation: head.generation,
         serial: counter.draw(),

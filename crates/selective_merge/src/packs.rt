@@ -1,11 +1,11 @@
 //! Payloads of log sectors, filled one after another.
 ghost use Rattle.std.specs.Prelude.{◌≡◌, ◌<◌, ◌≤◌, ◌++◌, [], ◌∷◌, List, length, IfOk, vec_capacity};
 ghost use Rattle.std.specs.Bool.{OnTrue, OnFalse};
-ghost use Rattle.ipl_base.specs.declared.limits.TheConstants.{CARRIED_SECTORS};
-ghost use Rattle.ipl_format.specs.Record.{SpellsLog, IsRecord, Record as LogRecord};
+ghost use Rattle.ipl_base.specs.declared.limits.TheConstants.{CARRIED_SECTORS, VERSION};
+ghost use Rattle.ipl_format.specs.Record.{IsRecord, Record as LogRecord};
 ghost use Rattle.log_records.specs.View.{record_of};
-ghost use Rattle.merge_rules.specs.Packs.{payloads_of};
-ghost use Rattle.selective_merge.specs.Packing.{pack_open, IsAdded, masks_of_payloads};
+ghost use Rattle.merge_rules.specs.Packs.{payload_of, payloads_of};
+ghost use Rattle.selective_merge.specs.Packing.{pack_open, IsAdded, IsPayload, masks_of_payloads};
 
 use ipl_base::{CARRIED_SECTORS, OutOfMemory};
 use log_records::{Payload, Record, put};
@@ -20,6 +20,7 @@ pub struct Packs {
     last: Payload,
     ghost room: { CARRIED_SECTORS ≤ vec_capacity closed },
     ghost few: { length closed.items ≤ CARRIED_SECTORS },
+    ghost version: { last.version ≡ VERSION },
 }
 
 impl Packs {
@@ -37,7 +38,7 @@ impl Packs {
     /// Makes it as `new` does.
     pub fn clear(&mut self)
         ensures closed { self.new.closed.items ≡ [] }
-        ensures last { self.new.last ≡ [] }
+        ensures last { self.new.last ≡ payload_of [] }
     {
         self.closed.clear();
         self.last = Payload::empty();
@@ -55,7 +56,7 @@ impl Packs {
     fn close(&mut self) -> bool
         ensures closed { OnTrue result
             (self.new.closed.items ≡ self.old.closed.items ++ self.old.last ∷ []) }
-        ensures last { OnTrue result (self.new.last ≡ []) }
+        ensures last { OnTrue result (self.new.last ≡ payload_of []) }
         ensures full { OnFalse result (CARRIED_SECTORS ≤ length self.old.closed.items) }
     {
         if self.closed.len() >= CARRIED_SECTORS {
@@ -69,11 +70,11 @@ impl Packs {
     /// Puts a record behind the others, where it fits; else that payload is full, and the record
     /// begins the next. False exactly where 12 are full and one more would be.
     pub fn add(&mut self, logged: &Record) -> bool
-        requires { IsRecord (record_of logged.now) }
-        ensures adds { (full : List LogRecord) → SpellsLog self.old.last full
+        requires { IsRecord VERSION (record_of logged.now) }
+        ensures adds { (full : List LogRecord) → IsPayload self.old.last full
             → OnTrue result (IsAdded self.old.closed.items full (record_of logged.now)
             self.new.closed.items self.new.last) }
-        ensures full { (full rest : List LogRecord) → SpellsLog self.old.last full
+        ensures full { (full rest : List LogRecord) → IsPayload self.old.last full
             → OnFalse result (CARRIED_SECTORS < length (self.old.closed.items
             ++ payloads_of (pack_open full (record_of logged.now ∷ rest)))) }
     {
@@ -88,10 +89,10 @@ impl Packs {
 
     /// The last payload is full, unless it has no record. False exactly where 12 were full before.
     pub fn finish(&mut self) -> bool
-        ensures done { (full : List LogRecord) → SpellsLog self.old.last full
+        ensures done { (full : List LogRecord) → IsPayload self.old.last full
             → OnTrue result (self.new.closed.items
             ≡ self.old.closed.items ++ payloads_of (pack_open full [])) }
-        ensures full { (full : List LogRecord) → SpellsLog self.old.last full
+        ensures full { (full : List LogRecord) → IsPayload self.old.last full
             → OnFalse result (CARRIED_SECTORS < length (self.old.closed.items
             ++ payloads_of (pack_open full []))) }
     {

@@ -1,6 +1,6 @@
 //! The pages of a unit, moved to another place with the committed records applied.
 ghost use Rattle.std.specs.Prelude.{◌≡◌, ◌≢◌, ◌<◌, ◌≤◌, ◌↔◌, ℕ, is_ok, IfOk, OnOk};
-ghost use Rattle.ipl_base.specs.declared.limits.TheConstants.{PAGE_SECTORS};
+ghost use Rattle.ipl_base.specs.declared.limits.TheConstants.{PAGE_SECTORS, VERSION};
 ghost use Rattle.ipl_format.specs.Page.{IsPage, value_in};
 ghost use Rattle.log_records.specs.View.{record_of};
 ghost use Rattle.unit_io.specs.Accounts.{Accounts};
@@ -40,7 +40,6 @@ fn apply_if(slots: &mut PageMap, page: u32, logged: &Record, status: &Status)
     ensures applied { (slot : ℕ) → value_in slots.new slot
         ≡ value_with (among status.now.numbers) page slot (record_of logged.now)
         (value_in slots.old slot) }
-    ensures page { IsPage slots.old → IsPage slots.new }
 {
     if logged.page == page && is_committed(status, logged.tid) {
         apply(slots, logged);
@@ -50,11 +49,13 @@ fn apply_if(slots: &mut PageMap, page: u32, logged: &Record, status: &Status)
 /// Applies the records of a page (0 to 14) whose numbers are committed, in their order.
 fn apply_committed(slots: &mut PageMap, page: u32, log: &Log, status: &Status)
     ensures rebased { IsRebased (among status.now.numbers) log.now page slots.old slots.new }
-    ensures page { IsPage slots.old → IsPage slots.new }
+    ensures page { IsPage VERSION slots.new }
 {
     for logged in log.records() {
         apply_if(slots, page, logged, status);
     }
+    // What is kept in memory as a text has room for it.
+    let _ = slots.text();
 }
 
 /// Reads a page (0 to 14) where the unit stands into a page in memory, and programs it as the

@@ -1,6 +1,6 @@
 //! A unit written to a place that was free.
 ghost use Rattle.std.specs.Prelude.{◌≡◌, ◌≢◌, ◌<◌, ◌≤◌, ◌+◌, ◌^◌, length, is_ok, IfOk, OnOk};
-ghost use Rattle.ipl_base.specs.declared.limits.TheConstants.{CARRIED_SECTORS};
+ghost use Rattle.ipl_base.specs.declared.limits.TheConstants.{CARRIED_SECTORS, VERSION};
 ghost use Rattle.unit_io.specs.Accounts.{Accounts};
 ghost use Rattle.unit_io.specs.Charts.{Charts, Spares};
 ghost use Rattle.unit_io.specs.Costs.{ErasesOnce, ProgramsAt, Spends};
@@ -20,7 +20,7 @@ use crate::log::Log;
 use crate::logs::write_logs;
 use crate::pages::move_pages;
 use chip_trait::Chip;
-use ipl_base::{ChipFault, Counter};
+use ipl_base::{ChipFault, Counter, VERSION};
 use log_records::Payload;
 use sector_format::Head;
 use txn_status::Status;
@@ -88,6 +88,7 @@ fn seal_unit<C: Chip>(
     requires twelve { carried ≤ CARRIED_SECTORS }
     requires kind { head.now.kind ≡ 1 }
     requires serial { head.now.serial ≡ head.now.generation }
+    requires version { head.now.version ≡ VERSION }
     ensures seals { SealsUnit (C.told chip.old).places place units head.now.unit
         head.now.generation pieces carried (C.told chip.old) result (C.told chip.new) }
     ensures tells { OnOk result (Charts
@@ -159,6 +160,7 @@ pub fn write_unit<C: Chip>(
 {
     let head = Head {
         kind: Head::DATA_HEADER,
+        version: VERSION,
         unit: home.head.unit,
         generation,
         serial: generation,

@@ -19,6 +19,7 @@ shows_for : (c : Chart) (committed other : ℕ → Bool) (u page : ℕ) (shape :
 shows_for c committed other u page shape now same was = record {
   base = was.base;
   reads = was.reads;
+  room = was.room;
   says = λ slot less. was.says slot less
       ∙ same_applied committed other page slot (records_of shape.log) (value_in was.base slot)
       (λ k d within. sym (same _));

@@ -23,7 +23,7 @@ records_are_logged c places u home generation [] each = refl
 records_are_logged c places u home generation (e ∷ log) each =
     let P = IsEntry c places u home generation in
     ap₂ (λ (a b : List Record). a ++ b)
-    (records_list e.records e.sector.payload (All-head P e log each).records)
+    (records_list e.sector.version e.records e.sector.payload (All-head P e log each).records)
     (records_are_logged c places u home generation log (All-tail P e log each))
 
 -- ---- what is kept

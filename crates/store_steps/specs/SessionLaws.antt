@@ -1,6 +1,6 @@
 -- What commands leave that a store does in memory alone.
 use Rattle.std.specs.Prelude.{ℕ, ◌≡◌, ◌<◌, ◌≤◌, ◌+◌, ◌-◌, List, [], length, Some, None, Ok}
-use Rattle.ipl_base.specs.declared.limits.TheConstants.{RESERVED_PLACES}
+use Rattle.ipl_base.specs.declared.limits.TheConstants.{RESERVED_PLACES, VERSION}
 use Rattle.chip_trait.specs.Told.{Told}
 use Rattle.ipl_base.specs.declared.fault.ChipFault.{ChipFault}
 use Rattle.ipl_rules.specs.Operations as rules
@@ -41,7 +41,7 @@ abbrev pub WritesLead : Type 0
 WritesLead = (s u : ℕ) (r : Record) (f g : Frame) (before : Memory) (old : Told)
     → s < length before.slots → number_of before.slots s ≡ Some r.tid
     → u < old.places - RESERVED_PLACES
-    → IsRecord r → before.frames u r.page ≡ Some f → IsWrittenFrame r f g
+    → IsRecord VERSION r → before.frames u r.page ≡ Some f → IsWrittenFrame r f g
     → LocksHold (after_write before.slots s (name_at u r.page r.slot))
     → LeadsTo {T = Unit {0}} {E = ChipFault}
     (λ state. rules.after_write state s (name_at u r.page r.slot, r.change)) before old (Ok tt)

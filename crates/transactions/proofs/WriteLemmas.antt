@@ -2,6 +2,7 @@
 use Rattle.std.proofs.Common.{◌≡◌, ℕ, ◌<◌, ◌-◌, ◌*◌, Some, IsSome, Ok, inl, inr, refl, sym, ◌∙◌, ap, subst, arith}
 use Rattle.chip_trait.specs.Told.{Told}
 use Rattle.chip_trait.proofs.CountsLemmas.{counts_none}
+use Rattle.ipl_base.specs.declared.limits.TheConstants.{VERSION}
 use Rattle.ipl_base.specs.declared.fault.ChipFault.{ChipFault}
 use Rattle.ipl_base.specs.Places.{home_of}
 use Rattle.ipl_base.specs.declared.spot.Home.{Home}
@@ -84,7 +85,7 @@ prepared_asks pages n at r before after home page asks =
 -- a record was put behind those of its page
 pub was_put : (s n u : ℕ) (r : Record) (old new : Transactions) (told : Told)
     → IsInOrder told.places old → s < 32 → number_of old.sessions s ≡ Some r.tid
-    → u < told.places - 4 → IsRecord r → name_at u r.page r.slot ≡ n
+    → u < told.places - 4 → IsRecord VERSION r → name_at u r.page r.slot ≡ n
     → new.sessions ≡ after_write old.sessions s n → LocksHold new.sessions
     → new.pages.parts ≡ old.pages.parts
     → FrameChanges (IsWrittenFrame r) (frames_in old.pages) (frames_in new.pages) u r.page
@@ -127,7 +128,7 @@ was_put s n u r old new told order low mine of_unit valid home slots locks parts
 -- after the record's page was brought into its frame
 pub was_written : (s n u : ℕ) (r : Record) (old new : Transactions) (mid : Pages)
     (before after : Told) → IsInOrder before.places old → s < 32 → number_of old.sessions s ≡ Some r.tid
-    → n < 960 * (before.places - 4) → n ≡ name_at u r.page r.slot → IsRecord r
+    → n < 960 * (before.places - 4) → n ≡ name_at u r.page r.slot → IsRecord VERSION r
     → Upholds 14 old.pages before (Ok (tt {0})) mid after
     → new.sessions ≡ after_write old.sessions s n → LocksHold new.sessions
     → new.pages.parts ≡ mid.parts

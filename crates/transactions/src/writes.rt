@@ -1,6 +1,6 @@
 //! A name is changed.
 ghost use Rattle.std.specs.Prelude.{◌≡◌, ◌<◌, ◌+◌, ◌-◌, ◌*◌, ◌^◌, ◌≤◌, length, None, OnOk};
-ghost use Rattle.ipl_base.specs.declared.limits.TheConstants.{VALUE_LEN};
+ghost use Rattle.ipl_base.specs.declared.limits.TheConstants.{VALUE_LEN, VERSION, SESSIONS};
 ghost use Rattle.ipl_base.specs.Places.{home_of};
 ghost use Rattle.ipl_format.specs.Record.{IsRecord, value_of};
 ghost use Rattle.log_records.specs.View.{change_of, record_of};
@@ -31,7 +31,7 @@ impl Transactions {
         change: Change,
     ) -> Result<(), ChipFault>
         requires order { IsInOrder (C.told chip.old).places self.old }
-        requires session { s < 32 }
+        requires session { s < SESSIONS }
         requires name { name.0 < 960 * ((C.told chip.old).places - 4) }
         requires unrefused { refuses_write self.old.sessions s name.0 ≡ None }
         requires left { self.old.pages.parts.counter + 14 < 2 ^ 64 }
@@ -74,7 +74,7 @@ impl Transactions {
 fn has_spelling(rec: &Record)
     requires page { rec.now.page < 15 }
     requires slot { rec.now.slot < 64 }
-    ensures { IsRecord (record_of rec.now) }
+    ensures { IsRecord VERSION (record_of rec.now) }
 {
     let _ = rec.tid.to_be_bytes();
     let _ = value_len(&rec.change);

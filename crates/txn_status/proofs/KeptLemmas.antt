@@ -1,11 +1,16 @@
 -- Kept numbers, programmed part by part, and the header behind them.
-use Rattle.std.proofs.Common.{◌≡◌, ℕ, ◌<◌, ◌≤◌, ◌+◌, ◌==◌, ◌&&◌, true, false, List, Some, None, Result, Ok, Err, OnOk, is_ok, inl, inr, refl, sym, ◌∙◌, ap, arith}
+use Rattle.std.proofs.Common.{◌≡◌, ℕ, ◌<◌, ◌≤◌, ◌+◌, ◌==◌, ◌&&◌, true, false, List, Some, None, Result, Ok, Err, OnOk, is_ok, inl, inr, refl, sym, ◌∙◌, ap, subst, arith}
 use Rattle.std.proofs.lemmas.Bool.{cases_eq, cases_Bool, and_parts, eqb-true, eq-eqb}
 use Rattle.chip_trait.specs.Lawful.{Clean, age}
 use Rattle.chip_trait.specs.Chart.{with_sector}
 use Rattle.chip_trait.specs.Told.{History, Told, adds_all}
 use Rattle.ipl_base.specs.declared.fault.ChipFault.{ChipFault}
+use Rattle.ipl_base.specs.declared.limits.TheConstants.{VERSION}
+use Rattle.ipl_format.specs.Header.{SpellsUnits}
 use Rattle.ipl_format.specs.Sector.{Sector}
+use Rattle.sector_format.specs.declared.sector.Head.{Head}
+use Rattle.sector_format.specs.Decode.{sector_of}
+use Rattle.sector_format.specs.Written.{written_head}
 use Rattle.ipl_rules.specs.State.{Map}
 use Rattle.ipl_meaning.specs.Chart.{Chart, chart_of}
 use Rattle.ipl_meaning.specs.Rests.{now, EachStands, EachStandsEither, StoryRests}
@@ -20,6 +25,17 @@ use Rattle.txn_status.specs.Switching.{HasParts, IsPartSpot, IsStatusHead}
 use Rattle.txn_status.specs.Writing.{LeadsPart, KeepsParts, IsHeaded}
 
 -- ---- the header
+
+pub written_is : (head : Head) (units generation : ℕ) (payload : List ℕ)
+    → head ≡ written_head 2 0 generation generation → SpellsUnits VERSION units payload
+    → IsStatusHead units generation (sector_of head payload)
+written_is head units generation payload is counts = record {
+  kind = ap (λ (h : Head). h.kind) is;
+  generation_is = ap (λ (h : Head). h.generation) is;
+  serial = ap (λ (h : Head). h.serial) is;
+  counts = subst (λ (v : ℕ). SpellsUnits v units payload) (sym (ap (λ (h : Head). h.version) is))
+      counts;
+}
 
 -- a header that switches a map to itself keeps it
 pub header_keeps : (places : ℕ) (m : Map) (h : History) (p units generation : ℕ) (head : Sector)

@@ -3,6 +3,7 @@ use Rattle.std.proofs.Common.{◌≡◌, ℕ, ◌≤◌, ◌+◌, ◌-◌, min, 
 use Rattle.std.proofs.lemmas.List.{take_min, length-drop}
 use Rattle.sector_format.specs.declared.sector.Head.{Head}
 use Rattle.sector_format.specs.Decode.{sector_of}
+use Rattle.sector_format.specs.Written.{written_head}
 use Rattle.txn_status.specs.Commits.{commit_bytes, commit_sector}
 
 pub part_is : (xs : List ℕ) (at end : ℕ) → end ≡ min (length xs) (at + 60) → at ≤ length xs
@@ -13,15 +14,9 @@ part_is xs at end is within =
     ap (λ (n : ℕ). take n (drop at xs)) few ∙ take_min 60 (drop at xs)
 
 pub same_sector : (head : Head) (payload : List ℕ) (generation serial : ℕ) (numbers : List ℕ)
-    → head ≡ record { kind = 6; unit = 0; generation = generation; serial = serial }
+    → head ≡ written_head 6 0 generation serial
     → payload ≡ commit_bytes numbers → sector_of head payload ≡ commit_sector generation serial
     numbers
 same_sector head payload generation serial numbers is bytes =
     ap (λ (z : Head). sector_of z payload) is
-    ∙ ap (λ (b : List ℕ). sector_of (record {
-      kind = 6;
-      unit = 0;
-      generation =
-          generation;
-      serial = serial;
-    }) b) bytes
+    ∙ ap (λ (b : List ℕ). sector_of (written_head 6 0 generation serial) b) bytes

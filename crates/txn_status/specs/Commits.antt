@@ -1,7 +1,7 @@
 -- Commit sectors, as they are written.
 use Rattle.std.specs.Prelude.{ℕ, ◌*◌, List, take, drop}
 use Rattle.std.specs.List.{flat_map}
-use Rattle.ipl_base.specs.declared.limits.TheConstants.{COMMIT_NUMBERS}
+use Rattle.ipl_base.specs.declared.limits.TheConstants.{COMMIT_NUMBERS, VERSION}
 use Rattle.ipl_format.specs.Numbers.{long}
 use Rattle.ipl_format.specs.Sector.{Sector}
 
@@ -9,11 +9,11 @@ use Rattle.ipl_format.specs.Sector.{Sector}
 abbrev pub commit_bytes : List ℕ → List ℕ
 commit_bytes numbers = flat_map long numbers
 
--- a commit sector of these numbers
+-- a commit sector of these numbers, as it is written
 abbrev pub commit_sector : ℕ → ℕ → List ℕ → Sector
 commit_sector generation serial numbers = record {
   kind = 6;
-  version = 1;
+  version = VERSION;
   unit = 0;
   generation = generation;
   serial = serial;

@@ -41,7 +41,7 @@ pub record IsStatusHead (units generation : ℕ) (head : Sector) : Type 0 where
   pub kind : head.kind ≡ 2
   pub generation_is : head.generation ≡ generation
   pub serial : head.serial ≡ generation
-  pub counts : SpellsUnits units head.payload
+  pub counts : SpellsUnits head.version units head.payload
 
 -- ---- tables
 

@@ -10,6 +10,7 @@ ghost use Rattle.unit_io.specs.Spots.{Programs, IsSpot};
 ghost use Rattle.unit_io.specs.Unread.{ReadsNothing};
 ghost use Rattle.txn_status.specs.Commits.{commit_bytes, commit_sector};
 ghost use Rattle.txn_status.specs.Writing.{LeadsCommit, LeadsPart};
+ghost use Rattle.sector_format.specs.Written.{written_head};
 
 use arrayvec::ArrayVec;
 use chip_trait::Chip;
@@ -42,14 +43,9 @@ fn payload_of(numbers: &[u64]) -> ArrayVec<u8, PAYLOAD_LEN>
 
 /// The head of a commit sector.
 fn commit_head(generation: u64, serial: u64) -> Head
-    ensures { result ≡ record { kind = 6; unit = 0; generation = generation; serial = serial } }
+    ensures { result ≡ written_head 6 0 generation serial }
 {
-    Head {
-        kind: Head::COMMIT,
-        unit: 0,
-        generation,
-        serial,
-    }
+    Head::written(Head::COMMIT, 0, generation, serial)
 }
 
 /// Programs a commit sector of these numbers, at most 60, where nothing is open, and makes sure of

@@ -97,11 +97,6 @@ pub fn seal_status<C: Chip>(
 {
     let mut payload = [0; 4];
     write_status_header(units, &mut payload);
-    let head = Head {
-        kind: Head::STATUS_HEADER,
-        unit: 0,
-        generation,
-        serial: generation,
-    };
+    let head = Head::written(Head::STATUS_HEADER, 0, generation, generation);
     seal(chip, place, &head, &payload)
 }

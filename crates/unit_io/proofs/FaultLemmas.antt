@@ -59,39 +59,39 @@ damaged bytes long written apart =
 pub said_undamaged : (bytes : List ℕ) (s : Sector) → sector_in bytes ≡ Some s → is_damaged bytes ≡ false
 said_undamaged bytes s said = undamaged bytes (said_parts bytes s said).1
 
-module _ (place sector u g serial : ℕ) (last : Bool) (bytes : List ℕ) where
-  by_tests : (a b : Bool) → is_damaged bytes ≡ a → is_piece u g serial last (sector_in bytes) ≡ b
-      → piece_fault place sector u g serial last bytes
+module _ (place sector version u g serial : ℕ) (last : Bool) (bytes : List ℕ) where
+  by_tests : (a b : Bool) → is_damaged bytes ≡ a → is_piece version u g serial last (sector_in bytes) ≡ b
+      → piece_fault place sector version u g serial last bytes
       ≡ cond a (Some (Damaged place sector (stored_sum bytes) (computed_sum bytes))) (cond b None (Some (Malformed place sector)))
   unfolding piece_fault
   by_tests a b p q =
       ap₂ (λ (x y : Bool). cond x (Some (Damaged place sector (stored_sum bytes) (computed_sum bytes))) (cond y None (Some (Malformed place sector)))) p q
 
   pub bad_fault : (stored computed : ℕ) → length bytes ≡ 512 → IsDecoded bytes (Bad stored computed)
-      → piece_fault place sector u g serial last bytes ≡ Some (Damaged place sector stored computed)
+      → piece_fault place sector version u g serial last bytes ≡ Some (Damaged place sector stored computed)
   bad_fault stored computed long (written, stored_is, computed_is, apart) =
-      by_tests true (is_piece u g serial last (sector_in bytes)) (damaged bytes long written (λ e. apart (stored_is ∙ (e ∙ sym computed_is)))) refl
+      by_tests true (is_piece version u g serial last (sector_in bytes)) (damaged bytes long written (λ e. apart (stored_is ∙ (e ∙ sym computed_is)))) refl
       ∙ ap₂ (λ (a b : ℕ). Some (Damaged place sector a b)) (sym stored_is) (sym computed_is)
 
-  nothing_fault : is_damaged bytes ≡ false → sector_in bytes ≡ None → piece_fault place sector u g serial last bytes ≡ Some (Malformed place sector)
-  nothing_fault fine none = by_tests false false fine (ap (is_piece u g serial last) none)
+  nothing_fault : is_damaged bytes ≡ false → sector_in bytes ≡ None → piece_fault place sector version u g serial last bytes ≡ Some (Malformed place sector)
+  nothing_fault fine none = by_tests false false fine (ap (is_piece version u g serial last) none)
 
-  pub erased_fault : sector_in bytes ≡ None → IsDecoded bytes Erased → piece_fault place sector u g serial last bytes ≡ Some (Malformed place sector)
+  pub erased_fault : sector_in bytes ≡ None → IsDecoded bytes Erased → piece_fault place sector version u g serial last bytes ≡ Some (Malformed place sector)
   erased_fault none erased = nothing_fault (blank_undamaged bytes erased) none
 
-  pub strange_fault : sector_in bytes ≡ None → IsDecoded bytes Strange → piece_fault place sector u g serial last bytes ≡ Some (Malformed place sector)
+  pub strange_fault : sector_in bytes ≡ None → IsDecoded bytes Strange → piece_fault place sector version u g serial last bytes ≡ Some (Malformed place sector)
   strange_fault none strange = nothing_fault (undamaged bytes strange.1) none
 
   -- a sector that checks, by whether it is the piece
-  pub said_fault : (s : Sector) (b : Bool) → sector_in bytes ≡ Some s → b ≡ is_piece u g serial last (Some s)
-      → piece_fault place sector u g serial last bytes ≡ cond b None (Some (Malformed place sector))
-  said_fault s b said test = by_tests false b (said_undamaged bytes s said) (ap (is_piece u g serial last) said ∙ sym test)
+  pub said_fault : (s : Sector) (b : Bool) → sector_in bytes ≡ Some s → b ≡ is_piece version u g serial last (Some s)
+      → piece_fault place sector version u g serial last bytes ≡ cond b None (Some (Malformed place sector))
+  said_fault s b said test = by_tests false b (said_undamaged bytes s said) (ap (is_piece version u g serial last) said ∙ sym test)
 
   -- and the other way round
-  pub no_fault : piece_fault place sector u g serial last bytes ≡ None → is_piece u g serial last (sector_in bytes) ≡ true
+  pub no_fault : piece_fault place sector version u g serial last bytes ≡ None → is_piece version u g serial last (sector_in bytes) ≡ true
   no_fault e = elim (cases_Bool (is_damaged bytes)) [
-    | inl bad ↦ absurd (some_none (sym (by_tests true (is_piece u g serial last (sector_in bytes)) bad refl) ∙ e))
-    | inr fine ↦ elim (cases_Bool (is_piece u g serial last (sector_in bytes))) [
+    | inl bad ↦ absurd (some_none (sym (by_tests true (is_piece version u g serial last (sector_in bytes)) bad refl) ∙ e))
+    | inr fine ↦ elim (cases_Bool (is_piece version u g serial last (sector_in bytes))) [
       | inl is ↦ is
       | inr other ↦ absurd (some_none (sym (by_tests false false fine other) ∙ e))
     ]

@@ -24,26 +24,20 @@ use Rattle.unit_io.proofs.TextLemmas.{tests_text}
 -- ---- one piece
 
 -- a base sector with this payload
-base_with : ℕ → ℕ → ℕ → List ℕ → Sector
-base_with u g serial payload = record { kind = 4; version = 1; unit = u; generation = g; serial = serial; payload = payload }
+base_with : ℕ → ℕ → ℕ → ℕ → List ℕ → Sector
+base_with v u g serial payload = record { kind = 4; version = v; unit = u; generation = g; serial = serial; payload = payload }
 
 -- the sector is that piece
-pub record IsPiece (o : Option Sector) (u g serial : ℕ) (last : Bool) : Type 0 where
+pub record IsPiece (o : Option Sector) (v u g serial : ℕ) (last : Bool) : Type 0 where
   pub payload : List ℕ
-  pub here : o ≡ Some (record { kind = 4; version = 1; unit = u; generation = g; serial = serial; payload = payload })
+  pub here : o ≡ Some (record { kind = 4; version = v; unit = u; generation = g; serial = serial; payload = payload })
   pub short : length payload ≤ 480
   pub filled : is_filled last (length payload) ≡ true
 
-same_base : (k v a b n u g serial : ℕ) (payload : List ℕ) → k ≡ 4 → v ≡ 1 → a ≡ u → b ≡ g → n ≡ serial
-    → Some (let s : Sector = record { kind = k; version = v; unit = a; generation = b; serial = n; payload = payload } in s)
-    ≡ Some (record { kind = 4; version = 1; unit = u; generation = g; serial = serial; payload = payload })
-same_base k v a b n u g serial payload ek ev ea eb en = rw (ek, ev, ea, eb, en) refl
-
-version_of : (bytes : List ℕ) (s : Sector) → sector_in bytes ≡ Some s → s.version ≡ 1
-unfolding said_in
-version_of bytes s said =
-    let parts = said_parts bytes s said in
-    sym (ap (λ (t : Sector). t.version) parts.2) ∙ (formed_facts bytes parts.0).version
+same_base : (k w a b n v u g serial : ℕ) (payload : List ℕ) → k ≡ 4 → w ≡ v → a ≡ u → b ≡ g → n ≡ serial
+    → Some (let s : Sector = record { kind = k; version = w; unit = a; generation = b; serial = n; payload = payload } in s)
+    ≡ Some (record { kind = 4; version = v; unit = u; generation = g; serial = serial; payload = payload })
+same_base k w a b n v u g serial payload ek ev ea eb en = rw (ek, ev, ea, eb, en) refl
 
 short_of : (bytes : List ℕ) (s : Sector) → sector_in bytes ≡ Some s → length s.payload ≤ 480
 unfolding said_in
@@ -52,15 +46,16 @@ short_of bytes s said =
     let size : length (take (used_length bytes) (drop 32 bytes)) ≡ length s.payload = ap (λ (t : Sector). length t.payload) parts.2 in
     omega (arith, sym size, length-take (used_length bytes) (drop 32 bytes), (formed_facts bytes parts.0).short)
 
-piece_in : (bytes : List ℕ) (o : Option Sector) (u g serial : ℕ) (last : Bool) → sector_in bytes ≡ o → is_piece u g serial last o ≡ true → IsPiece o u g serial last
-piece_in bytes None u g serial last said test = absurd (false≢true test)
-piece_in bytes (Some s) u g serial last said test =
+piece_in : (bytes : List ℕ) (o : Option Sector) (v u g serial : ℕ) (last : Bool) → sector_in bytes ≡ o → is_piece v u g serial last o ≡ true → IsPiece o v u g serial last
+piece_in bytes None v u g serial last said test = absurd (false≢true test)
+piece_in bytes (Some s) v u g serial last said test =
     let both = both_true _ _ test in
     let numbers = both_true _ _ both.0 in
     let three = both_true _ _ numbers.0 in
-    let two = both_true _ _ three.0 in record {
+    let two = both_true _ _ three.0 in
+    let one = both_true _ _ two.0 in record {
       payload = s.payload;
-      here = same_base s.kind s.version s.unit s.generation s.serial u g serial s.payload (eqb-true _ _ two.0) (version_of bytes s said) (eqb-true _ _ two.1)
+      here = same_base s.kind s.version s.unit s.generation s.serial v u g serial s.payload (eqb-true _ _ one.0) (eqb-true _ _ one.1) (eqb-true _ _ two.1)
           (eqb-true _ _ three.1) (eqb-true _ _ numbers.1);
       short = short_of bytes s said;
       filled = both.1;
@@ -68,22 +63,22 @@ piece_in bytes (Some s) u g serial last said test =
 
 -- ---- the text of sound pieces
 
-module _ (c : Chart) (place u g page pieces : ℕ) where
+module _ (c : Chart) (place v u g page pieces : ℕ) where
   abbrev pub ArePieces : ℕ → Type 0
-  ArePieces n = (i : ℕ) → i < n → IsPiece (c place (base_sector_of page i)) u g (page * 16 + i) (eqb (i + 1) pieces)
+  ArePieces n = (i : ℕ) → i < n → IsPiece (c place (base_sector_of page i)) v u g (page * 16 + i) (eqb (i + 1) pieces)
 
   fewer : (n : ℕ) → ArePieces (suc n) → ArePieces n
   fewer n each i low = each i (omega (arith, low))
 
-  size_of : (n : ℕ) → (it : IsPiece (c place (base_sector_of page n)) u g (page * 16 + n) (eqb (n + 1) pieces)) → length (payload_of (c place (base_sector_of page n))) ≡ length it.payload
+  size_of : (n : ℕ) → (it : IsPiece (c place (base_sector_of page n)) v u g (page * 16 + n) (eqb (n + 1) pieces)) → length (payload_of (c place (base_sector_of page n))) ≡ length it.payload
   size_of n it = ap (λ (o : Option Sector). length (payload_of o)) it.here
 
-  full : (n : ℕ) → n + 1 < pieces → (it : IsPiece (c place (base_sector_of page n)) u g (page * 16 + n) (eqb (n + 1) pieces)) → length it.payload ≡ 480
+  full : (n : ℕ) → n + 1 < pieces → (it : IsPiece (c place (base_sector_of page n)) v u g (page * 16 + n) (eqb (n + 1) pieces)) → length it.payload ≡ 480
   full n few it =
       let other : eqb (n + 1) pieces ≡ false = ne_eqb (n + 1) pieces (λ e. omega (arith, few, e)) in
       eqb-true _ _ (subst (λ (b : Bool). is_filled b (length it.payload) ≡ true) other it.filled)
 
-  some : (n : ℕ) → n + 1 ≡ pieces → (it : IsPiece (c place (base_sector_of page n)) u g (page * 16 + n) (eqb (n + 1) pieces)) → 0 < length it.payload
+  some : (n : ℕ) → n + 1 ≡ pieces → (it : IsPiece (c place (base_sector_of page n)) v u g (page * 16 + n) (eqb (n + 1) pieces)) → 0 < length it.payload
   some n is it =
       ltb-true _ _ (subst (λ (b : Bool). is_filled b (length it.payload) ≡ true) (eq-eqb (n + 1) pieces is) it.filled)
 
@@ -127,71 +122,71 @@ module _ (c : Chart) (place u g page pieces : ℕ) where
       ]
 
   -- so the page is held whose text it is
-  pub held : (slots : Slots) → ArePieces pieces → SpellsPage (text_below c place page pieces) slots → HoldsPage c place u g page pieces slots
+  pub held : (slots : Slots) → ArePieces pieces → SpellsPage v (text_below c place page pieces) slots → HoldsPage c place v u g page pieces slots
   held slots each spelled = record {
     fits = spelled.slots;
     cut = subst (λ (t : List ℕ). IsCutInto t pieces) spelled.text (cut_below pieces each refl);
     here = λ i low.
         let it = each i low in
-        let payload : it.payload ≡ piece_of (page_text slots) i =
+        let payload : it.payload ≡ piece_of (page_text v slots) i =
         sym (ap payload_of it.here) ∙ (sym (piece_below pieces each (omega arith) i low) ∙ ap (λ (t : List ℕ). piece_of t i) spelled.text) in
-        it.here ∙ ap (λ (p : List ℕ). Some (let s : Sector = record { kind = 4; version = 1; unit = u; generation = g; serial = page * 16 + i; payload = p } in s)) payload;
+        it.here ∙ ap (λ (p : List ℕ). Some (let s : Sector = record { kind = 4; version = v; unit = u; generation = g; serial = page * 16 + i; payload = p } in s)) payload;
   }
 
 -- ---- no fault
 
-module _ (x : Contents) (place u g page pieces : ℕ) where
-  pub sound_pieces : (n : ℕ) → first_below (piece_fault_at x place u g page pieces) n ≡ None → ArePieces (chart_of x) place u g page pieces n
+module _ (x : Contents) (place v u g page pieces : ℕ) where
+  pub sound_pieces : (n : ℕ) → first_below (piece_fault_at x place v u g page pieces) n ≡ None → ArePieces (chart_of x) place v u g page pieces n
   sound_pieces n none i low =
-      piece_in (x place (base_sector_of page i)) (sector_in (x place (base_sector_of page i))) u g (page * 16 + i) (eqb (i + 1) pieces) refl
-      (no_fault place (base_sector_of page i) u g (page * 16 + i) (eqb (i + 1) pieces) (x place (base_sector_of page i))
-      (none_before (piece_fault_at x place u g page pieces) n none i low))
+      piece_in (x place (base_sector_of page i)) (sector_in (x place (base_sector_of page i))) v u g (page * 16 + i) (eqb (i + 1) pieces) refl
+      (no_fault place (base_sector_of page i) v u g (page * 16 + i) (eqb (i + 1) pieces) (x place (base_sector_of page i))
+      (none_before (piece_fault_at x place v u g page pieces) n none i low))
 
-  pub sound_held : (slots : Slots) → first_below (piece_fault_at x place u g page pieces) pieces ≡ None
-      → SpellsPage (text_below (chart_of x) place page pieces) slots → HoldsPage (chart_of x) place u g page pieces slots
-  sound_held slots none spelled = held (chart_of x) place u g page pieces slots (sound_pieces pieces none) spelled
+  pub sound_held : (slots : Slots) → first_below (piece_fault_at x place v u g page pieces) pieces ≡ None
+      → SpellsPage v (text_below (chart_of x) place page pieces) slots → HoldsPage (chart_of x) place v u g page pieces slots
+  sound_held slots none spelled = held (chart_of x) place v u g page pieces slots (sound_pieces pieces none) spelled
 
   -- the fault of the page, by its two parts
-  pub fault_of_pieces : (e : ChipFault) → first_below (piece_fault_at x place u g page pieces) pieces ≡ Some e → page_fault x place u g page pieces ≡ Some e
+  pub fault_of_pieces : (e : ChipFault) → first_below (piece_fault_at x place v u g page pieces) pieces ≡ Some e → page_fault x place v u g page pieces ≡ Some e
   unfolding page_fault
-  fault_of_pieces e found = ap (λ (o : Option ChipFault). option_or o (text_fault place page (text_below (chart_of x) place page pieces))) found
+  fault_of_pieces e found = ap (λ (o : Option ChipFault). option_or o (text_fault place v page (text_below (chart_of x) place page pieces))) found
 
-  by_text : (b : Bool) → first_below (piece_fault_at x place u g page pieces) pieces ≡ None → is_page_text (text_below (chart_of x) place page pieces) ≡ b
-      → page_fault x place u g page pieces ≡ cond b None (Some (Malformed place (base_sector_of page 0)))
+  by_text : (b : Bool) → first_below (piece_fault_at x place v u g page pieces) pieces ≡ None → is_page_text v (text_below (chart_of x) place page pieces) ≡ b
+      → page_fault x place v u g page pieces ≡ cond b None (Some (Malformed place (base_sector_of page 0)))
   unfolding page_fault
   by_text b none test =
-      ap (λ (o : Option ChipFault). option_or o (text_fault place page (text_below (chart_of x) place page pieces))) none
+      ap (λ (o : Option ChipFault). option_or o (text_fault place v page (text_below (chart_of x) place page pieces))) none
       ∙ ap (λ (t : Bool). cond t None (Some (Malformed place (base_sector_of page 0)))) test
 
-  pub no_page_fault : first_below (piece_fault_at x place u g page pieces) pieces ≡ None → IsPageText (text_below (chart_of x) place page pieces)
-      → page_fault x place u g page pieces ≡ None
-  no_page_fault none text = by_text true none ((tests_text (text_below (chart_of x) place page pieces)).1 text)
+  pub no_page_fault : first_below (piece_fault_at x place v u g page pieces) pieces ≡ None → IsPageText v (text_below (chart_of x) place page pieces)
+      → page_fault x place v u g page pieces ≡ None
+  no_page_fault none text = by_text true none ((tests_text v (text_below (chart_of x) place page pieces)).1 text)
 
-  pub fault_of_text : first_below (piece_fault_at x place u g page pieces) pieces ≡ None → (IsPageText (text_below (chart_of x) place page pieces) → ⊥)
-      → page_fault x place u g page pieces ≡ Some (Malformed place (base_sector_of page 0))
-  fault_of_text none other = elim (cases_Bool (is_page_text (text_below (chart_of x) place page pieces))) [
-    | inl is ↦ absurd (other ((tests_text (text_below (chart_of x) place page pieces)).0 is))
+  pub fault_of_text : first_below (piece_fault_at x place v u g page pieces) pieces ≡ None → (IsPageText v (text_below (chart_of x) place page pieces) → ⊥)
+      → page_fault x place v u g page pieces ≡ Some (Malformed place (base_sector_of page 0))
+  fault_of_text none other = elim (cases_Bool (is_page_text v (text_below (chart_of x) place page pieces))) [
+    | inl is ↦ absurd (other ((tests_text v (text_below (chart_of x) place page pieces)).0 is))
     | inr not_text ↦ by_text false none not_text
   ]
 
-  parts_of : page_fault x place u g page pieces ≡ None
-      → (first_below (piece_fault_at x place u g page pieces) pieces ≡ None) × (text_fault place page (text_below (chart_of x) place page pieces) ≡ None)
+  parts_of : page_fault x place v u g page pieces ≡ None
+      → (first_below (piece_fault_at x place v u g page pieces) pieces ≡ None) × (text_fault place v page (text_below (chart_of x) place page pieces) ≡ None)
   unfolding page_fault
   parts_of none = (
-    (or_none (first_below (piece_fault_at x place u g page pieces) pieces) (text_fault place page (text_below (chart_of x) place page pieces)) none).0,
-    (or_none (first_below (piece_fault_at x place u g page pieces) pieces) (text_fault place page (text_below (chart_of x) place page pieces)) none).1,
+    (or_none (first_below (piece_fault_at x place v u g page pieces) pieces) (text_fault place v page (text_below (chart_of x) place page pieces)) none).0,
+    (or_none (first_below (piece_fault_at x place v u g page pieces) pieces) (text_fault place v page (text_below (chart_of x) place page pieces)) none).1,
   )
 
-  text_of : text_fault place page (text_below (chart_of x) place page pieces) ≡ None → IsPageText (text_below (chart_of x) place page pieces)
-  text_of none = elim (cases_Bool (is_page_text (text_below (chart_of x) place page pieces))) [
-    | inl is ↦ (tests_text (text_below (chart_of x) place page pieces)).0 is
+  text_of : text_fault place v page (text_below (chart_of x) place page pieces) ≡ None → IsPageText v (text_below (chart_of x) place page pieces)
+  text_of none = elim (cases_Bool (is_page_text v (text_below (chart_of x) place page pieces))) [
+    | inl is ↦ (tests_text v (text_below (chart_of x) place page pieces)).0 is
     | inr other ↦ absurd (some_none (sym (ap (λ (t : Bool). cond t None (Some (Malformed place (base_sector_of page 0)))) other) ∙ none))
   ]
     where
       some_none : {X : Type 0} {v : X} → Some v ≡ None → ⊥
       some_none e = cc
 
-  sound_page : page_fault x place u g page pieces ≡ None → (slots : Slots) × HoldsPage (chart_of x) place u g page pieces slots
+  sound_page : page_fault x place v u g page pieces ≡ None → (slots : Slots) × HoldsPage (chart_of x) place v u g page pieces slots
   sound_page none =
       let parts = parts_of none in
       let (slots, spelled) = text_of parts.1 in
@@ -199,36 +194,36 @@ module _ (x : Contents) (place u g page pieces : ℕ) where
 
   -- ---- and the other way round
 
-  module _ (slots : Slots) (it : HoldsPage (chart_of x) place u g page pieces slots) where
-    text_is : (n : ℕ) → n ≤ pieces → text_below (chart_of x) place page n ≡ take (480 * n) (page_text slots)
+  module _ (slots : Slots) (it : HoldsPage (chart_of x) place v u g page pieces slots) where
+    text_is : (n : ℕ) → n ≤ pieces → text_below (chart_of x) place page n ≡ take (480 * n) (page_text v slots)
     text_is zero few = refl
     text_is (suc n) few =
         ap₂ (λ (s t : List ℕ). s ++ t) (text_is n (omega (arith, few))) (ap payload_of (it.here n (omega (arith, few))))
-        ∙ (sym (take-add (480 * n) 480 (page_text slots)) ∙ ap (λ (k : ℕ). take k (page_text slots)) (omega arith))
+        ∙ (sym (take-add (480 * n) 480 (page_text v slots)) ∙ ap (λ (k : ℕ). take k (page_text v slots)) (omega arith))
 
-    filled_piece : (i : ℕ) → i < pieces → is_filled (eqb (i + 1) pieces) (length (piece_of (page_text slots) i)) ≡ true
+    filled_piece : (i : ℕ) → i < pieces → is_filled (eqb (i + 1) pieces) (length (piece_of (page_text v slots) i)) ≡ true
     filled_piece i low =
-        let size : length (piece_of (page_text slots) i) ≡ min 480 (length (page_text slots) - 480 * i) =
-        length-take 480 (drop (480 * i) (page_text slots)) ∙ ap (min 480) (length-drop (480 * i) (page_text slots)) in
+        let size : length (piece_of (page_text v slots) i) ≡ min 480 (length (page_text v slots) - 480 * i) =
+        length-take 480 (drop (480 * i) (page_text v slots)) ∙ ap (min 480) (length-drop (480 * i) (page_text v slots)) in
         elim (cases_Bool (eqb (i + 1) pieces)) [
-          | inl last ↦ rw last (lt-ltb 0 (length (piece_of (page_text slots) i)) (omega (arith, size, it.cut.needed, eqb-true _ _ last)))
+          | inl last ↦ rw last (lt-ltb 0 (length (piece_of (page_text v slots) i)) (omega (arith, size, it.cut.needed, eqb-true _ _ last)))
           | inr other ↦
               let apart : i + 1 ≡ pieces → ⊥ = λ e. false≢true (sym other ∙ eq-eqb (i + 1) pieces e) in
-              rw other (eq-eqb (length (piece_of (page_text slots) i)) 480 (omega (arith, size, it.cut.needed, apart, low)))
+              rw other (eq-eqb (length (piece_of (page_text v slots) i)) 480 (omega (arith, size, it.cut.needed, apart, low)))
         ]
 
-    sound_piece : (i : ℕ) → i < pieces → piece_fault_at x place u g page pieces i ≡ None
+    sound_piece : (i : ℕ) → i < pieces → piece_fault_at x place v u g page pieces i ≡ None
     sound_piece i low =
-        said_fault place (base_sector_of page i) u g (page * 16 + i) (eqb (i + 1) pieces) (x place (base_sector_of page i)) (base_sector u g page i (page_text slots)) true
-        (it.here i low) (sym (rw (eq-eqb u u refl, eq-eqb g g refl, eq-eqb (page * 16 + i) (page * 16 + i) refl) (filled_piece i low)))
+        said_fault place (base_sector_of page i) v u g (page * 16 + i) (eqb (i + 1) pieces) (x place (base_sector_of page i)) (base_sector v u g page i (page_text v slots)) true
+        (it.here i low) (sym (rw (eq-eqb v v refl, eq-eqb u u refl, eq-eqb g g refl, eq-eqb (page * 16 + i) (page * 16 + i) refl) (filled_piece i low)))
 
-    held_sound : page_fault x place u g page pieces ≡ None
+    held_sound : page_fault x place v u g page pieces ≡ None
     held_sound =
-        no_page_fault (first_none (piece_fault_at x place u g page pieces) pieces sound_piece)
-        (slots, record { slots = it.fits; text = text_is pieces (omega arith) ∙ take_all (480 * pieces) (page_text slots) it.cut.enough })
+        no_page_fault (first_none (piece_fault_at x place v u g page pieces) pieces sound_piece)
+        (slots, record { slots = it.fits; text = text_is pieces (omega arith) ∙ take_all (480 * pieces) (page_text v slots) it.cut.enough })
 
 pub sound_pages_are_held : SoundPagesAreHeld
-sound_pages_are_held x place u g page pieces = (sound_page x place u g page pieces, λ (slots, it). held_sound x place u g page pieces slots it)
+sound_pages_are_held x place v u g page pieces = (sound_page x place v u g page pieces, λ (slots, it). held_sound x place v u g page pieces slots it)
 
 pub held_pages_read_well : HeldPagesReadWell
 held_pages_read_well c u it page slots = (

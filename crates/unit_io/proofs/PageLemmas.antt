@@ -9,6 +9,7 @@ use Rattle.chip_trait.specs.Lawful.{Clean, age}
 use Rattle.chip_trait.specs.Chart.{with_sector}
 use Rattle.chip_trait.specs.Told.{History, Told, adds_all}
 use Rattle.ipl_base.specs.declared.fault.ChipFault.{ChipFault}
+use Rattle.ipl_base.specs.declared.limits.TheConstants.{VERSION}
 use Rattle.ipl_rules.specs.State.{Map}
 use Rattle.ipl_format.specs.Sector.{Sector}
 use Rattle.ipl_format.specs.Page.{Slots, IsCutInto, page_text, piece_of}
@@ -37,15 +38,15 @@ at_itself : (c : Chart) (p s : ℕ) (sector : Sector) → with_sector c p s sect
 at_itself c p s sector = rw (eq-eqb p p refl, eq-eqb s s refl) refl
 
 pub pieces_more : (p u g page : ℕ) (text : List ℕ) (n : ℕ) (c mid y : Chart) → HasPieces p u g page text n c mid
-    → Gains p (base_sector_of page n) (base_sector u g page n text) mid y → HasPieces p u g page text (n + 1) c y
+    → Gains p (base_sector_of page n) (base_sector VERSION u g page n text) mid y → HasPieces p u g page text (n + 1) c y
 pieces_more p u g page text n c mid y before gains = record {
   here = λ i low. rw gains (elim (cases_Bool (i == n)) [
-    | inl last ↦ let same : i ≡ n = eqb-true _ _ last in rw same (at_itself mid p (base_sector_of page n) (base_sector u g page n text))
+    | inl last ↦ let same : i ≡ n = eqb-true _ _ last in rw same (at_itself mid p (base_sector_of page n) (base_sector VERSION u g page n text))
     | inr earlier ↦
         let other : i ≢ n = λ same. false≢true' (sym earlier ∙ eq-eqb i n same) in
-        apart_at mid p (base_sector_of page n) (base_sector u g page n text) p (base_sector_of page i) (λ same at. other (omega (arith, at))) ∙ before.here i (omega (arith, low, other))
+        apart_at mid p (base_sector_of page n) (base_sector VERSION u g page n text) p (base_sector_of page i) (λ same at. other (omega (arith, at))) ∙ before.here i (omega (arith, low, other))
   ]);
-  others = λ q s apart. rw gains (apart_at mid p (base_sector_of page n) (base_sector u g page n text) q s
+  others = λ q s apart. rw gains (apart_at mid p (base_sector_of page n) (base_sector VERSION u g page n text) q s
       (λ same at. apart same (omega (arith, at), omega (arith, at))) ∙ before.others q s (λ same is. apart same (is.0, omega (arith, is.1))));
 }
   where
@@ -56,7 +57,7 @@ pub charts_none : (p u g page : ℕ) (text : List ℕ) (t : Told) → Charts (Ha
 charts_none p u g page text t x told = (x, told, pieces_none p u g page text _)
 
 pub charts_more : (p u g page : ℕ) (text : List ℕ) (n : ℕ) (first mid new : Told) → Charts (HasPieces p u g page text n) first mid
-    → Charts (Gains p (base_sector_of page n) (base_sector u g page n text)) mid new → Charts (HasPieces p u g page text (n + 1)) first new
+    → Charts (Gains p (base_sector_of page n) (base_sector VERSION u g page n text)) mid new → Charts (HasPieces p u g page text (n + 1)) first new
 charts_more p u g page text n first mid new before gains x told =
     let (y, told_y, has) = before x told in
     let (z, told_z, gain) = gains y told_y in
@@ -73,7 +74,7 @@ pub record IsOpenFor (places p page : ℕ) (m : Map) (h : History) : Type 0 wher
 -- what the call for one piece says of each map and history
 abbrev pub PieceSays : (places p u g page : ℕ) (text : List ℕ) (n : ℕ) (old : Told) (result : Result (Unit {0}) ChipFault) (new : Told) → Type 0
 PieceSays places p u g page text n old result new = (m : Map) (h : History) → IsSteady h old → StoryRests places m h → now h p 0 ≡ None → age h.story p (base_sector_of page n) ≡ Clean
-    → KeepsMap places m (Programs p (IsSpot (base_sector_of page n))) (λ done. Gains p (base_sector_of page n) (base_sector u g page n text)) h old result new
+    → KeepsMap places m (Programs p (IsSpot (base_sector_of page n))) (λ done. Gains p (base_sector_of page n) (base_sector VERSION u g page n text)) h old result new
 
 module _ (places p u g page : ℕ) (text : List ℕ) (m : Map) (h : History) (first : Told) where
   -- after n pieces
@@ -92,7 +93,7 @@ module _ (places p u g page : ℕ) (text : List ℕ) (m : Map) (h : History) (fi
     clean_then added did = did.others h.story p (base_sector_of page n) (λ same is. absurd (omega (arith, is.1))) (ready.clean (base_sector_of page n) (omega arith, omega (arith, few)))
 
     next : (result : Result (Unit {0}) ChipFault) (new : Told) (before : Piled n mid) → PieceSays places p u g page text n mid result new
-        → KeepsMap places m (Programs p (IsSpot (base_sector_of page n))) (λ done. Gains p (base_sector_of page n) (base_sector u g page n text)) (adds_all before.added h) mid result new
+        → KeepsMap places m (Programs p (IsSpot (base_sector_of page n))) (λ done. Gains p (base_sector_of page n) (base_sector VERSION u g page n text)) (adds_all before.added h) mid result new
     next result new before says = says m (adds_all before.added h) before.ends.0 before.ends.1.0
         (bare_then (adds_all before.added h) before.ends.1.1) (clean_then before.added before.does)
 
@@ -102,7 +103,7 @@ module _ (places p u g page : ℕ) (text : List ℕ) (m : Map) (h : History) (fi
     pub piled_more : (new : Told) → Piled n mid → PieceSays places p u g page text n mid (Ok tt) new → Piled (n + 1) new
     piled_more new before says = leads_then (EachStands places m) (Programs p (IsPieceSpot page n)) (Programs p (IsSpot (base_sector_of page n))) (Programs p (IsPieceSpot page (n + 1)))
         (RestsWith places m (λ done. HasPieces p u g page text n) h)
-        (RestsWith places m (λ done. Gains p (base_sector_of page n) (base_sector u g page n text)) (adds_all before.added h))
+        (RestsWith places m (λ done. Gains p (base_sector_of page n) (base_sector VERSION u g page n text)) (adds_all before.added h))
         (RestsWith places m (λ done. HasPieces p u g page text (n + 1)) h) h tt first mid new (Ok tt) before (next (Ok tt) new before says)
         (λ a b one two. programs_then p (IsPieceSpot page n) (IsSpot (base_sector_of page n)) (IsPieceSpot page (n + 1)) true true b a apart_spots
         (λ s is. (is.0, omega (arith, is.1))) (λ s at. (omega (arith, at), omega (arith, at))) one two)
@@ -115,7 +116,7 @@ module _ (places p u g page : ℕ) (text : List ℕ) (m : Map) (h : History) (fi
         let both : Leads {T = Unit {0}} {E = ChipFault} (EachStands places m) (Programs p (IsPieceSpot page 16)) (λ done then. Unit {0}) h first (Err e) new =
         leads_then (EachStands places m) (Programs p (IsPieceSpot page n)) (Programs p (IsSpot (base_sector_of page n))) (Programs p (IsPieceSpot page 16))
         (RestsWith places m (λ done. HasPieces p u g page text n) h)
-        (RestsWith places m (λ done. Gains p (base_sector_of page n) (base_sector u g page n text)) (adds_all before.added h))
+        (RestsWith places m (λ done. Gains p (base_sector_of page n) (base_sector VERSION u g page n text)) (adds_all before.added h))
         (λ done then. Unit {0}) h tt first mid new (Err e) before (next (Err e) new before says)
         (λ a b one two. programs_then p (IsPieceSpot page n) (IsSpot (base_sector_of page n)) (IsPieceSpot page 16) true false b a apart_spots
         (λ s is. (is.0, omega (arith, is.1, few))) (λ s at. (omega (arith, at), omega (arith, at, few))) one two)
@@ -149,7 +150,7 @@ cut_piece text p e at within = elim (cases_lt (p * 480 + 480) (length text)) [
 ]
 
 -- the pieces of a page's text are the page
-pub page_leads : (places p u g page : ℕ) (text : List ℕ) (slots : Slots) → text ≡ page_text slots → (m : Map) (h : History) (old new : Told) (result : Result ℕ ChipFault) → IfOk result (λ n. IsCutInto text n)
+pub page_leads : (places p u g page : ℕ) (text : List ℕ) (slots : Slots) → text ≡ page_text VERSION slots → (m : Map) (h : History) (old new : Told) (result : Result ℕ ChipFault) → IfOk result (λ n. IsCutInto text n)
     → KeepsMap places m (Programs p (IsPieceSpot page 16)) (λ n. HasPieces p u g page text n) h old result new
     → KeepsMap places m (Programs p (IsPieceSpot page 16)) (λ n. HasPage p u g page slots n) h old result new
 page_leads places p u g page text slots is m h old new (Ok n) cut did = record {

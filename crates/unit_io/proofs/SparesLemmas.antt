@@ -69,12 +69,12 @@ module _ (x y : Contents) (place : ℕ) (same : (s : ℕ) → y place s ≡ x pl
       (ap (λ (bytes : List ℕ). payload_of (sector_in bytes)) (same (base_sector_of page n)))
 
   -- what is wrong with a page is so by the bytes of its place alone
-  pub pages_alike : (u g page pieces : ℕ)
-      → page_fault y place u g page pieces ≡ page_fault x place u g page pieces
+  pub pages_alike : (version u g page pieces : ℕ)
+      → page_fault y place version u g page pieces ≡ page_fault x place version u g page pieces
   unfolding page_fault
-  pages_alike u g page pieces =
+  pages_alike version u g page pieces =
       ap₂ option_or
-      (first_alike (piece_fault_at y place u g page pieces) (piece_fault_at x place u g page pieces)
-      pieces (λ i low. ap (piece_fault place (base_sector_of page i) u g (page * 16 + i)
+      (first_alike (piece_fault_at y place version u g page pieces) (piece_fault_at x place version u g page pieces)
+      pieces (λ i low. ap (piece_fault place (base_sector_of page i) version u g (page * 16 + i)
       (i + 1 == pieces)) (same (base_sector_of page i))))
-      (ap (text_fault place page) (texts_alike page pieces))
+      (ap (text_fault place version page) (texts_alike page pieces))

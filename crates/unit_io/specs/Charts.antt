@@ -2,6 +2,7 @@
 use Rattle.std.specs.Prelude.{ℕ, ◌≡◌, ◌≢◌, ◌<◌, List, Some, None}
 use Rattle.chip_trait.specs.Story.{Contents}
 use Rattle.chip_trait.specs.Told.{Told}
+use Rattle.ipl_base.specs.declared.limits.TheConstants.{VERSION}
 use Rattle.chip_trait.specs.Chart.{with_sector}
 use Rattle.ipl_format.specs.Sector.{Sector}
 use Rattle.ipl_format.specs.Page.{Slots, IsCutInto, page_text}
@@ -25,15 +26,16 @@ pub record IsCleared (p : ℕ) (c y : Chart) : Type 0 where
   pub bare : (s : ℕ) → y p s ≡ None
   pub others : SameBut p c y
 
--- the first n pieces of a page's text stand in the base sectors of the page, and elsewhere the chart is as it was
+-- the first n pieces of a page's text stand in the base sectors of the page, in the version that is
+-- written, and elsewhere the chart is as it was
 pub record HasPieces (p u generation page : ℕ) (text : List ℕ) (n : ℕ) (c y : Chart) : Type 0 where
-  pub here : (i : ℕ) → i < n → y p (base_sector_of page i) ≡ Some (base_sector u generation page i text)
+  pub here : (i : ℕ) → i < n → y p (base_sector_of page i) ≡ Some (base_sector VERSION u generation page i text)
   pub others : (q s : ℕ) → (q ≡ p → IsPieceSpot page n s → ⊥) → y q s ≡ c q s
 
 -- the page stands there, in so many base sectors
 pub record HasPage (p u generation page : ℕ) (slots : Slots) (n : ℕ) (c y : Chart) : Type 0 where
-  pub cut : IsCutInto (page_text slots) n
-  pub pieces : HasPieces p u generation page (page_text slots) n c y
+  pub cut : IsCutInto (page_text VERSION slots) n
+  pub pieces : HasPieces p u generation page (page_text VERSION slots) n c y
 
 -- the chart has this sector too
 abbrev pub Gains : ℕ → ℕ → Sector → Chart → Chart → Type 0

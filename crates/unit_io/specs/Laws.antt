@@ -9,13 +9,15 @@ use Rattle.unit_io.specs.Faults.{HoldsPage, page_fault}
 
 -- nothing is wrong with a page exactly where its base sectors hold one
 abbrev pub SoundPagesAreHeld : Type 0
-SoundPagesAreHeld = (x : Contents) (place u generation page pieces : ℕ)
-    → (page_fault x place u generation page pieces ≡ None) ↔ ((slots : Slots) × HoldsPage (chart_of x) place u generation page pieces slots)
+SoundPagesAreHeld = (x : Contents) (place version u generation page pieces : ℕ)
+    → (page_fault x place version u generation page pieces ≡ None)
+    ↔ ((slots : Slots) × HoldsPage (chart_of x) place version u generation page pieces slots)
 
 -- and that is what it means for a page of a unit to read well
 abbrev pub HeldPagesReadWell : Type 0
 HeldPagesReadWell = (c : Chart) (u : ℕ) (it : Shape) (page : ℕ) (slots : Slots)
-    → HoldsPage c it.home u it.head.generation page (slice_index it.pieces page) slots ↔ ReadsWell c u it page slots
+    → HoldsPage c it.home it.head.version u it.head.generation page (slice_index it.pieces page) slots
+    ↔ ReadsWell c u it page slots
 
 -- the reads of a page are of its base sectors
 abbrev pub PageReadsAreOfThePage : Type 0

@@ -1,6 +1,6 @@
 //! Commit sectors, programmed.
 ghost use Rattle.std.specs.Prelude.{◌≡◌, ◌≢◌, ◌<◌, ◌≤◌, ℕ, length, OnOk, is_ok, None};
-ghost use Rattle.ipl_base.specs.declared.limits.TheConstants.{PAYLOAD_LEN};
+ghost use Rattle.ipl_base.specs.declared.limits.TheConstants.{PAYLOAD_LEN, VERSION};
 ghost use Rattle.chip_trait.specs.Image.{IsClosed};
 ghost use Rattle.chip_trait.specs.Lawful.{Clean, age};
 ghost use Rattle.chip_trait.specs.Chart.{with_sector};
@@ -33,6 +33,7 @@ pub fn prepare_commit<C: Chip>(
     requires place { spot.place < (C.told chip.old).places }
     requires sector { spot.sector < 256 }
     requires kind { head.now.kind ≡ 6 }
+    requires version { head.now.version ≡ VERSION }
     requires fits { length payload.now ≤ PAYLOAD_LEN }
     ensures aside { (m : Map) (h : History) → IsSteady h (C.told chip.old) → StoryRests (C.told chip.old).places m h
         → now h spot.place 0 ≡ None → spot.sector ≢ 0 → age h.story spot.place spot.sector ≡ Clean
@@ -61,6 +62,7 @@ pub fn add_commit<C: Chip>(
     requires place { spot.place < (C.told chip.old).places }
     requires sector { spot.sector < 256 }
     requires kind { head.now.kind ≡ 6 }
+    requires version { head.now.version ≡ VERSION }
     requires fits { length payload.now ≤ PAYLOAD_LEN }
     ensures leads { (m n : Map) (h : History) → IsSteady h (C.told chip.old)
         → StoryRests (C.told chip.old).places m h → IsClosed h.story → age h.story spot.place spot.sector ≡ Clean

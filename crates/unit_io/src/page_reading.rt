@@ -32,22 +32,23 @@ fn is_filled(used: usize, is_last: bool) -> bool
     }
 }
 
-/// Whether a sector of this head that uses so many bytes is the piece with this serial, of the unit and the generation of
-/// the header's head.
+/// Whether a sector of this head that uses so many bytes is the piece with this serial, of the version,
+/// the unit and the generation of the header's head.
 fn is_piece(found: &Head, used: usize, head: &Head, serial: u64, is_last: bool) -> bool
     ensures exact { (payload : List ℕ) → length payload ≡ used
-        → result ≡ is_piece head.now.unit head.now.generation serial is_last (Some (sector_of found.now payload)) }
+        → result ≡ is_piece head.now.version head.now.unit head.now.generation serial is_last (Some (sector_of found.now payload)) }
     ensures filled { OnTrue result (is_filled is_last used ≡ true) }
 {
     found.kind == Head::BASE
+        && found.version == head.version
         && found.unit == head.unit
         && found.generation == head.generation
         && found.serial == serial
         && is_filled(used, is_last)
 }
 
-/// How many bytes a piece (0 to 15) of a page (0 to 14) uses, of the unit and the generation of the header's head; or what is
-/// wrong with its sector.
+/// How many bytes a piece (0 to 15) of a page (0 to 14) uses, of the version, the unit and the
+/// generation of the header's head; or what is wrong with its sector.
 fn check_piece(
     answer: Decoded,
     place: u32,
@@ -59,7 +60,7 @@ fn check_piece(
     requires page { page < 15 }
     requires piece { piece < PAGE_SECTORS }
     ensures exact { (bytes : List ℕ) → length bytes ≡ 512 → sector_in bytes ≡ sector_read bytes answer
-        → IsDecoded bytes answer → TellsChipFault (piece_fault place (base_sector_of page piece) head.now.unit
+        → IsDecoded bytes answer → TellsChipFault (piece_fault place (base_sector_of page piece) head.now.version head.now.unit
         head.now.generation (page * PAGE_SECTORS + piece) is_last bytes) result }
     ensures payload { IfOk result (λ used. (bytes : List ℕ)
         → payload_of (sector_read bytes answer) ≡ take used (drop 32 bytes)) }
@@ -116,7 +117,7 @@ fn read_piece<C: Chip>(
     requires piece { piece < PAGE_SECTORS }
     requires empty { text.old.page ≡ empty_page }
     ensures exact { OfContents (C.told chip.old) (λ x. TellsChipFault (piece_fault place (base_sector_of page piece)
-        head.now.unit head.now.generation (page * PAGE_SECTORS + piece) is_last (x place (base_sector_of page piece))) result) }
+        head.now.version head.now.unit head.now.generation (page * PAGE_SECTORS + piece) is_last (x place (base_sector_of page piece))) result) }
     ensures text { IfOk result (λ end. OfContents (C.told chip.old) (λ x.
         take end text.new.bytes ≡ take (PAYLOAD_LEN * piece) text.old.bytes ++ payload_of (chart_of x place (base_sector_of page piece)))) }
     ensures empty { text.new.page ≡ empty_page }
@@ -147,7 +148,7 @@ fn read_pieces<C: Chip>(
     requires pieces { pieces ≤ PAGE_SECTORS }
     requires empty { text.old.page ≡ empty_page }
     ensures exact { OfContents (C.told chip.old) (λ x. TellsChipFault (first_below
-        (piece_fault_at x place head.now.unit head.now.generation page pieces) pieces) result) }
+        (piece_fault_at x place head.now.version head.now.unit head.now.generation page pieces) pieces) result) }
     ensures text { IfOk result (λ end. OfContents (C.told chip.old) (λ x.
         take end text.new.bytes ≡ text_below (chart_of x) place page pieces)) }
     ensures empty { text.new.page ≡ empty_page }
@@ -162,10 +163,43 @@ fn read_pieces<C: Chip>(
     Ok(end)
 }
 
+/// Reads a page whose text is in version 1: beside the page, which keeps its text in another.
+fn read_first_page<C: Chip>(
+    chip: &mut C,
+    place: u32,
+    head: &Head,
+    page: u32,
+    pieces: u32,
+    into: &mut PageMap,
+) -> Result<(), ChipFault>
+    requires place { place < (C.told chip.old).places }
+    requires page { page < 15 }
+    requires pieces { pieces ≤ PAGE_SECTORS }
+    requires version { head.now.version ≡ 1 }
+    ensures exact { OfContents (C.told chip.old) (λ x.
+        TellsChipFault (page_fault x place head.now.version head.now.unit head.now.generation page pieces) result) }
+    ensures page { OnOk result (OfContents (C.told chip.old) (λ x.
+        HoldsPage (chart_of x) place head.now.version head.now.unit head.now.generation page pieces into.new)) }
+    ensures empty { OnErr result (into.new ≡ empty_page) }
+    ensures asks { PageAsked place page pieces result (C.told chip.old) (C.told chip.new) }
+    ensures accounts { Accounts (IsPageCause place page) result (C.told chip.old) (C.told chip.new) }
+{
+    into.reset();
+    let mut beside = PageMap::empty();
+    let text = beside.bytes_mut();
+    text.reset();
+    let end = read_pieces(chip, place, head, page, pieces, text)?;
+    if !page_text::read(text.front(end), into, 1) {
+        let sector = base_sector(page, 0);
+        return Err(ChipFault::Malformed { place, sector });
+    }
+    Ok(())
+}
+
 /// Reads a page (0 to 14) of so many base sectors, at most 16, at the place of a unit whose header has this head. The base
-/// sectors are read in their order, and the first that is at fault ends it: `Damaged` with its two sums where these differ,
-/// `Malformed` where it isn't that piece of the page. Where all are well and their text isn't a page's, the first of them is
-/// `Malformed`. After a fault the page is empty.
+/// sectors and the text are of the version of the header. The base sectors are read in their order, and the first that is
+/// at fault ends it: `Damaged` with its two sums where these differ, `Malformed` where it isn't that piece of the page. Where
+/// all are well and their text isn't a page's, the first of them is `Malformed`. After a fault the page is empty.
 pub fn read_page<C: Chip>(
     chip: &mut C,
     place: u32,
@@ -178,13 +212,16 @@ pub fn read_page<C: Chip>(
     requires page { page < 15 }
     requires pieces { pieces ≤ PAGE_SECTORS }
     ensures exact { OfContents (C.told chip.old) (λ x.
-        TellsChipFault (page_fault x place head.now.unit head.now.generation page pieces) result) }
+        TellsChipFault (page_fault x place head.now.version head.now.unit head.now.generation page pieces) result) }
     ensures page { OnOk result (OfContents (C.told chip.old) (λ x.
-        HoldsPage (chart_of x) place head.now.unit head.now.generation page pieces into.new)) }
+        HoldsPage (chart_of x) place head.now.version head.now.unit head.now.generation page pieces into.new)) }
     ensures empty { OnErr result (into.new ≡ empty_page) }
     ensures asks { PageAsked place page pieces result (C.told chip.old) (C.told chip.new) }
     ensures accounts { Accounts (IsPageCause place page) result (C.told chip.old) (C.told chip.new) }
 {
+    if head.version == 1 {
+        return read_first_page(chip, place, head, page, pieces, into);
+    }
     let text = into.bytes_mut();
     text.reset();
     let end = read_pieces(chip, place, head, page, pieces, text)?;

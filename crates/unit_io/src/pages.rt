@@ -1,6 +1,6 @@
 //! The base sectors of a page.
 ghost use Rattle.std.specs.Prelude.{◌≡◌, ◌<◌, ◌≤◌, ◌+◌, ◌*◌, ℕ, length, None, IfOk, OnOk, is_ok};
-ghost use Rattle.ipl_base.specs.declared.limits.TheConstants.{PAGE_LEN, PAGE_SECTORS, PAYLOAD_LEN};
+ghost use Rattle.ipl_base.specs.declared.limits.TheConstants.{PAGE_LEN, PAGE_SECTORS, PAYLOAD_LEN, VERSION};
 ghost use Rattle.chip_trait.specs.Lawful.{Clean, age};
 ghost use Rattle.chip_trait.specs.Told.{Told, History};
 ghost use Rattle.ipl_rules.specs.State.{Map};
@@ -49,21 +49,17 @@ fn program_piece<C: Chip>(
     ensures aside { (m : Map) (h : History) → IsSteady h (C.told chip.old) → StoryRests (C.told chip.old).places m h
         → now h place 0 ≡ None → age h.story place (base_sector_of page piece) ≡ Clean
         → KeepsMap (C.told chip.old).places m (Programs place (IsSpot (base_sector_of page piece)))
-        (λ done. Gains place (base_sector_of page piece) (base_sector head.now.unit head.now.generation page piece text.now))
+        (λ done. Gains place (base_sector_of page piece) (base_sector VERSION head.now.unit head.now.generation page piece text.now))
         h (C.told chip.old) result (C.told chip.new) }
-    ensures tells { OnOk result (Charts (Gains place (base_sector_of page piece) (base_sector head.now.unit head.now.generation page piece text.now)) (C.told chip.old) (C.told chip.new)) }
+    ensures tells { OnOk result (Charts (Gains place (base_sector_of page piece) (base_sector VERSION head.now.unit head.now.generation page piece text.now)) (C.told chip.old) (C.told chip.new)) }
     ensures plain { AddsPlain (C.told chip.old) (C.told chip.new) }
     ensures spares { OnOk result (Spares place (C.told chip.old) (C.told chip.new)) }
     ensures costs { Spends (ProgramsAt place 1 0 4) (C.told chip.old) (C.told chip.new) }
     ensures tidy { Spends (Programs place (IsSpot (base_sector_of page piece)) (is_ok result)) (C.told chip.old) (C.told chip.new) }
     ensures accounts { Accounts IsStopped result (C.told chip.old) (C.told chip.new) }
 {
-    let base = Head {
-        kind: Head::BASE,
-        unit: head.unit,
-        generation: head.generation,
-        serial: u64::from(page * PAGE_SECTORS + piece),
-    };
+    let serial = u64::from(page * PAGE_SECTORS + piece);
+    let base = Head::written(Head::BASE, head.unit, head.generation, serial);
     let mut bytes = [0; 512];
     encode(&base, piece_of(text, piece), &mut bytes);
     program_aside(chip, place, base_sector(page, piece), &bytes)

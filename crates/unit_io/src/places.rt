@@ -1,6 +1,6 @@
 //! A place taken, and sealed with a header.
 ghost use Rattle.std.specs.Prelude.{◌≡◌, ◌<◌, ◌≤◌, ℕ, length, OnOk, is_ok, Some};
-ghost use Rattle.ipl_base.specs.declared.limits.TheConstants.{PAYLOAD_LEN};
+ghost use Rattle.ipl_base.specs.declared.limits.TheConstants.{PAYLOAD_LEN, VERSION};
 ghost use Rattle.chip_trait.specs.Image.{IsClosed};
 ghost use Rattle.chip_trait.specs.Lawful.{Clean, age};
 ghost use Rattle.chip_trait.specs.Chart.{with_sector};
@@ -76,6 +76,7 @@ fn add_header<C: Chip>(chip: &mut C, place: u32, bytes: &[u8; 512]) -> Result<()
 pub fn seal<C: Chip>(chip: &mut C, place: u32, head: &Head, payload: &[u8]) -> Result<(), ChipFault>
     requires place { place < (C.told chip.old).places }
     requires known { IsKind head.now.kind }
+    requires version { head.now.version ≡ VERSION }
     requires fits { length payload.now ≤ PAYLOAD_LEN }
     ensures leads { (m n : Map) (h : History) → IsSteady h (C.told chip.old)
         → StoryRests (C.told chip.old).places m h → age h.story place 0 ≡ Clean

@@ -1,5 +1,6 @@
 //! One sector of a place, programmed.
 ghost use Rattle.std.specs.Prelude.{◌≡◌, ◌≢◌, ◌<◌, ℕ, List, Some, None, OnOk, is_ok};
+ghost use Rattle.ipl_base.specs.declared.limits.TheConstants.{VERSION};
 ghost use Rattle.chip_trait.specs.Lawful.{Clean, age};
 ghost use Rattle.chip_trait.specs.Told.{Told, History};
 ghost use Rattle.ipl_rules.specs.State.{Map};
@@ -48,7 +49,8 @@ pub(crate) fn program_aside<C: Chip>(
     program(chip, place, sector, bytes)
 }
 
-/// Programs a log sector (1 to 255 of its place) whose head is of that kind.
+/// Programs a log sector (1 to 255 of its place) whose head is of that kind, and of the version that
+/// is written, in which the payload has to be spelled where it is to count.
 ///
 /// Where it may join its unit's live sectors, or its place has no header, whatever a power cut leaves stands for the map on
 /// which the story rested, and done, it rests on that map. Nothing makes sure of the sector: that is for the next barrier.
@@ -61,17 +63,18 @@ pub fn program_log<C: Chip>(
     requires place { spot.place < (C.told chip.old).places }
     requires sector { spot.sector < 256 }
     requires kind { head.now.kind ≡ 5 }
+    requires version { head.now.version ≡ VERSION }
     ensures keeps { (m : Map) (it : Layout) (h : History) (u : ℕ) (records : List Record) → IsSteady h (C.told chip.old)
         → StoryRests (C.told chip.old).places m h → Laid (C.told chip.old).places (now h) it
-        → MayLog (C.told chip.old).places (now h) it u spot.place spot.sector (sector_of head.now payload.now) records
+        → MayLog (C.told chip.old).places (now h) it u spot.place spot.sector (sector_of head.now payload.now.bytes) records
         → age h.story spot.place spot.sector ≡ Clean
         → KeepsMap (C.told chip.old).places m (Programs spot.place (IsSpot spot.sector))
-        (λ done. Gains spot.place spot.sector (sector_of head.now payload.now)) h (C.told chip.old) result (C.told chip.new) }
+        (λ done. Gains spot.place spot.sector (sector_of head.now payload.now.bytes)) h (C.told chip.old) result (C.told chip.new) }
     ensures aside { (m : Map) (h : History) → IsSteady h (C.told chip.old) → StoryRests (C.told chip.old).places m h
         → now h spot.place 0 ≡ None → spot.sector ≢ 0 → age h.story spot.place spot.sector ≡ Clean
         → KeepsMap (C.told chip.old).places m (Programs spot.place (IsSpot spot.sector))
-        (λ done. Gains spot.place spot.sector (sector_of head.now payload.now)) h (C.told chip.old) result (C.told chip.new) }
-    ensures tells { OnOk result (Charts (Gains spot.place spot.sector (sector_of head.now payload.now)) (C.told chip.old) (C.told chip.new)) }
+        (λ done. Gains spot.place spot.sector (sector_of head.now payload.now.bytes)) h (C.told chip.old) result (C.told chip.new) }
+    ensures tells { OnOk result (Charts (Gains spot.place spot.sector (sector_of head.now payload.now.bytes)) (C.told chip.old) (C.told chip.new)) }
     ensures spares { OnOk result (Spares spot.place (C.told chip.old) (C.told chip.new)) }
     ensures costs { Spends (ProgramsAt spot.place 1 0 5) (C.told chip.old) (C.told chip.new) }
     ensures tidy { Spends (Programs spot.place (IsSpot spot.sector) (is_ok result)) (C.told chip.old) (C.told chip.new) }

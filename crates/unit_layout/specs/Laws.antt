@@ -7,7 +7,8 @@ use Rattle.unit_layout.specs.Header.{SpellsHeader}
 
 -- a payload says one header: what is read is what was written
 abbrev pub HeadersReadBack : Type 0
-HeadersReadBack = (h k : DataHeader) (payload : List ℕ) → SpellsHeader h payload → SpellsHeader k payload → h ≡ k
+HeadersReadBack = (version : ℕ) (h k : DataHeader) (payload : List ℕ)
+    → SpellsHeader version h payload → SpellsHeader version k payload → h ≡ k
 
 -- no two pieces stand in one sector
 abbrev pub PiecesStandApart : Type 0

@@ -1,6 +1,6 @@
 //! The payload of a data header.
 ghost use Rattle.std.specs.Prelude.{◌≡◌, ◌≤◌, ◌++◌, ◌↔◌, [], ◌∷◌, ℕ, List, IsTrue, IfSome, IfNone, All, drop, length, take};
-ghost use Rattle.ipl_base.specs.declared.limits.TheConstants.{CARRIED_SECTORS};
+ghost use Rattle.ipl_base.specs.declared.limits.TheConstants.{CARRIED_SECTORS, VERSION};
 ghost use Rattle.ipl_format.specs.Header.{IsCount, SpellsDataHeader};
 ghost use Rattle.ipl_format.specs.Numbers.{word};
 ghost use Rattle.unit_layout.specs.Header.{SpellsHeader};
@@ -34,11 +34,12 @@ fn write_counts(pieces: &[u8; 15], out: &mut [u8; 20])
     out[4..19].copy_from_slice(pieces);
 }
 
-/// Writes the payload of a data header, whose pages have at most 16 base sectors each, and at most 12 log sectors carried.
+/// Writes the payload of a data header, whose pages have at most 16 base sectors each, and at most
+/// 12 log sectors carried, in the version of all that is written.
 pub fn write_data_header(header: &DataHeader, out: &mut [u8; 20])
     requires pieces { All IsCount header.now.pieces }
     requires carried { header.now.carried ≤ CARRIED_SECTORS }
-    ensures { SpellsHeader header.now out.new }
+    ensures { SpellsHeader VERSION header.now out.new }
 {
     let units = header.units;
     write_units(units, out);
@@ -68,12 +69,13 @@ fn counts(payload: &[u8]) -> [u8; 15]
     pieces
 }
 
-/// What a data header's payload says; `None` exactly where it isn't one: another length than 20, more than 16 base sectors
-/// in a page, or more than 12 carried log sectors.
-pub fn read_data_header(payload: &[u8]) -> Option<DataHeader>
-    ensures some { IfSome result (λ header. SpellsHeader header payload.now) }
-    ensures none { IfNone result
-        ((units : ℕ) (pieces : List ℕ) → SpellsDataHeader units pieces payload.now → ⊥) }
+/// What a data header's payload says, by the version of its sector; `None` exactly where it isn't
+/// one: another length than 20, more than 16 base sectors in a page, or more than 12 carried log
+/// sectors.
+pub fn read_data_header(payload: &[u8], version: u8) -> Option<DataHeader>
+    ensures some { IfSome result (λ header. SpellsHeader version header payload.now) }
+    ensures none { IfNone result ((units : ℕ) (pieces : List ℕ)
+        → SpellsDataHeader version units pieces payload.now → ⊥) }
 {
     if payload.len() != 20 {
         return None;

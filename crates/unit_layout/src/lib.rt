@@ -1,6 +1,6 @@
 //! Where sectors stand in the place of a unit, and the payloads of the three kinds of header. It
 //! stands on the formats of `ipl_format`. A contract sees each number and payload as the definition
-//! there has it; a payload is read exactly where it is in its grammar.
+//! there has it; a payload is read exactly where it is in its version's grammar.
 //!
 //! Proved, by `base_sector`, `log_sector`, the header calls: places of sectors; the three headers
 //! written and read.

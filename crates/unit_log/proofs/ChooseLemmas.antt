@@ -5,6 +5,7 @@ use Rattle.std.proofs.lemmas.List.{append-nil, drop_more, map_push}
 use Rattle.std.proofs.lemmas.Bool.{cases_Bool}
 use Rattle.std.proofs.lemmas.List.Elements.{All-nil, All-cons, All-head, All-tail, All-append, All-filter}
 use Rattle.ipl_base.specs.declared.spot.Spot.{Spot}
+use Rattle.ipl_base.specs.declared.limits.TheConstants.{VERSION}
 use Rattle.ipl_format.specs.Record.{Record, IsRecord}
 use Rattle.ipl_meaning.specs.Masks.{has_page, mask_after, with_page}
 use Rattle.overflow.specs.Lists.{pair_of, IsWithin, AreWithin}
@@ -103,12 +104,12 @@ spots_within places page p own spots masks low all =
 
 -- ---- the mask of records
 
-pub later_valid : (left after : List Record) (r : Record) → All IsRecord left → left ≡ r ∷ after
-    → All IsRecord after
-later_valid left after r all step = λ i d within. (subst (All IsRecord) step all) (suc i) d (omega (arith, within))
+pub later_valid : (left after : List Record) (r : Record) → All (IsRecord VERSION) left → left ≡ r ∷ after
+    → All (IsRecord VERSION) after
+later_valid left after r all step = λ i d within. (subst (All (IsRecord VERSION)) step all) (suc i) d (omega (arith, within))
 
-pub first_valid : (left after : List Record) (r : Record) → All IsRecord left → left ≡ r ∷ after → IsRecord r
-first_valid left after r all step = (subst (All IsRecord) step all) 0 r (omega arith)
+pub first_valid : (left after : List Record) (r : Record) → All (IsRecord VERSION) left → left ≡ r ∷ after → IsRecord VERSION r
+first_valid left after r all step = (subst (All (IsRecord VERSION)) step all) 0 r (omega arith)
 
 pub mask_step : (left after : List Record) (r : Record) (mask next all : ℕ) → left ≡ r ∷ after
     → next ≡ with_page mask r.page → mask_after mask left ≡ all → mask_after next after ≡ all

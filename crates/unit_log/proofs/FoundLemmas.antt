@@ -6,7 +6,7 @@ use Rattle.ipl_format.specs.Sector.{Sector}
 use Rattle.ipl_meaning.specs.Chart.{Chart}
 use Rattle.unit_io.specs.Kinds.{log_only}
 use Rattle.unit_log.specs.declared.scratch.LogSector.{LogSector}
-use Rattle.unit_log.specs.Kept.{kept_if, kept_at, with_kept, with_found, gathered}
+use Rattle.unit_log.specs.Kept.{held_in, kept_if, kept_at, with_kept, with_found, gathered}
 use Rattle.unit_log.proofs.KeptLemmas.{contains_cons, contains_here, contains_there, with_kept_has, with_kept_keeps, with_kept_from}
 
 module _ (c : Chart) (u g : ℕ) where
@@ -76,7 +76,7 @@ module _ (c : Chart) (u g : ℕ) where
     pub kind : sector.kind ≡ 5
     pub unit : sector.unit ≡ u
     pub generation : sector.generation ≡ g
-    pub same : z ≡ record { serial = sector.serial; payload = sector.payload }
+    pub same : z ≡ record { serial = sector.serial; payload = held_in sector }
 
   pub kept_says : (p s : ℕ) (z : LogSector) → kept_at c u g p s ≡ Some z → IsFound p s z
   kept_says p s z is = go (c p s) refl is
@@ -89,16 +89,16 @@ module _ (c : Chart) (u g : ℕ) where
       taken sector here true false kinds names is =
           absurd (let none : None ≡ Some z =
           subst (λ (o : Bool). cond o (Some
-          (record { serial = sector.serial; payload = sector.payload })) None ≡ Some z) names is in
+          (record { serial = sector.serial; payload = held_in sector })) None ≡ Some z) names is in
           cc)
       taken sector here true true kinds names is =
           let both = and_parts (nat_le 5 sector.kind) (nat_le sector.kind 5) kinds in
           let least : nat_le 5 sector.kind ≡ true = both.0 in
           let most : nat_le sector.kind 5 ≡ true = both.1 in
           let (own, of) = and_parts _ _ names in
-          let some : Some (record { serial = sector.serial; payload = sector.payload }) ≡ Some z =
+          let some : Some (record { serial = sector.serial; payload = held_in sector }) ≡ Some z =
           subst (λ (o : Bool). cond o (Some
-          (record { serial = sector.serial; payload = sector.payload })) None ≡ Some z) names
+          (record { serial = sector.serial; payload = held_in sector })) None ≡ Some z) names
           is in
           record {
             sector = sector;
@@ -106,7 +106,7 @@ module _ (c : Chart) (u g : ℕ) where
             kind = omega (arith, leb-true 5 sector.kind least, leb-true sector.kind 5 most);
             unit = eqb-true sector.unit u own;
             generation = eqb-true sector.generation g of;
-            same = let e : record { serial = sector.serial; payload = sector.payload } ≡ z = cc in
+            same = let e : record { serial = sector.serial; payload = held_in sector } ≡ z = cc in
                 sym e;
           }
 
@@ -118,10 +118,10 @@ module _ (c : Chart) (u g : ℕ) where
 
   pub found_kept : (p s : ℕ) (sector : Sector) → c p s ≡ Some sector → sector.kind ≡ 5
       → sector.unit ≡ u → sector.generation ≡ g
-      → kept_at c u g p s ≡ Some (record { serial = sector.serial; payload = sector.payload })
+      → kept_at c u g p s ≡ Some (record { serial = sector.serial; payload = held_in sector })
   found_kept p s sector here kind unit generation =
       ap (λ (o : Option Sector). kept_if u g (log_only o)) here ∙ there
     where
       there : kept_if u g (log_only (Some sector)) ≡ Some
-          (record { serial = sector.serial; payload = sector.payload })
+          (record { serial = sector.serial; payload = held_in sector })
       there = rw (kind, eq-eqb sector.unit u unit, eq-eqb sector.generation g generation) refl

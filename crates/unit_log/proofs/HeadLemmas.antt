@@ -17,7 +17,7 @@ pub head_named : (c : Chart) (place u : ℕ) (head : Sector) (pieces : List ℕ)
 head_named c place u head pieces has = ap header_only has.here ∙ rw has.kind refl
 
 module _ (it : Sector) (units : ℕ) (pieces : List ℕ) (found : Option (Head × ℕ)) (bytes : List ℕ)
-    (named : sector_named bytes found ≡ Some it) (counts : SpellsDataHeader units pieces it.payload)
+    (named : sector_named bytes found ≡ Some it) (counts : SpellsDataHeader it.version units pieces it.payload)
     (head : Head) (used : ℕ) (is : found ≡ Some (head, used)) where
   sector_is : sector_of head (take used (drop 32 bytes)) ≡ it
   sector_is = let both : Some (sector_of head (take used (drop 32 bytes))) ≡ Some it =
@@ -27,35 +27,45 @@ module _ (it : Sector) (units : ℕ) (pieces : List ℕ) (found : Option (Head �
   payload_is = let few : 32 + used - 32 ≡ used = omega arith in
       ap (λ (n : ℕ). take n (drop 32 bytes)) few ∙ ap (λ (z : Sector). z.payload) sector_is
 
-  pub payload_spelled : SpellsDataHeader units pieces (take (32 + used - 32) (drop 32 bytes))
-  payload_spelled = subst (λ (l : List ℕ). SpellsDataHeader units pieces l) (sym payload_is) counts
+  version_is : head.version ≡ it.version
+  version_is = ap (λ (z : Sector). z.version) sector_is
+
+  pub payload_spelled
+      : SpellsDataHeader head.version units pieces (take (32 + used - 32) (drop 32 bytes))
+  payload_spelled =
+      subst (λ (v : ℕ). SpellsDataHeader v units pieces (take (32 + used - 32) (drop 32 bytes)))
+      (sym version_is)
+      (subst (λ (l : List ℕ). SpellsDataHeader it.version units pieces l) (sym payload_is) counts)
 
   pub head_says : (header : DataHeader)
-      → SpellsHeader header (take (32 + used - 32) (drop 32 bytes))
+      → SpellsHeader head.version header (take (32 + used - 32) (drop 32 bytes))
       → (head.generation ≡ it.generation) × (header.pieces ≡ pieces)
+      × (head.version ≡ it.version)
   head_says header says = (
     ap (λ (z : Sector). z.generation) sector_is,
-    (data_headers_spell_once (take (32 + used - 32) (drop 32 bytes)) header.units units
+    (data_headers_spell_once head.version (take (32 + used - 32) (drop 32 bytes)) header.units units
         header.pieces pieces says.0 payload_spelled).same_pieces,
+    version_is,
   )
 
 -- what the bytes say, where they are read as a header of the unit
 pub header_found : (bytes : List ℕ) (u : ℕ) (found : Option (Head × ℕ)) (head : Head) (used : ℕ)
     (r : UnitHead) (header : DataHeader) → found ≡ Some (head, used) → head.kind ≡ 1 → head.unit ≡ u
-    → SpellsHeader header (take (32 + used - 32) (drop 32 bytes))
-    → r.generation ≡ head.generation → r.pieces ≡ header.pieces
+    → SpellsHeader head.version header (take (32 + used - 32) (drop 32 bytes))
+    → r.generation ≡ head.generation → r.pieces ≡ header.pieces → r.version ≡ head.version
     → (sector : Sector) × (sector_named bytes found ≡ Some sector) × SaysHead sector u r
-header_found bytes u found head used r header is kind unit says generation pieces = (
+header_found bytes u found head used r header is kind unit says generation pieces version = (
   sector_of head (take used (drop 32 bytes)),
   ap (sector_named bytes) is,
   record {
     kind = kind;
     unit = unit;
+    version = version;
     generation = generation;
     units = header.units;
     spelled = let few : 32 + used - 32 ≡ used = omega arith in
-        subst (λ (l : List ℕ). SpellsDataHeader header.units l (take used (drop 32 bytes))) (sym pieces)
-        (subst (λ (n : ℕ). SpellsDataHeader header.units header.pieces (take n (drop 32 bytes))) few says.0);
+        subst (λ (l : List ℕ). SpellsDataHeader head.version header.units l (take used (drop 32 bytes))) (sym pieces)
+        (subst (λ (n : ℕ). SpellsDataHeader head.version header.units header.pieces (take n (drop 32 bytes))) few says.0);
   },
 )
 

@@ -11,7 +11,7 @@ use Rattle.ipl_meaning.specs.Layout.{Entry, Layout, IsEntry, IsUnit, IsBelow}
 use Rattle.ipl_meaning.specs.Tables.{Tables, first_log, spots_of}
 use Rattle.ipl_meaning.specs.Mirrors.{Mirrors}
 use Rattle.unit_log.specs.declared.scratch.LogSector.{LogSector}
-use Rattle.unit_log.specs.Kept.{kept_of, kept_at, with_found, gathered, has_serial, IsUnfit, HasUnfit, AreRising}
+use Rattle.unit_log.specs.Kept.{held_in, kept_of, kept_at, with_found, gathered, has_serial, IsUnfit, HasUnfit, AreRising}
 use Rattle.unit_log.specs.Live.{spots_from, log_spots}
 use Rattle.unit_log.proofs.KeptLemmas.{contains_here, contains_there, lists_same}
 use Rattle.unit_log.proofs.FoundLemmas.{IsFound, gathered_from, gathered_has, found_from, found_kept, kept_says}
@@ -29,9 +29,9 @@ serial_has serial (x ∷ kept) told =
 
 -- what is kept of an entry whose sector was found
 same_kept : (e : Entry) (sector : Sector) (z : LogSector) → e.sector ≡ sector
-    → z ≡ record { serial = sector.serial; payload = sector.payload } → kept_of e ≡ z
+    → z ≡ record { serial = sector.serial; payload = held_in sector } → kept_of e ≡ z
 same_kept e sector z is same =
-    ap (λ (x : Sector). record { serial = x.serial; payload = x.payload }) is ∙ sym same
+    ap (λ (x : Sector). record { serial = x.serial; payload = held_in x }) is ∙ sym same
 
 -- two entries with one serial are one
 pub one_entry : (log : List Entry) (e f : Entry) → AllPairs IsBelow log → Contains log e
@@ -195,7 +195,7 @@ module _ (places : ℕ) (c : Chart) (it : Layout) (t : Tables) (u end : ℕ)
       let entry =
       All-contains (IsEntry c places u (it.units u).home g)
       (it.units u).log e unit_there.log.each listed in
-      bad (subst (λ (z : LogSector). IsLogPayload z.payload) same (e.records, entry.records))
+      bad (subst (λ (z : LogSector). IsLogPayload z.payload.version z.payload.bytes) same (e.records, entry.records))
   unfit_here spot rest kept has from (Some x) is (inl twice) =
       let (z, there, serial) = serial_has x.serial kept twice in
       let other = from z there in

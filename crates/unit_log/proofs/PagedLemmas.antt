@@ -124,7 +124,7 @@ module _ (places : ℕ) (c : Chart) (it : Layout) (u : ℕ) (there : IsUnit c pl
         let at = stand spot has in
         let both : Some (kept_of at.entry) ≡ Some x = sym (kept_is spot.0 spot.1 at) ∙ is in
         let same : kept_of at.entry ≡ x = cc in
-        bad (subst (λ (z : LogSector). IsLogPayload z.payload) same (at.entry.records, (entry_of at.entry at.has).records))
+        bad (subst (λ (z : LogSector). IsLogPayload z.payload.version z.payload.bytes) same (at.entry.records, (entry_of at.entry at.has).records))
     unfit_here spot rest kept has from (Some x) is (inl twice) =
         let (z, in_kept, serial) = serial_has x.serial kept twice in
         let other = from z in_kept in

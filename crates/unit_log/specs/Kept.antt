@@ -4,18 +4,23 @@ use Rattle.std.specs.List.{list_any, flat_map}
 use Rattle.ipl_format.specs.Record.{Record, IsLogPayload}
 use Rattle.ipl_format.specs.Sector.{Sector}
 use Rattle.log_records.specs.Reading.{records_of}
+use Rattle.log_records.specs.View.{Versioned}
 use Rattle.ipl_meaning.specs.Chart.{Chart}
 use Rattle.ipl_meaning.specs.Layout.{Entry}
 use Rattle.unit_io.specs.Kinds.{log_only}
 use Rattle.unit_log.specs.declared.scratch.LogSector.{LogSector}
 
+-- what a sector holds, to be read by the sector's version
+abbrev pub held_in : Sector → Versioned
+held_in s = record { version = s.version; bytes = s.payload }
+
 -- what is kept of a live log sector
 abbrev pub kept_of : Entry → LogSector
-kept_of e = record { serial = e.sector.serial; payload = e.sector.payload }
+kept_of e = record { serial = e.sector.serial; payload = held_in e.sector }
 
 -- the records of those that are kept, in their order
 abbrev pub records_kept : List LogSector → List Record
-records_kept kept = flat_map (λ x. records_of x.payload) kept
+records_kept kept = flat_map (λ x. records_of x.payload.version x.payload.bytes) kept
 
 -- one of them has this serial
 abbrev pub has_serial : ℕ → List LogSector → Bool
@@ -42,7 +47,7 @@ abbrev pub kept_if : ℕ → ℕ → Option Sector → Option LogSector
 kept_if u generation None = None
 kept_if u generation (Some s) =
     if (s.unit == u) && (s.generation == generation)
-    then Some (record { serial = s.serial; payload = s.payload })
+    then Some (record { serial = s.serial; payload = held_in s })
     else None
 
 -- of the log sector at this spot
@@ -55,10 +60,10 @@ gathered c u generation [] kept = kept
 gathered c u generation (spot ∷ spots) kept =
     gathered c u generation spots (with_found (kept_at c u generation spot.0 spot.1) kept)
 
--- one can't be kept: it is no list of records, or another has its serial
+-- one can't be kept: it is no list of records in its version, or another has its serial
 abbrev pub IsUnfit : Option LogSector → List LogSector → Type 0
 IsUnfit None kept = ⊥
-IsUnfit (Some x) kept = (has_serial x.serial kept ≡ true) ⊎ (IsLogPayload x.payload → ⊥)
+IsUnfit (Some x) kept = (has_serial x.serial kept ≡ true) ⊎ (IsLogPayload x.payload.version x.payload.bytes → ⊥)
 
 -- one of those at the spots can't, when it is its turn
 abbrev pub HasUnfit : Chart → ℕ → ℕ → List (ℕ × ℕ) → List LogSector → Type 0

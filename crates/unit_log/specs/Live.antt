@@ -36,6 +36,7 @@ Gathers told u generation spots before kept result = OfContents told (λ x. Matc
 
 -- the unit's header, and its log: what the layout says
 pub record IsLive (it : Layout) (u : ℕ) (head : UnitHead) (kept : List LogSector) : Type 0 where
+  pub version : head.version ≡ (it.units u).head.version
   pub generation : head.generation ≡ (it.units u).head.generation
   pub pieces : head.pieces ≡ (it.units u).pieces
   pub log : kept ≡ map kept_of (it.units u).log
@@ -56,9 +57,10 @@ OfMirrored told directory overflow P = OfContents told (λ x. (it : Layout) (t :
 pub record SaysHead (sector : Sector) (u : ℕ) (head : UnitHead) : Type 0 where
   pub kind : sector.kind ≡ 1
   pub unit : sector.unit ≡ u
+  pub version : head.version ≡ sector.version
   pub generation : head.generation ≡ sector.generation
   pub units : ℕ
-  pub spelled : SpellsDataHeader units head.pieces sector.payload
+  pub spelled : SpellsDataHeader sector.version units head.pieces sector.payload
 
 -- at the place stands one that says this
 pub record IsHeaded (c : Chart) (place u : ℕ) (head : UnitHead) : Type 0 where
@@ -72,4 +74,4 @@ pub record HasHead (c : Chart) (place u : ℕ) (head : Sector) (pieces : List �
   pub kind : head.kind ≡ 1
   pub unit : head.unit ≡ u
   pub units : ℕ
-  pub spelled : SpellsDataHeader units pieces head.payload
+  pub spelled : SpellsDataHeader head.version units pieces head.payload

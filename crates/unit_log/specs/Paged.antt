@@ -38,6 +38,7 @@ page_spots directory overflow u page =
 
 -- the unit's header, and the log sectors that have a record of the page: what the layout says
 pub record IsLiveOf (it : Layout) (u page : ℕ) (head : UnitHead) (kept : List LogSector) : Type 0 where
+  pub version : head.version ≡ (it.units u).head.version
   pub generation : head.generation ≡ (it.units u).head.generation
   pub pieces : head.pieces ≡ (it.units u).pieces
   pub log : kept ≡ map kept_of (of_page page (it.units u).log)

@@ -25,10 +25,11 @@ use unit_directory::Directory;
 use unit_io::read_head;
 use unit_layout::read_data_header;
 
-/// What the header of a unit says: its generation, and the number of base sectors of each of its 15
-/// pages, 0 to 16.
+/// What the header of a unit says: its version, which its base sectors have, its generation, and the
+/// number of base sectors of each of its 15 pages, 0 to 16.
 #[derive(Clone, Copy, Debug, PartialEq, Eq)]
 pub struct UnitHead {
+    pub version: u8,
     pub generation: u64,
     pub pieces: [u8; 15],
 }
@@ -38,8 +39,9 @@ fn header_in(found: Option<(Head, usize)>, bytes: &[u8; 512], unit: u32) -> Opti
     requires { IfSome found (λ it. it.1 ≤ PAYLOAD_LEN) }
     ensures some { (head : Sector) (units : ℕ) → sector_named bytes.now found ≡ Some head
         → head.kind ≡ 1 → head.unit ≡ unit
-        → (pieces : List ℕ) → SpellsDataHeader units pieces head.payload
-        → IsSomeAnd result (λ r. (r.generation ≡ head.generation) × (r.pieces ≡ pieces)) }
+        → (pieces : List ℕ) → SpellsDataHeader head.version units pieces head.payload
+        → IsSomeAnd result (λ r. (r.generation ≡ head.generation) × (r.pieces ≡ pieces)
+        × (r.version ≡ head.version)) }
     ensures found { IfSome result (λ r. (head : Sector)
         × (sector_named bytes.now found ≡ Some head) × SaysHead head unit r) }
     ensures few { IfSome result (λ r. All (λ n. n ≤ PAGE_SECTORS) r.pieces) }
@@ -48,9 +50,10 @@ fn header_in(found: Option<(Head, usize)>, bytes: &[u8; 512], unit: u32) -> Opti
     if head.kind != Head::DATA_HEADER || head.unit != unit {
         return None;
     }
-    let header = read_data_header(&bytes[32..32 + used])?;
+    let header = read_data_header(&bytes[32..32 + used], head.version)?;
     let pieces = header.pieces;
     Some(UnitHead {
+        version: head.version,
         generation: head.generation,
         pieces,
     })
@@ -61,7 +64,8 @@ fn read_header<C: Chip>(chip: &mut C, place: u32, unit: u32) -> Result<UnitHead,
     requires { place < (C.told chip.old).places }
     ensures exact { OfContents (C.told chip.old) (λ x. (head : Sector) (pieces : List ℕ)
         → HasHead (chart_of x) place unit head pieces
-        → MatchResult result (λ r. (r.generation ≡ head.generation) × (r.pieces ≡ pieces))
+        → MatchResult result (λ r. (r.generation ≡ head.generation) × (r.pieces ≡ pieces)
+        × (r.version ≡ head.version))
         (λ fault. fault ≡ ReadFault)) }
     ensures header { IfOk result (λ r. OfContents (C.told chip.old) (λ x.
         IsHeaded (chart_of x) place unit r)) }

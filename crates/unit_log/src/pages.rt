@@ -15,7 +15,7 @@ use unit_directory::Directory;
 
 /// Which pages the records of a log sector name: bit p is page p's.
 pub fn mask_of(payload: &Payload) -> u16
-    ensures { result ≡ mask_of (records_of payload.now) }
+    ensures { result ≡ mask_of (records_of payload.now.version payload.now.bytes) }
 {
     // The bytes are a list of records, so each page is one of 15.
     let _ = payload.bytes();

@@ -17,14 +17,26 @@ use log_records::{Payload, is_list};
 use sector_format::Head;
 use unit_io::read_log;
 
-/// Keeps a log sector with this payload, or tells why it can't be one of the unit's.
-fn keep(scratch: &mut Scratch, spot: Spot, serial: u64, payload: &[u8]) -> Result<(), ChipFault>
+/// Keeps a log sector with this payload, of this version, or tells why it can't be one of the unit's.
+fn keep(
+    scratch: &mut Scratch,
+    spot: Spot,
+    serial: u64,
+    payload: &[u8],
+    version: u8,
+) -> Result<(), ChipFault>
     requires room { length scratch.old < LIVE_SECTORS }
     requires fits { length payload.now ≤ PAYLOAD_LEN }
     ensures kept { OnOk result (scratch.new
-        ≡ with_found (Some (record { serial = serial; payload = payload.now })) scratch.old) }
+        ≡ with_found (Some (record {
+          serial = serial;
+          payload = record { version = version; bytes = payload.now };
+        })) scratch.old) }
     ensures unfit { IfErr result (λ fault.
-        IsUnfit (Some (record { serial = serial; payload = payload.now })) scratch.old) }
+        IsUnfit (Some (record {
+          serial = serial;
+          payload = record { version = version; bytes = payload.now };
+        })) scratch.old) }
     ensures fault { IfErr result (λ fault. fault ≡ Malformed spot.place spot.sector) }
     ensures count { length scratch.new ≤ length scratch.old + 1 }
 {
@@ -32,10 +44,10 @@ fn keep(scratch: &mut Scratch, spot: Spot, serial: u64, payload: &[u8]) -> Resul
         place: spot.place,
         sector: spot.sector,
     };
-    if !is_list(payload) {
+    if !is_list(payload, version) {
         return Err(malformed);
     }
-    if !scratch.insert(serial, Payload::of(payload)) {
+    if !scratch.insert(serial, Payload::of(payload, version)) {
         return Err(malformed);
     }
     Ok(())
@@ -64,7 +76,13 @@ fn take_found(
             if head.unit != unit || head.generation != generation {
                 return Ok(());
             }
-            keep(scratch, spot, head.serial, &bytes[32..32 + used])
+            keep(
+                scratch,
+                spot,
+                head.serial,
+                &bytes[32..32 + used],
+                head.version,
+            )
         }
         None => Ok(()),
     }

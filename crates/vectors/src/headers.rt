@@ -1,9 +1,10 @@
-//! Payloads of headers: `data BYTES`, `status BYTES`, `overflow BYTES`, what they say, and whether it is
-//! written again as the same bytes; and numbers of sectors, `base PAGE PIECE` and `log NUMBER`.
+//! Payloads of headers, in a version: `data BYTES`, `status BYTES`, `overflow BYTES`, what they say, and
+//! whether it is written again as the same bytes; and numbers of sectors, `base PAGE PIECE` and
+//! `log NUMBER`.
 ghost use Rattle.std.specs.Prelude.{◌↔◌, IsTrue, All};
 ghost use Rattle.ipl_format.specs.Header.{IsCount};
 
-use crate::words::{bytes_of, join, number, parted, text_of};
+use crate::words::{bytes_of, join, number, parted, text_of, versioned};
 use anyhow::{Result, ensure};
 use std::alloc::Global;
 use unit_layout::{
@@ -12,8 +13,9 @@ use unit_layout::{
 };
 
 pub fn data_row(alloc: Global, rest: &str) -> Result<String> {
+    let (version, rest) = versioned(rest)?;
     let bytes = bytes_of(alloc, rest)?;
-    let Some(header) = read_data_header(&bytes) else {
+    let Some(header) = read_data_header(&bytes, version) else {
         return text_of(alloc, "refused");
     };
     let DataHeader {
@@ -48,8 +50,9 @@ fn again(is_same: bool) -> &'static str {
 }
 
 pub fn status_row(alloc: Global, rest: &str) -> Result<String> {
+    let (version, rest) = versioned(rest)?;
     let bytes = bytes_of(alloc, rest)?;
-    let Some(units) = read_status_header(&bytes) else {
+    let Some(units) = read_status_header(&bytes, version) else {
         return text_of(alloc, "refused");
     };
     let mut out = [0xaa; 4];
@@ -59,8 +62,9 @@ pub fn status_row(alloc: Global, rest: &str) -> Result<String> {
 }
 
 pub fn overflow_row(alloc: Global, rest: &str) -> Result<String> {
+    let (version, rest) = versioned(rest)?;
     let bytes = bytes_of(alloc, rest)?;
-    let Some(units) = read_overflow_header(&bytes) else {
+    let Some(units) = read_overflow_header(&bytes, version) else {
         return text_of(alloc, "refused");
     };
     let mut out = [0xaa; 4];

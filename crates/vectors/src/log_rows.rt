@@ -1,16 +1,18 @@
-//! Log records: `records BYTES`, each record, and whether they are put again as the same bytes.
-use crate::words::{bytes_of, hex_of, join, text_of};
+//! Log records, in a version: `records BYTES`, each record, and whether they are put again as the same
+//! bytes.
+use crate::words::{bytes_of, hex_of, join, text_of, versioned};
 use anyhow::{Result, ensure};
 use log_records::{Change, Payload, Record, is_list, put, records};
 use std::alloc::Global;
 
 pub fn records_row(alloc: Global, rest: &str) -> Result<String> {
+    let (version, rest) = versioned(rest)?;
     let bytes = bytes_of(alloc, rest)?;
     ensure!(bytes.len() <= 480, "no payload");
-    if !is_list(&bytes) {
+    if !is_list(&bytes, version) {
         return text_of(alloc, "refused");
     }
-    let payload = Payload::of(&bytes);
+    let payload = Payload::of(&bytes, version);
     let mut text = String::new(alloc);
     for record in records(&payload) {
         join(&mut text, record_text(alloc, &record)?.as_str())?;
@@ -37,9 +39,9 @@ fn record_text(alloc: Global, record: &Record) -> Result<String> {
     }
 }
 
-/// The records of a payload, put into an empty one.
+/// The records of a payload, put into an empty one of its version.
 fn put_again(payload: &Payload) -> Payload {
-    let mut again = Payload::empty();
+    let mut again = Payload::of(&[], payload.version());
     for record in records(payload) {
         if record.page < 15 && record.slot < 64 {
             let _ = put(&mut again, &record);

@@ -1,21 +1,26 @@
-//! Texts of pages: `page BYTES`, each slot that the text has, and whether it is written again as the
-//! same bytes; and `slots CHANGE..`, the text of a page after each change, from an empty page on.
-use crate::words::{bytes_of, hex_of, join, number, text_of, words_of};
+//! Texts of pages, in a version: `page BYTES`, each slot that the text has, and whether it is written
+//! again as the same bytes; and `slots CHANGE..`, the text of a page after each change, from an empty
+//! page on, as all is written now.
+ghost use Rattle.std.specs.Prelude.{◌≡◌, All};
+ghost use Rattle.ipl_format.specs.Page.{IsShort};
+
+use crate::words::{bytes_of, hex_of, join, number, text_of, versioned, words_of};
 use anyhow::{Context, Result, ensure};
 use ipl_base::{SLOTS, Value};
 use page_text::{PageMap, read, write};
 use std::alloc::Global;
 
 pub fn page_row(alloc: Global, rest: &str) -> Result<String> {
+    let (version, rest) = versioned(rest)?;
     let bytes = bytes_of(alloc, rest)?;
     let mut map = PageMap::empty();
-    if !read(&bytes, &mut map) {
+    if !read(&bytes, &mut map, version) {
         return text_of(alloc, "refused");
     }
     let mut text = slots_text(alloc, &map)?;
     join(
         &mut text,
-        if is_written(&map, &bytes) {
+        if is_written(&map, &bytes, version) {
             "same"
         } else {
             "other"
@@ -36,10 +41,12 @@ fn slots_text(alloc: Global, map: &PageMap) -> Result<String> {
     Ok(text)
 }
 
-/// Whether the text of a page is these bytes.
-fn is_written(map: &PageMap, bytes: &[u8]) -> bool {
+/// Whether the text of a page in a version is these bytes.
+fn is_written(map: &PageMap, bytes: &[u8], version: u8) -> bool
+    requires { version ≡ 1 → All (IsShort 1) map.now }
+{
     let mut out = [0; 7680];
-    let len = write(map, &mut out);
+    let len = write(map, &mut out, version);
     &out[..len] == bytes
 }
 
@@ -64,6 +71,7 @@ fn change_slot(alloc: Global, map: &mut PageMap, word: &str) -> Result<()> {
     match bytes {
         Some(bytes) => {
             let value = Value::of(&bytes_of(alloc, bytes)?).context("no value")?;
+            ensure!(map.has_room(slot, value.bytes()), "no room");
             map.set(slot, value.bytes());
         }
         None => map.clear(slot),

@@ -2,7 +2,7 @@
 //! many deletes as fit. A payload and a log in memory have room for the same.
 use crate::words::{bytes_of, join, number, parted};
 use anyhow::{Context, Result};
-use ipl_base::Value;
+use ipl_base::{VERSION, Value};
 use log_records::{Change, Payload, Record, put};
 use mem_log_sector::MemLog;
 use std::alloc::Global;
@@ -42,10 +42,13 @@ fn payload_room(alloc: Global, most: u32, first: &Record) -> Result<String> {
     Ok(format!(in alloc; "puts {puts} deletes {deletes} bytes {used}")?)
 }
 
-/// Puts a record so often, or as often as it fits; how often it did.
+/// Puts a record into a payload of what is written so often, or as often as it fits; how often it did.
 fn put_all(payload: &mut Payload, most: u32, record: &Record) -> u32 {
     for count in 0..most {
-        if record.page >= 15 || record.slot >= 64 || !put(payload, record) {
+        if record.page >= 15 || record.slot >= 64 || payload.version() != VERSION {
+            return count;
+        }
+        if !put(payload, record) {
             return count;
         }
     }

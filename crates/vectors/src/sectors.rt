@@ -1,6 +1,9 @@
 //! Sectors: `decode BYTES`, of the bytes with zeros behind them up to 512; `seal BYTES`, of the same
-//! with their sum put in; `encode KIND UNIT GENERATION SERIAL BYTES`, the head and the payload.
-use crate::words::{bytes_of, hex_of, number, text_of, words_of};
+//! with their sum put in; `encode KIND UNIT GENERATION SERIAL BYTES`, in a version, the head and the
+//! payload.
+ghost use Rattle.ipl_format.specs.Version.{IsVersion};
+
+use crate::words::{bytes_of, hex_of, number, text_of, versioned, words_of};
 use anyhow::{Result, bail, ensure};
 use crc_sum::crc32_parts;
 use sector_format::{Decoded, Head, decode, encode};
@@ -37,24 +40,31 @@ fn said(alloc: Global, sector: &[u8; 512]) -> Result<String> {
         Decoded::Sector(head, used) => {
             let Head {
                 kind,
+                version,
                 unit,
                 generation,
                 serial,
             } = head;
-            Ok(format!(in alloc;
+            let text = format!(in alloc;
                 "kind {kind} unit {unit} generation {generation} serial {serial} used {used}"
-            )?)
+            )?;
+            if version == 1 {
+                return Ok(text);
+            }
+            Ok(format!(in alloc; "v{version} {text}")?)
         }
     }
 }
 
 pub fn encode_row(alloc: Global, rest: &str) -> Result<String> {
+    let (version, rest) = versioned(rest)?;
     let words = words_of(alloc, rest)?;
     let [kind, unit, generation, serial, bytes] = words.as_slice() else {
         bail!("no head");
     };
     let head = Head {
         kind: kind.parse::<u8>()?,
+        version,
         unit: number(*unit)?,
         generation: generation.parse::<u64>()?,
         serial: serial.parse::<u64>()?,
@@ -64,7 +74,9 @@ pub fn encode_row(alloc: Global, rest: &str) -> Result<String> {
 }
 
 /// The bytes of a head and a payload.
-fn encoded(alloc: Global, head: &Head, payload: &[u8]) -> Result<String> {
+fn encoded(alloc: Global, head: &Head, payload: &[u8]) -> Result<String>
+    requires { IsVersion head.now.version }
+{
     ensure!(
         1 <= head.kind && head.kind <= 6 && payload.len() <= 480,
         "no sector"

@@ -1,6 +1,9 @@
 //! The words of a row, read and written.
-use anyhow::{Context, Result};
-use ipl_base::Geometry;
+ghost use Rattle.std.specs.Prelude.{IfOk};
+ghost use Rattle.ipl_format.specs.Version.{IsVersion};
+
+use anyhow::{Context, Result, ensure};
+use ipl_base::{Geometry, VERSION};
 use std::alloc::Global;
 
 /// The words of a row, which are parted by spaces.
@@ -15,6 +18,20 @@ pub fn words_of<'a>(alloc: Global, rest: &'a str) -> Result<Vec<&'a str>> {
 /// The first word, and what stands behind the space after it.
 pub fn parted(rest: &str) -> (&str, &str) {
     rest.split_once(' ').unwrap_or((rest, ""))
+}
+
+/// The version of a row of bytes, and what stands behind it: `v2` comes first in a row of version 2,
+/// and a row that names none is of version 1.
+pub fn versioned(rest: &str) -> Result<(u8, &str)>
+    ensures { IfOk result (λ row. IsVersion row.0) }
+{
+    let Some(named) = rest.strip_prefix('v') else {
+        return Ok((1, rest));
+    };
+    let (version, rest) = parted(named);
+    let version = version.parse::<u8>()?;
+    ensure!(1 <= version && version <= VERSION, "no version");
+    Ok((version, rest))
 }
 
 /// The number that a word is.

@@ -9,17 +9,17 @@ use Rattle.kept_numbers.proofs.joining.add_sectors.Goals as goal
 -- the sector at hand, and those behind it
 step : (sectors : List LogSector) (i : ℕ) (item : LogSector) → i < length sectors
     → item ≡ get_or sectors i item
-    → records_kept (drop i sectors) ≡ records_of item.payload ++ records_kept (drop (i + 1) sectors)
+    → records_kept (drop i sectors) ≡ records_of item.payload.version item.payload.bytes ++ records_kept (drop (i + 1) sectors)
 step sectors i item low is =
     ap records_kept (drop_more sectors i item low)
-    ∙ ap (λ (z : LogSector). records_of z.payload ++ records_kept (drop (i + 1) sectors)) (sym is)
+    ∙ ap (λ (z : LogSector). records_of z.payload.version z.payload.bytes ++ records_kept (drop (i + 1) sectors)) (sym is)
 
 pub returns-then-not-add_payload-clause-full : goal.returns-then-not-add_payload-clause-full
 returns-then-not-add_payload-clause-full c =
     let sectors = c.args.sectors.now in
     let i = c.loop-sector.sector-index in
     let item : LogSector = c.sector-item.result in
-    left_full c.args.status.now.numbers (records_kept (drop i sectors)) (records_of item.payload)
+    left_full c.args.status.now.numbers (records_kept (drop i sectors)) (records_of item.payload.version item.payload.bytes)
     (records_kept (drop (i + 1) sectors)) (records_kept sectors) c.loop-sector.set c.args.set.now
     (step sectors i item c.loop-sector-test.true c.sector-item.is) c.loop-sector.invariant
     c.if-not-add_payload.ensures.full
@@ -29,7 +29,7 @@ loop-sector-preserved c =
     let sectors = c.args.sectors.now in
     let i = c.loop-sector.sector-index in
     let item : LogSector = c.sector-item.result in
-    left_part c.args.status.now.numbers (records_kept (drop i sectors)) (records_of item.payload)
+    left_part c.args.status.now.numbers (records_kept (drop i sectors)) (records_of item.payload.version item.payload.bytes)
     (records_kept (drop (i + 1) sectors)) (records_kept sectors) c.loop-sector.set c.args.set.now
     (step sectors i item c.loop-sector-test.true c.sector-item.is) c.loop-sector.invariant
     c.add_payload.new.set c.if-not-add_payload.ensures.joined

@@ -1,5 +1,7 @@
 use Rattle.std.proofs.Common.{◌+◌, List, Ok, length, sym, ◌∙◌, ap, subst, arith}
 use Rattle.std.proofs.lemmas.Result.{err_from_is_err_and}
+use Rattle.ipl_base.specs.declared.limits.TheConstants.{VERSION}
+use Rattle.ipl_format.specs.Page.{IsPage}
 use Rattle.number_set.specs.Numbers.{among}
 use Rattle.steps.proofs.MapLemmas.{reads_keep_tables}
 use Rattle.unit_log.specs.declared.scratch.LogSector.{LogSector}
@@ -107,6 +109,7 @@ returns-clause-loads g c = λ x told it t are.
     loaded are c.requires.unit c.current-place.ensures.place c.args.page live c.args.active.now
     (c.in_ok-read_base.ensures.page x (c.in_ok-header.ensures.looks.reads.contents ∙ told))
     (c.in_ok-read_base.ensures.pending ∙ ap (λ f. f.pending) c.reset.ensures) taken
+    (subst (IsPage VERSION) c.committed.ensures c.text.ensures.text.slots)
 
 pub returns-clause-stands : goal.returns-clause-stands
 returns-clause-stands g c = λ x told it t are m stands.

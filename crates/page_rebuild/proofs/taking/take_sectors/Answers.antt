@@ -13,10 +13,10 @@ loop-sector-preserved c =
     let i = c.loop-sector.sector-index in
     let item : LogSector = c.sector-item.result in
     let after = records_kept (drop (i + 1) sectors) in
-    let step : records_kept (drop i sectors) ≡ records_of item.payload ++ after =
+    let step : records_kept (drop i sectors) ≡ records_of item.payload.version item.payload.bytes ++ after =
     ap records_kept (drop_more sectors i item c.loop-sector-test.true)
-    ∙ ap (λ (z : LogSector). records_of z.payload ++ after) (sym c.sector-item.is) in
+    ∙ ap (λ (z : LogSector). records_of z.payload.version z.payload.bytes ++ after) (sym c.sector-item.is) in
     left_part (among c.args.status.now.numbers) (among c.args.active.now) c.args.page
-    (records_kept (drop i sectors)) (records_of item.payload) after (records_kept sectors)
+    (records_kept (drop i sectors)) (records_of item.payload.version item.payload.bytes) after (records_kept sectors)
     c.loop-sector.frame c.take_payload.new.frame c.args.frame.now step
     c.loop-sector.invariant c.take_payload.ensures

@@ -4,7 +4,8 @@ use Rattle.page_text.proofs.IndexLemmas.{Indexing, indexing_none, slot_more, not
 use Rattle.page_text.proofs.indexing.index.Goals as goal
 
 pub loop-slot-init : goal.loop-slot-init
-loop-slot-init c = indexing_none c.args.bytes.now c.args.end c.args.bounds.now c.told-bounds
+loop-slot-init c =
+    indexing_none c.args.bytes.now c.args.end c.args.bounds.now c.fits-bytes c.told-bounds
 
 pub loop-slot-preserved : goal.loop-slot-preserved
 loop-slot-preserved c =
@@ -30,7 +31,7 @@ returns-clause-exact c =
     let fits : c.args.end ≤ length c.args.bytes.now = omega (arith, c.told-bytes, c.requires) in
     let all : l.slot ≡ 64 = omega (arith, c.loop-slot-test.false, l.auto.slot-end) in (
       λ h. let places = all_found c.args.bytes.now c.args.end l.slot l.bounds l.at l.invariant fits
-          all (eqb-true l.at c.args.end h) in
+          all c.requires (eqb-true l.at c.args.end h) in
           (places.page, text_found c.args.bytes.now c.args.end places),
       λ text. eq-eqb l.at c.args.end (all_there c.args.bytes.now c.args.end l.slot l.bounds l.at
           l.invariant fits all text),
@@ -42,4 +43,4 @@ returns-clause-places c =
     let fits : c.args.end ≤ length c.args.bytes.now = omega (arith, c.told-bytes, c.requires) in
     let all : l.slot ≡ 64 = omega (arith, c.loop-slot-test.false, l.auto.slot-end) in
     on_true _ _ (λ h. all_found c.args.bytes.now c.args.end l.slot l.bounds l.at l.invariant fits
-    all (eqb-true l.at c.args.end h))
+    all c.requires (eqb-true l.at c.args.end h))

@@ -15,5 +15,5 @@ pub returns-then-has_record-clause-some : goal.returns-then-has_record-clause-so
 returns-then-has_record-clause-some c = inr (
   (c.if-at-end.false, c.if-bytes-at.false),
   sym c.if-has_record.ensures,
-  let h = c.from.ensures in omega (arith, h),
+  let h = c.value_len.ensures.len in omega (arith, h),
 )

@@ -1,4 +1,4 @@
-use Rattle.std.proofs.Common.{◌≡◌, ◌+◌, ◌-◌, ◌∙◌, ap, refl, ℕ, take, drop, arith, length-drop, length-take-le}
+use Rattle.std.proofs.Common.{◌-◌, ◌∙◌, ap, refl, ℕ, take, drop, arith, length-drop, length-take-le}
 use Rattle.std.proofs.lemmas.Slice.{between-put_mid}
 use Rattle.page_text.proofs.TurnLemmas.{turned_left}
 use Rattle.page_text.proofs.moving.move_tail.Goals as goal

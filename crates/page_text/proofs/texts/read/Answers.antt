@@ -1,11 +1,12 @@
-use Rattle.std.proofs.Common.{arith}
-use Rattle.std.proofs.lemmas.Bool.{false≢true}
-use Rattle.ipl_format.proofs.PageLemmas.{pages_have_room}
+use Rattle.ipl_format.proofs.PageLemmas.{later_pages_are_alike}
+use Rattle.page_text.proofs.IndexLemmas.{map_true, text_alike}
 use Rattle.page_text.proofs.texts.read.Goals as goal
 
-pub returns-then-bytes-gt-PAGE_LEN-clause-exact : goal.returns-then-bytes-gt-PAGE_LEN-clause-exact
-returns-then-bytes-gt-PAGE_LEN-clause-exact c = (
-  λ h. absurd (false≢true h),
-  λ text. absurd (let most = pages_have_room c.args.bytes.now text.0 text.1 in
-      omega (arith, most, c.if-bytes-gt-PAGE_LEN.true)),
-)
+pub returns-else-version-eq1-clause-exact : goal.returns-else-version-eq1-clause-exact
+returns-else-version-eq1-clause-exact c =
+    text_alike c.args.version c.args.bytes.now _ c.if-version-eq1.false c.read_kept.ensures.exact
+
+pub returns-else-version-eq1-clause-page : goal.returns-else-version-eq1-clause-page
+returns-else-version-eq1-clause-page c =
+    map_true c.read_kept.result _ _ (later_pages_are_alike c.args.version c.args.bytes.now
+    c.read_kept.new.map c.if-version-eq1.false).0 c.read_kept.ensures.page

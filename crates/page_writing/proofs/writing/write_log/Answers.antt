@@ -1,5 +1,6 @@
-use Rattle.std.proofs.Common.{◌+◌, ℕ, slice_index, Ok, Err, refl, subst, arith}
+use Rattle.std.proofs.Common.{◌+◌, ℕ, slice_index, Ok, Err, refl, subst, arith, sym}
 use Rattle.std.proofs.lemmas.Result.{err_from_is_err_and}
+use Rattle.ipl_base.specs.declared.limits.TheConstants.{VERSION}
 use Rattle.ipl_format.specs.Sector.{Sector}
 use Rattle.ipl_meaning.specs.TableSteps.{with_next}
 use Rattle.selective_merge.specs.Moving.{tables_of}
@@ -49,14 +50,15 @@ returns-in_err-program_log-clause-steps g c =
     let payload = c.args.payload.now in
     let sector : Sector = record {
       kind = 5;
-      version = 1;
+      version = VERSION;
       unit = c.args.unit;
       generation = c.generation.result;
       serial = c.draw.result;
-      payload = payload;
+      payload = payload.bytes;
     } in
     let is : IsLogOf c.args.unit (slice_index t.places.generations c.args.unit) t.next payload sector = record {
       kind = refl;
+      version_is = sym c.requires.version;
       of_unit = refl;
       of_generation = c.generation.ensures;
       serial_is = c.draw.ensures.drawn;
@@ -82,14 +84,15 @@ returns-clause-steps g c =
     let payload = c.args.payload.now in
     let sector : Sector = record {
       kind = 5;
-      version = 1;
+      version = VERSION;
       unit = u;
       generation = c.generation.result;
       serial = c.draw.result;
-      payload = payload;
+      payload = payload.bytes;
     } in
     let is : IsLogOf u (slice_index t.places.generations u) t.next payload sector = record {
       kind = refl;
+      version_is = sym c.requires.version;
       of_unit = refl;
       of_generation = c.generation.ensures;
       serial_is = c.draw.ensures.drawn;
@@ -114,14 +117,15 @@ returns-clause-tells g c =
     let payload = c.args.payload.now in
     let sector : Sector = record {
       kind = 5;
-      version = 1;
+      version = VERSION;
       unit = u;
       generation = c.generation.result;
       serial = c.draw.result;
-      payload = payload;
+      payload = payload.bytes;
     } in
     let is : IsLogOf u (slice_index t.places.generations u) t.next payload sector = record {
       kind = refl;
+      version_is = sym c.requires.version;
       of_unit = refl;
       of_generation = c.generation.ensures;
       serial_is = c.draw.ensures.drawn;

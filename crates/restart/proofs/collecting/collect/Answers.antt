@@ -1,6 +1,7 @@
-use Rattle.std.proofs.Common.{◌≡◌, ◌≤◌, List, ℕ, length, subst}
+use Rattle.std.proofs.Common.{◌≡◌, ◌≤◌, length, subst}
 use Rattle.std.specs.Prelude.{◌↔◌, IsTrue}
 use Rattle.std.specs.Bool.{OnTrue}
+use Rattle.log_records.specs.View.{Versioned}
 use Rattle.log_records.specs.Reading.{records_of}
 use Rattle.kept_numbers.specs.Joins.{joined}
 use Rattle.opening_rules.proofs.PayloadLemmas.{log_payloads_are_spelled}
@@ -8,16 +9,16 @@ use Rattle.restart.proofs.CollectedLemmas.{kept_over, kept_joined}
 use Rattle.restart.proofs.collecting.collect.Goals as goal
 
 pub of-requires-clause-list : goal.of-requires-clause-list
-of-requires-clause-list c = (records_of c.args.payload.now, log_payloads_are_spelled c.args.payload.now (λ i. (c.type_inv.payload i).fits) c.requires.list)
+of-requires-clause-list c = (records_of c.args.version c.args.payload.now, log_payloads_are_spelled c.args.version c.args.payload.now (λ i. (c.type_inv.payload i).fits) c.requires.list)
 
 pub returns-then-not-fits : goal.returns-then-not-fits
 returns-then-not-fits c = λ found are.
-    kept_over c.args.status.now.numbers (records_of c.args.payload.now) found c.args.numbers.now c.args.fits c.if-not-fits.true are
+    kept_over c.args.status.now.numbers (records_of c.args.version c.args.payload.now) found c.args.numbers.now c.args.fits c.if-not-fits.true are
 
 pub returns : goal.returns
 returns c = λ found are.
     let numbers = c.args.status.now.numbers in
     let old = c.args.numbers.now in
-    kept_joined numbers (records_of c.args.payload.now) found old c.add.new.self c.args.fits c.add.result c.if-not-fits.false are
-    (subst (λ (bytes : List ℕ). IsTrue c.add.result ↔ (length (joined numbers (records_of bytes) old) ≤ 3840)) c.of.ensures c.add.ensures.fits)
-    (subst (λ (bytes : List ℕ). OnTrue c.add.result (c.add.new.self ≡ joined numbers (records_of bytes) old)) c.of.ensures c.add.ensures.joined)
+    kept_joined numbers (records_of c.args.version c.args.payload.now) found old c.add.new.self c.args.fits c.add.result c.if-not-fits.false are
+    (subst (λ (p : Versioned). IsTrue c.add.result ↔ (length (joined numbers (records_of p.version p.bytes) old) ≤ 3840)) c.of.ensures c.add.ensures.fits)
+    (subst (λ (p : Versioned). OnTrue c.add.result (c.add.new.self ≡ joined numbers (records_of p.version p.bytes) old)) c.of.ensures c.add.ensures.joined)

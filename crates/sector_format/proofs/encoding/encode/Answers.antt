@@ -11,13 +11,15 @@ returns-clause-bytes c =
 pub returns-clause-said : goal.returns-clause-said
 returns-clause-said c =
     written_is_said (sector_of c.args.head.now c.args.payload.now) _
-    (makes_sector c.args.head.now c.args.payload.now c.requires.known c.write_front.ensures.fits c.requires.fits (λ i. omega (arith, c.type_inv.payload i)))
+    (makes_sector c.args.head.now c.args.payload.now c.requires.known c.requires.version
+    c.write_front.ensures.fits c.requires.fits (λ i. omega (arith, c.type_inv.payload i)))
     (encoded c.args.head.now c.args.payload.now c.args.out.now c.write_front.new.out c.write_payload.new.out c.write_u32.new.buf c.sum_of-sum.result
     c.told-out c.write_front.ensures.front c.write_payload.ensures c.sum_of-sum.ensures c.write_u32.ensures)
 
 pub returns-clause-written : goal.returns-clause-written
 returns-clause-written c =
     written_not_blank (sector_of c.args.head.now c.args.payload.now) _
-    (makes_sector c.args.head.now c.args.payload.now c.requires.known c.write_front.ensures.fits c.requires.fits (λ i. omega (arith, c.type_inv.payload i)))
+    (makes_sector c.args.head.now c.args.payload.now c.requires.known c.requires.version
+    c.write_front.ensures.fits c.requires.fits (λ i. omega (arith, c.type_inv.payload i)))
     (encoded c.args.head.now c.args.payload.now c.args.out.now c.write_front.new.out c.write_payload.new.out c.write_u32.new.buf c.sum_of-sum.result
     c.told-out c.write_front.ensures.front c.write_payload.ensures c.sum_of-sum.ensures c.write_u32.ensures)

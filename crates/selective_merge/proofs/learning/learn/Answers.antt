@@ -27,6 +27,7 @@ returns-clause-learns g c = λ x told it t are.
       place = at.place ∙ (c.current-place.ensures.place
           ∙ (ap (λ (d : Places). slice_index d.current u) (sym are.directory_is)
           ∙ are.mirrors.directory.current u low));
+      version = at.version ∙ live.version;
       unit = at.unit;
       generation = at.generation ∙ live.generation;
       pieces = at.pieces ∙ live.pieces;

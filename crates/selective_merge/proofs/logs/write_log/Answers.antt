@@ -8,7 +8,7 @@ returns-clause-writes g c =
     let head = c.args.head.now in
     log_named old.places old.places c.args.place _ _ _ _ old (g.C.Chip.told c.program_log.new.chip)
     c.program_log.result refl c.log_sector-sector.ensures.sector
-    (same_log head.unit head.generation _ _ c.args.payload.now c.args.payload.now
+    (same_log head.unit head.generation _ _ c.args.payload.now.bytes c.args.payload.now.bytes
     c.draw.ensures.drawn refl) c.program_log.ensures.aside
 
 pub returns-clause-spares : goal.returns-clause-spares

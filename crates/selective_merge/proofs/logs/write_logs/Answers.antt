@@ -1,13 +1,14 @@
-use Rattle.std.proofs.Common.{◌≡◌, ◌<◌, ◌+◌, ℕ, true, false, [], length, Ok, Err, subst, arith, refl}
+use Rattle.std.proofs.Common.{◌≡◌, ◌<◌, ◌+◌, ℕ, true, false, [], length, Ok, Err, subst, arith, refl, ap}
 use Rattle.std.specs.Prelude.{slice_index_or}
 use Rattle.std.proofs.lemmas.List.{get_or_read}
 use Rattle.std.proofs.lemmas.Result.{err_from_is_err_and}
 use Rattle.chip_trait.proofs.CountsLemmas.{counts_none, counts_then}
+use Rattle.log_records.specs.View.{Versioned}
 use Rattle.ipl_format.specs.Sector.{Sector}
 use Rattle.unit_io.specs.Charts.{Charts, Gains}
 use Rattle.unit_io.specs.Costs.{ProgramsAt}
 use Rattle.unit_io.proofs.CostLemmas.{nothing_at, spends_at_most, spends_at_then, spends_none}
-use Rattle.merge_rules.specs.Packs.{log_sector, IsLogSpotBelow, HasLogs}
+use Rattle.merge_rules.specs.Packs.{log_sector, IsLogSpotBelow, HasLogs, payload_of}
 use Rattle.selective_merge.specs.Writing.{KeepsLogs}
 use Rattle.selective_merge.proofs.ThroughoutLemmas.{charts_none, charts_then}
 use Rattle.selective_merge.proofs.WriteLemmas.{logs_none, logs_more, keeps_none, keeps_more, keeps_failed, log_named, same_log}
@@ -46,8 +47,10 @@ loop-i-preserved g c =
     let mid = g.C.Chip.told c.loop-i.chip in
     let new = g.C.Chip.told c.write_log.new.chip in
     let low : i < length payloads = omega arith in
-    let same = same_log head.unit head.generation _ (serial + i) _ (slice_index_or payloads i [])
-    so.drawn (get_or_read payloads _ _ low c.index-payloads-i.is []) in record {
+    let same = same_log head.unit head.generation _ (serial + i) _ (slice_index_or payloads i (payload_of [])).bytes
+    so.drawn
+    (ap (λ (z : Versioned). z.bytes)
+    (get_or_read payloads _ _ low c.index-payloads-i.is (payload_of []))) in record {
       keeps = λ m h steady rests bare clean.
           keeps_more old.places p head.unit head.generation serial payloads m h (length payloads) i
           low bare clean old mid new (Ok tt) (so.keeps m h steady rests bare clean)
@@ -55,7 +58,7 @@ loop-i-preserved g c =
           says.writes);
       tells = charts_then (HasLogs p head.unit head.generation serial payloads i)
           (Gains p (241 + i) (log_sector head.unit head.generation (serial + i)
-          (slice_index_or payloads i [])))
+          (slice_index_or payloads i (payload_of [])).bytes))
           (HasLogs p head.unit head.generation serial payloads (i + 1)) old mid new so.tells
           (subst (λ (z : Sector). Charts (Gains p (241 + i) z) mid new) same says.tells)
           (λ x y z one two. logs_more p head.unit head.generation serial payloads i x y z one two);
@@ -79,8 +82,10 @@ returns-in_err-write_log-clause-writes g c = λ m h steady rests bare clean.
     let new = g.C.Chip.told c.write_log.new.chip in
     let fault = c.in_err-write_log.field-0.0 in
     let low : i < length payloads = omega arith in
-    let same = same_log head.unit head.generation _ (serial + i) _ (slice_index_or payloads i [])
-    so.drawn (get_or_read payloads _ _ low c.index-payloads-i.is []) in
+    let same = same_log head.unit head.generation _ (serial + i) _ (slice_index_or payloads i (payload_of [])).bytes
+    so.drawn
+    (ap (λ (z : Versioned). z.bytes)
+    (get_or_read payloads _ _ low c.index-payloads-i.is (payload_of []))) in
     let e = err_from_is_err_and c.from_residual.result c.from_residual.ensures.1 in
     rw e.1 (keeps_failed old.places p head.unit head.generation serial payloads m h (i + 1)
     (length payloads) fault e.0 old new (omega (arith, low))

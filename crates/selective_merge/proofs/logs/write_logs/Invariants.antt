@@ -1,6 +1,7 @@
 use Rattle.std.proofs.Common.{◌≡◌, ◌+◌, ℕ, true, List, None, Ok, length}
 use Rattle.chip_trait.specs.Lawful.{Clean, age}
 use Rattle.chip_trait.specs.Told.{Told, History, Counts}
+use Rattle.log_records.specs.View.{Versioned}
 use Rattle.ipl_rules.specs.State.{Map}
 use Rattle.ipl_meaning.specs.Rests.{now, StoryRests}
 use Rattle.unit_io.specs.Charts.{Charts, Spares}
@@ -12,7 +13,7 @@ use Rattle.selective_merge.specs.Writing.{KeepsLogs}
 use Rattle.selective_merge.proofs.logs.write_logs.Given as goal
 
 -- what is so after some log sectors
-pub record AreWritten (first t : Told) (p u generation serial : ℕ) (payloads : List (List ℕ))
+pub record AreWritten (first t : Told) (p u generation serial : ℕ) (payloads : List Versioned)
     (counter n : ℕ) : Type 0 where
   pub keeps : (m : Map) (h : History) → IsSteady h first → StoryRests first.places m h
       → now h p 0 ≡ None

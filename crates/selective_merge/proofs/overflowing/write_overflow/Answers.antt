@@ -1,6 +1,7 @@
 use Rattle.std.proofs.Common.{false, arith, ℕ, refl, subst}
 use Rattle.std.proofs.lemmas.Result.{err_from_is_err_and}
 use Rattle.std.specs.Prelude.{is_ok}
+use Rattle.ipl_base.specs.declared.limits.TheConstants.{VERSION}
 use Rattle.ipl_format.specs.Sector.{Sector}
 use Rattle.ipl_meaning.proofs.MirrorLemmas.{free_places_are_idle}
 use Rattle.unit_io.proofs.CostLemmas.{spends_once_at_most, spends_once_then}
@@ -25,7 +26,7 @@ returns-clause-opens g c = λ m it t h steady rests mirrors free.
     let new = g.C.Chip.told c.seal.new.chip in
     let head : Sector = record {
       kind = 3;
-      version = 1;
+      version = VERSION;
       unit = 0;
       generation = c.args.generation;
       serial = c.args.generation;
@@ -50,7 +51,7 @@ pub returns-clause-tells : goal.returns-clause-tells
 returns-clause-tells g c =
     let head : Sector = record {
       kind = 3;
-      version = 1;
+      version = VERSION;
       unit = 0;
       generation = c.args.generation;
       serial = c.args.generation;

@@ -9,7 +9,6 @@ apply_if-requires c = item_slot _ c.loop-logged.logged-index c.logged-item.resul
 
 pub loop-logged-preserved : goal.loop-logged-preserved
 loop-logged-preserved c = record {
-  page = λ is. c.apply_if.ensures.page (c.loop-logged.invariant.page is);
   rebased = λ slot low. applied_more (among c.args.status.now.numbers) c.args.page slot _
       c.loop-logged.logged-index c.logged-item.result _ _ _ (omega arith) c.logged-item.is
       (c.apply_if.ensures.applied slot) (c.loop-logged.invariant.rebased slot low);

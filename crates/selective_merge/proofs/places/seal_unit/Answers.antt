@@ -1,5 +1,5 @@
-use Rattle.std.proofs.Common.{refl, subst, ℕ, ◌≡◌}
-use Rattle.ipl_format.specs.Header.{data_header_bytes}
+use Rattle.std.proofs.Common.{refl, sym, subst, ℕ, ◌≡◌}
+use Rattle.ipl_format.specs.Header.{SpellsDataHeader, data_header_bytes}
 use Rattle.sector_format.specs.Decode.{sector_of}
 use Rattle.selective_merge.proofs.SealLemmas.{sealed_keeps, sealed_tells}
 use Rattle.selective_merge.proofs.places.seal_unit.Goals as goal
@@ -12,13 +12,15 @@ returns-clause-seals g c =
     c.args.carried (sector_of head c.write_data_header.new.out) old c.seal.result
     (g.C.Chip.told c.seal.new.chip) (record {
       kind = c.requires.kind;
+      version = c.requires.version;
       of_unit = refl;
       of_generation = refl;
       serial = c.requires.serial;
       payload = subst (λ (k : ℕ). c.write_data_header.new.out
           ≡ data_header_bytes c.args.units c.args.pieces k) c.write_data_header.ensures.1
           c.write_data_header.ensures.0.bytes;
-      counts = c.write_data_header.ensures.0;
+      counts = subst (λ (v : ℕ). SpellsDataHeader v c.args.units c.args.pieces
+          c.write_data_header.new.out) (sym c.requires.version) c.write_data_header.ensures.0;
     }) c.seal.ensures.leads
 
 pub returns-clause-tells : goal.returns-clause-tells
@@ -29,13 +31,15 @@ returns-clause-tells g c =
     c.args.carried (sector_of head c.write_data_header.new.out) old c.seal.result
     (g.C.Chip.told c.seal.new.chip) (record {
       kind = c.requires.kind;
+      version = c.requires.version;
       of_unit = refl;
       of_generation = refl;
       serial = c.requires.serial;
       payload = subst (λ (k : ℕ). c.write_data_header.new.out
           ≡ data_header_bytes c.args.units c.args.pieces k) c.write_data_header.ensures.1
           c.write_data_header.ensures.0.bytes;
-      counts = c.write_data_header.ensures.0;
+      counts = subst (λ (v : ℕ). SpellsDataHeader v c.args.units c.args.pieces
+          c.write_data_header.new.out) (sym c.requires.version) c.write_data_header.ensures.0;
     }) c.seal.ensures.tells
 
 pub returns-clause-spares : goal.returns-clause-spares

@@ -9,7 +9,7 @@ pub returns-in_err-end-clause-exact : goal.returns-in_err-end-clause-exact
 returns-in_err-end-clause-exact g c =
     let e = err_from_is_err_and c.from_residual.result c.from_residual.ensures.1 in
     λ x told. rw (e.1, e.2) (λ other.
-    first_found (piece_fault_at x c.args.place c.args.head.now.unit c.args.head.now.generation c.args.page c.args.pieces) c.loop-piece.piece c.args.pieces _ c.loop-piece-test.true
+    first_found (piece_fault_at x c.args.place c.args.head.now.version c.args.head.now.unit c.args.head.now.generation c.args.page c.args.pieces) c.loop-piece.piece c.args.pieces _ c.loop-piece-test.true
     (c.loop-piece.invariant.sound x told) (c.in_err-end.ensures.exact x (c.loop-piece.invariant.reads.contents ∙ told) other))
 
 pub returns-in_err-end-clause-asks : goal.returns-in_err-end-clause-asks

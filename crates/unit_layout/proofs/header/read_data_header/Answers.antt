@@ -4,21 +4,24 @@ use Rattle.unit_layout.proofs.HeaderLemmas.{header_read, other_size, many_carrie
 use Rattle.unit_layout.proofs.header.read_data_header.Goals as goal
 
 pub returns-then-payload-ne20-clause-none : goal.returns-then-payload-ne20-clause-none
-returns-then-payload-ne20-clause-none c = other_size c.args.payload.now c.if-payload-ne20.true
+returns-then-payload-ne20-clause-none c =
+    other_size c.args.version c.args.payload.now c.if-payload-ne20.true
 
 pub returns-then-not-are_counts-clause-none : goal.returns-then-not-are_counts-clause-none
 returns-then-not-are_counts-clause-none c =
     let refused : All IsCount c.counts-pieces.result → ⊥ = search rules in
-    no_counts c.args.payload.now c.counts-pieces.result c.counts-pieces.ensures refused
+    no_counts c.args.version c.args.payload.now c.counts-pieces.result c.counts-pieces.ensures
+    refused
 
 pub returns-then-not-may_be_carried-clause-none : goal.returns-then-not-may_be_carried-clause-none
 returns-then-not-may_be_carried-clause-none c =
     let refused : get_or c.args.payload.now 19 0 ≤ 12 → ⊥ = search rules in
-    many_carried c.args.payload.now refused
+    many_carried c.args.version c.args.payload.now refused
 
 pub returns-clause-some : goal.returns-clause-some
 returns-clause-some c =
     let each : All IsCount c.counts-pieces.result = search rules in
     let few : get_or c.args.payload.now 19 0 ≤ 12 = search rules in
-    header_read c.args.payload.now _ c.if-payload-ne20.false (λ i. omega (arith, c.type_inv.payload i)) c.word_at.ensures
+    header_read c.args.version c.args.payload.now _ c.if-payload-ne20.false (λ i.
+    omega (arith, c.type_inv.payload i)) c.word_at.ensures
     c.counts-pieces.ensures refl each few

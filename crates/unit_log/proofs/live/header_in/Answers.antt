@@ -17,4 +17,4 @@ pub returns-clause-found : goal.returns-clause-found
 returns-clause-found c =
     header_found c.args.bytes.now c.args.unit c.args.found c.in_ok-head.head c.in_ok-head.used _
     c.in_ok-header.header c.in_ok-head.was c.if-head-ne-DATA_HEADER.false c.if-head-unit.false
-    c.in_ok-header.ensures.some refl refl
+    c.in_ok-header.ensures.some refl refl refl

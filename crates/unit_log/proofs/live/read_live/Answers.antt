@@ -127,6 +127,7 @@ returns-clause-exact g c = λ x told it t are.
     (log_spots c.current-place.result c.unwrap_or-end.result
     (map pair_of c.as_slice.result.now))) c.clear.ensures in
     record {
+      version = head.2;
       generation = head.0;
       pieces = head.1;
       log =

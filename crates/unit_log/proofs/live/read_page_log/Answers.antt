@@ -136,6 +136,7 @@ returns-clause-exact g c = λ x told it t are.
     c.in_ok-read_listed.ensures.gathers x (c.in_ok-head.ensures.looks.reads.contents ∙ told)
     ∙ ap (gathered (chart_of x) c.args.unit c.in_ok-head.head.generation own) c.clear.ensures in
     record {
+      version = head.2;
       generation = head.0;
       pieces = head.1;
       log =

@@ -7,5 +7,6 @@ use Rattle.mem_log_sector.proofs.mem_log.MemLog.facts.Goals as goal
 pub returns : goal.returns
 returns c =
     let bytes = c.bytes.ensures in
-    subst IsMemLog (ap records_of bytes.value ∙ c.self.view_is)
-    (is_mem_log c.bytes.result.now bytes.list bytes.fits)
+    let version = c.self.inside.payload.version in
+    subst IsMemLog (ap (records_of version) bytes.value ∙ c.self.view_is)
+    (is_mem_log version c.bytes.result.now bytes.list bytes.fits)

@@ -6,5 +6,7 @@ use Rattle.mem_log_sector.proofs.mem_log.MemLog.is_empty.Goals as goal
 pub returns : goal.returns
 returns c =
     let bytes = c.bytes.ensures in
-    let same = sym c.self.view_is ∙ ap records_of (sym bytes.value) in
-    empty_then c.is_empty.result c.bytes.result.now c.args.self.now c.is_empty.ensures bytes.list same
+    let version = c.self.inside.payload.version in
+    let same = sym c.self.view_is ∙ ap (records_of version) (sym bytes.value) in
+    empty_then c.is_empty.result version c.bytes.result.now c.args.self.now c.is_empty.ensures
+    bytes.list same

@@ -28,7 +28,7 @@ returns-in_err-write_out-clause-upholds g c =
     c.log_payload-payload.result
     c.args.self.now (record { parts = c.write_out.new.parts; pool = c.args.self.now.pool })
     c.in_err-write_out.field-0.0 (g.C.Chip.told c.args.chip.now) (g.C.Chip.told c.write_out.new.chip)
-    c.requires.ready refl (c.if-not-has_records.ensures.some refl) c.log_payload-payload.ensures is.tells
+    c.requires.ready refl (c.if-not-has_records.ensures.some refl) c.log_payload-payload.ensures.records is.tells
     is.steps is.holds is.tidy is.draws is.accounts)
 
 pub returns-then-not-has_records-clause-asks : goal.returns-then-not-has_records-clause-asks
@@ -50,7 +50,7 @@ returns-clause-upholds g c =
     c.log_payload-payload.result c.args.self.now
     (record { parts = c.write_out.new.parts; pool = c.clear_log.new.pool })
     (g.C.Chip.told c.args.chip.now) (g.C.Chip.told c.write_out.new.chip) c.requires.ready
-    c.log_payload-payload.ensures c.clear_log.ensures.cleared c.clear_log.ensures.pins is.tells is.steps
+    c.log_payload-payload.ensures.records c.clear_log.ensures.cleared c.clear_log.ensures.pins is.tells is.steps
     is.holds is.tidy is.draws is.accounts
 
 pub returns-clause-frames : goal.returns-clause-frames

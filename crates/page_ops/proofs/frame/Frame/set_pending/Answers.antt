@@ -1,4 +1,4 @@
-use Rattle.std.proofs.Common.{◌<◌, length, ap, arith, ℕ}
+use Rattle.std.proofs.Common.{◌<◌, length, ap, arith}
 use Rattle.log_records.specs.View.{change_of}
 use Rattle.page_ops.specs.Frames.{FrameView, pending_in}
 use Rattle.page_ops.proofs.SlotLemmas.{noted}

@@ -1,7 +1,7 @@
 use Rattle.std.proofs.Common.{◌∙◌, ap, set, None}
 use Rattle.page_text.specs.Texts.{page_in}
 use Rattle.page_text.proofs.ViewLemmas.{are_bounds, indexed_view, view_indexed}
-use Rattle.page_text.proofs.ChangeLemmas.{cleared, room_for}
+use Rattle.page_text.proofs.ChangeLemmas.{cleared, none_fits, room_for}
 use Rattle.page_text.proofs.page_bytes.PageBytes.clear.Goals as goal
 
 pub resize-requires-clause-bounds : goal.resize-requires-clause-bounds
@@ -13,7 +13,8 @@ pub resize-requires-clause-room : goal.resize-requires-clause-room
 resize-requires-clause-room c =
     let p = c.self.inside in
     room_for p.bytes p.bounds (page_in p.bytes p.bounds) c.args.slot None c.self.invariant
-    c.requires tt
+    c.requires (none_fits p.bytes p.bounds (page_in p.bytes p.bounds) c.args.slot c.self.invariant
+    c.requires)
 
 pub invariant_of-self : goal.invariant_of-self
 invariant_of-self c =

@@ -1,4 +1,5 @@
 use Rattle.std.proofs.Common.{refl, subst₂, sym, ap, take, List, ℕ}
+use Rattle.ipl_base.specs.declared.limits.TheConstants.{VERSION}
 use Rattle.ipl_format.specs.Page.{Slots, empty_page, SpellsPage}
 use Rattle.page_text.specs.Texts.{BytesView}
 use Rattle.page_text.proofs.IndexLemmas.{text_found}
@@ -13,7 +14,7 @@ invariant_of-self c =
 pub returns-then-index-clause-page : goal.returns-then-index-clause-page
 returns-then-index-clause-page c =
     let h = c.if-index.ensures.places in
-    subst₂ (λ (bytes : List ℕ) (page : Slots). SpellsPage (take c.args.end bytes) page)
+    subst₂ (λ (bytes : List ℕ) (page : Slots). SpellsPage VERSION (take c.args.end bytes) page)
     (ap (λ (v : BytesView). v.bytes) c.self.view_is)
     (sym (indexed_view c.self.inside.bytes c.index.new.bounds h.page h.count h.indexed))
     (text_found c.self.inside.bytes c.args.end h)

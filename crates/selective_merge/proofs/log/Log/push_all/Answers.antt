@@ -5,7 +5,7 @@ use Rattle.selective_merge.proofs.log.Log.push_all.Goals as goal
 
 pub loop-logged-init : goal.loop-logged-init
 loop-logged-init c =
-    let fits : length c.args.payload.now ≤ 480 =
+    let fits : length c.args.payload.now.bytes ≤ 480 =
     omega (arith, c.bytes.ensures.fits, ap length c.bytes.ensures.value) in
     taking_none c.args.self.now c.args.payload.now c.records-logged-items.result _
     c.records-logged-items.ensures fits c.into_iter-logged-iterator.ensures.into_iter_gives

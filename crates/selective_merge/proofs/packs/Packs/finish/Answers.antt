@@ -5,7 +5,7 @@ use Rattle.selective_merge.proofs.packs.Packs.finish.Goals as goal
 
 pub returns-then-is_empty-clause-done : goal.returns-then-is_empty-clause-done
 returns-then-is_empty-clause-done c = λ full spelled.
-    let none : length c.args.self.now.last ≡ 0 =
+    let none : length c.args.self.now.last.bytes ≡ 0 =
     empty_is _ _ _ c.is_empty.ensures c.if-is_empty.true c.bytes.ensures.value in
     finished_none c.args.self.now.closed.items full c.args.self.now.last spelled none
 
