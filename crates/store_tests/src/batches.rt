@@ -1,5 +1,5 @@
 //! Several sessions committed together: what is written, with which numbers, and what is there then.
-use crate::calls::{Call, DONE, NONE, call_all, call_idle, formatted, found, opened};
+use crate::calls::{Call, DONE, NONE, call_all, formatted, found, opened};
 use crate::events::{Write, committed_numbers, header, sector, written};
 use sector_format::Head;
 use std::alloc::Global;
@@ -57,22 +57,5 @@ fn a_batch_writes_a_page_once_and_one_commit_sector(rt: HostRuntime) -> Result<(
     ];
     assert_eq!(rt; made.as_slice(), writes.as_slice());
     assert_eq!(rt; numbers.as_slice(), [5, 4].as_slice());
-    Ok(())
-}
-
-/// A batch of sessions that wrote nothing closes them, and asks the chip nothing.
-#[test]
-fn an_idle_batch_asks_nothing(rt: HostRuntime) -> Result<(), Fail> {
-    let alloc = rt.alloc();
-    let mut chip = formatted(alloc, 5, 1000)?;
-    let mut store = opened(alloc, &mut chip, 2)?;
-    let begins = [
-        (Call::Begin(0), DONE),
-        (Call::Begin(7), DONE),
-        (Call::Begin(31), DONE),
-    ];
-    call_all(&rt, &mut store, &mut chip, &begins);
-    call_idle(&rt, &mut store, &mut chip, &[(Call::Batch(31, 0, 7), DONE)]);
-    call_all(&rt, &mut store, &mut chip, &begins);
     Ok(())
 }

@@ -142,28 +142,6 @@ pub(crate) fn left_by(alloc: Global, _store: &Store, chip: &MemChip) -> Result<M
     left_of(alloc, chip)
 }
 
-/// From now on the call of this number fails on the chip of a store.
-pub(crate) fn fail_call(
-    alloc: Global,
-    _store: &Store,
-    chip: &mut MemChip,
-    number: u64,
-) -> Result<(), Fail>
-    requires { Suits chip.old _store.now }
-    ensures { Suits chip.new _store.now }
-{
-    chip.fail_at([number].to_vec(alloc)?);
-    Ok(())
-}
-
-/// From now on no write succeeds on the chip of a store.
-pub(crate) fn fail_writes(_store: &Store, chip: &mut MemChip)
-    requires { Suits chip.old _store.now }
-    ensures { Suits chip.new _store.now }
-{
-    chip.stop_after(0);
-}
-
 /// Opens a chip; the store is sound for it.
 fn open(alloc: Global, chip: &mut MemChip, frames: u32) -> Result<Store, Fail>
     requires two { 2 ≤ frames }
@@ -199,6 +177,20 @@ pub(crate) fn reopened(store: Store, chip: &mut MemChip) -> (Store, Result<(), I
     ensures { Suits chip.new result.0 }
 {
     reopen(store, chip)
+}
+
+/// Opens the chip of a store again, or what is left of it, and makes calls. Each gives its answer.
+pub(crate) fn call_reopened(
+    rt: &impl Abort,
+    store: Store,
+    chip: &mut MemChip,
+    cases: &[(Call<'_>, Answer<'_>)],
+)
+    requires { Suits chip.old store }
+{
+    let (mut again, opens) = reopened(store, chip);
+    assert_eq!(rt; opens, Ok(()));
+    call_all(rt, &mut again, chip, cases);
 }
 
 /// Opens a chip with sixteen frames, and makes calls. Each gives its answer.

@@ -139,6 +139,20 @@ fn a_merge_that_is_cut_keeps_the_records(rt: HostRuntime) -> Result<(), Fail> {
 }
 
 #[test]
+fn an_overflow_place_that_is_cut_keeps_the_records(rt: HostRuntime) -> Result<(), Fail> {
+    let alloc = rt.alloc();
+    let calls = seven_commits_beside(alloc)?;
+    let chip = call_left(&rt, alloc, formatted(alloc, 5, 3000)?, &calls)?;
+    // The seventh commit takes place 0 for its log sector.
+    let records = [
+        (Call::Committed(0), NONE),
+        (Call::Committed(39), NONE),
+        (Call::Committed(64), found(&[6])),
+    ];
+    cut_each(&rt, alloc, &chip, (0, 0), &records)
+}
+
+#[test]
 fn a_merge_that_empties_an_overflow_place_is_cut(rt: HostRuntime) -> Result<(), Fail> {
     let alloc = rt.alloc();
     let mut calls = seven_commits_beside(alloc)?;

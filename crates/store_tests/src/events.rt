@@ -98,12 +98,7 @@ pub(crate) fn committed_numbers(alloc: Global, chip: &MemChip) -> Result<Vec<u64
 
 /// The program of a sector of unit 0, or of no unit.
 pub(crate) fn sector(at: (u32, u32), kind: u8, generation: u64, serial: u64, used: usize) -> Write {
-    let head = Head {
-        kind,
-        unit: 0,
-        generation,
-        serial,
-    };
+    let head = Head::written(kind, 0, generation, serial);
     Write::Program(at.0, at.1, Decoded::Sector(head, used))
 }
 

@@ -1,285 +1,285 @@
-//! Reads and writes of the chip that fail, a sector that was damaged, and stores that are opened
-//! again.
-ghost use Rattle.std.specs.Prelude.{IfOk};
-ghost use Rattle.store_tests.specs.Suits.{Suits};
+//! Each call of the chip fails in turn in a get, a put, a commit and a merge, and where a store opens its
+//! chip again. After a read that fails the same call is done; after a write that fails the store is down,
+//! and opens what is left of the chip. The rows show the clauses `calls` (its `leads` and its `ends`) of
+//! the store's calls, and `opens` of `reopen`.
+ghost use Rattle.std.specs.Prelude.{◌<◌, length};
 
 use crate::calls::{
-    Answer, Call, DONE, DOWN, NONE, call_all, call_idle, call_left, fail_call, fail_writes, failed,
-    formatted, found, left_by, left_of, opened, refused, reopened,
+    Answer, Call, DONE, DOWN, call_all, call_in_frames, call_left, call_reopened, failed,
+    formatted, found, left_by, left_of, opened, reopened,
 };
-use crate::scripts::{add, committing};
+use crate::scripts::add_all;
 use chip_mem::MemChip;
-use chip_trait::{Chip, Event};
-use ipl_base::{ChipFault, ImageFault, Refusal};
-use ipl_store::Store;
+use chip_trait::Event;
+use ipl_base::{ChipFault, ImageFault};
 use std::alloc::Global;
 use std::process::Abort;
 use std::test::Fail;
 
-/// A chip of five places with a record of two bytes at name 5, in the text of its page. It was
+/// A call with its answer.
+type Case<'a> = (Call<'a>, Answer<'a>);
+
+/// The values that the script finds, and commits in place of them.
+const OLD: &[u8] = b"old";
+
+const NEW: &[u8] = b"new";
+
+/// Commits the new values with two frames. The first log sector of a unit after an opening is to
+/// merge it: that of unit 0 where the get needs a frame, of unit 1 where the last put does, and of
+/// unit 2 in the commit. The first merge that is asked for carries a record, and the second applies
+/// one.
+const SCRIPT: [Case<'static>; 11] = [
+    (Call::Begin(0), DONE),
+    (Call::Put(0, 0, NEW), DONE),
+    (Call::Put(0, 960, NEW), DONE),
+    (Call::Get(0, 64), Ok(Some(b"stays"))),
+    (Call::Put(0, 1920, NEW), DONE),
+    (Call::Merge(0), DONE),
+    (Call::Commit(0), DONE),
+    (Call::Merge(1), DONE),
+    (Call::Begin(0), DONE),
+    (Call::Get(0, 960), Ok(Some(NEW))),
+    (Call::Get(0, 0), Ok(Some(NEW))),
+];
+
+/// The calls of a store that is down.
+const DOWN_CALLS: [Case<'static>; 13] = [
+    (Call::Begin(2), DOWN),
+    (Call::Begin(32), DOWN),
+    (Call::Get(0, 5), DOWN),
+    (Call::Share(0, 5), DOWN),
+    (Call::Put(0, 6, b"a"), DOWN),
+    (Call::Del(0, 6), DOWN),
+    (Call::Commit(0), DOWN),
+    (Call::Batch(0, 1, 2), DOWN),
+    (Call::Abort(0), DOWN),
+    (Call::Committed(5), DOWN),
+    (Call::Hold(0, 1), DOWN),
+    (Call::Release(0, 0), DOWN),
+    (Call::Merge(0), DOWN),
+];
+
+/// The records of three units: this value at one name of each, and at another what stays.
+fn records(value: &[u8]) -> [Case<'_>; 4] {
+    [
+        (Call::Committed(0), found(value)),
+        (Call::Committed(64), found(b"stays")),
+        (Call::Committed(960), found(value)),
+        (Call::Committed(1920), found(value)),
+    ]
+}
+
+/// The value of these records after calls of the script.
+fn value_after(cases: &[Case<'_>]) -> &'static [u8] {
+    for (call, _) in cases {
+        if matches!(call, Call::Commit(_)) {
+            return NEW;
+        }
+    }
+    OLD
+}
+
+/// A chip of seven places, so of three units, with the old values in the texts of its pages. It was
 /// asked nothing yet.
-fn with_record(rt: &impl Abort, alloc: Global) -> Result<MemChip, Fail> {
-    let mut calls = Vec::new(alloc);
-    committing(&mut calls, 0, 5, b"hi")?;
-    add(&mut calls, Call::Merge(0), DONE)?;
-    let chip = call_left(rt, alloc, formatted(alloc, 5, 2000)?, &calls)?;
+fn with_records(rt: &impl Abort, alloc: Global) -> Result<MemChip, Fail> {
+    let calls = [
+        (Call::Begin(0), DONE),
+        (Call::Put(0, 0, OLD), DONE),
+        (Call::Put(0, 64, b"stays"), DONE),
+        (Call::Put(0, 960, OLD), DONE),
+        (Call::Put(0, 1920, OLD), DONE),
+        (Call::Commit(0), DONE),
+        (Call::Merge(0), DONE),
+        (Call::Merge(1), DONE),
+        (Call::Merge(2), DONE),
+    ];
+    let chip = call_left(rt, alloc, formatted(alloc, 7, 4000)?, &calls)?;
     left_of(alloc, &chip)
 }
 
-/// The store of a chip with a session, where the next call of the chip is going to fail.
-fn failing_next(rt: &impl Abort, alloc: Global, chip: &mut MemChip) -> Result<Store, Fail>
-    ensures { IfOk result (λ store. Suits chip.new store) }
-{
-    let mut store = opened(alloc, chip, 16)?;
-    let cases = [(Call::Begin(0), DONE)];
-    call_all(rt, &mut store, chip, &cases);
-    // Each call of the chip so far is an event.
-    let next = chip.events().len() as u64;
-    fail_call(alloc, &store, chip, next)?;
-    Ok(store)
+/// What is left of a chip, whose call of this number is going to fail.
+fn failing(alloc: Global, chip: &MemChip, number: u64) -> Result<MemChip, Fail> {
+    let mut left = left_of(alloc, chip)?;
+    left.fail_at([number].to_vec(alloc)?);
+    Ok(left)
 }
 
-/// Makes a call on what is left of a chip where its first read fails, and then again: the session
-/// sees this, and it is committed.
-fn call_again<'a>(
+/// Calls, one that fails, and others behind it.
+fn with_fault<'a>(
+    alloc: Global,
+    before: &[Case<'a>],
+    call: Call<'a>,
+    fault: ChipFault,
+    behind: &[Case<'a>],
+) -> Result<Vec<Case<'a>>, Fail> {
+    let mut cases = Vec::new(alloc);
+    add_all(&mut cases, before)?;
+    add_all(&mut cases, &[(call, failed(fault))])?;
+    add_all(&mut cases, behind)?;
+    Ok(cases)
+}
+
+/// A read of the chip fails in a call of the script. The same call is made again, and then the script
+/// goes on.
+fn fail_read(
+    rt: &impl Abort,
+    alloc: Global,
+    chip: MemChip,
+    script: &[Case<'_>],
+    at: usize,
+) -> Result<(), Fail>
+    requires { at < length script.now }
+{
+    let (call, _) = script[at];
+    let fault = ChipFault::ReadFault;
+    let cases = with_fault(alloc, &script[..at], call, fault, &script[at..])?;
+    call_in_frames(rt, alloc, chip, 2, &cases)?;
+    Ok(())
+}
+
+/// A write of the chip fails in a call of the script. The store is down, and opens what is left of the
+/// chip with this value.
+fn fail_write(
+    rt: &impl Abort,
+    alloc: Global,
+    mut chip: MemChip,
+    script: &[Case<'_>],
+    at: usize,
+    value: &[u8],
+) -> Result<(), Fail>
+    requires { at < length script.now }
+{
+    let (call, _) = script[at];
+    let fault = ChipFault::Stopped;
+    let cases = with_fault(alloc, &script[..at], call, fault, &DOWN_CALLS)?;
+    let mut store = opened(alloc, &mut chip, 2)?;
+    call_all(rt, &mut store, &mut chip, &cases);
+    let mut left = left_by(alloc, &store, &chip)?;
+    call_reopened(rt, store, &mut left, &records(value));
+    Ok(())
+}
+
+/// Each call of the chip fails in turn in a call of the script; whether a place is erased there.
+fn fail_call(
     rt: &impl Abort,
     alloc: Global,
     chip: &MemChip,
-    case: (Call<'a>, Answer<'a>, Answer<'a>),
-) -> Result<(), Fail> {
-    let (call, answer, seen) = case;
-    let mut left = left_of(alloc, chip)?;
-    let mut store = failing_next(rt, alloc, &mut left)?;
-    let calls = [
-        (call, failed(ChipFault::ReadFault)),
-        (call, answer),
-        (Call::Get(0, 5), seen),
-        (Call::Commit(0), DONE),
-        (Call::Committed(5), seen),
-    ];
-    call_all(rt, &mut store, &mut left, &calls);
-    Ok(())
-}
-
-/// A read that fails leaves the store up: the same call, made again, does its work.
-#[test]
-fn a_failed_read_changes_nothing(rt: HostRuntime) -> Result<(), Fail> {
-    let alloc = rt.alloc();
-    let chip = with_record(&rt, alloc)?;
-    let cases = [
-        (Call::Get(0, 5), found(b"hi"), found(b"hi")),
-        (Call::Share(0, 5), found(b"hi"), found(b"hi")),
-        (Call::Committed(5), found(b"hi"), found(b"hi")),
-        (Call::Put(0, 5, b"a"), DONE, found(b"a")),
-        (Call::Del(0, 5), DONE, NONE),
-        (Call::Hold(0, 0), DONE, found(b"hi")),
-        (Call::Merge(0), DONE, found(b"hi")),
-    ];
-    for case in cases {
-        call_again(&rt, alloc, &chip, case)?;
-    }
-    Ok(())
-}
-
-/// A store of a chip with one record, where two sessions have written and a page is held.
-fn with_two_writers(rt: &impl Abort, alloc: Global, chip: &mut MemChip) -> Result<Store, Fail>
-    ensures { IfOk result (λ store. Suits chip.new store) }
+    script: &[Case<'_>],
+    at: usize,
+) -> Result<bool, Fail>
+    requires { at < length script.now }
 {
-    let mut store = opened(alloc, chip, 16)?;
-    let cases = [
-        (Call::Begin(0), DONE),
-        (Call::Put(0, 5, b"no"), DONE),
-        (Call::Begin(1), DONE),
-        (Call::Put(1, 6, b"no"), DONE),
-        (Call::Hold(0, 0), DONE),
-    ];
-    call_all(rt, &mut store, chip, &cases);
-    Ok(store)
-}
-
-/// The number of the first call of the chip that programs a sector where the first writer is
-/// committed.
-fn first_program(rt: &impl Abort, alloc: Global) -> Result<u64, Fail> {
-    let mut chip = with_record(rt, alloc)?;
-    let mut store = with_two_writers(rt, alloc, &mut chip)?;
-    let start = chip.events().len();
-    call_all(rt, &mut store, &mut chip, &[(Call::Commit(0), DONE)]);
-    for (number, event) in chip.events().iter().enumerate() {
-        if number >= start && matches!(event, Event::Program(_, _, _)) {
-            return Ok(number as u64);
+    let before = call_in_frames(rt, alloc, left_of(alloc, chip)?, 2, &script[..at])?;
+    let whole = call_in_frames(rt, alloc, left_of(alloc, chip)?, 2, &script[..at + 1])?;
+    let count = whole.events().len();
+    let mut is_erased = false;
+    for (number, event) in whole.events().iter().enumerate() {
+        if before.events().len() <= number {
+            let left = failing(alloc, chip, number as u64)?;
+            // Where only the last barrier fails, what the call wrote is there.
+            let value = value_after(if number + 1 == count {
+                &script[..at + 1]
+            } else {
+                &script[..at]
+            });
+            match event {
+                Event::Read(_, _) => fail_read(rt, alloc, left, script, at)?,
+                _ => fail_write(rt, alloc, left, script, at, value)?,
+            }
+            is_erased = is_erased || matches!(event, Event::Erase(_));
         }
     }
-    Err(Fail::from("nothing is programmed"))
+    Ok(is_erased)
 }
 
-/// A store that the first program of a commit left down.
-fn stopped(rt: &impl Abort, alloc: Global, chip: &mut MemChip) -> Result<Store, Fail>
-    ensures { IfOk result (λ store. Suits chip.new store) }
-{
-    let number = first_program(rt, alloc)?;
-    let mut store = with_two_writers(rt, alloc, chip)?;
-    fail_call(alloc, &store, chip, number)?;
-    let cases = [(Call::Commit(0), failed(ChipFault::Stopped))];
-    call_all(rt, &mut store, chip, &cases);
-    Ok(store)
-}
-
-/// Makes each call on a store that is down. Nothing is asked of the chip.
-pub(crate) fn call_down(rt: &impl Abort, store: &mut Store, chip: &mut MemChip)
-    requires { Suits chip.old store.old }
-    ensures { Suits chip.new store.new }
-{
-    let cases = [
-        (Call::Begin(2), DOWN),
-        (Call::Begin(32), DOWN),
-        (Call::Get(0, 5), DOWN),
-        (Call::Share(1, 5), DOWN),
-        (Call::Put(1, 6, b"a"), DOWN),
-        (Call::Del(1, 6), DOWN),
-        (Call::Commit(1), DOWN),
-        (Call::Commit(0), DOWN),
-        (Call::Abort(1), DOWN),
-        (Call::Committed(5), DOWN),
-        (Call::Hold(0, 1), DOWN),
-        (Call::Release(0, 0), DOWN),
-        (Call::Merge(0), DOWN),
-    ];
-    call_idle(rt, store, chip, &cases);
-}
-
-/// Opens the chip of a store again, or what is left of it, and makes calls. Each gives its answer.
-pub(crate) fn call_reopened(
-    rt: &impl Abort,
-    store: Store,
-    chip: &mut MemChip,
-    cases: &[(Call<'_>, Answer<'_>)],
-)
-    requires { Suits chip.old store }
-{
-    let (mut again, opens) = reopened(store, chip);
-    assert_eq!(rt; opens, Ok(()));
-    call_all(rt, &mut again, chip, cases);
-}
-
-/// From a failed write on nothing is done, also for a session that may be committed otherwise. Once
-/// the chip is opened again the records are there that were committed before, and no session is.
-#[test]
-fn a_failed_write_leaves_the_store_down(rt: HostRuntime) -> Result<(), Fail> {
-    let alloc = rt.alloc();
-    let mut chip = with_record(&rt, alloc)?;
-    let mut store = stopped(&rt, alloc, &mut chip)?;
-    call_down(&rt, &mut store, &mut chip);
-    let mut left = left_by(alloc, &store, &chip)?;
-    let records = [
-        (Call::Committed(5), found(b"hi")),
-        (Call::Committed(6), NONE),
-        (Call::Abort(1), refused(Refusal::NotOpen)),
-        (Call::Release(0, 0), refused(Refusal::NotHeld)),
-        (Call::Begin(0), DONE),
-    ];
-    call_reopened(&rt, store, &mut left, &records);
+/// The same in several calls of the script. A place is erased in one of these at least.
+fn fail_calls(rt: &impl Abort, alloc: Global, numbers: &[usize]) -> Result<(), Fail> {
+    let chip = with_records(rt, alloc)?;
+    let mut is_erased = false;
+    for at in numbers {
+        assert!(rt; *at < SCRIPT.len());
+        is_erased = fail_call(rt, alloc, &chip, &SCRIPT, *at)? || is_erased;
+    }
+    assert!(rt; is_erased);
     Ok(())
 }
 
-/// A store of which the opening fails, since no write of what is left of its chip succeeds.
-fn not_reopened(rt: &impl Abort, store: Store, left: &mut MemChip) -> Store
-    requires { Suits left.old store }
-    ensures { Suits left.new result }
-{
-    fail_writes(&store, left);
-    let (down, stops) = reopened(store, left);
-    assert_eq!(rt; stops, Err(ImageFault::Chip(ChipFault::Stopped)));
-    down
-}
-
-/// An opening that fails leaves the store down, until one succeeds.
 #[test]
-fn a_store_that_is_not_opened_again_is_down(rt: HostRuntime) -> Result<(), Fail> {
-    let alloc = rt.alloc();
-    let mut chip = with_record(&rt, alloc)?;
-    let store = opened(alloc, &mut chip, 16)?;
-    let mut left = left_by(alloc, &store, &chip)?;
-    let mut down = not_reopened(&rt, store, &mut left);
-    call_down(&rt, &mut down, &mut left);
-    let mut right = left_by(alloc, &down, &left)?;
-    call_reopened(&rt, down, &mut right, &[(Call::Committed(5), found(b"hi"))]);
-    Ok(())
+fn each_call_of_the_chip_fails_in_a_get(rt: HostRuntime) -> Result<(), Fail> {
+    fail_calls(&rt, rt.alloc(), &[3, 9, 10])
 }
 
-/// An opening drops all sessions and all holds.
 #[test]
-fn a_store_that_is_opened_again_forgets_its_sessions(rt: HostRuntime) -> Result<(), Fail> {
-    let alloc = rt.alloc();
-    let mut chip = with_record(&rt, alloc)?;
-    let store = with_two_writers(&rt, alloc, &mut chip)?;
-    let cases = [
-        (Call::Commit(0), refused(Refusal::NotOpen)),
-        (Call::Release(0, 0), refused(Refusal::NotHeld)),
-        (Call::Committed(5), found(b"hi")),
-        (Call::Committed(6), NONE),
-        (Call::Begin(0), DONE),
-        (Call::Get(0, 5), found(b"hi")),
-    ];
-    call_reopened(&rt, store, &mut chip, &cases);
-    Ok(())
+fn each_call_of_the_chip_fails_in_a_put(rt: HostRuntime) -> Result<(), Fail> {
+    fail_calls(&rt, rt.alloc(), &[1, 2, 4])
 }
 
-/// The first 36 bytes of the base sector of unit 0, page 0 and piece 0 under generation 8, with two
-/// bytes at slot 5; the others are 0. The sum was computed elsewhere, and so were those below.
-const BASE: [u8; 36] = [
-    0x49, 0x50, 0x4c, 0x31, 4, 1, 0, 4, 0, 0, 0, 0, 0, 0, 0, 0, 0, 0, 0, 8, 0, 0, 0, 0, 0, 0, 0, 0,
-    0x64, 0x60, 0x91, 0x06, 5, 2, 0x68, 0x69,
+#[test]
+fn each_call_of_the_chip_fails_in_a_commit(rt: HostRuntime) -> Result<(), Fail> {
+    fail_calls(&rt, rt.alloc(), &[6])
+}
+
+#[test]
+fn each_call_of_the_chip_fails_in_a_merge(rt: HostRuntime) -> Result<(), Fail> {
+    fail_calls(&rt, rt.alloc(), &[5, 7])
+}
+
+/// The calls on a chip of one unit that is opened again, and the record that is there then.
+const BEFORE_OPENING: [Case<'static>; 5] = [
+    (Call::Begin(0), DONE),
+    (Call::Put(0, 5, NEW), DONE),
+    (Call::Commit(0), DONE),
+    (Call::Begin(0), DONE),
+    (Call::Put(0, 5, OLD), DONE),
 ];
 
-/// Bit 2 of byte 40 of that sector is turned: the sum in it isn't that of its bytes any more.
-const DAMAGED: ChipFault = ChipFault::Damaged {
-    place: 0,
-    sector: 1,
-    stored: 0x64609106,
-    computed: 0x726b3ee1,
-};
+const AFTER_OPENING: [Case<'static>; 1] = [(Call::Committed(5), Ok(Some(NEW)))];
 
-fn base_sector() -> [u8; 512] {
-    let mut bytes = [0; 512];
-    bytes[..36].copy_from_slice(&BASE);
-    bytes
-}
-
-/// What sector 1 of place 0 holds.
-fn read_base(rt: &impl Abort, chip: &mut MemChip) -> Result<[u8; 512], Fail> {
-    assert!(rt; 0 < chip.units());
-    let mut bytes = [0; 512];
-    if chip.read(0, 1, &mut bytes).is_err() {
-        return Err(Fail::from("the sector isn't read"));
+/// A call of the chip fails where a store opens it again. The store is down, and then opens the same
+/// chip after a failed read, and what is left of it after a failed write.
+fn fail_opening(
+    rt: &impl Abort,
+    alloc: Global,
+    mut chip: MemChip,
+    fault: ChipFault,
+) -> Result<(), Fail> {
+    let mut store = opened(alloc, &mut chip, 2)?;
+    call_all(rt, &mut store, &mut chip, &BEFORE_OPENING);
+    let (mut down, opens) = reopened(store, &mut chip);
+    assert_eq!(rt; opens, Err(ImageFault::Chip(fault)));
+    call_all(rt, &mut down, &mut chip, &DOWN_CALLS);
+    if fault == ChipFault::ReadFault {
+        call_reopened(rt, down, &mut chip, &AFTER_OPENING);
+        return Ok(());
     }
-    Ok(bytes)
+    let mut left = left_by(alloc, &down, &chip)?;
+    call_reopened(rt, down, &mut left, &AFTER_OPENING);
+    Ok(())
 }
 
-/// Turns a bit of that sector.
-fn damage(rt: &impl Abort, chip: &mut MemChip) {
-    assert!(rt; 0 < chip.units());
-    let mut bytes = base_sector();
-    bytes[40] ^= 4;
-    chip.alter(0, 1, &bytes);
+/// A chip that is opened again after these calls where nothing fails.
+fn whole_opening(rt: &impl Abort, alloc: Global, mut chip: MemChip) -> Result<MemChip, Fail> {
+    let mut store = opened(alloc, &mut chip, 2)?;
+    call_all(rt, &mut store, &mut chip, &BEFORE_OPENING);
+    call_reopened(rt, store, &mut chip, &[]);
+    Ok(chip)
 }
 
-/// Where the two sums of a base sector differ it is named, with both. Another page of the unit is
-/// read all the same.
 #[test]
-fn a_damaged_sector_is_named(rt: HostRuntime) -> Result<(), Fail> {
+fn each_call_of_the_chip_fails_in_an_opening(rt: HostRuntime) -> Result<(), Fail> {
     let alloc = rt.alloc();
-    let mut chip = with_record(&rt, alloc)?;
-    assert_eq!(rt;
-        read_base(&rt, &mut chip)?.as_slice(),
-        base_sector().as_slice()
-    );
-    damage(&rt, &mut chip);
-    let reads = [
-        (Call::Committed(5), failed(DAMAGED)),
-        (Call::Begin(0), DONE),
-        (Call::Get(0, 5), failed(DAMAGED)),
-        (Call::Committed(64), NONE),
-    ];
-    call_left(&rt, alloc, chip, &reads)?;
+    let chip = formatted(alloc, 5, 2000)?;
+    let before = call_in_frames(&rt, alloc, left_of(alloc, &chip)?, 2, &BEFORE_OPENING)?;
+    let whole = whole_opening(&rt, alloc, left_of(alloc, &chip)?)?;
+    for (number, event) in whole.events().iter().enumerate() {
+        if before.events().len() <= number {
+            let fault = match event {
+                Event::Read(_, _) => ChipFault::ReadFault,
+                _ => ChipFault::Stopped,
+            };
+            let left = failing(alloc, &chip, number as u64)?;
+            fail_opening(&rt, alloc, left, fault)?;
+        }
+    }
     Ok(())
 }

@@ -1,6 +1,7 @@
-//! Tests of a store over chips in memory: which calls are refused, and why; few frames and many;
-//! what is written, with which numbers; and what faults of the chip and power cuts leave. They stand
-//! in a crate of their own so that the store is proved once.
+//! Tests of a store over chips in memory, for what no clause says: worked rows of refusals, frames, reads
+//! and writes, with the numbers that they draw; power cuts in the sectors that decide; and a table in
+//! which each call of the chip fails. They stand in a crate of their own so that the store is proved
+//! once.
 #![tactic(auto)]
 
 #[cfg(test)]
@@ -10,21 +11,15 @@ mod calls;
 #[cfg(test)]
 mod cuts;
 #[cfg(test)]
-mod each_fault;
-#[cfg(test)]
 mod events;
 #[cfg(test)]
 mod faults;
 #[cfg(test)]
 mod frames;
 #[cfg(test)]
-mod new_places;
-#[cfg(test)]
 mod reads;
 #[cfg(test)]
 mod refusals;
-#[cfg(test)]
-mod reopenings;
 #[cfg(test)]
 mod scripts;
 #[cfg(test)]

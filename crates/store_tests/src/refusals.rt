@@ -20,21 +20,6 @@ fn call_fresh(
 }
 
 #[test]
-fn a_name_that_another_session_shares_is_not_written(rt: HostRuntime) -> Result<(), Fail> {
-    let cases = [
-        (Call::Begin(0), DONE),
-        (Call::Begin(1), DONE),
-        (Call::Share(0, 5), NONE),
-        (Call::Share(1, 5), NONE),
-        (Call::Put(0, 5, b"\xaa"), refused(Refusal::Conflict(1))),
-        (Call::Del(0, 5), refused(Refusal::Conflict(1))),
-        (Call::Commit(1), DONE),
-        (Call::Put(0, 5, b"\xaa"), DONE),
-    ];
-    call_fresh(&rt, rt.alloc(), 5, &cases)
-}
-
-#[test]
 fn the_least_session_that_holds_a_name_is_told(rt: HostRuntime) -> Result<(), Fail> {
     let cases = [
         (Call::Begin(2), DONE),
@@ -43,25 +28,6 @@ fn the_least_session_that_holds_a_name_is_told(rt: HostRuntime) -> Result<(), Fa
         (Call::Share(3, 5), NONE),
         (Call::Share(2, 5), NONE),
         (Call::Put(5, 5, b"\xaa"), refused(Refusal::Conflict(2))),
-    ];
-    call_fresh(&rt, rt.alloc(), 5, &cases)
-}
-
-#[test]
-fn another_session_sees_what_is_committed(rt: HostRuntime) -> Result<(), Fail> {
-    let cases = [
-        (Call::Begin(0), DONE),
-        (Call::Put(0, 5, b"a"), DONE),
-        (Call::Commit(0), DONE),
-        (Call::Begin(0), DONE),
-        (Call::Put(0, 5, b"b"), DONE),
-        (Call::Get(0, 5), found(b"b")),
-        (Call::Begin(1), DONE),
-        (Call::Get(1, 5), found(b"a")),
-        (Call::Share(1, 5), refused(Refusal::Conflict(0))),
-        (Call::Committed(5), found(b"a")),
-        (Call::Abort(0), DONE),
-        (Call::Share(1, 5), found(b"a")),
     ];
     call_fresh(&rt, rt.alloc(), 5, &cases)
 }

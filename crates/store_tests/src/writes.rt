@@ -200,7 +200,7 @@ fn the_sixteenth_commit_merges(rt: HostRuntime) -> Result<(), Fail> {
     let writes = [
         Write::Erase(0),
         Write::Barrier,
-        sector((0, 1), Head::BASE, 51, 0, 3),
+        sector((0, 1), Head::BASE, 51, 0, 4),
         Write::Barrier,
         header(0, Head::DATA_HEADER, 51),
         Write::Barrier,
@@ -253,7 +253,7 @@ fn a_merge_empties_an_overflow_place(rt: HostRuntime) -> Result<(), Fail> {
     let writes = [
         Write::Erase(3),
         Write::Barrier,
-        sector((3, 17), Head::BASE, 38, 16, 3),
+        sector((3, 17), Head::BASE, 38, 16, 4),
         Write::Barrier,
         header(3, Head::DATA_HEADER, 38),
         Write::Barrier,
@@ -274,12 +274,7 @@ fn a_full_status_place_is_renewed_first(rt: HostRuntime) -> Result<(), Fail> {
     // The format drew 1 to 3, the opening 4, session 0 and its log sectors 5 to 15, and the commits
     // of unit 0 16 to 37. Of unit 1 each draws three, and every fifteenth one more for a merge: all
     // draw 38 to 798, and the session 799. Its place is 4, and 1 is the lowest free one.
-    let log = Head {
-        kind: Head::LOG,
-        unit: 1,
-        generation: 775,
-        serial: 802,
-    };
+    let log = Head::written(Head::LOG, 1, 775, 802);
     let writes = [
         Write::Erase(1),
         Write::Barrier,
