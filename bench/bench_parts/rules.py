@@ -74,7 +74,7 @@ class Unit:
                 self.slots[record.page].pop(record.slot, None)
             elif record.number in committed:
                 self.slots[record.page][record.slot] = record.length or 0
-        texts = [sum(2 + length for length in slots.values()) for slots in self.slots]
+        texts = [sum(3 + length for length in slots.values()) for slots in self.slots]
         self.pieces = [-(-text // SECTOR_PAYLOAD) for text in texts]
 
     def carried(self, active: Set[int]) -> List[List[Record]]:
