@@ -14,7 +14,7 @@ pub enum Refusal {
     BadSession,
     #[error("no such name")]
     BadName,
-    #[error("a value of more than 108 bytes")]
+    #[error("a value of more than 464 bytes")]
     TooLong,
     #[error("the session is open already")]
     AlreadyOpen,
@@ -26,7 +26,7 @@ pub enum Refusal {
     WritesFull,
     #[error("the session has shared its last name")]
     SharesFull,
-    #[error("unit {0} has its last pending name")]
+    #[error("the pending names of unit {0} would weigh too much")]
     PendingFull(u32),
     #[error("no such unit or page")]
     BadUnit,
@@ -34,6 +34,8 @@ pub enum Refusal {
     HoldsFull,
     #[error("the page isn't held")]
     NotHeld,
+    #[error("the page is full")]
+    PageFull,
     #[error("session {0} is named twice")]
     Twice(u32),
 }

@@ -10,10 +10,13 @@ pub const PAYLOAD_LEN: usize = 480;
 pub const VERSION: u8 = 2;
 
 /// The bytes of a value, at most.
-pub const VALUE_LEN: usize = 108;
+pub const VALUE_LEN: usize = 464;
 
-/// The bytes of a value in what is written in version 1, at most.
+/// The bytes of a value in what is written in version 1, at most; a write of more is long.
 pub const SHORT_LEN: usize = 108;
+
+/// The bytes that a value takes in the text of its page, at most, where its write isn't long.
+pub const SHORT_SIZE: usize = 111;
 
 /// The bytes of a log record before its value.
 pub const RECORD_HEAD: usize = 12;
@@ -72,8 +75,11 @@ pub const OVERFLOW_PLACES: usize = 2;
 /// The sessions of a store of all units.
 pub const SESSIONS: u32 = 32;
 
-/// The names of a unit that open sessions wrote, at most, all sessions together.
-pub const PENDING_NAMES: u32 = 48;
+/// What a name weighs on which a long write is pending; with short ones alone it weighs 1.
+pub const LONG_WEIGHT: u32 = 8;
+
+/// What the names of a unit weigh that open sessions wrote, at most, all sessions together.
+pub const PENDING_WEIGHT: u32 = 48;
 
 /// The names that a session wrote, at most; and those that it shares.
 pub const SESSION_NAMES: usize = 256;

@@ -7,7 +7,7 @@ use arrayvec::ArrayVec;
 use std::alloc::AllocError;
 use std::marker::Model;
 
-/// The bytes of a record, at most 108. A contract sees them as a list.
+/// The bytes of a record, at most 464. A contract sees them as a list.
 #[derive(PartialEq, Eq, Debug, Drop)]
 pub struct Value {
     bytes: ArrayVec<u8, VALUE_LEN>,
@@ -36,7 +36,7 @@ impl Value {
         }
     }
 
-    /// `None` exactly where there are more than 108 bytes.
+    /// `None` exactly where there are more than 464 bytes.
     pub fn of(bytes: &[u8]) -> Option<Value>
         ensures some { IfSome result (λ v. (v ≡ bytes.now) × (length bytes.now ≤ VALUE_LEN)) }
         ensures none { IfNone result (VALUE_LEN < length bytes.now) }
@@ -48,7 +48,7 @@ impl Value {
         }
     }
 
-    /// Its bytes, at most 108.
+    /// Its bytes, at most 464.
     pub fn bytes(&self) -> &[u8]
         ensures value { result.now ≡ self.now }
         ensures fits { length result.now ≤ VALUE_LEN }

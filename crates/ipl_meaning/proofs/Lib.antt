@@ -1,4 +1,5 @@
 pub mod SizeLemmas
+pub mod SumLemmas
 pub mod PutLemmas
 pub mod IdleLemmas
 pub mod OutsideLemmas
@@ -16,6 +17,7 @@ pub mod FirstTableLemmas
 pub mod StoryLemmas
 pub mod AllowedLemmas
 pub mod PackLemmas
+pub mod WeightLemmas
 pub mod ApartLemmas
 pub mod CountedLemmas
 pub mod MaskLemmas

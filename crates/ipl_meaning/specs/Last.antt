@@ -1,7 +1,7 @@
 -- The last record that counts, what a merge carries, and how records are packed into sectors.
 use Rattle.std.specs.Prelude.{ℕ, ◌+◌, ◌*◌, List, [], ◌∷◌, ◌++◌, length, sum_by, Option, Some, None, Bool, false, ◌≡◌, ◌==◌, ◌&&◌, not, if◌then◌else◌, nat_le}
 use Rattle.std.specs.List.{list_any}
-use Rattle.ipl_base.specs.declared.limits.TheConstants.{PAYLOAD_LEN, SLOTS}
+use Rattle.ipl_base.specs.declared.limits.TheConstants.{PAYLOAD_LEN, SHORT_LEN, LONG_WEIGHT, SLOTS}
 use Rattle.ipl_format.specs.Record.{Record, value_of}
 use Rattle.ipl_meaning.specs.Values.{counts_for}
 use Rattle.ipl_meaning.specs.Layout.{Entry, records_of}
@@ -18,6 +18,10 @@ size_of r = 12 + length (value_of r.change)
 -- and several
 abbrev pub size_of_all : List Record → ℕ
 size_of_all records = sum_by size_of records
+
+-- a record of a long value weighs 8, each other one 1
+abbrev pub weight_of : Record → ℕ
+weight_of r = if nat_le (length (value_of r.change)) SHORT_LEN then 1 else LONG_WEIGHT
 
 -- the record fits behind those of the sector
 abbrev pub has_room : List Record → Record → Bool

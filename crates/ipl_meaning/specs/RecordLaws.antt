@@ -1,13 +1,13 @@
 -- Laws of lists of records.
 use Rattle.std.specs.Prelude.{ℕ, ◌≡◌, ◌≤◌, ◌<◌, Bool, true, List, All, Contains, IsTrue, length, Option, None, if◌then◌else◌}
-use Rattle.std.specs.List.{flat_map}
-use Rattle.ipl_base.specs.declared.limits.TheConstants.{PAYLOAD_LEN, CARRIED_SECTORS, PAGE_LEN, PENDING_NAMES, SLOTS, VERSION}
+use Rattle.std.specs.List.{flat_map, sum_by, range_with_len}
+use Rattle.ipl_base.specs.declared.limits.TheConstants.{PAYLOAD_LEN, CARRIED_SECTORS, PAGE_LEN, PENDING_WEIGHT, SLOTS, UNIT_NAMES, VERSION}
 use Rattle.ipl_base.specs.Sizes.{size_of_values}
 use Rattle.ipl_format.specs.Record.{Record, IsRecord}
 use Rattle.ipl_format.specs.Page.{Slots, IsShort, page_text, value_in}
 use Rattle.ipl_meaning.specs.Values.{Values, counts_for, after_records}
 use Rattle.ipl_meaning.specs.Layout.{Entry, records_of}
-use Rattle.ipl_meaning.specs.Last.{last_that, size_of_all, pack, carried, name_in_unit, carried_count, applied, is_number, NoneIsBehind}
+use Rattle.ipl_meaning.specs.Last.{last_that, size_of_all, weight_of, pack, carried, name_in_unit, carried_count, applied, is_number, NoneIsBehind}
 
 -- the last record that counts gives the value, or else the base does
 abbrev pub TheLastGivesTheValue : Type 0
@@ -45,12 +45,13 @@ IsWithin sector = size_of_all sector ≤ PAYLOAD_LEN
 abbrev pub PacksFit : Type 0
 PacksFit = (records : List Record) → All (IsRecord VERSION) records → All IsWithin (pack records)
 
--- where at most 48 names of a unit have records of active numbers, a merge carries at most 12 sectors
+-- where the weights of a unit's 960 names sum to at most 48, and each record of an active number weighs at most what its
+-- name does, a merge carries at most 12 sectors
 abbrev pub FewAreCarried : Type 0
 FewAreCarried =
-    (active : ℕ → Bool) (log : List Entry) (names : List ℕ)
-    → All (IsRecord VERSION) (records_of log) → length names ≤ PENDING_NAMES
-    → ((r : Record) → Contains (records_of log) r → IsTrue (active r.tid) → Contains names (name_in_unit r))
+    (active : ℕ → Bool) (log : List Entry) (weights : ℕ → ℕ) → All (IsRecord VERSION) (records_of log)
+    → sum_by weights (range_with_len 0 UNIT_NAMES) ≤ PENDING_WEIGHT
+    → ((r : Record) → Contains (records_of log) r → IsTrue (active r.tid) → weight_of r ≤ weights (name_in_unit r))
     → carried_count active log ≤ CARRIED_SECTORS
 
 -- the text of a page has as many bytes as its values take

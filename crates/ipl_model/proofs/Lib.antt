@@ -3,5 +3,6 @@ mod GreatestLemmas
 mod RecordLemmas
 mod SlotLemmas
 mod LogLemmas
+mod MarkLemmas
 mod ChangeLemmas
 mod BatchLemmas

@@ -1,13 +1,15 @@
 -- What the plain model stands for.
-use Rattle.std.specs.Prelude.{◌≡◌, ℕ, ◌*◌, ◌==◌, ◌++◌, Bool, not, ◌&&◌, ◌||◌, List, [], ◌∷◌, map, reverse, find, Option, Result, Ok, Err, Vec}
-use Rattle.std.specs.List.{flat_map}
+use Rattle.std.specs.Prelude.{◌≡◌, ℕ, ◌-◌, ◌*◌, ◌<◌, length, slice_index, max, ◌==◌, ◌++◌, Bool, not, ◌&&◌, ◌||◌, List, [], ◌∷◌, map, reverse, find, Option, Result, Ok, Err, Vec}
+use Rattle.std.specs.List.{flat_map, range_with_len}
 use Rattle.std.specs.Option.{option_map, option_map_or}
 use Rattle.std.specs.FinMap.{empty, get, insert}
 use Rattle.std.specs.declared.alloc.Global.{Global}
 use Rattle.std.specs.declared.alloc.AllocError.{AllocError}
-use Rattle.ipl_base.specs.declared.limits.TheConstants.{UNIT_NAMES, SESSIONS}
+use Rattle.ipl_base.specs.declared.limits.TheConstants.{UNIT_NAMES, SESSIONS, SLOTS}
 use Rattle.ipl_base.specs.declared.fault.Refusal.{Refusal}
+use Rattle.ipl_base.specs.Sizes.{size_in_page}
 use Rattle.ipl_rules.specs.State as rules
+use Rattle.ipl_rules.specs.Marks.{marks_of, values_at, marks_at}
 use Rattle.ipl_rules.specs.Slots.{open_from, opened}
 use Rattle.ipl_rules.specs.Operations.{after_abort}
 use Rattle.ipl_rules.specs.Refusals.{first_of, not_open, conflict, writes_full, pending_full}
@@ -36,9 +38,13 @@ session_of s = record { writes = newest_first s.writes.items; shared = reverse s
 abbrev pub slot_of : Option LoggedSession → Option rules.Session
 slot_of slot = option_map session_of slot
 
+-- the records that a log of committed writes leaves
+abbrev pub records_of : List Write → rules.Map
+records_of committed = rules.with_writes (newest_first committed) empty
+
 -- the records of the committed writes, and the open sessions
 unfoldable pub state_of : PlainModel → rules.State
-state_of m = record { map = rules.with_writes (newest_first m.committed.items) empty; sessions = opened (map slot_of m.sessions) }
+state_of m = record { map = records_of m.committed.items; sessions = opened (map slot_of m.sessions) }
 
 -- 32 sessions, and 960 names in each unit
 abbrev pub limits_for : ℕ → rules.Limits
@@ -60,6 +66,18 @@ all_writes slots = flat_map (λ e. e.1.writes) (open_from 0 slots)
 abbrev pub batch_writes : rules.State → List ℕ → List rules.Write
 batch_writes state [] = []
 batch_writes state (s ∷ ss) = batch_writes state ss ++ rules.writes_of state s
+
+-- what the records of a page take in its text, slot by slot
+abbrev pub sizes_in : List Write → ℕ → List ℕ
+sizes_in committed page = map (λ slot. size_in_page (values_at (records_of committed) page slot)) (range_with_len 0 SLOTS)
+
+-- of each name below a limit, what its record takes in the text of its page
+abbrev pub AreRecordSizes : List Write → List ℕ → Type 0
+AreRecordSizes committed sizes = (n : ℕ) → n < length sizes → slice_index sizes n ≡ size_in_page (get (records_of committed) n)
+
+-- what the slots of a page may come to take with the writes of another log
+abbrev pub rooms_in : List Write → List Write → ℕ → List ℕ
+rooms_in committed log page = map (λ slot. max (size_in_page (values_at (records_of committed) page slot)) (marks_at (marks_of (newest_first log)) page slot - 1)) (range_with_len 0 SLOTS)
 
 -- the state with these writes among the records
 abbrev pub with_records : List rules.Write → rules.State → rules.State
@@ -84,9 +102,9 @@ abbrev pub least_holder : List (Option rules.Session) → ℕ → Lock → ℕ �
 least_holder slots s lock n = option_map (λ e. e.0) (find (λ e. not (e.0 == s) && keeps_from lock n e.1) (open_from 0 slots))
 
 -- why a session's write of a name is refused, where the session, the name and the value are in range
-abbrev pub refuses_write : rules.State → ℕ → ℕ → Option Refusal
-refuses_write state s n = first_of (not_open state s ∷ conflict (rules.holder_for_write state s n)
-    ∷ writes_full state s n ∷ pending_full state s n ∷ [])
+abbrev pub refuses_write : rules.State → ℕ → rules.Write → Option Refusal
+refuses_write state s w = first_of (not_open state s ∷ conflict (rules.holder_for_write state s w.0)
+    ∷ writes_full state s w.0 ∷ pending_full state w ∷ [])
 
 -- a step of the model, or nothing where memory is wanting
 abbrev pub StepsOrStays : rules.State → Stepped → rules.State → Result (Vec Reply Global) AllocError → Type 0

@@ -1,9 +1,10 @@
 //! The model as a program: the definitions, run on logs of writes. It is slow and plain.
-ghost use Rattle.std.specs.Prelude.{◌≡◌, ◌∷◌, ◌-◌, [], map, length, IfOk, OnErr};
+ghost use Rattle.std.specs.Prelude.{◌≡◌, ◌<◌, ◌∷◌, ◌-◌, ℕ, [], map, length, slice_index, IfOk, OnErr};
 ghost use Rattle.std.specs.FinMap.{empty};
 ghost use Rattle.std.specs.Option.{option_copied};
 ghost use Rattle.std.specs.FinMap.{get};
 ghost use Rattle.ipl_base.specs.declared.limits.TheConstants.{SESSIONS};
+ghost use Rattle.ipl_base.specs.Sizes.{size_in_page};
 ghost use Rattle.ipl_rules.specs.State.{at_rest};
 ghost use Rattle.ipl_model.specs.Step.{step};
 ghost use Rattle.ipl_rules.specs.Slots.{opened};
@@ -11,15 +12,18 @@ ghost use Rattle.ipl_model.specs.Plain.{state_of, limits_of, limits_for, slot_of
 
 mod batches;
 mod changes;
+mod copies;
 mod locks;
 mod log;
+mod marks;
 mod refusals;
 mod scan;
 mod steps;
 
 use crate::{Command, Reply};
-use ipl_base::{Geometry, OutOfMemory, SESSIONS};
+use ipl_base::{Geometry, OutOfMemory, SESSIONS, UNIT_NAMES};
 use log::{LoggedSession, Write};
+use marks::record_sizes;
 use std::alloc::{AllocError, Global};
 use std::array;
 
@@ -66,6 +70,17 @@ impl PlainModel {
         ensures limits { limits_of self.new ≡ limits_of self.old }
     {
         Ok(self.answer(command)?)
+    }
+
+    /// What the record of each name of the chip takes in the text of its page: 3 bytes and the
+    /// value's, 0 where there is none.
+    pub fn record_sizes(&self) -> Result<Vec<u32>, OutOfMemory>
+        ensures len { IfOk result (λ sizes. length sizes.items ≡ (limits_of self.now).names) }
+        ensures sizes { IfOk result (λ sizes. (n : ℕ) → n < (limits_of self.now).names
+            → slice_index sizes.items n ≡ size_in_page (get (state_of self.now).map n)) }
+    {
+        let names = UNIT_NAMES as usize * self.units as usize;
+        Ok(record_sizes(self.alloc, &self.committed, names)?)
     }
 
     /// An open session.

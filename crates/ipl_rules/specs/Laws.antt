@@ -1,21 +1,27 @@
 -- Laws of the rules.
-use Rattle.std.specs.Prelude.{ℕ, ◌≡◌, ◌≢◌, ◌<◌, true, false, List, Contains, Option, Some, None}
+use Rattle.std.specs.Prelude.{ℕ, ◌≡◌, ◌≢◌, ◌<◌, true, false, List, [], ◌∷◌, Contains, Option, Some, None}
+use Rattle.std.specs.Option.{option_or}
 use Rattle.std.specs.FinMap.{get}
 use Rattle.ipl_rules.specs.State.{Map, Write, State, Limits, is_open, writes_of, last_write, see, with_writes, seen_through}
-use Rattle.ipl_rules.specs.Refusals.{refuses_begin, refuses_get, refuses_share, refuses_put, refuses_del, refuses_end, refuses_batch, is_twice}
+use Rattle.ipl_rules.specs.Refusals.{first_of, page_full, refuses_begin, refuses_get, refuses_share, refuses_put_early, refuses_put, refuses_del, refuses_end, refuses_batch, is_twice}
 use Rattle.ipl_rules.specs.Operations.{after_batch}
 
--- a refusal looks at the open sessions alone, whatever the records are
+-- a refusal looks at the open sessions alone, whatever the records are, but that of a put whose page is full
 pub record LooksAtSessions (limits : Limits) (state : State) (m : Map) (s n : ℕ) (bytes : List ℕ) : Type 0 where
   pub begins : refuses_begin limits (record state { map = m }) s ≡ refuses_begin limits state s
   pub gets : refuses_get limits (record state { map = m }) s n ≡ refuses_get limits state s n
   pub shares : refuses_share limits (record state { map = m }) s n ≡ refuses_share limits state s n
-  pub puts : refuses_put limits (record state { map = m }) s n bytes ≡ refuses_put limits state s n bytes
+  pub puts : refuses_put_early limits (record state { map = m }) s n bytes ≡ refuses_put_early limits state s n bytes
   pub dels : refuses_del limits (record state { map = m }) s n ≡ refuses_del limits state s n
   pub ends : refuses_end limits (record state { map = m }) s ≡ refuses_end limits state s
 
 abbrev pub RefusalsLookAtSessions : Type 0
 RefusalsLookAtSessions = (limits : Limits) (state : State) (m : Map) (s n : ℕ) (bytes : List ℕ) → LooksAtSessions limits state m s n bytes
+
+-- a put is refused early, or else where its page is full
+abbrev pub PutsRefuseInTwoParts : Type 0
+PutsRefuseInTwoParts = (limits : Limits) (state : State) (s n : ℕ) (bytes : List ℕ)
+    → refuses_put limits state s n bytes ≡ option_or (refuses_put_early limits state s n bytes) (first_of (page_full state n bytes ∷ []))
 
 -- a session sees its own last write
 abbrev pub SeesItsOwnWrites : Type 0

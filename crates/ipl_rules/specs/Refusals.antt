@@ -1,10 +1,12 @@
 -- When an operation is refused: the first test of a list that holds gives the refusal.
-use Rattle.std.specs.Prelude.{ℕ, ◌==◌, ◌/◌, nat_le, nat_lt, Bool, not, ◌&&◌, ◌||◌, List, [], ◌∷◌, length, filter, find, Option, Some, None, is_some, unwrap_or, if◌then◌else◌}
-use Rattle.ipl_base.specs.declared.limits.TheConstants.{VALUE_LEN, UNIT_NAMES, SESSION_NAMES, PENDING_NAMES}
+use Rattle.std.specs.Prelude.{ℕ, ◌+◌, ◌==◌, ◌/◌, nat_le, nat_lt, Bool, not, ◌&&◌, ◌||◌, List, [], ◌∷◌, ◌++◌, length, filter, find, Option, Some, None, is_some, unwrap_or, if◌then◌else◌}
+use Rattle.ipl_base.specs.declared.limits.TheConstants.{VALUE_LEN, UNIT_NAMES, SESSION_NAMES}
 use Rattle.ipl_base.specs.declared.fault.Refusal.{Refusal}
-use Rattle.ipl_base.specs.declared.fault.Refusal.TheVariants.{BadSession, BadName, TooLong, AlreadyOpen, NotOpen, Conflict, WritesFull, SharesFull, PendingFull, BadUnit, Twice}
+use Rattle.ipl_base.specs.declared.fault.Refusal.TheVariants.{BadSession, BadName, TooLong, AlreadyOpen, NotOpen, Conflict, WritesFull, SharesFull, PendingFull, BadUnit, PageFull, Twice}
 use Rattle.std.specs.List.{list_any, range_with_len}
-use Rattle.ipl_rules.specs.State.{State, Limits, is_open, writes_of, shared_of, last_write, written_names, holder_for_share, holder_for_write, pending}
+use Rattle.ipl_base.specs.Sizes.{size_in_page}
+use Rattle.ipl_rules.specs.State.{Write, State, Limits, is_open, writes_of, shared_of, last_write, written_names, holder_for_share, holder_for_write}
+use Rattle.ipl_rules.specs.Marks.{marks, overloads, overfills}
 
 -- a test, and the refusal that it gives
 abbrev pub Test : Type 0
@@ -23,7 +25,7 @@ bad_session limits s = (nat_le limits.sessions s, BadSession)
 abbrev pub bad_name : Limits → ℕ → Test
 bad_name limits n = (nat_le limits.names n, BadName)
 
--- more than 108 bytes
+-- more than 464 bytes
 abbrev pub too_long : List ℕ → Test
 too_long bytes = (nat_lt VALUE_LEN (length bytes), TooLong)
 
@@ -53,9 +55,13 @@ is_new_share state s n = is_new_write state s n && not (list_any (λ k. k == n) 
 abbrev pub shares_full : State → ℕ → ℕ → Test
 shares_full state s n = (is_new_share state s n && nat_le SESSION_NAMES (length (shared_of state s)), SharesFull)
 
--- the name is new, and 48 names of its unit are pending
-abbrev pub pending_full : State → ℕ → ℕ → Test
-pending_full state s n = (is_new_write state s n && nat_le PENDING_NAMES (pending state (n / UNIT_NAMES)), PendingFull (n / UNIT_NAMES))
+-- with this write the pending names of its unit would weigh more than 48
+abbrev pub pending_full : State → Write → Test
+pending_full state w = (overloads (marks state) w.0 (1 + size_in_page w.1), PendingFull (w.0 / UNIT_NAMES))
+
+-- with this put the page of its name would be too full
+abbrev pub page_full : State → ℕ → List ℕ → Test
+page_full state n bytes = (overfills state n bytes, PageFull)
 
 -- the number stands twice in the list, or more often
 abbrev pub is_twice : List ℕ → ℕ → Bool
@@ -81,13 +87,21 @@ abbrev pub refuses_share : Limits → State → ℕ → ℕ → Option Refusal
 refuses_share limits state s n = first_of (bad_session limits s ∷ bad_name limits n ∷ not_open state s
     ∷ conflict (holder_for_share state s n) ∷ shares_full state s n ∷ [])
 
+-- the tests of a put that look at no record
+abbrev pub early_tests : Limits → State → ℕ → ℕ → List ℕ → List Test
+early_tests limits state s n bytes = bad_session limits s ∷ bad_name limits n ∷ too_long bytes ∷ not_open state s
+    ∷ conflict (holder_for_write state s n) ∷ writes_full state s n ∷ pending_full state (n, Some bytes) ∷ []
+
+-- of a put, before its page is looked at
+abbrev pub refuses_put_early : Limits → State → ℕ → ℕ → List ℕ → Option Refusal
+refuses_put_early limits state s n bytes = first_of (early_tests limits state s n bytes)
+
 abbrev pub refuses_put : Limits → State → ℕ → ℕ → List ℕ → Option Refusal
-refuses_put limits state s n bytes = first_of (bad_session limits s ∷ bad_name limits n ∷ too_long bytes ∷ not_open state s
-    ∷ conflict (holder_for_write state s n) ∷ writes_full state s n ∷ pending_full state s n ∷ [])
+refuses_put limits state s n bytes = first_of (early_tests limits state s n bytes ++ page_full state n bytes ∷ [])
 
 abbrev pub refuses_del : Limits → State → ℕ → ℕ → Option Refusal
 refuses_del limits state s n = first_of (bad_session limits s ∷ bad_name limits n ∷ not_open state s
-    ∷ conflict (holder_for_write state s n) ∷ writes_full state s n ∷ pending_full state s n ∷ [])
+    ∷ conflict (holder_for_write state s n) ∷ writes_full state s n ∷ pending_full state (n, None) ∷ [])
 
 -- of a commit and of an abort
 abbrev pub refuses_end : Limits → State → ℕ → Option Refusal

@@ -1,10 +1,9 @@
 -- What the store stands for: a map from names to values, and open sessions with their writes and shared names.
-use Rattle.std.specs.Prelude.{ℕ, ◌==◌, ◌/◌, Bool, not, ◌&&◌, ◌||◌, List, [], ◌∷◌, length, filter, find, Option, Some, None, is_some, if◌then◌else◌}
+use Rattle.std.specs.Prelude.{ℕ, ◌==◌, Bool, not, ◌&&◌, ◌||◌, List, [], ◌∷◌, find, Option, Some, None, is_some, if◌then◌else◌}
 use Rattle.std.specs.List.{flat_map, list_any}
 use Rattle.std.specs.Ordering.{nat_cmp}
 use Rattle.std.specs.Option.{option_map, option_map_or}
 use Rattle.std.specs.FinMap.{FinMap, get, insert, remove, empty, entries}
-use Rattle.ipl_base.specs.declared.limits.TheConstants.{UNIT_NAMES}
 
 -- the records: a value for each name that has one
 abbrev pub Map : Type 0
@@ -95,8 +94,3 @@ holder_for_write state s n = least_other (λ session. has_written session n || h
 -- all writes of open sessions
 abbrev pub pending_writes : State → List Write
 pending_writes state = flat_map (λ e. e.1.writes) (entries state.sessions)
-
--- how many names of a unit open sessions wrote
-abbrev pub pending : State → ℕ → ℕ
-pending state unit =
-    length (filter (λ n. n / UNIT_NAMES == unit) (written_names (pending_writes state)))

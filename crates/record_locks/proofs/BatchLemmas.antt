@@ -1,4 +1,4 @@
--- Commits of several sessions: refused alike where the names are the same, and these are the same after it.
+-- Commits of several sessions: refused alike where the names are the same, and these and the marks are the same after it.
 use Rattle.std.proofs.Common.{◌≡◌, ℕ, not, nat_le, List, [], ◌∷◌, length, None, refl, sym, ◌∙◌, ap, arith}
 use Rattle.std.specs.Prelude.{find}
 use Rattle.std.specs.List.{list_any, range_with_len}
@@ -10,9 +10,9 @@ use Rattle.ipl_rules.specs.Operations as rules
 use Rattle.ipl_rules.proofs.BatchLemmas.{first_in, later_in, any_alike}
 use Rattle.record_locks.specs.Held.{Slots, after_end, after_batch}
 use Rattle.record_locks.specs.Standing.{state_of}
-use Rattle.record_locks.specs.Names.{BatchesRefuseAsStates, BatchesKeepNames}
+use Rattle.record_locks.specs.Names.{BatchesRefuseAsStates, BatchesKeepNames, BatchesKeepMarks}
 use Rattle.record_locks.proofs.SameLemmas.{alike}
-use Rattle.record_locks.proofs.KeepLemmas.{keeps_names}
+use Rattle.record_locks.proofs.KeepLemmas.{keeps_names, commits_mark}
 
 pub batches_refuse : BatchesRefuseAsStates
 batches_refuse slots limits state whole same ss =
@@ -28,6 +28,13 @@ batches_keep_names slots state (s ∷ ss) within same =
     batches_keep_names (after_end slots s) (rules.after_commit state s) ss
     (λ t at. omega (arith, within t (later_in s ss t at), length-set slots s None))
     (keeps_names slots state s (within s (first_in s ss)) same).commits
+
+pub batches_keep_marks : BatchesKeepMarks
+batches_keep_marks slots state [] within same = same
+batches_keep_marks slots state (s ∷ ss) within same =
+    batches_keep_marks (after_end slots s) (rules.after_commit state s) ss
+    (λ t at. omega (arith, within t (later_in s ss t at), length-set slots s None))
+    (commits_mark slots state s (within s (first_in s ss)) same)
 
 -- the number of slots stays
 pub batch_slots : (slots : Slots) (ss : List ℕ) → length (after_batch slots ss) ≡ length slots

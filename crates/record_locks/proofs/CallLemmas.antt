@@ -1,5 +1,5 @@
 -- What a call that is not refused may do, and that it keeps all sound.
-use Rattle.std.proofs.Common.{◌≡◌, ◌<◌, ℕ, ◌/◌, ◌==◌, nat_le, Bool, true, false, not, ◌&&◌, cond, List, [], ◌∷◌, ◌++◌, map, length, set, get_or, Option, Some, None, is_some, refl, sym, ◌∙◌, ap, arith}
+use Rattle.std.proofs.Common.{◌≡◌, ◌<◌, ◌≤◌, ◌+◌, ℕ, ◌==◌, nat_le, Bool, true, false, not, ◌&&◌, cond, List, [], ◌∷◌, ◌++◌, map, length, set, get_or, Option, Some, None, is_some, refl, sym, ◌∙◌, ap, subst, arith}
 use Rattle.std.specs.Prelude.{find, IfSome}
 use Rattle.std.specs.List.{count_by}
 use Rattle.std.specs.Option.{option_map, option_map_or}
@@ -7,13 +7,16 @@ use Rattle.std.proofs.lemmas.Bool.Decides.{nat_tests}
 use Rattle.std.proofs.lemmas.List.{get_or_read}
 use Rattle.ipl_rules.specs.State as rules
 use Rattle.ipl_rules.specs.Refusals as tests
-use Rattle.record_locks.specs.Held.{Held, Slots, held_at, written_of, is_among, with_written, with_shared}
+use Rattle.record_locks.specs.Held.{Held, Slots, held_at, written_of, is_among, raised, slot_marks, marks_in, with_written, with_shared}
 use Rattle.ipl_rules.specs.Slots.{open_from}
 use Rattle.record_locks.specs.Standing.{state_of, slot_of, keeps_from}
-use Rattle.record_locks.specs.Locks.{AreSoundSlots, total, written_in, refuses_share, refuses_write, holder_of}
+use Rattle.record_locks.specs.Locks.{AreSoundSlots, IsSized, total, written_in, pending_full, refuses_share, refuses_write, holder_of}
 use Rattle.ipl_rules.proofs.SlotLemmas.{entries-opened}
 use Rattle.record_locks.proofs.StandingLemmas.{new_write_at, new_share_at, shares_counted}
-use Rattle.record_locks.proofs.TotalLemmas.{sound_less, sound_more, names_counted, nobody_wrote, pending_at}
+use Rattle.record_locks.proofs.TotalLemmas.{names_counted, nobody_wrote, total_set}
+use Rattle.record_locks.proofs.MarkLemmas.{written_marks, written_sized, sized_at}
+use Rattle.record_locks.proofs.SoundLemmas.{sound_less, sound_more, once_more}
+use Rattle.ipl_rules.specs.Marks.{with_mark, overloads}
 
 pub holder_at : (slots : Slots) (s n : ℕ) (for_write : Bool)
     → option_map (λ e. e.0) (find (λ e. not (e.0 == s) && keeps_from for_write n e.1) (open_from 0 (map slot_of slots))) ≡ holder_of slots s n for_write
@@ -64,55 +67,90 @@ share_may slots s n (Some h) none is = share_room slots s n h none is
 pub record MayWrite (slots : Slots) (s n : ℕ) (h : Held) : Type 0 where
   pub few : length h.written < 256
   pub new : total (λ k. k == n) slots ≡ 0
-  pub room : total (λ k. k / 960 == n / 960) slots < 48
 
-pub write_room : (slots : Slots) (s n : ℕ) (h : Held) → AreSoundSlots slots → refuses_write slots s n ≡ None → held_at slots s ≡ Some h → is_among n h.written ≡ false → MayWrite slots s n h
-write_room slots s n h sound none is new_write =
+-- what a write that isn't refused has passed
+record Passed (slots : Slots) (s n size : ℕ) : Type 0 where
+  nobody : rules.holder_for_write (state_of slots) s n ≡ None
+  not_full : (tests.writes_full (state_of slots) s n).0 ≡ false
+  light : overloads (marks_in slots) n (1 + size) ≡ false
+
+write_passes : (slots : Slots) (s n size : ℕ) → refuses_write slots s n size ≡ None → Passed slots s n size
+write_passes slots s n size none =
     let state = state_of slots in
     let conflict = tests.conflict (rules.holder_for_write state s n) in
     let writes_full = tests.writes_full state s n in
-    let pending_full = tests.pending_full state s n in
-    let open_is = passed (tests.not_open state s) (conflict ∷ writes_full ∷ pending_full ∷ []) none in
-    let held_is = passed conflict (writes_full ∷ pending_full ∷ []) open_is.1 in
-    let full_is = passed writes_full (pending_full ∷ []) held_is.1 in
-    let unit_is = passed pending_full [] full_is.1 in
+    let full = pending_full slots n size in
+    let open_is = passed (tests.not_open state s) (conflict ∷ writes_full ∷ full ∷ []) none in
+    let held_is = passed conflict (writes_full ∷ full ∷ []) open_is.1 in
+    let full_is = passed writes_full (full ∷ []) held_is.1 in
+    let unit_is = passed full [] full_is.1 in
+    record { nobody = no_holder (rules.holder_for_write state s n) held_is.0; not_full = full_is.0; light = unit_is.0 }
+
+pub write_room : (slots : Slots) (s n size : ℕ) (h : Held) → AreSoundSlots slots → refuses_write slots s n size ≡ None → held_at slots s ≡ Some h → is_among n h.written ≡ false → MayWrite slots s n h
+write_room slots s n size h sound none is new_write =
+    let state = state_of slots in
+    let went = write_passes slots s n size none in
     let not_written : is_among n (written_of slots s) ≡ false = ap (λ (o : Option Held). is_among n (option_map_or (λ x. x.written) o [])) is ∙ new_write in
     let new : tests.is_new_write (state_of slots) s n ≡ true = new_write_at slots s n ∙ ap not not_written in
-    let writes : nat_le 256 (length (rules.written_names (rules.writes_of (state_of slots) s))) ≡ false = has_room (tests.is_new_write state s n) (nat_le 256 (length (rules.written_names (rules.writes_of state s)))) full_is.0 new in
+    let writes : nat_le 256 (length (rules.written_names (rules.writes_of (state_of slots) s))) ≡ false = has_room (tests.is_new_write state s n) (nat_le 256 (length (rules.written_names (rules.writes_of state s)))) went.not_full new in
     let counted : length (rules.written_names (rules.writes_of (state_of slots) s)) ≡ length h.written =
     names_counted slots s sound ∙ ap (λ (o : Option Held). length (option_map_or (λ x. x.written) o [])) is in
-    let pending : nat_le 48 (rules.pending (state_of slots) (n / 960)) ≡ false = has_room (tests.is_new_write state s n) (nat_le 48 (rules.pending state (n / 960))) unit_is.0 new in
-    let pending_is : rules.pending (state_of slots) (n / 960) ≡ total (λ k. k / 960 == n / 960) slots = pending_at slots (n / 960) sound in
     record {
       few = grind (arith, nat_tests);
-      new = nobody_wrote slots s n (no_holder (rules.holder_for_write state s n) held_is.0) not_written;
-      room = grind (arith, nat_tests);
+      new = nobody_wrote slots s n went.nobody not_written;
     }
 
 -- what a write needs of the slot
-pub write_may : (slots : Slots) (s n : ℕ) (o : Option Held) → AreSoundSlots slots → refuses_write slots s n ≡ None → held_at slots s ≡ o
+pub write_may : (slots : Slots) (s n size : ℕ) (o : Option Held) → AreSoundSlots slots → refuses_write slots s n size ≡ None → held_at slots s ≡ o
     → IfSome o (λ h. is_among n h.written ≡ false → length h.written < 256)
-write_may slots s n None sound none is = tt
-write_may slots s n (Some h) sound none is = λ new. (write_room slots s n h sound none is new).few
+write_may slots s n size None sound none is = tt
+write_may slots s n size (Some h) sound none is = λ new. (write_room slots s n size h sound none is new).few
 
-pub sound_written : (slots : Slots) (s n : ℕ) (o : Option Held) → AreSoundSlots slots → s < length slots → refuses_write slots s n ≡ None → get_or slots s None ≡ o → AreSoundSlots (set slots s (option_map (with_written n) o))
-sound_written slots s n None sound within none is = sound_less slots s None sound within (λ p. omega arith)
-sound_written slots s n (Some h) sound within none is = by_test (is_among n h.written) refl
+pub slot_sized : (slots : Slots) (s : ℕ) (o : Option Held) → AreSoundSlots slots → held_at slots s ≡ o → IfSome o (λ h. length h.sizes ≡ length h.written)
+slot_sized slots s None sound is = tt
+slot_sized slots s (Some h) sound is = subst IsSized is (sized_at slots s sound.sized)
+
+pub sound_written : (slots : Slots) (s n size : ℕ) (o : Option Held) → AreSoundSlots slots → s < length slots → refuses_write slots s n size ≡ None → get_or slots s None ≡ o → AreSoundSlots (set slots s (option_map (with_written n size) o))
+sound_written slots s n size None sound within none is = sound_less slots s None sound within (λ p. omega arith) refl (λ q. omega arith)
+sound_written slots s n size (Some h) sound within none is =
+    sound_more slots s n (1 + size) (Some (with_written n size h)) sound within (once (is_among n h.written) refl) (written_sized n size h sized)
+    (λ q. written_marks n size h q sized ∙ ap (λ (o : Option Held). with_mark (slot_marks o) n (1 + size) q) (sym is)) (write_passes slots s n size none).light
   where
-    by_test : (b : Bool) → is_among n h.written ≡ b → AreSoundSlots (set slots s (Some (cond b h (record h { written = h.written ++ n ∷ [] }))))
-    by_test true among = sound_less slots s (Some h) sound within (λ p. omega (arith, ap (written_in p) is))
-    by_test false new =
-        let may = write_room slots s n h sound none is new in
-        sound_more slots s n h sound within is may.new may.room
+    sized : IsSized (Some h)
+    sized = subst IsSized is (sized_at slots s sound.sized)
+
+    once : (b : Bool) → is_among n h.written ≡ b → (k : ℕ) → total (λ j. j == k) (set slots s (Some (with_written n size h))) ≤ 1
+    once true there k =
+        let same : written_in (λ j. j == k) (Some (with_written n size h)) ≡ written_in (λ j. j == k) (get_or slots s None) =
+        ap (λ (t : Bool). written_in (λ j. j == k) (Some (cond t (record h { sizes = raised h.written h.sizes n size }) (record h { written = h.written ++ n ∷ []; sizes = h.sizes ++ size ∷ [] })))) there
+        ∙ sym (ap (written_in (λ j. j == k)) is) in
+        omega (arith, total_set (λ j. j == k) slots s (Some (with_written n size h)) within, same, sound.once k)
+    once false new k =
+        let names : (with_written n size h).written ≡ h.written ++ n ∷ [] =
+        ap (λ (t : Bool). (cond t (record h { sizes = raised h.written h.sizes n size }) (record h { written = h.written ++ n ∷ []; sizes = h.sizes ++ size ∷ [] })).written) new in
+        once_more slots s n h (with_written n size h) sound within is (write_room slots s n size h sound none is new).new names k
 
 pub sound_shared : (slots : Slots) (s n : ℕ) (o : Option Held) → AreSoundSlots slots → s < length slots → get_or slots s None ≡ o → AreSoundSlots (set slots s (option_map (with_shared n) o))
-sound_shared slots s n None sound within is = sound_less slots s None sound within (λ p. omega arith)
-sound_shared slots s n (Some h) sound within is = sound_less slots s (Some (with_shared n h)) sound within (λ p. omega (arith, ap (written_in p) is, same p (is_among n h.written) (is_among n h.shared)))
+sound_shared slots s n None sound within is = sound_less slots s None sound within (λ p. omega arith) refl (λ q. omega arith)
+sound_shared slots s n (Some h) sound within is =
+    sound_less slots s (Some (with_shared n h)) sound within (λ p. omega (arith, ap (written_in p) is, same p (is_among n h.written) (is_among n h.shared)))
+    (sized_still (is_among n h.written) (is_among n h.shared) (subst IsSized is (sized_at slots s sound.sized)))
+    (λ q. omega (arith, ap (λ (o : Option Held). slot_marks o q) is, marks_same q (is_among n h.written) (is_among n h.shared)))
   where
     same : (p : ℕ → Bool) (a b : Bool) → written_in p (Some (cond a h (cond b h (record h { shared = h.shared ++ n ∷ [] })))) ≡ count_by p h.written
     same p true b = refl
     same p false true = refl
     same p false false = refl
+
+    sized_still : (a b : Bool) → IsSized (Some h) → IsSized (Some (cond a h (cond b h (record h { shared = h.shared ++ n ∷ [] }))))
+    sized_still true b is = is
+    sized_still false true is = is
+    sized_still false false is = is
+
+    marks_same : (q : ℕ) (a b : Bool) → slot_marks (Some (cond a h (cond b h (record h { shared = h.shared ++ n ∷ [] })))) q ≡ slot_marks (Some h) q
+    marks_same q true b = refl
+    marks_same q false true = refl
+    marks_same q false false = refl
 
 -- what is read of a slot is what it holds
 pub slot_held : (slots : Slots) (s : ℕ) (o : Option Held) → s < length slots → o ≡ get_or slots s o → held_at slots s ≡ o

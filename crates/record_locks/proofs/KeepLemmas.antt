@@ -1,5 +1,5 @@
 -- The calls keep the names of a state.
-use Rattle.std.proofs.Common.{◌≡◌, inl, inr, ℕ, zero, suc, ◌<◌, Bool, true, false, not, ◌&&◌, cond, List, [], ◌∷◌, ◌++◌, map, reverse, length, set, get_or, replicate, Option, Some, None, is_some, refl, sym, ◌∙◌, ap, arith}
+use Rattle.std.proofs.Common.{◌≡◌, inl, inr, ℕ, zero, suc, ◌+◌, ◌<◌, ◌==◌, max, Bool, true, false, not, ◌&&◌, cond, List, [], ◌∷◌, ◌++◌, map, reverse, length, set, get_or, replicate, Option, Some, None, is_some, refl, sym, ◌∙◌, ap, arith}
 use Rattle.std.specs.Cmp.{nat_cmp_total}
 use Rattle.std.specs.FinMap.{get, insert, get-insert, get-remove, get-empty}
 use Rattle.std.specs.Option.{option_map, option_map_or}
@@ -10,9 +10,14 @@ use Rattle.std.proofs.lemmas.List.{reverse-append}
 use Rattle.ipl_rules.specs.State.{State, Session, Write, last_write, written_names}
 use Rattle.ipl_rules.specs.Refusals.{is_new_share}
 use Rattle.ipl_rules.specs.Operations as rules
-use Rattle.record_locks.specs.Held.{Held, Slots, held_at, is_among, with_written, with_shared, new_held, after_share, after_write}
+use Rattle.record_locks.specs.Held.{Held, Slots, held_at, is_among, raised, slot_marks, with_written, with_shared, new_held, after_share, after_write, after_end}
 use Rattle.record_locks.specs.Standing.{state_of, slot_of, session_of, write_of}
-use Rattle.record_locks.specs.Names.{names_of, SameNames, KeepsNames, CallsKeepNames}
+use Rattle.record_locks.specs.Names.{names_of, SameNames, SameMarks, KeepsNames, KeepsMarks, CallsKeepNames, CallsKeepMarks}
+use Rattle.record_locks.specs.Locks.{IsSized}
+use Rattle.ipl_base.specs.Sizes.{size_in_page}
+use Rattle.ipl_rules.specs.Marks.{marks_of}
+use Rattle.record_locks.proofs.MarkLemmas.{written_marks, sized_at}
+use Rattle.std.specs.List.{All}
 use Rattle.record_locks.proofs.NameLemmas.{among_reversed}
 use Rattle.ipl_rules.proofs.SlotLemmas.{get_or-set}
 use Rattle.record_locks.proofs.StandingLemmas.{session_at, new_share_at}
@@ -90,9 +95,9 @@ after_written state s q w = by_session (get state.sessions s) refl
     by_session None is = itself state s q ∙ ap (λ (o : Option Session). cond (eq_by_cmp nat_cmp q s) o (get state.sessions q)) is
     by_session (Some x) is = get-insert nat_cmp_total state.sessions s (record x { writes = w ∷ x.writes }) q
 
-write_names : (n : ℕ) (change : Option (List ℕ)) (h : Held) (x : Session) → names_of (session_of h) ≡ names_of x
-    → names_of (session_of (with_written n h)) ≡ names_of (record x { writes = (n, change) ∷ x.writes })
-write_names n change h x names = by_test (is_among n h.written) refl
+write_names : (n size : ℕ) (change : Option (List ℕ)) (h : Held) (x : Session) → names_of (session_of h) ≡ names_of x
+    → names_of (session_of (with_written n size h)) ≡ names_of (record x { writes = (n, change) ∷ x.writes })
+write_names n size change h x names = by_test (is_among n h.written) refl
   where
     was : List Write
     was = map write_of (reverse h.written)
@@ -101,7 +106,7 @@ write_names n change h x names = by_test (is_among n h.written) refl
     among = among_written x.writes n ∙ ap (λ (p : Names). is_among n p.0) (sym names) ∙ sym (among_written (map write_of (reverse h.written)) n) ∙ among_reversed h.written n
 
     by_test : (t : Bool) → is_among n h.written ≡ t
-        → names_of (session_of (cond t h (record h { written = h.written ++ n ∷ [] }))) ≡ (cond (is_some (last_write x.writes n)) (written_names x.writes) (n ∷ written_names x.writes), x.shared)
+        → names_of (session_of (cond t (record h { sizes = raised h.written h.sizes n size }) (record h { written = h.written ++ n ∷ []; sizes = h.sizes ++ size ∷ [] }))) ≡ (cond (is_some (last_write x.writes n)) (written_names x.writes) (n ∷ written_names x.writes), x.shared)
     by_test true is =
         names ∙ sym (ap (λ (b : Bool). (cond b (written_names x.writes) (n ∷ written_names x.writes), x.shared)) (among ∙ is))
     by_test false is =
@@ -141,19 +146,19 @@ module _ (slots : Slots) (state : State) (s : ℕ) (within : s < length slots) (
           let alike_names : names_of (session_of h) ≡ names_of x = cc in
           ap Some (share_names n h x (is_new_share state s n) alike_names (test h is))
 
-  writes_keep : (n : ℕ) (change : Option (List ℕ)) → SameNames (state_of (after_write slots s n)) (rules.after_write state s (n, change))
-  writes_keep n change =
-      keep slots state (rules.after_write state s (n, change)) s (option_map (with_written n) (held_at slots s)) (option_map (written_more (n, change)) (get state.sessions s)) within same
+  writes_keep : (n size : ℕ) (change : Option (List ℕ)) → SameNames (state_of (after_write slots s n size)) (rules.after_write state s (n, change))
+  writes_keep n size change =
+      keep slots state (rules.after_write state s (n, change)) s (option_map (with_written n size) (held_at slots s)) (option_map (written_more (n, change)) (get state.sessions s)) within same
       (λ q. after_written state s q (n, change)) (by_slot (held_at slots s) (get state.sessions s) here)
     where
       by_slot : (o : Option Held) (y : Option Session) → option_map names_of (slot_of o) ≡ option_map names_of y
-          → option_map names_of (slot_of (option_map (with_written n) o)) ≡ option_map names_of (option_map (written_more (n, change)) y)
+          → option_map names_of (slot_of (option_map (with_written n size) o)) ≡ option_map names_of (option_map (written_more (n, change)) y)
       by_slot None None names = refl
       by_slot None (Some x) names = absurd (cc names)
       by_slot (Some h) None names = absurd (cc names)
       by_slot (Some h) (Some x) names =
           let alike_names : names_of (session_of h) ≡ names_of x = cc in
-          ap Some (write_names n change h x alike_names)
+          ap Some (write_names n size change h x alike_names)
 
   keeps : KeepsNames slots state s
   keeps = record {
@@ -167,3 +172,69 @@ module _ (slots : Slots) (state : State) (s : ℕ) (within : s < length slots) (
 
 pub keeps_names : CallsKeepNames
 keeps_names slots state s within same = keeps slots state s within same
+
+-- ---- marks
+
+abbrev marks_in_state : Option Session → ℕ → ℕ
+marks_in_state o n = marks_of (option_map_or (λ x. x.writes) o []) n
+
+keep_marks : (slots : Slots) (state later : State) (s : ℕ) (o : Option Held) (x : Option Session) → s < length slots → SameMarks slots state
+    → ((q : ℕ) → get later.sessions q ≡ cond (eq_by_cmp nat_cmp q s) x (get state.sessions q)) → ((n : ℕ) → slot_marks o n ≡ marks_in_state x n)
+    → SameMarks (set slots s o) later
+keep_marks slots state later s o x within same gets marks q n =
+    ap (λ (k : Option Held). slot_marks k n) (get_or-set slots s o q within) ∙ by_key (eq_by_cmp nat_cmp q s) ∙ sym (ap (λ (k : Option Session). marks_in_state k n) (gets q))
+  where
+    by_key : (b : Bool) → slot_marks (cond b o (get_or slots q None)) n ≡ marks_in_state (cond b x (get state.sessions q)) n
+    by_key true = marks n
+    by_key false = same q n
+
+pub commits_mark : (slots : Slots) (state : State) (s : ℕ) → s < length slots → SameMarks slots state → SameMarks (after_end slots s) (rules.after_commit state s)
+commits_mark slots state s within same = keep_marks slots state (rules.after_commit state s) s None None within same (get-remove nat_cmp_total state.sessions s) (λ n. refl)
+
+module _ (slots : Slots) (state : State) (s : ℕ) (within : s < length slots) (sized : All IsSized slots) (names : SameNames (state_of slots) state) (same : SameMarks slots state) where
+  -- the session is open in both, or in neither
+  both_open : option_map names_of (slot_of (held_at slots s)) ≡ option_map names_of (get state.sessions s)
+  both_open = here slots state s within names
+
+  shares_mark : (n : ℕ) → SameMarks (after_share slots s n) (rules.after_share state s n)
+  unfolding shared_more
+  shares_mark n = keep_marks slots state (rules.after_share state s n) s (option_map (with_shared n) (held_at slots s)) (option_map (λ x. cond (is_new_share state s n) (shared_more n x) x) (get state.sessions s)) within same
+      (after_shared state s n) (λ q. slot_same (held_at slots s) q ∙ same s q ∙ sym (state_same (get state.sessions s) (is_new_share state s n) q))
+    where
+      slot_same : (o : Option Held) (q : ℕ) → slot_marks (option_map (with_shared n) o) q ≡ slot_marks o q
+      slot_same None q = refl
+      slot_same (Some h) q = by_tests (is_among n h.written) (is_among n h.shared)
+        where
+          by_tests : (a b : Bool) → slot_marks (Some (cond a h (cond b h (record h { shared = h.shared ++ n ∷ [] })))) q ≡ slot_marks (Some h) q
+          by_tests true b = refl
+          by_tests false true = refl
+          by_tests false false = refl
+
+      state_same : (o : Option Session) (t : Bool) (q : ℕ) → marks_in_state (option_map (λ x. cond t (shared_more n x) x) o) q ≡ marks_in_state o q
+      state_same None t q = refl
+      state_same (Some x) true q = refl
+      state_same (Some x) false q = refl
+
+  writes_mark : (n : ℕ) (change : Option (List ℕ)) → SameMarks (after_write slots s n (size_in_page change)) (rules.after_write state s (n, change))
+  writes_mark n change = keep_marks slots state (rules.after_write state s (n, change)) s (option_map (with_written n (size_in_page change)) (held_at slots s)) (option_map (written_more (n, change)) (get state.sessions s)) within same
+      (λ q. after_written state s q (n, change)) (by_slot (held_at slots s) (get state.sessions s) both_open (same s) (sized_at slots s sized))
+    where
+      by_slot : (o : Option Held) (y : Option Session) → option_map names_of (slot_of o) ≡ option_map names_of y → ((q : ℕ) → slot_marks o q ≡ marks_in_state y q) → IsSized o
+          → (q : ℕ) → slot_marks (option_map (with_written n (size_in_page change)) o) q ≡ marks_in_state (option_map (written_more (n, change)) y) q
+      by_slot None None is marks sized q = refl
+      by_slot None (Some x) is marks sized q = absurd (cc is)
+      by_slot (Some h) None is marks sized q = absurd (cc is)
+      by_slot (Some h) (Some x) is marks sized q = written_marks n (size_in_page change) h q sized ∙ ap (λ (k : ℕ). cond (n == q) (max (1 + size_in_page change) k) k) (marks q)
+
+  marks_kept : KeepsMarks slots state s
+  marks_kept = record {
+    begins = λ number. keep_marks slots state (rules.after_begin state s) s (Some (new_held number)) (Some rules.new_session) within same (get-insert nat_cmp_total state.sessions s rules.new_session) (λ n. refl);
+    shares = shares_mark;
+    writes = writes_mark;
+    commits = commits_mark slots state s within same;
+    aborts = keep_marks slots state (rules.after_abort state s) s None None within same (get-remove nat_cmp_total state.sessions s) (λ n. refl);
+    restarts = λ q n. ap (λ (o : Option Held). slot_marks o n) (none_of 32 q) ∙ sym (ap (λ (o : Option Session). marks_in_state o n) (get-empty nat_cmp q));
+  }
+
+pub keeps_marks : CallsKeepMarks
+keeps_marks slots state s within sized names same = marks_kept slots state s within sized names same

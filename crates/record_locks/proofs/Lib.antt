@@ -2,6 +2,9 @@ pub mod NameLemmas
 pub mod SlotLemmas
 pub mod StandingLemmas
 pub mod TotalLemmas
+pub mod MarkLemmas
+pub mod RankLemmas
+pub mod SoundLemmas
 pub mod CallLemmas
 pub mod SameLemmas
 pub mod KeepLemmas

@@ -1,18 +1,23 @@
 -- States whose sessions have the same names.
-use Rattle.std.proofs.Common.{◌≡◌, ℕ, ◌/◌, ◌==◌, Bool, true, false, T, not, ◌&&◌, ◌||◌, nat_le, cond, List, [], ◌∷◌, ◌++◌, filter, length, Option, Some, None, is_some, refl, sym, ◌∙◌, ap, subst, arith}
+use Rattle.std.proofs.Common.{◌≡◌, ℕ, ◌+◌, ◌*◌, ◌/◌, ◌≤◌, ◌==◌, max, nat_lt, Bool, true, false, T, not, ◌&&◌, ◌||◌, nat_le, cond, List, [], ◌∷◌, length, Option, Some, None, is_some, refl, sym, ◌∙◌, ap, subst, arith}
 use Rattle.std.specs.Prelude.{find}
 use Rattle.std.specs.Cmp.{nat_cmp_total}
 use Rattle.std.specs.FinMap.{get, entries, get-entries, entries_sorted, nat_cmp-IsAntisymmetric}
 use Rattle.std.specs.FinMap.Entries as es
-use Rattle.std.specs.List.{flat_map}
 use Rattle.std.specs.Option.{option_map, option_map_or}
 use Rattle.std.specs.Ordering.{nat_cmp, eq_by_cmp, is_lt}
 use Rattle.std.proofs.lemmas.Bool.Decides.{nat_tests}
 use Rattle.ipl_base.specs.declared.fault.Refusal.TheVariants.{AlreadyOpen, NotOpen, WritesFull, SharesFull, PendingFull}
-use Rattle.ipl_rules.specs.State.{State, Session, Write, is_open, last_write, written_names, writes_of, shared_of, pending}
+use Rattle.ipl_rules.specs.State.{State, Session, Write, is_open, last_write, written_names, writes_of, shared_of}
+use Rattle.ipl_base.specs.Sizes.{size_in_page}
+use Rattle.ipl_base.specs.declared.limits.TheConstants.{PENDING_WEIGHT, UNIT_NAMES}
+use Rattle.ipl_rules.specs.Marks.{Marks, with_mark, marks_of, marks, overloads}
+use Rattle.ipl_rules.proofs.MarkLemmas.{own_most, by_number}
+use Rattle.ipl_rules.proofs.WeightLemmas.{weights_same}
+use Rattle.record_locks.proofs.MarkLemmas.{one_of_all, all_at_most}
 use Rattle.ipl_rules.specs.Refusals.{first_of, conflict, is_new_write, is_new_share}
-use Rattle.record_locks.specs.Held.{is_among}
-use Rattle.record_locks.specs.Names.{names_of, SameNames, TestsAlike, SessionsRefuseAsStates}
+use Rattle.record_locks.specs.Held.{is_among, marks_in}
+use Rattle.record_locks.specs.Names.{names_of, SameNames, TestsAlike, SessionsRefuseAsStates, MarksAreTheStates}
 use Rattle.record_locks.specs.Standing.{state_of}
 
 abbrev Names : Type 0
@@ -36,34 +41,6 @@ among_written (w ∷ ws) n = by_tests (w.0 == n) (is_some (last_write ws w.0)) r
     by_tests true false is rest at = sym (ap (λ (c : Bool). c || is_among n (written_names ws)) is)
     by_tests false true is rest at = rest
     by_tests false false is rest at = rest ∙ sym (ap (λ (c : Bool). c || is_among n (written_names ws)) is)
-
-last_write-append : (a b : List Write) (n : ℕ) → is_some (last_write (a ++ b) n) ≡ (is_some (last_write a n) || is_some (last_write b n))
-last_write-append [] b n = refl
-last_write-append (w ∷ a) b n = by_head (w.0 == n) (last_write-append a b n)
-  where
-    by_head : (t : Bool) → is_some (last_write (a ++ b) n) ≡ (is_some (last_write a n) || is_some (last_write b n))
-        → is_some (cond t (Some w.1) (last_write (a ++ b) n)) ≡ (is_some (cond t (Some w.1) (last_write a n)) || is_some (last_write b n))
-    by_head true rest = refl
-    by_head false rest = rest
-
--- the names of two lists of writes: those of the first that the second hasn't, and the second's
-written_names-append : (a b : List Write) → written_names (a ++ b) ≡ filter (λ n. not (is_some (last_write b n))) (written_names a) ++ written_names b
-written_names-append [] b = refl
-written_names-append (w ∷ a) b =
-    ap (λ (t : Bool). cond t (written_names (a ++ b)) (w.0 ∷ written_names (a ++ b))) (last_write-append a b w.0)
-    ∙ by_tests (is_some (last_write a w.0)) (is_some (last_write b w.0)) refl (written_names-append a b)
-  where
-    passes : ℕ → Bool
-    passes n = not (is_some (last_write b n))
-
-    by_tests : (s t : Bool) → is_some (last_write b w.0) ≡ t → written_names (a ++ b) ≡ filter (λ n. not (is_some (last_write b n))) (written_names a) ++ written_names b
-        → cond (s || t) (written_names (a ++ b)) (w.0 ∷ written_names (a ++ b)) ≡ filter (λ n. not (is_some (last_write b n))) (cond s (written_names a) (w.0 ∷ written_names a)) ++ written_names b
-    by_tests true t is rest = rest
-    by_tests false true is rest =
-        rest ∙ sym (ap (λ (c : Bool). cond (not c) (w.0 ∷ filter (λ n. not (is_some (last_write b n))) (written_names a)) (filter (λ n. not (is_some (last_write b n))) (written_names a)) ++ written_names b) is)
-    by_tests false false is rest =
-        ap (λ (ns : List ℕ). w.0 ∷ ns) rest
-        ∙ sym (ap (λ (c : Bool). cond (not c) (w.0 ∷ filter (λ n. not (is_some (last_write b n))) (written_names a)) (filter (λ n. not (is_some (last_write b n))) (written_names a)) ++ written_names b) is)
 
 -- ---- sessions as names
 
@@ -113,28 +90,9 @@ least-mapped test on_names is s (e ∷ rest) =
     by_head true later = refl
     by_head false later = later
 
--- ---- all names
-
-merged : List (ℕ × Names) → List ℕ
-merged [] = []
-merged (e ∷ rest) = filter (λ n. not (is_among n (merged rest))) e.1.0 ++ merged rest
-
-written-merged : (rest : List (ℕ × Session)) → written_names (flat_map (λ e. e.1.writes) rest) ≡ merged (mapped rest)
-unfolding merged mapped
-written-merged [] = refl
-written-merged (e ∷ rest) =
-    let later = flat_map (λ x. x.1.writes) rest in
-    written_names-append e.1.writes later
-    ∙ (λ i. filter (λ n. not (among_written later n i)) (written_names e.1.writes) ++ written_names later)
-    ∙ ap (λ (ns : List ℕ). filter (λ n. not (is_among n ns)) (written_names e.1.writes) ++ ns) (written-merged rest)
-
 -- ---- the tests
 
 module _ (a b : State) (same : SameNames a b) where
-  pub pends_alike : (unit : ℕ) → pending a unit ≡ pending b unit
-  pends_alike unit = ap (λ (ns : List ℕ). length (filter (λ n. n / 960 == unit) ns))
-      (written-merged (entries a.sessions) ∙ ap merged (same_mapped a b same) ∙ sym (written-merged (entries b.sessions)))
-
   opens_alike : (s : ℕ) → is_open a s ≡ is_open b s
   opens_alike s = by_map (get a.sessions s) ∙ ap is_some (same s) ∙ sym (by_map (get b.sessions s))
     where
@@ -174,17 +132,35 @@ module _ (a b : State) (same : SameNames a b) where
         ∙ sym (least-mapped (λ x. is_some (last_write x.writes n) || is_among n x.shared) (λ p. is_among n p.0 || is_among n p.1) (λ x. ap (λ (c : Bool). c || is_among n x.shared) (among_written x.writes n)) s (entries b.sessions));
     full_writes = λ i. (new_writes_alike s n i && nat_le 256 (length (writes_alike s i)), WritesFull);
     full_shares = λ i. (new_shares_alike s n i && nat_le 256 (length (shares_alike s i)), SharesFull);
-    pends = pends_alike n;
-    full_unit = λ i. (new_writes_alike s n i && nat_le 48 (pends_alike (n / 960) i), PendingFull (n / 960));
   }
 
--- sessions that have the names of a state refuse as that state does
+-- ---- marks
+
+pub marks_are : MarksAreTheStates
+marks_are slots state same n =
+    let less = all_at_most slots n (marks state n) (λ s. omega (arith, same s n, own_most state s n)) in
+    let more = by_number state.sessions n (marks_in slots n) (λ q v is. at_most q v is) in
+    omega (arith, less, more)
+  where
+    at_most : (q : ℕ) (v : Session) → get state.sessions q ≡ Some v → marks_of v.writes n ≤ marks_in slots n
+    at_most q v is =
+        let here : marks_of (writes_of state q) n ≡ marks_of v.writes n = ap (λ (o : Option Session). marks_of (option_map_or (λ x. x.writes) o []) n) is in
+        omega (arith, here, same q n, one_of_all slots q n)
+
+overloads_alike : (a b : Marks) → ((n : ℕ) → a n ≡ b n) → (n m : ℕ) → overloads a n m ≡ overloads b n m
+overloads_alike a b same n m = ap (λ (w : ℕ). nat_lt PENDING_WEIGHT w) (weights_same (with_mark a n m) (with_mark b n m) (n / UNIT_NAMES) (λ i low. by_name (n == UNIT_NAMES * (n / UNIT_NAMES) + i) (same (UNIT_NAMES * (n / UNIT_NAMES) + i))))
+  where
+    by_name : (t : Bool) {x y : ℕ} → x ≡ y → cond t (max m x) x ≡ cond t (max m y) y
+    by_name t is = ap (λ (k : ℕ). cond t (max m k) k) is
+
+-- sessions that have the names and marks of a state refuse as that state does
 pub refuse_as : SessionsRefuseAsStates
-refuse_as slots state same s n =
+refuse_as slots state same marked s n =
     let tests = alike (state_of slots) state same s n in
     record {
       begins = λ i. first_of ((tests.opens i, AlreadyOpen) ∷ []);
       shares = λ i. first_of ((not (tests.opens i), NotOpen) ∷ conflict (tests.shares i) ∷ tests.full_shares i ∷ []);
-      writes = λ i. first_of ((not (tests.opens i), NotOpen) ∷ conflict (tests.writes i) ∷ tests.full_writes i ∷ tests.full_unit i ∷ []);
+      writes = λ change. λ i. first_of ((not (tests.opens i), NotOpen) ∷ conflict (tests.writes i) ∷ tests.full_writes i
+          ∷ (overloads_alike (marks_in slots) (marks state) (marks_are slots state marked) n (1 + size_in_page change) i, PendingFull (n / UNIT_NAMES)) ∷ []);
       ends = λ i. first_of ((not (tests.opens i), NotOpen) ∷ []);
     }

@@ -1,18 +1,17 @@
 -- How many names that sessions wrote pass a test, and what a change of one slot does to that.
-use Rattle.std.proofs.Common.{◌≡◌, ◌≢◌, ◌⊎◌, inl, inr, ℕ, suc, ◌+◌, ◌/◌, ◌<◌, ◌≤◌, ◌==◌, Bool, true, false, not, ◌&&◌, ◌||◌, cond, List, [], ◌∷◌, ◌++◌, map, reverse, filter, length, set, get_or, Option, Some, None, refl, sym, ◌∙◌, ap, subst, arith, get_or-set_other}
+use Rattle.std.proofs.Common.{◌≡◌, ◌≢◌, ◌⊎◌, inl, inr, ℕ, suc, ◌+◌, ◌<◌, ◌≤◌, ◌==◌, Bool, true, false, not, ◌&&◌, ◌||◌, cond, List, [], ◌∷◌, ◌++◌, map, reverse, length, set, get_or, Option, Some, None, refl, sym, ◌∙◌, ap, arith, get_or-set_other}
 use Rattle.std.specs.Prelude.{find}
 use Rattle.std.specs.List.{flat_map, count_by, sum_by}
 use Rattle.std.specs.Option.{option_map, option_map_or}
 use Rattle.std.proofs.lemmas.Bool.{cases_eq, cases_lt}
 use Rattle.std.proofs.lemmas.Bool.Decides.{nat_tests}
 use Rattle.std.proofs.lemmas.List.{map-append, length-reverse, get_or_past}
-use Rattle.std.proofs.lemmas.List.Sums.{sum_by-set, sum_by-append, get_or-le-sum_by, length-filter}
-use Rattle.std.proofs.Math.ListN.{length-set}
+use Rattle.std.proofs.lemmas.List.Sums.{sum_by-set, sum_by-append, get_or-le-sum_by}
 use Rattle.ipl_rules.specs.State as rules
 use Rattle.record_locks.specs.Held.{Held, Slots, held_at, written_of, is_among}
 use Rattle.ipl_rules.specs.Slots.{open_from}
 use Rattle.record_locks.specs.Standing.{state_of, slot_of, session_of, write_of}
-use Rattle.record_locks.specs.Locks.{AreSoundSlots, OneWriter, FewPending, total, written_in}
+use Rattle.record_locks.specs.Locks.{AreSoundSlots, OneWriter, total, written_in}
 use Rattle.record_locks.proofs.NameLemmas.{count_of_reversed, written_once, counted_once, not_counted, among_reversed}
 use Rattle.ipl_rules.proofs.SlotLemmas.{entries-opened}
 use Rattle.record_locks.proofs.StandingLemmas.{writes_at}
@@ -20,66 +19,16 @@ use Rattle.record_locks.proofs.StandingLemmas.{writes_at}
 pub total_set : (p : ℕ → Bool) (slots : Slots) (s : ℕ) (o : Option Held) → s < length slots → total p (set slots s o) + written_in p (get_or slots s None) ≡ total p slots + written_in p o
 total_set p slots s o within = sum_by-set (written_in p) slots s o None within
 
--- a slot in which no more names pass keeps all sound
-pub sound_less : (slots : Slots) (s : ℕ) (o : Option Held) → AreSoundSlots slots → s < length slots → ((p : ℕ → Bool) → written_in p o ≤ written_in p (get_or slots s None)) → AreSoundSlots (set slots s o)
-sound_less slots s o sound within less = record {
-  all = length-set slots s o ∙ sound.all;
-  once = λ n. omega (arith, total_set (λ k. k == n) slots s o within, less (λ k. k == n), sound.once n);
-  few = λ unit. omega (arith, total_set (λ k. k / 960 == unit) slots s o within, less (λ k. k / 960 == unit), sound.few unit);
-}
-
 -- ---- a name more
 
-one_more : (p : ℕ → Bool) (names : List ℕ) (n : ℕ) → count_by p (names ++ n ∷ []) ≡ count_by p names + cond (p n) 1 0
+pub one_more : (p : ℕ → Bool) (names : List ℕ) (n : ℕ) → count_by p (names ++ n ∷ []) ≡ count_by p names + cond (p n) 1 0
 one_more p names n =
     let one : sum_by (λ y. cond (p y) 1 0) (n ∷ []) ≡ cond (p n) 1 0 = omega arith in
     sum_by-append (λ y. cond (p y) 1 0) names (n ∷ []) ∙ omega (arith, one)
 
--- a name that nobody wrote, of a unit with room
-pub sound_more : (slots : Slots) (s n : ℕ) (h : Held) → AreSoundSlots slots → s < length slots → get_or slots s None ≡ Some h
-    → total (λ k. k == n) slots ≡ 0 → total (λ k. k / 960 == n / 960) slots < 48 → AreSoundSlots (set slots s (Some (record h { written = h.written ++ n ∷ [] })))
-sound_more slots s n h sound within is new room = record {
-  all = length-set slots s later ∙ sound.all;
-  once = λ k. by_name k (cases_eq k n);
-  few = λ unit. by_unit unit (cases_eq unit (n / 960));
-}
-  where
-    later : Option Held
-    later = Some (record h { written = h.written ++ n ∷ [] })
-
-    -- the total grows by one where the name passes
-    grows : (p : ℕ → Bool) → total p (set slots s later) ≡ total p slots + cond (p n) 1 0
-    grows p =
-        let before : written_in p (get_or slots s None) ≡ count_by p h.written = ap (written_in p) is in
-        omega (arith, total_set p slots s later within, before, one_more p h.written n)
-
-    by_name : (k : ℕ) → (k ≡ n) ⊎ (k ≢ n) → total (λ j. j == k) (set slots s later) ≤ 1
-    by_name k (inl same) =
-        let passes : cond (n == k) 1 0 ≤ 1 = at_most (n == k) in
-        omega (arith, grows (λ j. j == k), passes, ap (λ (m : ℕ). total (λ j. j == m) slots) same, new)
-      where
-        at_most : (b : Bool) → cond b 1 0 ≤ 1
-        at_most true = omega arith
-        at_most false = omega arith
-    by_name k (inr other) =
-        let no : (n == k) ≡ false = grind (arith, nat_tests) in
-        omega (arith, grows (λ j. j == k), ap {B = ℕ} (λ (b : Bool). cond b 1 0) no, sound.once k)
-
-    by_unit : (unit : ℕ) → (unit ≡ n / 960) ⊎ (unit ≢ n / 960) → total (λ j. j / 960 == unit) (set slots s later) ≤ 48
-    by_unit unit (inl same) =
-        let passes : cond (n / 960 == unit) 1 0 ≤ 1 = at_most (n / 960 == unit) in
-        omega (arith, grows (λ j. j / 960 == unit), passes, ap (λ (m : ℕ). total (λ j. j / 960 == m) slots) same, room)
-      where
-        at_most : (b : Bool) → cond b 1 0 ≤ 1
-        at_most true = omega arith
-        at_most false = omega arith
-    by_unit unit (inr other) =
-        let no : (n / 960 == unit) ≡ false = grind (arith, nat_tests) in
-        omega (arith, grows (λ j. j / 960 == unit), ap {B = ℕ} (λ (b : Bool). cond b 1 0) no, sound.few unit)
-
 -- ---- all names that are written
 
-total_cons : (p : ℕ → Bool) (o : Option Held) (slots : Slots) → total p (o ∷ slots) ≡ written_in p o + total p slots
+pub total_cons : (p : ℕ → Bool) (o : Option Held) (slots : Slots) → total p (o ∷ slots) ≡ written_in p o + total p slots
 total_cons p o slots =
     let one : sum_by (written_in p) (o ∷ []) ≡ written_in p o = omega arith in
     sum_by-append (written_in p) (o ∷ []) slots ∙ omega (arith, one)
@@ -102,14 +51,6 @@ count_all p (o ∷ slots) =
     let names = option_map_or (λ h. h.written) o [] in
     sum_by-append (λ y. cond (p y) 1 0) (reverse names) (all_names slots) ∙ (λ i. count_of_reversed p names i + count_all p slots i)
     ∙ sym (total_cons p o slots)
-
-pub pending_at : (slots : Slots) (unit : ℕ) → AreSoundSlots slots → rules.pending (state_of slots) unit ≡ total (λ k. k / 960 == unit) slots
-unfolding state_of
-pending_at slots unit sound =
-    ap (λ (es : List (ℕ × rules.Session)). length (filter (λ n. n / 960 == unit) (rules.written_names (flat_map (λ e. e.1.writes) es)))) (entries-opened (map slot_of slots))
-    ∙ ap (λ (ws : List rules.Write). length (filter (λ n. n / 960 == unit) (rules.written_names ws))) (writes_all 0 slots)
-    ∙ ap (λ (ns : List ℕ). length (filter (λ n. n / 960 == unit) ns)) (written_once (all_names slots) (λ n. subst (λ (k : ℕ). k ≤ 1) (sym (count_all (λ k. k == n) slots)) (sound.once n)))
-    ∙ length-filter (λ n. n / 960 == unit) (all_names slots) ∙ count_all (λ n. n / 960 == unit) slots
 
 -- no session wrote more names that pass than all together
 pub part_of_total : (p : ℕ → Bool) (slots : Slots) (s : ℕ) → written_in p (held_at slots s) ≤ total p slots
@@ -173,9 +114,6 @@ nobody_wrote slots s n none new =
     not_found (Some e) is = absurd (cc is)
 
 -- ---- what callers may know
-
-pub few_pending : (slots : Slots) → AreSoundSlots slots → FewPending slots
-few_pending slots sound unit = subst (λ (k : ℕ). k ≤ 48) (sym (pending_at slots unit sound)) (sound.few unit)
 
 pub one_writer : (slots : Slots) → AreSoundSlots slots → OneWriter slots
 one_writer slots sound s t n by_s by_t = by_order (cases_eq s t)

@@ -1,12 +1,16 @@
 -- What sessions hold: their transaction numbers, and names that they wrote or share.
-use Rattle.std.specs.Prelude.{ℕ, ◌==◌, Bool, List, [], ◌∷◌, ◌++◌, Option, Some, None, slice_index_or, slice_set, if◌then◌else◌}
+use Rattle.std.specs.Prelude.{ℕ, suc, ◌+◌, ◌==◌, ◌/◌, max, drop, slice_index, Bool, List, [], ◌∷◌, ◌++◌, Option, Some, None, slice_index_or, slice_set, if◌then◌else◌}
 use Rattle.std.specs.List.{list_any}
 use Rattle.std.specs.Option.{option_map, option_map_or}
+use Rattle.ipl_base.specs.declared.limits.TheConstants.{UNIT_NAMES}
+use Rattle.ipl_rules.specs.Marks.{Marks, weight_of_mark}
 
--- an open session: its transaction number, the names that it wrote and those that it shares, the oldest first
+-- an open session: its transaction number, the names that it wrote and those that it shares, the oldest first, and
+-- beside each name that it wrote the most bytes that a write of it takes in its page
 pub record Held : Type 0 where
   pub number : ℕ
   pub written : List ℕ
+  pub sizes : List ℕ
   pub shared : List ℕ
 
 -- for each number, an open session or none
@@ -55,15 +59,55 @@ numbers_in [] = []
 numbers_in (None ∷ slots) = numbers_in slots
 numbers_in (Some h ∷ slots) = h.number ∷ numbers_in slots
 
+-- ---- marks
+
+-- one more than the size that stands beside a name, 0 where it isn't there
+abbrev pub mark_in : List ℕ → List ℕ → Marks
+mark_in [] sizes n = 0
+mark_in (k ∷ names) sizes n = if k == n then 1 + slice_index sizes 0 else mark_in names (drop 1 sizes) n
+
+-- where a name stands first, or how many there are
+abbrev pub rank_of : ℕ → List ℕ → ℕ
+rank_of n [] = 0
+rank_of n (k ∷ names) = if k == n then 0 else suc (rank_of n names)
+
+-- what the names of a unit weigh
+abbrev pub weight_listed : List ℕ → List ℕ → ℕ → ℕ
+weight_listed [] sizes unit = 0
+weight_listed (k ∷ names) sizes unit =
+    (if k / UNIT_NAMES == unit then weight_of_mark (1 + slice_index sizes 0) else 0) + weight_listed names (drop 1 sizes) unit
+
+-- of those that the session in a slot wrote
+abbrev pub slot_weight : Option Held → ℕ → ℕ
+slot_weight None unit = 0
+slot_weight (Some h) unit = weight_listed h.written h.sizes unit
+
+-- the sizes with that of a name raised to at least this
+abbrev pub raised : List ℕ → List ℕ → ℕ → ℕ → List ℕ
+raised [] sizes n size = sizes
+raised (k ∷ names) sizes n size =
+    if k == n then max size (slice_index sizes 0) ∷ drop 1 sizes else slice_index sizes 0 ∷ raised names (drop 1 sizes) n size
+
+-- the marks of the session in a slot
+abbrev pub slot_marks : Option Held → Marks
+slot_marks None n = 0
+slot_marks (Some h) n = mark_in h.written h.sizes n
+
+-- those of all sessions
+abbrev pub marks_in : Slots → Marks
+marks_in [] n = 0
+marks_in (o ∷ slots) n = max (slot_marks o n) (marks_in slots n)
+
 -- ---- what the calls do
 
 -- a session that has done nothing yet
 abbrev pub new_held : ℕ → Held
-new_held number = record { number = number; written = []; shared = [] }
+new_held number = record { number = number; written = []; sizes = []; shared = [] }
 
--- the name is written: it stands behind the others, unless it is among them
-abbrev pub with_written : ℕ → Held → Held
-with_written n h = if is_among n h.written then h else record h { written = h.written ++ n ∷ [] }
+-- the name is written, by a write of this size: it stands behind the others, unless it is among them
+abbrev pub with_written : ℕ → ℕ → Held → Held
+with_written n size h = if is_among n h.written then record h { sizes = raised h.written h.sizes n size }
+    else record h { written = h.written ++ n ∷ []; sizes = h.sizes ++ size ∷ [] }
 
 -- the name is shared, unless it was written or is shared
 abbrev pub with_shared : ℕ → Held → Held
@@ -78,8 +122,8 @@ abbrev pub after_share : Slots → ℕ → ℕ → Slots
 after_share slots s n = slice_set slots s (option_map (with_shared n) (held_at slots s))
 
 -- the session, where it is open, wrote the name
-abbrev pub after_write : Slots → ℕ → ℕ → Slots
-after_write slots s n = slice_set slots s (option_map (with_written n) (held_at slots s))
+abbrev pub after_write : Slots → ℕ → ℕ → ℕ → Slots
+after_write slots s n size = slice_set slots s (option_map (with_written n size) (held_at slots s))
 
 -- the session is closed
 abbrev pub after_end : Slots → ℕ → Slots

@@ -1,13 +1,15 @@
 -- When the calls are refused, by the tests of the rules in their order; and what holds of all sessions together.
-use Rattle.std.specs.Prelude.{◌≡◌, ℕ, ◌≤◌, ◌==◌, ◌/◌, Bool, true, List, [], ◌∷◌, length, Option, if◌then◌else◌}
+use Rattle.std.specs.Prelude.{◌≡◌, ℕ, ◌+◌, ◌≤◌, ◌==◌, ◌/◌, Bool, true, List, [], ◌∷◌, length, Option, if◌then◌else◌, All}
 use Rattle.std.specs.List.{sum_by, count_by}
 use Rattle.std.specs.Option.{option_map_or}
-use Rattle.ipl_base.specs.declared.limits.TheConstants.{UNIT_NAMES, SESSIONS, PENDING_NAMES}
+use Rattle.ipl_base.specs.declared.limits.TheConstants.{UNIT_NAMES, SESSIONS, PENDING_WEIGHT}
 use Rattle.ipl_base.specs.declared.fault.Refusal.{Refusal}
-use Rattle.ipl_rules.specs.State.{holder_for_share, holder_for_write, pending}
+use Rattle.ipl_base.specs.declared.fault.Refusal.TheVariants.{PendingFull}
+use Rattle.ipl_rules.specs.State.{holder_for_share, holder_for_write}
+use Rattle.ipl_rules.specs.Marks.{overloads, weights}
 use Rattle.ipl_rules.specs.Refusals as refusals
-use Rattle.ipl_rules.specs.Refusals.{first_of, already_open, not_open, conflict, writes_full, shares_full, pending_full}
-use Rattle.record_locks.specs.Held.{Held, Slots, written_of, is_among}
+use Rattle.ipl_rules.specs.Refusals.{Test, first_of, already_open, not_open, conflict, writes_full, shares_full}
+use Rattle.record_locks.specs.Held.{Held, Slots, written_of, is_among, marks_in}
 use Rattle.record_locks.specs.Standing.{state_of}
 
 -- why a begin is refused, if it is
@@ -19,10 +21,14 @@ abbrev pub refuses_share : Slots → ℕ → ℕ → Option Refusal
 refuses_share slots s n = first_of (not_open (state_of slots) s ∷ conflict (holder_for_share (state_of slots) s n)
     ∷ shares_full (state_of slots) s n ∷ [])
 
--- why a write of a name is refused, if it is
-abbrev pub refuses_write : Slots → ℕ → ℕ → Option Refusal
-refuses_write slots s n = first_of (not_open (state_of slots) s ∷ conflict (holder_for_write (state_of slots) s n)
-    ∷ writes_full (state_of slots) s n ∷ pending_full (state_of slots) s n ∷ [])
+-- with a write of this size the pending names of its unit would weigh more than 48
+abbrev pub pending_full : Slots → ℕ → ℕ → Test
+pending_full slots n size = (overloads (marks_in slots) n (1 + size), PendingFull (n / UNIT_NAMES))
+
+-- why a write of a name, of this size, is refused, if it is
+abbrev pub refuses_write : Slots → ℕ → ℕ → ℕ → Option Refusal
+refuses_write slots s n size = first_of (not_open (state_of slots) s ∷ conflict (holder_for_write (state_of slots) s n)
+    ∷ writes_full (state_of slots) s n ∷ pending_full slots n size ∷ [])
 
 -- why an end is refused, if it is
 abbrev pub refuses_end : Slots → ℕ → Option Refusal
@@ -42,9 +48,13 @@ holder_of slots s n for_write = if for_write then holder_for_write (state_of slo
 abbrev pub OneWriter : Slots → Type 0
 OneWriter slots = (s t n : ℕ) → is_among n (written_of slots s) ≡ true → is_among n (written_of slots t) ≡ true → s ≡ t
 
--- at most 48 names of each unit are pending
+-- the pending names of each unit weigh at most 48
 abbrev pub FewPending : Slots → Type 0
-FewPending slots = (unit : ℕ) → pending (state_of slots) unit ≤ PENDING_NAMES
+FewPending slots = (unit : ℕ) → weights (marks_in slots) unit ≤ PENDING_WEIGHT
+
+-- beside each name that a session wrote stands a size
+abbrev pub IsSized : Option Held → Type 0
+IsSized slot = length (option_map_or (λ h. h.sizes) slot []) ≡ length (option_map_or (λ h. h.written) slot [])
 
 -- how many of the names that the session in a slot wrote pass the test
 abbrev pub written_in : (ℕ → Bool) → Option Held → ℕ
@@ -54,8 +64,9 @@ written_in test slot = count_by test (option_map_or (λ h. h.written) slot [])
 abbrev pub total : (ℕ → Bool) → Slots → ℕ
 total test slots = sum_by (written_in test) slots
 
--- there are 32 slots, no name is written twice, and at most 48 names of each unit are written
+-- there are 32 slots, no name is written twice, each has its size, and the names of each unit weigh at most 48
 pub record AreSoundSlots (slots : Slots) : Type 0 where
   pub all : length slots ≡ SESSIONS
   pub once : (n : ℕ) → total (λ k. k == n) slots ≤ 1
-  pub few : (unit : ℕ) → total (λ k. k / UNIT_NAMES == unit) slots ≤ PENDING_NAMES
+  pub sized : All IsSized slots
+  pub few : FewPending slots

@@ -1,15 +1,17 @@
 -- What a lock depends on: the names that sessions wrote and share, and not what was put.
-use Rattle.std.specs.Prelude.{◌≡◌, ℕ, ◌<◌, length, List, [], ◌∷◌, Contains, None, Option, replicate}
+use Rattle.std.specs.Prelude.{◌≡◌, ℕ, ◌<◌, length, List, [], ◌∷◌, Contains, None, Option, replicate, All}
 use Rattle.std.specs.Option.{option_map}
 use Rattle.std.specs.FinMap.{get}
 use Rattle.ipl_base.specs.declared.limits.TheConstants.{SESSIONS}
-use Rattle.ipl_rules.specs.State.{Session, State, Limits, is_open, written_names, holder_for_share, holder_for_write, pending}
+use Rattle.ipl_base.specs.Sizes.{size_in_page}
+use Rattle.ipl_rules.specs.State.{Session, State, Limits, is_open, written_names, holder_for_share, holder_for_write, writes_of}
+use Rattle.ipl_rules.specs.Marks.{marks_of, marks}
 use Rattle.ipl_rules.specs.Refusals as refusals
 use Rattle.ipl_rules.specs.Refusals.{first_of, already_open, not_open, conflict, writes_full, shares_full, pending_full}
 use Rattle.ipl_rules.specs.Operations as rules
-use Rattle.record_locks.specs.Held.{Slots, after_begin, after_share, after_write, after_end, after_batch}
+use Rattle.record_locks.specs.Held.{Slots, held_at, slot_marks, marks_in, after_begin, after_share, after_write, after_end, after_batch}
 use Rattle.record_locks.specs.Standing.{state_of}
-use Rattle.record_locks.specs.Locks.{refuses_begin, refuses_share, refuses_write, refuses_end, refuses_batch}
+use Rattle.record_locks.specs.Locks.{IsSized, refuses_begin, refuses_share, refuses_write, refuses_end, refuses_batch}
 
 -- the names that a session wrote, each once, and those that it shares
 abbrev pub names_of : Session → List ℕ × List ℕ
@@ -26,8 +28,14 @@ pub record TestsAlike (a b : State) (s n : ℕ) : Type 0 where
   pub writes : holder_for_write a s n ≡ holder_for_write b s n
   pub full_writes : writes_full a s n ≡ writes_full b s n
   pub full_shares : shares_full a s n ≡ shares_full b s n
-  pub pends : pending a n ≡ pending b n
-  pub full_unit : pending_full a s n ≡ pending_full b s n
+
+-- each session's writes have the marks of the state's
+abbrev pub SameMarks : Slots → State → Type 0
+SameMarks slots state = (s n : ℕ) → slot_marks (held_at slots s) n ≡ marks_of (writes_of state s) n
+
+-- so all together have
+abbrev pub MarksAreTheStates : Type 0
+MarksAreTheStates = (slots : Slots) (state : State) → SameMarks slots state → (n : ℕ) → marks_in slots n ≡ marks state n
 
 -- the tests look at names alone
 abbrev pub LocksLookAtNames : Type 0
@@ -37,19 +45,19 @@ LocksLookAtNames = (a b : State) → SameNames a b → (s n : ℕ) → TestsAlik
 pub record RefusesAs (slots : Slots) (state : State) (s n : ℕ) : Type 0 where
   pub begins : refuses_begin slots s ≡ first_of (already_open state s ∷ [])
   pub shares : refuses_share slots s n ≡ first_of (not_open state s ∷ conflict (holder_for_share state s n) ∷ shares_full state s n ∷ [])
-  pub writes : refuses_write slots s n ≡ first_of (not_open state s ∷ conflict (holder_for_write state s n)
-      ∷ writes_full state s n ∷ pending_full state s n ∷ [])
+  pub writes : (change : Option (List ℕ)) → refuses_write slots s n (size_in_page change) ≡ first_of (not_open state s
+      ∷ conflict (holder_for_write state s n) ∷ writes_full state s n ∷ pending_full state (n, change) ∷ [])
   pub ends : refuses_end slots s ≡ first_of (not_open state s ∷ [])
 
--- sessions that have the names of a state refuse as that state does
+-- sessions that have the names and marks of a state refuse as that state does
 abbrev pub SessionsRefuseAsStates : Type 0
-SessionsRefuseAsStates = (slots : Slots) (state : State) → SameNames (state_of slots) state → (s n : ℕ) → RefusesAs slots state s n
+SessionsRefuseAsStates = (slots : Slots) (state : State) → SameNames (state_of slots) state → SameMarks slots state → (s n : ℕ) → RefusesAs slots state s n
 
 -- where sessions have the names of a state, they have them after each call and its operation, whatever is put
 pub record KeepsNames (slots : Slots) (state : State) (s : ℕ) : Type 0 where
   pub begins : (number : ℕ) → SameNames (state_of (after_begin slots s number)) (rules.after_begin state s)
   pub shares : (n : ℕ) → SameNames (state_of (after_share slots s n)) (rules.after_share state s n)
-  pub writes : (n : ℕ) (change : Option (List ℕ)) → SameNames (state_of (after_write slots s n)) (rules.after_write state s (n, change))
+  pub writes : (n size : ℕ) (change : Option (List ℕ)) → SameNames (state_of (after_write slots s n size)) (rules.after_write state s (n, change))
   pub commits : SameNames (state_of (after_end slots s)) (rules.after_commit state s)
   pub aborts : SameNames (state_of (after_end slots s)) (rules.after_abort state s)
   pub restarts : SameNames (state_of (replicate SESSIONS None)) (rules.after_restart state)
@@ -57,6 +65,19 @@ pub record KeepsNames (slots : Slots) (state : State) (s : ℕ) : Type 0 where
 -- the change of a call and that of its operation keep the names the same
 abbrev pub CallsKeepNames : Type 0
 CallsKeepNames = (slots : Slots) (state : State) (s : ℕ) → s < length slots → SameNames (state_of slots) state → KeepsNames slots state s
+
+-- and the marks
+pub record KeepsMarks (slots : Slots) (state : State) (s : ℕ) : Type 0 where
+  pub begins : (number : ℕ) → SameMarks (after_begin slots s number) (rules.after_begin state s)
+  pub shares : (n : ℕ) → SameMarks (after_share slots s n) (rules.after_share state s n)
+  pub writes : (n : ℕ) (change : Option (List ℕ)) → SameMarks (after_write slots s n (size_in_page change)) (rules.after_write state s (n, change))
+  pub commits : SameMarks (after_end slots s) (rules.after_commit state s)
+  pub aborts : SameMarks (after_end slots s) (rules.after_abort state s)
+  pub restarts : SameMarks (replicate SESSIONS None) (rules.after_restart state)
+
+abbrev pub CallsKeepMarks : Type 0
+CallsKeepMarks = (slots : Slots) (state : State) (s : ℕ) → s < length slots → All IsSized slots → SameNames (state_of slots) state
+    → SameMarks slots state → KeepsMarks slots state s
 
 -- ---- commits of several sessions
 
@@ -69,3 +90,8 @@ BatchesRefuseAsStates = (slots : Slots) (limits : Limits) (state : State) → li
 abbrev pub BatchesKeepNames : Type 0
 BatchesKeepNames = (slots : Slots) (state : State) (ss : List ℕ) → ((s : ℕ) → Contains ss s → s < length slots)
     → SameNames (state_of slots) state → SameNames (state_of (after_batch slots ss)) (rules.after_batch state ss)
+
+-- and its marks
+abbrev pub BatchesKeepMarks : Type 0
+BatchesKeepMarks = (slots : Slots) (state : State) (ss : List ℕ) → ((s : ℕ) → Contains ss s → s < length slots)
+    → SameMarks slots state → SameMarks (after_batch slots ss) (rules.after_batch state ss)

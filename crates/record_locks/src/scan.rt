@@ -1,34 +1,66 @@
 //! Scans of all sessions.
-ghost use Rattle.std.specs.Prelude.{◌≡◌, ◌≤◌, ◌<◌, ◌^◌, ◌==◌, ◌/◌, ◌&&◌, not, map, length, false, None, [], replicate, vec_capacity};
+ghost use Rattle.std.specs.Prelude.{◌≡◌, ◌≤◌, ◌<◌, ◌*◌, ◌^◌, ◌==◌, ◌&&◌, not, map, length, false, None, [], replicate, vec_capacity, All};
+ghost use Rattle.std.specs.List.{sum_by};
 ghost use Rattle.std.specs.Option.{option_map_or};
-ghost use Rattle.ipl_base.specs.declared.limits.TheConstants.{SESSIONS};
+ghost use Rattle.ipl_base.specs.declared.limits.TheConstants.{LONG_WEIGHT, SESSION_NAMES, SESSIONS};
+ghost use Rattle.record_locks.specs.Held.{marks_in, slot_marks, slot_weight};
 ghost use Rattle.record_locks.specs.Standing.{slot_of, session_of, keeps_from, least_holder};
-ghost use Rattle.record_locks.specs.Locks.{written_in, total};
+ghost use Rattle.record_locks.specs.Locks.{IsSized};
 
 use crate::session::OpenSession;
 use ipl_base::{Name, SESSIONS};
 
-/// How many names of a unit the session in a slot wrote, if there is one.
-fn count_in_slot(slot: &Option<OpenSession>, unit: u32) -> u32
-    ensures count { result ≡ written_in (λ n. n / 960 == unit) slot.now }
-    ensures fits { result ≤ 256 }
+/// What the names of a unit that the session in a slot wrote weigh.
+fn weigh_slot(slot: &Option<OpenSession>, unit: u32) -> u32
+    requires { IsSized slot.now }
+    ensures weight { result ≡ slot_weight slot.now unit }
+    ensures fits { result ≤ LONG_WEIGHT * SESSION_NAMES }
 {
     match slot {
-        Some(session) => session.count_in_unit(unit),
+        Some(session) => session.weight_in_unit(unit),
         None => 0,
     }
 }
 
-/// How many names of a unit sessions wrote.
-pub fn count_pending(slots: &[Option<OpenSession>], unit: u32) -> u32
-    requires { length slots.now ≤ SESSIONS }
-    ensures { result ≡ total (λ n. n / 960 == unit) slots.now }
+/// What the names of a unit that sessions wrote weigh.
+pub fn weigh_pending(slots: &[Option<OpenSession>], unit: u32) -> u32
+    requires few { length slots.now ≤ SESSIONS }
+    requires sized { All IsSized slots.now }
+    ensures weight { result ≡ sum_by (λ o. slot_weight o unit) slots.now }
+    ensures fits { result ≤ LONG_WEIGHT * SESSION_NAMES * SESSIONS }
 {
-    let mut count = 0;
+    let mut weight = 0;
     for slot in slots {
-        count += count_in_slot(slot, unit);
+        weight += weigh_slot(slot, unit);
     }
-    count
+    weight
+}
+
+/// The mark of a name in a slot.
+fn mark_in_slot(slot: &Option<OpenSession>, name: Name) -> u64
+    requires { IsSized slot.now }
+    ensures mark { result ≡ slot_marks slot.now name.0 }
+    ensures fits { result ≤ 2 ^ 32 }
+{
+    match slot {
+        Some(session) => session.mark(name),
+        None => 0,
+    }
+}
+
+/// The mark of a name among all sessions: one more than the greatest size of the writes on it.
+pub fn mark_of(slots: &[Option<OpenSession>], name: Name) -> u64
+    requires { All IsSized slots.now }
+    ensures mark { result ≡ marks_in slots.now name.0 }
+    ensures fits { result ≤ 2 ^ 32 }
+{
+    let mut left = slots.len();
+    let mut most = 0;
+    while left > 0 {
+        left -= 1;
+        most = most.max(mark_in_slot(&slots[left], name));
+    }
+    most
 }
 
 /// Whether a session keeps others from writing a name, or from sharing it.

@@ -1,19 +1,23 @@
 //! One open session.
-ghost use Rattle.std.specs.Prelude.{◌≡◌, ◌≤◌, ◌<◌, ◌++◌, ◌∷◌, ◌==◌, ◌/◌, [], length, map, false, IfSome};
-ghost use Rattle.std.specs.List.{count_by};
+ghost use Rattle.std.specs.Prelude.{◌≡◌, ◌≤◌, ◌<◌, ◌^◌, ◌+◌, ◌*◌, ◌++◌, ◌∷◌, ◌==◌, ◌/◌, [], length, map, false, IfSome, if◌then◌else◌};
 ghost use Rattle.std.specs.Option.{option_map};
-ghost use Rattle.record_locks.specs.Held.{is_among, new_held, with_written, with_shared};
+ghost use Rattle.ipl_base.specs.declared.limits.TheConstants.{LONG_WEIGHT, SESSION_NAMES, UNIT_NAMES};
+ghost use Rattle.ipl_rules.specs.Marks.{weight_of_mark};
+ghost use Rattle.record_locks.specs.Held.{is_among, mark_in, new_held, raised, rank_of, weight_listed, with_written, with_shared};
 
 use arrayvec::ArrayVec;
 use ipl_base::{Name, UNIT_NAMES};
+use ipl_rules::weight_of;
 use std::marker::Model;
 
 /// An open session: its transaction number, the names that it wrote and those that it shares, at
-/// most 256 of each.
+/// most 256 of each; and beside each that it wrote the most bytes that a write of it takes in its
+/// page, 0 where it was deleted alone.
 #[derive(Drop)]
 pub struct OpenSession {
     number: u64,
     written: ArrayVec<Name, 256>,
+    sizes: ArrayVec<u32, 256>,
     shared: ArrayVec<Name, 256>,
 }
 
@@ -26,10 +30,11 @@ impl Model for OpenSession {
     ghost view = { λ s. record {
       number = s.number;
       written = map (λ n. n.0) s.written.items;
+      sizes = s.sizes.items;
       shared = map (λ n. n.0) s.shared.items;
     } };
 
-    ghost invariant = { λ s. (length s.written.items ≤ 256) × (length s.shared.items ≤ 256) };
+    ghost invariant = { λ s. (length s.written.items ≤ 256) × (length s.sizes.items ≤ 256) × (length s.shared.items ≤ 256) };
 }
 
 impl OpenSession {
@@ -40,6 +45,7 @@ impl OpenSession {
         OpenSession {
             number,
             written: ArrayVec::new(),
+            sizes: ArrayVec::new(),
             shared: ArrayVec::new(),
         }
     }
@@ -57,6 +63,14 @@ impl OpenSession {
         ensures fits { length result.now ≤ 256 }
     {
         self.written.as_slice()
+    }
+
+    /// The greatest size of its writes on each, in the same order.
+    pub fn sizes(&self) -> &[u32]
+        ensures sizes { result.now ≡ self.now.sizes }
+        ensures fits { length result.now ≤ 256 }
+    {
+        self.sizes.as_slice()
     }
 
     /// The names that it shares, the oldest first.
@@ -81,20 +95,50 @@ impl OpenSession {
         is_listed(self.shared(), name)
     }
 
-    /// How many names of a unit it wrote.
-    pub fn count_in_unit(&self, unit: u32) -> u32
-        ensures count { result ≡ count_by (λ n. n / 960 == unit) self.now.written }
-        ensures fits { result ≤ 256 }
+    /// What the names of a unit that it wrote weigh.
+    pub fn weight_in_unit(&self, unit: u32) -> u32
+        requires { length self.now.sizes ≡ length self.now.written }
+        ensures weight { result ≡ weight_listed self.now.written self.now.sizes unit }
+        ensures fits { result ≤ LONG_WEIGHT * SESSION_NAMES }
     {
-        count_listed(self.written(), unit)
+        weigh(self.written(), self.sizes(), unit)
     }
 
-    /// Puts a name behind those that it wrote.
-    pub fn push_written(&mut self, name: Name)
-        requires { length self.old.written < 256 }
-        ensures { self.new ≡ record self.old { written = self.old.written ++ name.0 ∷ [] } }
+    /// The mark of a name: one more than the greatest size of its writes on it, 0 where there is none.
+    pub fn mark(&self, name: Name) -> u64
+        requires { length self.now.sizes ≡ length self.now.written }
+        ensures mark { result ≡ mark_in self.now.written self.now.sizes name.0 }
+        ensures fits { result ≤ 2 ^ 32 }
+    {
+        mark_of(self.written(), self.sizes(), name)
+    }
+
+    /// Raises the size of a name that it wrote.
+    pub fn raise(&mut self, name: Name, size: u32)
+        requires { length self.old.sizes ≡ length self.old.written }
+        ensures { self.new ≡ record self.old {
+          sizes = raised self.old.written self.old.sizes name.0 size;
+        } }
+    {
+        let rank = rank_of(self.written.as_slice(), name);
+        if rank >= self.written.len() {
+            return;
+        }
+        let most = size.max(self.sizes[rank]);
+        self.sizes[rank] = most;
+    }
+
+    /// Puts a name behind those that it wrote, and its size.
+    pub fn push_written(&mut self, name: Name, size: u32)
+        requires names { length self.old.written < 256 }
+        requires sizes { length self.old.sizes < 256 }
+        ensures { self.new ≡ record self.old {
+          written = self.old.written ++ name.0 ∷ [];
+          sizes = self.old.sizes ++ size ∷ [];
+        } }
     {
         self.written.push(name);
+        self.sizes.push(size);
     }
 
     /// Puts a name behind those that it shares.
@@ -120,16 +164,19 @@ pub fn share_in(slot: &mut Option<OpenSession>, name: Name)
     }
 }
 
-/// The session in a slot, if there is one, writes a name, unless it wrote it already.
-pub fn write_in(slot: &mut Option<OpenSession>, name: Name)
-    requires { IfSome slot.old (λ h. is_among name.0 h.written ≡ false
+/// The session in a slot, if there is one, writes a name, by a write of this size.
+pub fn write_in(slot: &mut Option<OpenSession>, name: Name, size: u32)
+    requires sized { IfSome slot.old (λ h. length h.sizes ≡ length h.written) }
+    requires room { IfSome slot.old (λ h. is_among name.0 h.written ≡ false
         → length h.written < 256) }
-    ensures { slot.new ≡ option_map (with_written name.0) slot.old }
+    ensures { slot.new ≡ option_map (with_written name.0 size) slot.old }
 {
-    if let Some(session) = slot
-        && !session.has_written(name)
-    {
-        session.push_written(name);
+    if let Some(session) = slot {
+        if session.has_written(name) {
+            session.raise(name, size);
+        } else {
+            session.push_written(name, size);
+        }
     }
 }
 
@@ -145,17 +192,57 @@ pub fn is_listed(names: &[Name], name: Name) -> bool
     false
 }
 
-/// How many of these names are of a unit.
-fn count_listed(names: &[Name], unit: u32) -> u32
-    requires { length names.now ≤ 256 }
-    ensures count { result ≡ count_by (λ n. n / 960 == unit) (map (λ n. n.0) names.now) }
-    ensures fits { result ≤ 256 }
+/// Where a name stands first among these, or how many there are.
+fn rank_of(names: &[Name], name: Name) -> usize
+    ensures rank { result ≡ rank_of name.0 (map (λ n. n.0) names.now) }
+    ensures within { result ≤ length names.now }
 {
-    let mut count = 0;
+    let mut rank = 0;
     for listed in names {
-        if listed.0 / UNIT_NAMES == unit {
-            count += 1;
+        if listed.0 == name.0 {
+            return rank;
         }
+        rank += 1;
     }
-    count
+    rank
+}
+
+/// The mark of a name: one more than the size that stands beside it, 0 where it isn't there.
+fn mark_of(names: &[Name], sizes: &[u32], name: Name) -> u64
+    requires { length sizes.now ≡ length names.now }
+    ensures mark { result ≡ mark_in (map (λ n. n.0) names.now) sizes.now name.0 }
+    ensures fits { result ≤ 2 ^ 32 }
+{
+    let rank = rank_of(names, name);
+    if rank >= names.len() {
+        return 0;
+    }
+    1 + u64::from(sizes[rank])
+}
+
+/// What one name weighs, where it is of a unit.
+fn weight_at(name: Name, size: u32, unit: u32) -> u32
+    ensures weight { result
+        ≡ (if name.0 / UNIT_NAMES == unit then weight_of_mark (1 + size) else 0) }
+    ensures few { result ≤ LONG_WEIGHT }
+{
+    if name.0 / UNIT_NAMES == unit {
+        weight_of(1 + u64::from(size))
+    } else {
+        0
+    }
+}
+
+/// What the names of a unit weigh.
+fn weigh(names: &[Name], sizes: &[u32], unit: u32) -> u32
+    requires few { length names.now ≤ 256 }
+    requires sized { length sizes.now ≡ length names.now }
+    ensures weight { result ≡ weight_listed (map (λ n. n.0) names.now) sizes.now unit }
+    ensures fits { result ≤ LONG_WEIGHT * SESSION_NAMES }
+{
+    let mut weight = 0;
+    for i in 0..names.len() {
+        weight += weight_at(names[i], sizes[i], unit);
+    }
+    weight
 }

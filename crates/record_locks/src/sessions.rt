@@ -1,23 +1,23 @@
 //! The open sessions of a store.
-ghost use Rattle.std.specs.Prelude.{◌≡◌, ◌≤◌, ◌<◌, ℕ, ◌==◌, ◌/◌, None, map, length, Contains, IfOk, OnOk, OnErr, replicate};
+ghost use Rattle.std.specs.Prelude.{◌≡◌, ◌≤◌, ◌<◌, ◌^◌, ◌-◌, ℕ, None, map, length, All, Contains, IfOk, OnOk, OnErr, replicate};
 ghost use Rattle.std.specs.Result.{result_err};
-ghost use Rattle.ipl_base.specs.declared.limits.TheConstants.{PENDING_NAMES, SESSIONS};
-ghost use Rattle.ipl_rules.specs.State.{pending};
-ghost use Rattle.record_locks.specs.Held.{number_of, written_of, shared_of, after_begin, after_share, after_write, after_end, after_batch};
+ghost use Rattle.ipl_base.specs.declared.limits.TheConstants.{PENDING_WEIGHT, SESSIONS};
+ghost use Rattle.ipl_rules.specs.Marks.{weights};
+ghost use Rattle.record_locks.specs.Held.{marks_in, number_of, written_of, shared_of, after_begin, after_share, after_write, after_end, after_batch};
 ghost use Rattle.record_locks.specs.Standing.{state_of};
-ghost use Rattle.record_locks.specs.Locks.{refuses_begin, refuses_share, refuses_write, refuses_end, refuses_batch, holder_of, OneWriter, FewPending};
+ghost use Rattle.record_locks.specs.Locks.{refuses_begin, refuses_share, refuses_write, refuses_end, refuses_batch, holder_of, IsSized, OneWriter, FewPending};
 
 mod refusals;
 
-use crate::scan::{count_pending, fill, find_holder};
+use crate::scan::{fill, find_holder, mark_of, weigh_pending};
 use crate::session::{OpenSession, share_in, write_in};
 use ipl_base::{Name, OutOfMemory, Refusal, SESSIONS};
 use std::alloc::Global;
 use std::marker::Model;
 
-/// The open sessions, each with its transaction number and the names that it wrote and shares. Memory
-/// is taken by `new` alone. No name is written by two sessions, and at most 48 names of each unit are
-/// pending.
+/// The open sessions, each with its transaction number, the names that it wrote, with the greatest
+/// size of its writes on each, and those that it shares. Memory is taken by `new` alone. No name is
+/// written by two sessions, and the pending names of each unit weigh at most 48.
 #[derive(Drop)]
 pub struct Sessions {
     slots: Vec<Option<OpenSession>>,
@@ -73,17 +73,18 @@ impl Sessions {
         Ok(())
     }
 
-    /// Adds a name to those that a session wrote, unless it is among them.
-    pub fn write(&mut self, s: u32, name: Name) -> Result<(), Refusal>
+    /// Adds a name to those that a session wrote, unless it is among them. `size` is what the write
+    /// takes in its page: 3 bytes and the value's, or 0 for a delete; the greatest is kept.
+    pub fn write(&mut self, s: u32, name: Name, size: u32) -> Result<(), Refusal>
         requires { s < SESSIONS }
-        ensures refusal { result_err result ≡ refuses_write self.old s name.0 }
-        ensures ok { OnOk result (self.new ≡ after_write self.old s name.0) }
+        ensures refusal { result_err result ≡ refuses_write self.old s name.0 size }
+        ensures ok { OnOk result (self.new ≡ after_write self.old s name.0 size) }
         ensures err { OnErr result (self.new ≡ self.old) }
     {
-        if let Some(refusal) = self.refuses_write(s, name) {
+        if let Some(refusal) = self.refuses_write(s, name, size) {
             return Err(refusal);
         }
-        write_in(&mut self.slots[s as usize], name);
+        write_in(&mut self.slots[s as usize], name, size);
         Ok(())
     }
 
@@ -130,19 +131,36 @@ impl Sessions {
         find_holder(&self.slots, s, name, for_write)
     }
 
-    /// How many names of a unit open sessions wrote.
+    /// What the names of a unit that open sessions wrote weigh.
     pub fn pending(&self, unit: u32) -> u32
-        ensures count { result ≡ pending (state_of self.now) unit }
-        ensures few { result ≤ PENDING_NAMES }
+        ensures weight { result ≡ weights (marks_in self.now) unit }
+        ensures few { result ≤ PENDING_WEIGHT }
     {
-        count_pending(&self.slots, unit)
+        weigh_pending(&self.slots, unit)
     }
 
-    /// What always holds: there are 32 slots, no name is written by two sessions, and at most 48
-    /// names of each unit are pending.
+    /// The mark of a name: one more than the greatest size of the writes of open sessions on it, 0
+    /// where none wrote it.
+    pub fn mark(&self, name: Name) -> u64
+        ensures mark { result ≡ marks_in self.now name.0 }
+        ensures fits { result ≤ 2 ^ 32 }
+    {
+        mark_of(&self.slots, name)
+    }
+
+    /// The greatest size of the writes of open sessions on a name, 0 where none wrote it.
+    pub fn size(&self, name: Name) -> u32
+        ensures { result ≡ marks_in self.now name.0 - 1 }
+    {
+        self.mark(name).saturating_sub(1) as u32
+    }
+
+    /// What always holds: there are 32 slots, no name is written by two sessions, each that is written
+    /// has its size, and the pending names of each unit weigh at most 48.
     pub fn facts(&self)
         ensures all { length self.now ≡ SESSIONS }
         ensures one_writer { OneWriter self.now }
+        ensures sized { All IsSized self.now }
         ensures few { FewPending self.now }
     {
         let _ = &self.slots;

@@ -1,14 +1,21 @@
 //! When the plain model refuses an operation.
-ghost use Rattle.std.specs.Prelude.{◌≡◌, ◌∷◌, ◌==◌, [], length, nat_le, not, IfOk};
+ghost use Rattle.std.specs.Prelude.{◌≡◌, ◌≤◌, ◌+◌, ◌∷◌, ◌==◌, [], length, nat_le, not, IfOk};
 ghost use Rattle.std.specs.List.{list_any};
-ghost use Rattle.ipl_rules.specs.State.{is_open, writes_of, shared_of, last_write, written_names, least_other, pending};
+ghost use Rattle.ipl_base.specs.declared.limits.TheConstants.{VALUE_LEN};
+ghost use Rattle.ipl_base.specs.Sizes.{size_in_page};
+ghost use Rattle.ipl_rules.specs.State.{is_open, writes_of, shared_of, last_write, written_names, least_other, pending_writes};
+ghost use Rattle.ipl_rules.specs.Marks.{marks, overloads, overfills};
 ghost use Rattle.ipl_rules.specs.Refusals.{is_new_write, is_new_share};
-ghost use Rattle.ipl_model.specs.Plain.{state_of, limits_of, keeps_from};
+ghost use Rattle.ipl_model.specs.Plain.{state_of, limits_of, keeps_from, newest_first};
 
 use super::PlainModel;
 use super::locks::{Lock, holder, pending_writes};
-use super::scan::{count_in_unit, count_names, newest};
-use ipl_base::{PENDING_NAMES, Refusal, UNIT_NAMES, VALUE_LEN, Value};
+use super::log::Write;
+use super::marks::{fill, weights};
+use super::scan::{count_names, newest};
+use ipl_base::{
+    PAGE_LEN, PENDING_WEIGHT, Refusal, SESSION_NAMES, SLOTS, UNIT_NAMES, VALUE_LEN, Value,
+};
 use ipl_rules::{has_bad_session, least_twice};
 use std::alloc::AllocError;
 
@@ -74,12 +81,32 @@ impl PlainModel {
         }
     }
 
-    /// How many names of a unit are pending.
-    fn pending(&self, unit: u32) -> Result<usize, AllocError>
-        ensures { IfOk result (λ count. count ≡ pending (state_of self.now) unit) }
+    /// All writes of open sessions, and one more.
+    fn pending_with(&self, name: u32, value: Option<Value>) -> Result<Vec<Write>, AllocError>
+        ensures { IfOk result (λ all.
+            newest_first all.items ≡ (name, value) ∷ pending_writes (state_of self.now)) }
     {
-        let all = pending_writes(self.alloc, &self.sessions)?;
-        Ok(count_in_unit(&all, unit))
+        let mut all = pending_writes(self.alloc, &self.sessions)?;
+        all.push(Write { name, value })?;
+        Ok(all)
+    }
+
+    /// Whether with one write more the pending names of its unit would weigh more than 48.
+    fn overloads(&self, name: u32, value: Option<Value>) -> Result<bool, AllocError>
+        ensures { IfOk result (λ answer.
+            answer ≡ overloads (marks (state_of self.now)) name (1 + size_in_page value)) }
+    {
+        let all = self.pending_with(name, value)?;
+        Ok(weights(&all, name / UNIT_NAMES) > PENDING_WEIGHT)
+    }
+
+    /// Whether with one put more, of at most 464 bytes, the page of its name would be too full.
+    fn overfills(&self, name: u32, bytes: &[u8]) -> Result<bool, AllocError>
+        requires { length bytes.now ≤ VALUE_LEN }
+        ensures { IfOk result (λ answer. answer ≡ overfills (state_of self.now) name bytes.now) }
+    {
+        let all = self.pending_with(name, Value::of(bytes))?;
+        Ok(fill(&self.committed, &all, name / SLOTS) > PAGE_LEN as u64)
     }
 
     /// The least other session that keeps session `s` from a name.
@@ -140,15 +167,20 @@ impl PlainModel {
         if let Some(holder) = self.holder(s, Lock::Share, name) {
             return Some(Refusal::Conflict(holder));
         }
-        if self.is_new_share(s, name) && self.names_shared(s) >= 256 {
+        if self.is_new_share(s, name) && self.names_shared(s) >= SESSION_NAMES {
             return Some(Refusal::SharesFull);
         }
         None
     }
 
     /// Why an open session's write of a name is refused, if it is.
-    fn refuses_write(&self, s: u32, name: u32) -> Result<Option<Refusal>, AllocError>
-        ensures { IfOk result (λ r. r ≡ refuses_write (state_of self.now) s name) }
+    fn refuses_write(
+        &self,
+        s: u32,
+        name: u32,
+        value: Option<Value>,
+    ) -> Result<Option<Refusal>, AllocError>
+        ensures { IfOk result (λ r. r ≡ refuses_write (state_of self.now) s (name, value)) }
     {
         if !self.is_open(s) {
             return Ok(Some(Refusal::NotOpen));
@@ -156,13 +188,10 @@ impl PlainModel {
         if let Some(holder) = self.holder(s, Lock::Write, name) {
             return Ok(Some(Refusal::Conflict(holder)));
         }
-        if !self.is_new_write(s, name) {
-            return Ok(None);
-        }
-        if self.names_written(s) >= 256 {
+        if self.is_new_write(s, name) && self.names_written(s) >= SESSION_NAMES {
             return Ok(Some(Refusal::WritesFull));
         }
-        if self.pending(name / UNIT_NAMES)? >= PENDING_NAMES as usize {
+        if self.overloads(name, value)? {
             return Ok(Some(Refusal::PendingFull(name / UNIT_NAMES)));
         }
         Ok(None)
@@ -187,7 +216,13 @@ impl PlainModel {
         if bytes.len() > VALUE_LEN {
             return Ok(Some(Refusal::TooLong));
         }
-        self.refuses_write(s, name)
+        if let Some(refusal) = self.refuses_write(s, name, Value::of(bytes))? {
+            return Ok(Some(refusal));
+        }
+        if self.overfills(name, bytes)? {
+            return Ok(Some(Refusal::PageFull));
+        }
+        Ok(None)
     }
 
     /// Why a delete is refused, if it is.
@@ -201,7 +236,7 @@ impl PlainModel {
         if self.is_bad_name(name) {
             return Ok(Some(Refusal::BadName));
         }
-        self.refuses_write(s, name)
+        self.refuses_write(s, name, None)
     }
 
     /// Why a commit or an abort is refused, if it is.

@@ -1,10 +1,11 @@
 //! Scans of a log of writes, the oldest of which stands first.
-ghost use Rattle.std.specs.Prelude.{◌≡◌, ◌≤◌, length, filter, is_some, ◌==◌, ◌/◌};
+ghost use Rattle.std.specs.Prelude.{◌≡◌, ◌≤◌, length, is_some};
+ghost use Rattle.std.specs.FinMap.{get};
 ghost use Rattle.ipl_rules.specs.State.{last_write, written_names};
-ghost use Rattle.ipl_model.specs.Plain.{newest_first};
+ghost use Rattle.ipl_model.specs.Plain.{newest_first, records_of};
 
 use super::log::{Write, copied};
-use ipl_base::{UNIT_NAMES, Value};
+use ipl_base::Value;
 
 /// The newest write of a name.
 pub fn newest(log: &[Write], name: u32) -> Option<Option<Value>>
@@ -40,17 +41,12 @@ pub fn count_names(log: &[Write]) -> usize
     count
 }
 
-/// How many names of a unit are written.
-pub fn count_in_unit(log: &[Write], unit: u32) -> usize
-    ensures names { result
-        ≡ length (filter (λ n. n / 960 == unit) (written_names (newest_first log.now))) }
-    ensures few { result ≤ length log.now }
+/// The record of a name, where it has one.
+pub fn record(committed: &[Write], name: u32) -> Option<Value>
+    ensures { result ≡ get (records_of committed.now) name }
 {
-    let mut count = 0;
-    for (i, write) in log.iter().enumerate() {
-        if write.name / UNIT_NAMES == unit && !is_written(&log[..i], write.name) {
-            count += 1;
-        }
+    match newest(committed, name) {
+        Some(value) => value,
+        None => None,
     }
-    count
 }

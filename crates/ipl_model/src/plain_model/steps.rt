@@ -8,7 +8,7 @@ ghost use Rattle.ipl_model.specs.Plain.{state_of, limits_of, IsStep};
 ghost use Rattle.ipl_model.specs.declared.command.Command.TheVariants as command;
 
 use super::PlainModel;
-use super::scan::newest;
+use super::scan::record;
 use crate::{Command, Reply};
 use ipl_base::{Refusal, Value};
 use std::alloc::{AllocError, Global};
@@ -37,10 +37,7 @@ impl PlainModel {
     fn record(&self, name: u32) -> Option<Value>
         ensures { result ≡ get (state_of self.now).map name }
     {
-        match newest(&self.committed, name) {
-            Some(value) => value,
-            None => None,
-        }
+        record(&self.committed, name)
     }
 
     /// What a session sees of a name.

@@ -1,12 +1,17 @@
-use Rattle.std.proofs.Common.{ap, refl, Option, List, ℕ}
+use Rattle.std.proofs.Common.{ap, refl, Option, List, [], ◌∷◌, ℕ}
 use Rattle.std.specs.Option.{option_map_or}
 use Rattle.std.specs.FinMap.{get}
+use Rattle.ipl_rules.specs.Refusals.{early_tests, page_full}
+use Rattle.ipl_rules.proofs.RefusalLemmas.{first_of-append}
 use Rattle.ipl_rules.proofs.SeenLemmas.{get-with_writes}
 use Rattle.ipl_rules.proofs.BatchLemmas.{batches_name_once, batches_write, batches_keep}
 use Rattle.ipl_rules.proofs.laws.Goals as goal
 
 pub returns-clause-refusals : goal.returns-clause-refusals
 returns-clause-refusals c = λ limits state m s n bytes. record { begins = refl; gets = refl; shares = refl; puts = refl; dels = refl; ends = refl }
+
+pub returns-clause-parts : goal.returns-clause-parts
+returns-clause-parts c = λ limits state s n bytes. first_of-append (early_tests limits state s n bytes) (page_full state n bytes ∷ [])
 
 pub returns-clause-sees : goal.returns-clause-sees
 returns-clause-sees c = λ state s n change is. ap (λ (o : Option (Option (List ℕ))). option_map_or (λ c. c) o (get state.map n)) is

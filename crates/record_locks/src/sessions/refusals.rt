@@ -1,7 +1,9 @@
 //! When the calls on sessions are refused.
-ghost use Rattle.std.specs.Prelude.{◌≡◌, ◌<◌, length, nat_le, not};
+ghost use Rattle.std.specs.Prelude.{◌≡◌, ◌<◌, ◌+◌, length, nat_le, not};
 ghost use Rattle.std.specs.List.{list_any};
 ghost use Rattle.ipl_base.specs.declared.limits.TheConstants.{SESSIONS};
+ghost use Rattle.ipl_rules.specs.Marks.{overloads};
+ghost use Rattle.record_locks.specs.Held.{marks_in};
 ghost use Rattle.ipl_rules.specs.State.{is_open, writes_of, shared_of, written_names};
 ghost use Rattle.ipl_rules.specs.Refusals.{is_new_write, is_new_share};
 ghost use Rattle.record_locks.specs.Standing.{state_of};
@@ -9,8 +11,8 @@ ghost use Rattle.record_locks.specs.Locks.{refuses_share, refuses_write, refuses
 
 use super::Sessions;
 use crate::session::is_listed;
-use ipl_base::{Name, PENDING_NAMES, Refusal, SESSIONS, UNIT_NAMES};
-use ipl_rules::{has_bad_session, least_twice};
+use ipl_base::{Name, PENDING_WEIGHT, Refusal, SESSIONS, UNIT_NAMES};
+use ipl_rules::{has_bad_session, least_twice, weight_of};
 
 impl Sessions {
     /// Whether a session is open.
@@ -91,10 +93,19 @@ impl Sessions {
         None
     }
 
+    /// Whether with a write of this size the pending names of its unit would weigh more than 48.
+    fn overloads(&self, name: Name, size: u32) -> bool
+        ensures { result ≡ overloads (marks_in self.now) name.0 (1 + size) }
+    {
+        let old = self.mark(name);
+        let new = old.max(1 + u64::from(size));
+        self.pending(name.0 / UNIT_NAMES) + weight_of(new) > PENDING_WEIGHT + weight_of(old)
+    }
+
     /// Why a write is refused, if it is.
-    pub fn refuses_write(&self, s: u32, name: Name) -> Option<Refusal>
+    pub fn refuses_write(&self, s: u32, name: Name, size: u32) -> Option<Refusal>
         requires { s < SESSIONS }
-        ensures { result ≡ refuses_write self.now s name.0 }
+        ensures { result ≡ refuses_write self.now s name.0 size }
     {
         if !self.is_open(s) {
             return Some(Refusal::NotOpen);
@@ -102,17 +113,15 @@ impl Sessions {
         if let Some(holder) = self.holder(s, name, true) {
             return Some(Refusal::Conflict(holder));
         }
-        if !self.is_new_write(s, name) {
-            return None;
-        }
-        if self.has_full_writes(s) {
+        if self.is_new_write(s, name) && self.has_full_writes(s) {
             return Some(Refusal::WritesFull);
         }
-        if self.pending(name.0 / UNIT_NAMES) >= PENDING_NAMES {
+        if self.overloads(name, size) {
             return Some(Refusal::PendingFull(name.0 / UNIT_NAMES));
         }
         None
     }
+
     /// Why a commit of several sessions is refused, if it is.
     pub fn refuses_batch(&self, numbers: &[u32]) -> Option<Refusal>
         ensures { result ≡ refuses_batch self.now numbers.now }

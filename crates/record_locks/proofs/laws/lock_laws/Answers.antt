@@ -1,6 +1,6 @@
-use Rattle.record_locks.proofs.SameLemmas.{alike, refuse_as}
-use Rattle.record_locks.proofs.KeepLemmas.{keeps_names}
-use Rattle.record_locks.proofs.BatchLemmas.{batches_refuse, batches_keep_names}
+use Rattle.record_locks.proofs.SameLemmas.{alike, refuse_as, marks_are}
+use Rattle.record_locks.proofs.KeepLemmas.{keeps_names, keeps_marks}
+use Rattle.record_locks.proofs.BatchLemmas.{batches_refuse, batches_keep_names, batches_keep_marks}
 use Rattle.record_locks.proofs.laws.lock_laws.Goals as goal
 
 pub returns-clause-names : goal.returns-clause-names
@@ -12,8 +12,17 @@ returns-clause-refusals c = refuse_as
 pub returns-clause-calls : goal.returns-clause-calls
 returns-clause-calls c = keeps_names
 
+pub returns-clause-marks : goal.returns-clause-marks
+returns-clause-marks c = marks_are
+
+pub returns-clause-keeps : goal.returns-clause-keeps
+returns-clause-keeps c = keeps_marks
+
 pub returns-clause-batches : goal.returns-clause-batches
 returns-clause-batches c = batches_refuse
 
 pub returns-clause-closes : goal.returns-clause-closes
 returns-clause-closes c = batches_keep_names
+
+pub returns-clause-leaves : goal.returns-clause-leaves
+returns-clause-leaves c = batches_keep_marks

@@ -1,7 +1,7 @@
-use Rattle.std.proofs.Common.{◌<◌, Some, length, ap, arith}
-use Rattle.record_locks.specs.Held.{Held}
-use Rattle.record_locks.specs.Locks.{written_in}
-use Rattle.record_locks.proofs.TotalLemmas.{sound_less}
+use Rattle.std.proofs.Common.{◌<◌, Some, length, ap, subst, sym, refl, arith}
+use Rattle.record_locks.specs.Held.{Held, slot_marks}
+use Rattle.record_locks.specs.Locks.{IsSized, written_in}
+use Rattle.record_locks.proofs.SoundLemmas.{sound_less}
 use Rattle.record_locks.proofs.sessions.Sessions.begin.Goals as goal
 
 pub invariant_of-self : goal.invariant_of-self
@@ -9,3 +9,5 @@ invariant_of-self c =
     let within : c.args.s < length c.self.inside.slots.items = omega arith in
     sound_less c.self.inside.slots.items c.args.s (Some c.new.result) c.self.invariant within
     (λ p. omega (arith, ap (λ (h : Held). written_in p (Some h)) c.new.ensures))
+    (subst (λ (h : Held). IsSized (Some h)) (sym c.new.ensures) refl)
+    (λ q. omega (arith, ap (λ (h : Held). slot_marks (Some h) q) c.new.ensures))

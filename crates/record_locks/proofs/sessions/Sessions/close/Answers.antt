@@ -1,8 +1,8 @@
-use Rattle.std.proofs.Common.{◌<◌, None, length, arith}
-use Rattle.record_locks.proofs.TotalLemmas.{sound_less}
+use Rattle.std.proofs.Common.{◌<◌, None, length, refl, arith}
+use Rattle.record_locks.proofs.SoundLemmas.{sound_less}
 use Rattle.record_locks.proofs.sessions.Sessions.close.Goals as goal
 
 pub invariant_of-self : goal.invariant_of-self
 invariant_of-self c =
     let within : c.args.s < length c.self.inside.slots.items = omega arith in
-    sound_less c.self.inside.slots.items c.args.s None c.self.invariant within (λ p. omega arith)
+    sound_less c.self.inside.slots.items c.args.s None c.self.invariant within (λ p. omega arith) refl (λ q. omega arith)

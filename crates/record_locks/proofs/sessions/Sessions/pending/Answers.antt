@@ -1,15 +1,21 @@
-use Rattle.std.proofs.Common.{◌≤◌, ◌/◌, ◌==◌, ◌∙◌, ap, sym, subst, arith}
-use Rattle.record_locks.specs.Held.{Slots}
-use Rattle.record_locks.specs.Locks.{AreSoundSlots, total}
-use Rattle.record_locks.proofs.TotalLemmas.{pending_at}
+use Rattle.std.proofs.Common.{◌≤◌, ◌∙◌, ap, sym, subst, arith}
+use Rattle.std.specs.List.{sum_by}
+use Rattle.ipl_rules.specs.Marks.{weights}
+use Rattle.record_locks.specs.Held.{Slots, marks_in, slot_weight}
+use Rattle.record_locks.specs.Locks.{AreSoundSlots}
+use Rattle.record_locks.proofs.MarkLemmas.{slots_weigh}
 use Rattle.record_locks.proofs.sessions.Sessions.pending.Goals as goal
 
-pub returns-clause-count : goal.returns-clause-count
-returns-clause-count c =
-    c.count_pending.ensures ∙ ap (λ (slots : Slots). total (λ k. k / 960 == c.args.unit) slots) (c.deref.ensures.value ∙ c.self.view_is)
-    ∙ sym (pending_at c.args.self.now c.args.unit (subst AreSoundSlots c.self.view_is c.self.invariant))
+pub returns-clause-weight : goal.returns-clause-weight
+returns-clause-weight c =
+    let sound = subst AreSoundSlots c.self.view_is c.self.invariant in
+    c.weigh_pending.ensures.weight ∙ ap (λ (slots : Slots). sum_by (λ o. slot_weight o c.args.unit) slots) (c.deref.ensures.value ∙ c.self.view_is)
+    ∙ sym (slots_weigh c.args.self.now c.args.unit sound.once)
 
 pub returns-clause-few : goal.returns-clause-few
 returns-clause-few c =
-    let few : total (λ k. k / 960 == c.args.unit) c.self.inside.slots.items ≤ 48 = c.self.invariant.few c.args.unit in
-    omega (arith, few, c.count_pending.ensures ∙ ap (λ (slots : Slots). total (λ k. k / 960 == c.args.unit) slots) c.deref.ensures.value)
+    let sound = subst AreSoundSlots c.self.view_is c.self.invariant in
+    let few : weights (marks_in c.args.self.now) c.args.unit ≤ 48 = sound.few c.args.unit in
+    let is = c.weigh_pending.ensures.weight ∙ ap (λ (slots : Slots). sum_by (λ o. slot_weight o c.args.unit) slots) (c.deref.ensures.value ∙ c.self.view_is)
+    ∙ sym (slots_weigh c.args.self.now c.args.unit sound.once) in
+    omega (arith, few, is)

@@ -1,0 +1,7 @@
+use Rattle.std.proofs.Common.{◌≡◌, take}
+use Rattle.ipl_rules.specs.Marks.{marks_of, weights}
+use Rattle.ipl_model.specs.Plain.{newest_first}
+use Rattle.ipl_model.proofs.plain_model.marks.weights.Given as goal
+
+abbrev pub invariant-loop-i : goal.invariant-loop-i
+invariant-loop-i l = l.total ≡ weights (marks_of (newest_first (take l.i l.log))) l.unit
