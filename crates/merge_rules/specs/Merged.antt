@@ -56,6 +56,18 @@ source_of t it u = record {
   records = records_of it.log;
 }
 
+-- the same, with the committed numbers of the layout
+abbrev pub source_in : Layout → ℕ → Source
+source_in it u = record {
+  place = (it.units u).home;
+  version = (it.units u).head.version;
+  unit = u;
+  generation = (it.units u).head.generation;
+  pieces = (it.units u).pieces;
+  committed = it.committed;
+  records = records_of (it.units u).log;
+}
+
 -- the unit as it stands at its new place: its log is what is carried, packed in order
 abbrev pub merged_shape : Tables → Shape → ℕ → ℕ → Sector → List ℕ → ℕ → Shape
 merged_shape t it u p head pieces serial = record {

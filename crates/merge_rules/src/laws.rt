@@ -1,6 +1,6 @@
 //! The laws of merges, proved: a body that does nothing, and a contract that is the law.
 ghost use Rattle.merge_rules.specs.Laws.{FilledPlacesAreReady, StandsAfterFilling, TablesFollowFilling, MergesKeepTheLast, PacksAreTold};
-ghost use Rattle.merge_rules.specs.FaultLaws.{MergeableUnitsHaveNoFault, FaultsAreOfThePlace, SaidUnitsAreMergeable};
+ghost use Rattle.merge_rules.specs.FaultLaws.{MergeableUnitsHaveNoFault, FaultsAreOfThePlace, SaidUnitsAreMergeable, MergeFaultsAreOfTheUnit};
 ghost use Rattle.merge_rules.specs.KnownLaws.{KnownPlacesLeaveOne, KnownPlacesMove, KnownPlacesTakeOverflows};
 
 /// A place that was filled by a merge is ready for its header; with it the chip stands for the same
@@ -21,10 +21,12 @@ pub fn known_laws()
     ensures overflows { KnownPlacesTakeOverflows }
 {}
 
-/// What is wrong with a unit that is to be merged: nothing, where its pages read well and few log
-/// sectors would be carried, as they do where the pages say a map; and it is so by its place alone.
+/// What is wrong with a unit that is to be merged: nothing, where its pages show values and few log
+/// sectors would be carried, as they do where the pages say a map; it is so by the bytes of its place
+/// alone, and where few log sectors would be carried, by its layout alone.
 pub fn fault_laws()
     ensures none { MergeableUnitsHaveNoFault }
     ensures place { FaultsAreOfThePlace }
     ensures said { SaidUnitsAreMergeable }
+    ensures unit { MergeFaultsAreOfTheUnit }
 {}

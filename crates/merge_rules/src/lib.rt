@@ -1,13 +1,13 @@
 //! What a merge makes of a unit, and which places the tables know. It stands on what sectors mean
-//! (`ipl_meaning`), and has no code but the laws. A contract sees the place that was filled
-//! (`IsFilled`), the merged unit (`IsMergedUnit`), the places that are known (`KnowsPlaces`) and what is
-//! wrong with a unit (`merge_fault`).
+//! (`ipl_meaning`) and on what a page made anew holds (`page_ops`), and has no code but the laws. A
+//! contract sees the place that was filled (`IsFilled`), the merged unit (`IsMergedUnit`), the places
+//! that are known (`KnowsPlaces`) and what is wrong with a unit (`merge_fault`).
 //!
 //! Proved, by `merge_laws`, `known_laws`, `fault_laws`: a place that was filled for a merge stands
 //! for the same map with its header, and the tables follow; of each name the last record of an
 //! active number stays; tables that know each place have a free one, and go on knowing them;
-//! nothing is wrong with a unit whose pages read well and of which few log sectors would be
-//! carried.
+//! nothing is wrong with a unit whose pages show values, for which a page has room, and of which few
+//! log sectors would be carried.
 #![tactic(auto)]
 
 mod laws;

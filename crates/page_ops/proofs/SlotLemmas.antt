@@ -5,7 +5,7 @@ use Rattle.std.specs.Option.{option_map_or}
 use Rattle.std.proofs.lemmas.Bool.{cases_eq, false≢true, eq-eqb, ne_eqb}
 use Rattle.std.proofs.lemmas.List.{length-replicate, get_or-set_same, get_or-set_other, length-set}
 use Rattle.ipl_format.specs.Page.{Slots, empty_page}
-use Rattle.page_ops.specs.Pending.{Pendings, seen_by, without_pending, with_pending}
+use Rattle.page_ops.specs.Pending.{Pending, Pendings, seen_by, without_pending, with_pending}
 use Rattle.page_ops.specs.Frames.{FrameView, AreOfPending, values_in, pending_in, pending_of, pendings_of, empty_frame}
 
 -- ---- one slot
@@ -74,6 +74,12 @@ none_tidy numbers values empty none = record {
     nothing zero (suc n) = refl
     nothing (suc k) (suc n) = nothing k n
 
+-- slots of which none has a change
+pub none_in_all : (k n : ℕ) → get_or {A = Option Pending} (replicate n None) k None ≡ None
+none_in_all k zero = refl
+none_in_all zero (suc n) = refl
+none_in_all (suc k) (suc n) = none_in_all k n
+
 -- a slot has another number and another value, and the others have what they had
 module _ (numbers later : List (Option ℕ)) (values now : Slots) (slot : ℕ) (n : Option ℕ)
     (v : Option (List ℕ)) (numbers_are : later ≡ set numbers slot n)
@@ -101,6 +107,31 @@ module _ (numbers later : List (Option ℕ)) (values now : Slots) (slot : ℕ) (
       (ap (λ (l : Slots). get_or l k None) values_are
       ∙ get_or-set_other values slot k v None other)
       ∙ sym (pending_slot numbers values k)
+
+  -- they belong together still, where a slot without a number has no value
+  pub own_changed : AreOfPending numbers values → slot < length numbers → slot < length now
+      → (n ≡ None → v ≡ None) → AreOfPending later now
+  own_changed own low within none = record {
+    count = ap length numbers_are ∙ length-set numbers slot n ∙ own.count;
+    tidy = λ k gone. elim (cases_eq k slot) [
+      | inl same ↦ ap (λ (i : ℕ). get_or now i None) same ∙ value_here
+          ∙ none (sym number_here ∙ ap (λ (i : ℕ). get_or later i None) (sym same) ∙ gone)
+      | inr other ↦
+          ap (λ (l : Slots). get_or l k None) values_are
+          ∙ get_or-set_other values slot k v None other
+          ∙ own.tidy k (sym (ap (λ (l : List (Option ℕ)). get_or l k None) numbers_are
+          ∙ get_or-set_other numbers slot k n None other) ∙ gone)
+    ];
+  }
+    where
+      number_here : get_or later slot None ≡ n
+      number_here = ap (λ (l : List (Option ℕ)). get_or l slot None) numbers_are
+          ∙ get_or-set_same numbers slot n None low
+
+      value_here : get_or now slot None ≡ v
+      value_here = ap (λ (l : Slots). get_or l slot None) values_are
+          ∙ get_or-set_same values slot v None
+          (omega (arith, within, ap length values_are, length-set values slot v))
 
 -- a change is noted
 pub noted : (numbers later : List (Option ℕ)) (values now : Slots) (slot tid : ℕ)

@@ -1,10 +1,10 @@
 -- What a frame holds of a page: the committed values, and apart from them the pending changes.
-use Rattle.std.specs.Prelude.{ℕ, ◌≡◌, ◌<◌, List, [], ◌∷◌, Option, Some, None, length, slice_index_or, slice_set, replicate}
-use Rattle.ipl_base.specs.declared.limits.TheConstants.{SLOTS}
-use Rattle.ipl_format.specs.Page.{Slots, empty_page, value_in}
+use Rattle.std.specs.Prelude.{ℕ, ◌≡◌, ◌<◌, ◌≤◌, List, [], ◌∷◌, Option, Some, None, length, slice_index_or, slice_set, replicate}
+use Rattle.ipl_base.specs.declared.limits.TheConstants.{PAGE_LEN, SLOTS, VERSION}
+use Rattle.ipl_format.specs.Page.{Slots, IsPage, empty_page, value_in}
 use Rattle.ipl_format.specs.Record.{Record}
 use Rattle.ipl_meaning.specs.Values.{Values}
-use Rattle.page_ops.specs.Pending.{Pending, Pendings, seen_by, without_pending}
+use Rattle.page_ops.specs.Pending.{Pending, Pendings, fill_by, seen_by, without_pending}
 
 -- the page after a record on it: the record's slot has the record's value or none
 abbrev pub with_record : Slots → Record → Slots
@@ -39,6 +39,23 @@ values_in f slot = value_in f.page slot
 -- the pending change of a slot
 abbrev pub pending_in : FrameView → Pendings
 pending_in f slot = slice_index_or f.pending slot None
+
+-- what the page may come to take, whichever pending changes become values
+abbrev pub frame_fill : FrameView → ℕ
+frame_fill f = fill_by (values_in f) (pending_in f)
+
+-- that is within the text of a page, where the committed one is a page, as it always is
+abbrev pub IsRoomy : FrameView → Type 0
+IsRoomy f = IsPage VERSION f.page → frame_fill f ≤ PAGE_LEN
+
+-- the parts of a frame: numbers and values that belong together, and room for all
+pub record IsFrame (page : Slots) (numbers : List (Option ℕ)) (values : Slots) : Type 0 where
+  pub own : AreOfPending numbers values
+  pub room : IsRoomy (record { page = page; pending = pendings_of numbers values })
+
+-- no slot has a pending change
+abbrev pub IsIdle : FrameView → Type 0
+IsIdle f = (slot : ℕ) → slot < SLOTS → pending_in f slot ≡ None
 
 -- an empty page, of which nothing is pending
 abbrev pub empty_frame : FrameView

@@ -2,3 +2,4 @@ pub mod Pending
 pub mod Numbers
 pub mod Frames
 pub mod Lending
+pub mod Rebuilt

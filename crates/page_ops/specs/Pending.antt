@@ -1,6 +1,9 @@
 -- Changes of a page's slots that are pending: their transactions aren't committed yet.
-use Rattle.std.specs.Prelude.{ℕ, ◌==◌, List, Option, Some, None, if◌then◌else◌}
+use Rattle.std.specs.Prelude.{ℕ, ◌+◌, ◌==◌, List, Option, Some, None, if◌then◌else◌}
+use Rattle.ipl_base.specs.Sizes.{size_in_page}
+use Rattle.ipl_rules.specs.Marks.{fill_of}
 use Rattle.ipl_format.specs.Record.{Change}
+use Rattle.ipl_meaning.specs.Values.{Values}
 
 -- a change, with the number of its transaction
 abbrev pub Pending : Type 0
@@ -23,3 +26,13 @@ without_pending tid (Some p) = if p.0 == tid then None else Some p
 -- a slot has this change now, in the place of the one it had
 abbrev pub with_pending : Pendings → ℕ → Pending → Pendings
 with_pending pending slot p k = if k == slot then Some p else pending k
+
+-- the mark of a pending change: one more than what it takes in a page, 0 for none
+abbrev pub mark_of : Option Pending → ℕ
+mark_of None = 0
+mark_of (Some p) = 1 + size_in_page p.1
+
+-- what a page of these values may come to take: each slot its value or its pending change, whichever
+-- takes more
+abbrev pub fill_by : Values → Pendings → ℕ
+fill_by values pending = fill_of values (λ slot. mark_of (pending slot))

@@ -1,16 +1,18 @@
-//! What a record makes of a page.
-ghost use Rattle.std.specs.Prelude.{◌≡◌, ◌<◌, slice_set};
-ghost use Rattle.ipl_base.specs.declared.limits.TheConstants.{VERSION};
-ghost use Rattle.ipl_format.specs.Page.{IsPage};
-ghost use Rattle.log_records.specs.View.{change_of, record_of};
-ghost use Rattle.page_ops.specs.Frames.{with_record};
+//! What a change makes of a page.
+ghost use Rattle.std.specs.Prelude.{◌≡◌, ◌≤◌, ◌<◌, slice_set};
+ghost use Rattle.ipl_base.specs.declared.limits.TheConstants.{PAGE_LEN, VERSION};
+ghost use Rattle.ipl_base.specs.Sizes.{size_of_values};
+ghost use Rattle.ipl_format.specs.Page.{IsPage, value_in};
+ghost use Rattle.log_records.specs.View.{change_of};
 
-use log_records::{Change, Record};
+use log_records::Change;
 use page_text::PageMap;
 
-/// Does a change to a slot (0 to 63) of a page.
+/// Does a change to a slot (0 to 63) of a page, which has room for it.
 pub(crate) fn change_slot(map: &mut PageMap, slot: u32, change: &Change)
-    requires { slot < 64 }
+    requires slot { slot < 64 }
+    requires room { size_of_values (value_in (slice_set map.old slot (change_of change.now)))
+        ≤ PAGE_LEN }
     ensures page { IsPage VERSION map.new }
     ensures changed { map.new ≡ slice_set map.old slot (change_of change.now) }
 {
@@ -19,14 +21,4 @@ pub(crate) fn change_slot(map: &mut PageMap, slot: u32, change: &Change)
         Change::Put(value) => map.set(slot, value.bytes()),
         Change::Delete => map.clear(slot),
     }
-}
-
-/// Does to a page what a record says: the record's slot (0 to 63) gets the value of a put or is emptied
-/// by a delete, and the others stay. Which page the record names isn't asked.
-pub fn apply(map: &mut PageMap, logged: &Record)
-    requires { logged.now.slot < 64 }
-    ensures page { IsPage VERSION map.new }
-    ensures applied { map.new ≡ with_record map.old (record_of logged.now) }
-{
-    change_slot(map, logged.slot, &logged.change);
 }

@@ -1,24 +1,28 @@
 //! A page in memory.
-ghost use Rattle.std.specs.Prelude.{◌≡◌, ◌≢◌, ◌≤◌, ◌<◌, ◌==◌, ℕ, false, IfSome, length, option_map, slice_set};
+ghost use Rattle.std.specs.Prelude.{◌≡◌, ◌≢◌, ◌≤◌, ◌<◌, ◌==◌, ◌↔◌, ℕ, false, IfSome, IsTrue, length, option_map, slice_set};
+ghost use Rattle.std.specs.Bool.{OnTrue, OnFalse};
 ghost use Rattle.std.specs.Borrow.{sem};
 ghost use Rattle.std.specs.Option.{option_map_or};
-ghost use Rattle.ipl_base.specs.declared.limits.TheConstants.{VALUE_LEN, VERSION};
+ghost use Rattle.ipl_base.specs.declared.limits.TheConstants.{PAGE_LEN, VALUE_LEN, VERSION};
+ghost use Rattle.ipl_base.specs.Sizes.{size_of_values};
 ghost use Rattle.ipl_format.specs.Page.{IsPage, value_in};
 ghost use Rattle.log_records.specs.View.{change_of};
-ghost use Rattle.page_ops.specs.Pending.{seen_by, without_pending, with_pending};
-ghost use Rattle.page_ops.specs.Frames.{empty_frame, values_in, pending_in, IsSettled, IsDropped};
+ghost use Rattle.page_ops.specs.Pending.{fill_by, seen_by, without_pending, with_pending};
+ghost use Rattle.page_ops.specs.Frames.{empty_frame, frame_fill, values_in, pending_in, IsIdle, IsSettled, IsDropped};
 ghost use Rattle.page_ops.specs.Lending.{LendsPage};
 
 use crate::applying::change_slot;
+use crate::filling::{change_size, fill_after};
 use crate::numbers::Numbers;
 use crate::pending::Pending;
-use ipl_base::SLOTS;
+use ipl_base::{PAGE_LEN, SLOTS};
 use log_records::Change;
 use page_text::PageMap;
 use std::marker::Model;
 
 /// A page in memory: its committed values, and for each slot at most one pending change, with the
-/// number of its transaction. A contract sees both, slot by slot.
+/// number of its transaction. A contract sees both, slot by slot. Whichever of them become values, the
+/// page has room for all.
 #[derive(Drop)]
 pub struct Frame {
     page: PageMap,
@@ -30,13 +34,13 @@ pub struct Frame {
 
 impl Model for Frame {
     ghost use Rattle.std.specs.Prelude.{length, ◌≡◌};
-    ghost use Rattle.page_ops.specs.Frames.{FrameView, AreOfPending, pendings_of};
+    ghost use Rattle.page_ops.specs.Frames.{FrameView, IsFrame, pendings_of};
 
     ghost Value = { FrameView };
 
     ghost view = { λ f. record { page = f.page; pending = pendings_of f.numbers f.values } };
 
-    ghost invariant = { λ f. AreOfPending f.numbers f.values };
+    ghost invariant = { λ f. IsFrame f.page f.numbers f.values };
 }
 
 impl Frame {
@@ -60,15 +64,18 @@ impl Frame {
         self.numbers.reset();
     }
 
-    /// The committed page.
+    /// The committed page. With all that may become values in it it's a page still.
     pub fn committed(&self) -> &PageMap
-        ensures { result.now ≡ self.now.page }
+        ensures page { result.now ≡ self.now.page }
+        ensures room { frame_fill self.now ≤ PAGE_LEN }
     {
+        let _ = self.page.text();
         &self.page
     }
 
-    /// The committed page, for writing. What is pending stays.
+    /// The committed page, for writing, while nothing is pending.
     pub fn committed_mut(&mut self) -> &mut PageMap
+        requires { IsIdle self.old }
         ensures* lends { sem 𝓛 (LendsPage self.entry result) }
         ensures value { result.now ≡ self.old.page }
     {
@@ -89,15 +96,24 @@ impl Frame {
         }
     }
 
-    /// Notes a change of a slot (0 to 63) as pending, in the place of the one that was.
-    pub fn set_pending(&mut self, slot: u32, tid: u64, change: &Change)
+    /// Notes a change of a slot (0 to 63) as pending, in the place of the one that was, where the page
+    /// has room for all that may become values then; answers whether it has. With no room the frame
+    /// stays as it was.
+    pub fn set_pending(&mut self, slot: u32, tid: u64, change: &Change) -> bool
         requires { slot < 64 }
+        ensures exact { IsTrue result ↔ (fill_by (values_in self.old)
+            (with_pending (pending_in self.old) slot (tid, change_of change.now)) ≤ PAGE_LEN) }
         ensures page { self.new.page ≡ self.old.page }
-        ensures pending { (k : ℕ) → pending_in self.new k
-            ≡ with_pending (pending_in self.old) slot (tid, change_of change.now) k }
+        ensures pending { OnTrue result ((k : ℕ) → pending_in self.new k
+            ≡ with_pending (pending_in self.old) slot (tid, change_of change.now) k) }
+        ensures kept { OnFalse result (self.new ≡ self.old) }
     {
+        if fill_after(&self.page, &self.values, slot, change_size(change)) > PAGE_LEN {
+            return false;
+        }
         change_slot(&mut self.values, slot, change);
         self.numbers.give(slot, tid);
+        true
     }
 
     /// Drops all pending changes of this number, as an abort does.
@@ -145,6 +161,7 @@ impl Frame {
             → values_in self.new k ≡ values_in self.old k }
         ensures others { (k : ℕ) → k ≢ slot → pending_in self.new k ≡ pending_in self.old k }
     {
+        let _ = self.page.text();
         if is_of(self.numbers.get(slot), tid) {
             copy_slot(&self.values, slot, &mut self.page);
             self.values.clear(slot);
@@ -163,9 +180,12 @@ fn is_of(number: Option<u64>, tid: u64) -> bool
     }
 }
 
-/// Gives a slot (0 to 63) of a page what the same slot of another holds.
+/// Gives a slot (0 to 63) of a page what the same slot of another holds, where the page has room for
+/// it.
 fn copy_slot(from: &PageMap, slot: u32, to: &mut PageMap)
-    requires { slot < 64 }
+    requires slot { slot < 64 }
+    requires room { size_of_values (value_in (slice_set to.old slot (value_in from.now slot)))
+        ≤ PAGE_LEN }
     ensures page { IsPage VERSION to.new }
     ensures copied { to.new ≡ slice_set to.old slot (value_in from.now slot) }
 {

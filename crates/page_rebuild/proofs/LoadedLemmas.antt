@@ -1,38 +1,45 @@
 -- What a frame has that was loaded.
-use Rattle.std.proofs.Common.{◌≡◌, ◌<◌, ◌-◌, ℕ, suc, Bool, List, [], ◌∷◌, ◌++◌, length, map, replicate, slice_index, slice_index_or, Option, Some, None, refl, sym, ◌∙◌, ap, ap₂, subst, arith}
+use Rattle.std.proofs.Common.{◌≡◌, ◌<◌, ◌≤◌, ◌-◌, ℕ, suc, Bool, List, [], ◌∷◌, ◌++◌, length, map, slice_index, Option, Some, None, inl, inr, refl, sym, ◌∙◌, ap, ap₂, subst, arith}
+use Rattle.std.specs.Prelude.{◌↔◌, if◌then◌else◌}
 use Rattle.std.specs.List.{All}
 use Rattle.std.specs.Option.{option_or}
-use Rattle.std.proofs.lemmas.List.{get_or-replicate}
+use Rattle.std.proofs.lemmas.Bool.{cases_lt, lt-ltb, le-ltb}
 use Rattle.std.proofs.lemmas.List.Elements.{All-filter}
 use Rattle.chip_trait.specs.Story.{Contents}
 use Rattle.ipl_rules.specs.State.{Map}
-use Rattle.ipl_base.specs.declared.limits.TheConstants.{VERSION}
-use Rattle.ipl_format.specs.Page.{Slots, IsPage, value_in}
+use Rattle.ipl_base.specs.declared.limits.TheConstants.{PAGE_LEN}
+use Rattle.ipl_base.specs.declared.fault.ChipFault.{ChipFault}
+use Rattle.ipl_base.specs.declared.fault.ChipFault.TheVariants.{Malformed}
+use Rattle.ipl_base.proofs.FirstLemmas.{or_none}
+use Rattle.ipl_format.specs.Page.{Slots, value_in}
 use Rattle.ipl_format.specs.Record.{Record}
 use Rattle.log_records.proofs.RecordsLemmas.{records_list}
-use Rattle.ipl_meaning.specs.Chart.{Chart}
-use Rattle.ipl_meaning.specs.Values.{counts_for, after_records}
-use Rattle.ipl_meaning.specs.Last.{last_that}
+use Rattle.ipl_meaning.specs.Chart.{Chart, chart_of}
+use Rattle.ipl_meaning.specs.Values.{Values, after_records}
 use Rattle.ipl_meaning.specs.Layout.{Entry, Shape, Layout, Laid, IsEntry, ReadsWell, records_of as log_records_of}
 use Rattle.ipl_meaning.specs.Stands.{Shows, Stands, page_in}
 use Rattle.ipl_meaning.specs.Tables.{Places, OverflowLists, Status, Tables}
 use Rattle.ipl_meaning.proofs.OnceLemmas.{laid_once, shows_once}
-use Rattle.ipl_meaning.proofs.SizeLemmas.{texts_have_sizes}
+use Rattle.ipl_meaning.proofs.RoomLemmas.{same_sizes}
 use Rattle.ipl_meaning.proofs.SwitchLemmas.{same_applied}
 use Rattle.number_set.specs.Numbers.{among}
 use Rattle.number_set.proofs.AmongLemmas.{among_from}
-use Rattle.unit_io.specs.Faults.{page_fault, HoldsPage}
-use Rattle.unit_io.proofs.HeldLemmas.{held_pages_read_well}
+use Rattle.unit_io.specs.Faults.{page_fault, text_below, HoldsPage}
+use Rattle.unit_io.proofs.HeldLemmas.{held_pages_read_well, sound_pages_are_held, spells_text}
 use Rattle.unit_log.specs.declared.scratch.LogSector.{LogSector}
 use Rattle.unit_log.specs.declared.live.UnitHead.{UnitHead}
 use Rattle.unit_log.specs.Kept.{kept_of, records_kept}
 use Rattle.ipl_meaning.specs.Masks.{of_page, is_of_page}
 use Rattle.ipl_meaning.proofs.MaskLemmas.{page_applied, page_last}
 use Rattle.unit_log.specs.Paged.{IsLiveOf}
-use Rattle.page_ops.specs.Frames.{FrameView, values_in, pending_in}
-use Rattle.page_rebuild.specs.Taken.{pending_of, pending_after, AreTaken}
-use Rattle.page_rebuild.specs.Loaded.{IsLoaded, HasPageOf, AreTables, base_fault}
+use Rattle.page_ops.specs.Frames.{FrameView, values_in}
+use Rattle.page_ops.specs.Pending.{Pendings, fill_by}
+use Rattle.page_ops.specs.Rebuilt.{with_records}
+use Rattle.page_ops.proofs.TextLemmas.{texts_say_values}
+use Rattle.page_rebuild.specs.Taken.{pending_of, last_changes, AreTaken}
+use Rattle.page_rebuild.specs.Loaded.{IsLoaded, HasPageOf, AreTables, base_fault, loaded_values, loaded_pending, fill_fault, load_fault, SoundPagesShowValues}
 use Rattle.page_rebuild.proofs.ReadLemmas.{within, home_is}
+use Rattle.page_rebuild.proofs.RoomLemmas.{same_fills, values_in_fill}
 
 -- the records of log sectors that were kept are those of the log
 kept_records : (c : Chart) (places u home generation : ℕ) (log : List Entry)
@@ -45,15 +52,125 @@ kept_records c places u home generation (e ∷ log) each =
     first.records)
     (kept_records c places u home generation log (λ i d low. each (suc i) d (omega (arith, low))))
 
--- nothing is pending in a frame to which nothing was done
-none_pending : (f : FrameView) (slot : ℕ) → f.pending ≡ replicate 64 None → slot < 64
-    → pending_in f slot ≡ None
-none_pending f slot none low =
-    ap (λ p. slice_index_or p slot None) none ∙ get_or-replicate 64 slot None None low
+-- ---- the values that a page is to have
 
-or_none : {X : Type 0} (o : Option X) → option_or o None ≡ o
-or_none None = refl
-or_none (Some x) = refl
+-- where the base page reads well, they are its slots with the records done to them
+pub loaded_slot : (x : Contents) (it : Layout) (u page : ℕ) (slots : Slots)
+    → ReadsWell (chart_of x) u (it.units u) page slots → (slot : ℕ) → slot < 64
+    → loaded_values x it u page slot
+    ≡ after_records it.committed page slot (log_records_of (it.units u).log) (value_in slots slot)
+loaded_slot x it u page slots reads slot low =
+    let unit = it.units u in
+    let text = text_below (chart_of x) unit.home page (slice_index unit.pieces page) in
+    ap (λ v. after_records it.committed page slot (log_records_of unit.log) v)
+    (texts_say_values unit.head.version text slots
+    (spells_text x unit.home unit.head.version u unit.head.generation page
+    (slice_index unit.pieces page) slots
+    ((held_pages_read_well (chart_of x) u unit page slots).1 reads)) slot low)
+
+no_fill : (place : ℕ) (values : Values) (pending : Pendings) → fill_by values pending ≤ PAGE_LEN
+    → fill_fault place values pending ≡ None
+no_fill place values pending room =
+    ap (λ (b : Bool). if b then Some (Malformed place 0) else None)
+    (le-ltb PAGE_LEN (fill_by values pending) room)
+
+fill_told : (place : ℕ) (values : Values) (pending : Pendings) → PAGE_LEN < fill_by values pending
+    → fill_fault place values pending ≡ Some (Malformed place 0)
+fill_told place values pending over =
+    ap (λ (b : Bool). if b then Some (Malformed place 0) else None)
+    (lt-ltb PAGE_LEN (fill_by values pending) over)
+
+has_room : (place : ℕ) (values : Values) (pending : Pendings)
+    → fill_fault place values pending ≡ None → fill_by values pending ≤ PAGE_LEN
+has_room place values pending none = elim (cases_lt PAGE_LEN (fill_by values pending)) [
+  | inl over ↦ absurd (is_some (sym none ∙ fill_told place values pending over))
+  | inr room ↦ room
+]
+  where
+    is_some : {X : Type 0} {v : X} → None ≡ Some v → ⊥
+    is_some e = cc
+
+module _ (x : Contents) (it : Layout) (active : ℕ → Bool) (u page : ℕ) where
+  -- the fault of the base page comes first
+  pub base_first : (fault : ChipFault) → base_fault x it u page ≡ Some fault
+      → load_fault x it active u page ≡ Some fault
+  base_first fault is = ap (λ (o : Option ChipFault). option_or o
+      (fill_fault (it.units u).home (loaded_values x it u page) (loaded_pending it active u page))) is
+
+  full_next : base_fault x it u page ≡ None → load_fault x it active u page
+      ≡ fill_fault (it.units u).home (loaded_values x it u page) (loaded_pending it active u page)
+  full_next none = ap (λ (o : Option ChipFault). option_or o
+      (fill_fault (it.units u).home (loaded_values x it u page) (loaded_pending it active u page))) none
+
+  -- and then that of a page which is full
+  pub full_then : base_fault x it u page ≡ None
+      → PAGE_LEN < fill_by (loaded_values x it u page) (loaded_pending it active u page)
+      → load_fault x it active u page ≡ Some (Malformed (it.units u).home 0)
+  full_then none over = full_next none
+      ∙ fill_told _ (loaded_values x it u page) (loaded_pending it active u page) over
+
+  -- and then none
+  pub none_then : base_fault x it u page ≡ None
+      → fill_by (loaded_values x it u page) (loaded_pending it active u page) ≤ PAGE_LEN
+      → load_fault x it active u page ≡ None
+  none_then none room = full_next none
+      ∙ no_fill _ (loaded_values x it u page) (loaded_pending it active u page) room
+
+pub sound_pages_show_values : SoundPagesShowValues
+sound_pages_show_values x it active u page = (shown, λ (now, shows, room). sound now shows room)
+  where
+    held_law : base_fault x it u page ≡ None
+        ↔ ((slots : Slots) × HoldsPage (chart_of x) (it.units u).home (it.units u).head.version u
+        (it.units u).head.generation page (slice_index (it.units u).pieces page) slots)
+    held_law = sound_pages_are_held x (it.units u).home (it.units u).head.version u
+        (it.units u).head.generation page (slice_index (it.units u).pieces page)
+
+    shown : load_fault x it active u page ≡ None
+        → (now : Values) × Shows (chart_of x) it.committed u (it.units u) page now
+        × (fill_by now (loaded_pending it active u page) ≤ PAGE_LEN)
+    shown none =
+        let (base, full) =
+        or_none (base_fault x it u page)
+        (fill_fault (it.units u).home (loaded_values x it u page)
+        (loaded_pending it active u page)) none in
+        let (slots, held) = held_law.0 base in
+        let reads = (held_pages_read_well (chart_of x) u (it.units u) page slots).0 held in
+        let room = has_room (it.units u).home (loaded_values x it u page)
+        (loaded_pending it active u page) full in (
+          loaded_values x it u page,
+          record {
+            base = slots;
+            reads = reads;
+            says = loaded_slot x it u page slots reads;
+            room = omega (
+              arith,
+              room,
+              values_in_fill (loaded_values x it u page) (loaded_pending it active u page),
+            );
+          },
+          room,
+        )
+
+    sound : (now : Values) → Shows (chart_of x) it.committed u (it.units u) page now
+        → fill_by now (loaded_pending it active u page) ≤ PAGE_LEN
+        → load_fault x it active u page ≡ None
+    sound now shows room =
+        none_then x it active u page
+        (held_law.1 (
+          shows.base,
+          (held_pages_read_well (chart_of x) u (it.units u) page shows.base).1 shows.reads,
+        ))
+        (omega (
+          arith,
+          room,
+          same_fills (loaded_values x it u page) now (loaded_pending it active u page)
+              (loaded_pending it active u page)
+              (λ slot low. loaded_slot x it u page shows.base shows.reads slot low
+              ∙ sym (shows.says slot low))
+              (λ slot low. refl),
+        ))
+
+-- ---- a frame that was loaded
 
 module _ {places u place : ℕ} {c : Chart} {it : Layout} {t : Tables} {directory : Places}
     {overflow : OverflowLists} {status : Status} {head : UnitHead} {kept : List LogSector}
@@ -101,32 +218,74 @@ module _ {places u place : ℕ} {c : Chart} {it : Layout} {t : Tables} {director
       ∙ sym (same_applied it.committed (among status.numbers) page slot log value
       (λ i d within. sym (committed_is _)))
 
-  pending_left : (active : ℕ → Bool) (slot : ℕ) (f : FrameView)
-      → f.pending ≡ replicate 64 None → slot < 64
-      → pending_after active page slot (records_kept kept) (pending_in f slot)
-      ≡ pending_of (last_that (counts_for active page slot) (log_records_of (it.units u).log) None)
-  pending_left active slot f none low =
-      ap (λ (l : List Record). pending_after active page slot l (pending_in f slot)) log_is
-      ∙ ap (pending_after active page slot (log_records_of (of_page page (it.units u).log)))
-      (none_pending f slot none low)
-      ∙ or_none _
+  pending_left : (active : ℕ → Bool) (slot : ℕ)
+      → last_changes active page (records_kept kept) slot ≡ loaded_pending it active u page slot
+  pending_left active slot =
+      ap (λ (l : List Record). last_changes active page l slot) log_is
       ∙ ap pending_of (page_last active page slot (it.units u).log None)
 
-  pub loaded : {f g : FrameView} (active : List ℕ)
-      → HoldsPage c place head.version u head.generation page (slice_index head.pieces page) f.page
-      → f.pending ≡ replicate 64 None
-      → AreTaken (among status.numbers) (among active) page (records_kept kept) f g
-      → IsPage VERSION g.page → IsLoaded c it (among active) u page g
-  loaded {f} {g} active held none taken is = record {
-    shows = record {
-      base = f.page;
-      reads = reads_well f.page held;
-      says = λ slot less. taken.values slot less ∙ values_shown slot (value_in f.page slot);
-      room = let fits = is.fits in omega (arith, fits, texts_have_sizes g.page is.slots);
-    };
-    pending = λ slot less. taken.pending slot less
-        ∙ pending_left (among active) slot f none less;
-  }
+  -- a frame whose page was read
+  module _ (f : FrameView)
+      (held : HoldsPage c place head.version u head.generation page (slice_index head.pieces page)
+      f.page) where
+    pub loaded : {g : FrameView} (active : List ℕ)
+        → fill_by (with_records (among status.numbers) page (records_kept kept) (values_in f))
+        (last_changes (among active) page (records_kept kept)) ≤ PAGE_LEN
+        → AreTaken (among status.numbers) (among active) page (records_kept kept) f g
+        → IsLoaded c it (among active) u page g
+    loaded {g} active room taken =
+        let values = with_records (among status.numbers) page (records_kept kept) (values_in f) in
+        record {
+          shows = record {
+            base = f.page;
+            reads = reads_well f.page held;
+            says = λ slot less. taken.values slot less ∙ values_shown slot (value_in f.page slot);
+            room = omega (
+              arith,
+              room,
+              same_sizes (values_in g) values taken.values,
+              values_in_fill values (last_changes (among active) page (records_kept kept)),
+            );
+          };
+          pending = λ slot less. taken.pending slot less ∙ pending_left (among active) slot;
+        }
+
+    -- the values of its page with the records that were kept are those that the layout says, and so is
+    -- what is pending
+    pub fill_is : (x : Contents) (active : ℕ → Bool) → c ≡ chart_of x
+        → fill_by (with_records (among status.numbers) page (records_kept kept) (values_in f))
+        (last_changes active page (records_kept kept))
+        ≡ fill_by (loaded_values x it u page) (loaded_pending it active u page)
+    fill_is x active same =
+        same_fills (with_records (among status.numbers) page (records_kept kept) (values_in f))
+        (loaded_values x it u page) (last_changes active page (records_kept kept))
+        (loaded_pending it active u page)
+        (λ slot low. values_shown slot (value_in f.page slot)
+        ∙ sym (loaded_slot x it u page f.page
+        (subst (λ (d : Chart). ReadsWell d u (it.units u) page f.page) same (reads_well f.page held))
+        slot low))
+        (λ slot low. pending_left active slot)
+
+    -- what is told where the base page reads well
+    module _ (x : Contents) (active : ℕ → Bool) (same : c ≡ chart_of x)
+        (sound : page_fault x place head.version u head.generation page
+        (slice_index head.pieces page) ≡ None) where
+      pub full_is_told : PAGE_LEN < fill_by
+          (with_records (among status.numbers) page (records_kept kept) (values_in f))
+          (last_changes active page (records_kept kept))
+          → load_fault x it active u page ≡ Some (Malformed place 0)
+      full_is_told over =
+          full_then x it active u page (sym (fault_is x) ∙ sound)
+          (omega (arith, over, fill_is x active same))
+          ∙ ap (λ (p : ℕ). Some (Malformed p 0)) (sym place_is)
+
+      pub none_is_told : fill_by
+          (with_records (among status.numbers) page (records_kept kept) (values_in f))
+          (last_changes active page (records_kept kept)) ≤ PAGE_LEN
+          → load_fault x it active u page ≡ None
+      none_is_told room =
+          none_then x it active u page (sym (fault_is x) ∙ sound)
+          (omega (arith, room, fill_is x active same))
 
 -- whatever map the chart stands for, the frame has that map's page
 pub page_of_map : {places u page : ℕ} {c : Chart} {it : Layout} {m : Map} {active : ℕ → Bool}

@@ -1,102 +1,133 @@
--- Records taken one after another.
-use Rattle.std.proofs.Common.{◌≡◌, ◌<◌, ℕ, suc, Bool, List, [], ◌∷◌, ◌++◌, Option, Some, None, inl, inr, refl, sym, ◌∙◌, ap, subst, arith}
-use Rattle.std.specs.List.{All}
-use Rattle.std.specs.Option.{option_or}
-use Rattle.std.proofs.lemmas.Bool.{cases_Bool}
-use Rattle.ipl_base.specs.declared.limits.TheConstants.{VERSION}
-use Rattle.ipl_format.specs.Record.{Record, IsRecord}
-use Rattle.ipl_meaning.specs.Values.{counts_for, after_records}
-use Rattle.ipl_meaning.specs.Last.{last_that}
-use Rattle.page_ops.specs.Pending.{Pending}
-use Rattle.page_ops.specs.Frames.{FrameView, values_in, pending_in}
-use Rattle.page_rebuild.specs.Taken.{pending_of, pending_after, AreTaken}
+-- The records of a page, taken into its frame: first the values, and then what is pending.
+use Rattle.std.proofs.Common.{◌≡◌, ◌≤◌, ◌<◌, ℕ, Bool, true, false, List, [], ◌++◌, replicate, refl, sym, ◌∙◌, ap, subst, arith}
+use Rattle.std.specs.Prelude.{◌↔◌, ◌==◌, IsTrue, None, slice_index, if◌then◌else◌}
+use Rattle.std.specs.Bool.{OnTrue}
+use Rattle.std.proofs.lemmas.Bool.{false≢true}
+use Rattle.std.proofs.lemmas.List.{append-nil, get_or-replicate}
+use Rattle.ipl_base.specs.declared.limits.TheConstants.{PAGE_LEN}
+use Rattle.ipl_format.specs.Record.{Record}
+use Rattle.ipl_format.specs.Page.{Slots, value_in}
+use Rattle.page_ops.specs.Pending.{fill_by}
+use Rattle.page_ops.specs.Frames.{FrameView, frame_fill, values_in, pending_in, IsIdle}
+use Rattle.page_ops.specs.Rebuilt.{AreComing, IsMaking, with_records}
+use Rattle.page_ops.proofs.RebuildLemmas.{making_first, making_done}
+use Rattle.page_rebuild.specs.Taken.{last_changes, AreCounted, AreTaken}
+use Rattle.page_rebuild.specs.Made.{AreAhead, ArePassed}
+use Rattle.page_rebuild.specs.Pended.{IsSetting, AreToSet, AreSet}
+use Rattle.page_rebuild.proofs.PendedLemmas.{setting_first}
+use Rattle.page_rebuild.proofs.RoomLemmas.{same_fills, values_in_fill}
 
--- ---- two lists of records
+module _ (page : ℕ) (records : List Record) where
+  -- all that were counted are to come
+  all_come : (numbers : ℕ → Bool) (counts : List ℕ)
+      → AreCounted numbers page records (replicate 64 0) counts
+      → AreComing numbers page records counts
+  all_come numbers counts counted slot low =
+      omega (arith, counted slot low, get_or-replicate {A = ℕ} 64 slot 0 0 low)
 
-after_both : (committed : ℕ → Bool) (page slot : ℕ) (a b : List Record) (v : Option (List ℕ))
-    → after_records committed page slot (a ++ b) v
-    ≡ after_records committed page slot b (after_records committed page slot a v)
-after_both committed page slot [] b v = refl
-after_both committed page slot (r ∷ a) b v = after_both committed page slot a b _
+  -- ---- values
 
-last_both : (test : Record → Bool) (a b : List Record) (before : Option Record)
-    → last_that test (a ++ b) before ≡ last_that test b (last_that test a before)
-last_both test [] b before = refl
-last_both test (r ∷ a) b before = last_both test a b _
+  -- each slot of the page was emptied for which a record is to come
+  module _ (committed : ℕ → Bool) (counts : List ℕ) (old : FrameView) (held now first : Slots)
+      (counted : AreCounted committed page records (replicate 64 0) counts)
+      (held_is : held ≡ old.page)
+      (cleared : (slot : ℕ) → slot < 64 → value_in now slot
+      ≡ (if slice_index counts slot == 0 then value_in held slot else None))
+      (same : first ≡ now) where
+    making : IsMaking committed page records records (values_in old) counts now
+    making = making_first committed page records (values_in old) counts held now
+        (all_come committed counts counted)
+        (λ slot low. ap (λ (p : Slots). value_in p slot) (sym held_is)) cleared
 
--- the last one that passes, or the one from before
-last_or : (test : Record → Bool) (records : List Record) (before : Option Record)
-    → last_that test records before ≡ option_or (last_that test records None) before
-last_or test [] before = refl
-last_or test (r ∷ records) before = elim (cases_Bool (test r)) [
-  | inl passes ↦ rw passes (first_there _ (last_or test records (Some r)))
-  | inr fails ↦ rw fails (last_or test records before)
-]
-  where
-    first_one : (o : Option Record) → option_or o (Some r) ≡ option_or (option_or o (Some r)) before
-    first_one None = refl
-    first_one (Some s) = refl
+    start : IsMaking committed page records (records ++ []) (values_in old) counts first
+    start = subst (λ (p : Slots). IsMaking committed page records (records ++ []) (values_in old) counts p)
+        (sym same)
+        (subst (λ (l : List Record). IsMaking committed page records l (values_in old) counts now)
+        (sym (append-nil records)) making)
 
-    first_there : {p : Option Record} (o : Option Record) → p ≡ option_or o (Some r)
-        → p ≡ option_or p before
-    first_there {p} o is = rw is (first_one o)
+    pub all_ahead : AreAhead committed page records counts first
+    all_ahead = record { all = records; rest = []; base = values_in old; going = start }
 
-pending_or : (o before : Option Record) (pending : Option Pending)
-    → option_or (pending_of (option_or o before)) pending
-    ≡ option_or (pending_of o) (option_or (pending_of before) pending)
-pending_or None before pending = refl
-pending_or (Some r) before pending = refl
+    -- then they were passed
+    module _ (later : List ℕ) (new : Slots) where
+      pub values_made : ArePassed committed page records counts first later new true
+          → (slot : ℕ) → slot < 64
+          → value_in new slot ≡ with_records committed page records (values_in old) slot
+      values_made passed slot low =
+          making_done committed page (passed records [] (values_in old) start) slot low
 
-pending_both : (active : ℕ → Bool) (page slot : ℕ) (a b : List Record) (p : Option Pending)
-    → pending_after active page slot (a ++ b) p
-    ≡ pending_after active page slot b (pending_after active page slot a p)
-pending_both active page slot a b p =
-    let test = counts_for active page slot in
-    ap (λ (o : Option Record). option_or (pending_of o) p)
-    (last_both test a b None ∙ last_or test b (last_that test a None))
-    ∙ pending_or (last_that test b None) (last_that test a None) p
+      -- or a page has no room for the values, and so none with what is pending
+      pub values_over : (active : ℕ → Bool)
+          → ArePassed committed page records counts first later new false
+          → IsTrue false ↔ (fill_by (with_records committed page records (values_in old))
+          (last_changes active page records) ≤ PAGE_LEN)
+      values_over active passed = (
+        λ yes. absurd (false≢true yes),
+        λ fits. absurd (let over = passed records [] (values_in old) start in
+            omega (
+              arith,
+              over,
+              fits,
+              values_in_fill (with_records committed page records (values_in old))
+                  (last_changes active page records),
+            )),
+      )
 
--- ---- one part after the other
+  -- ---- what is pending
 
-module _ (committed active : ℕ → Bool) (page : ℕ) where
-  -- what the records that are left make of the frame now is what all of them make of the first one
-  pub record AreLeft (left all : List Record) (now first : FrameView) : Type 0 where
-    pub values : (slot : ℕ) → slot < 64
-        → after_records committed page slot left (values_in now slot)
-        ≡ after_records committed page slot all (values_in first slot)
-    pub pending : (slot : ℕ) → slot < 64
-        → pending_after active page slot left (pending_in now slot)
-        ≡ pending_after active page slot all (pending_in first slot)
+  module _ (active : ℕ → Bool) (counts : List ℕ) (frame : FrameView)
+      (counted : AreCounted active page records (replicate 64 0) counts) (idle : IsIdle frame) where
+    start_set : IsSetting active page records (records ++ []) frame.page counts frame
+    start_set =
+        subst (λ (l : List Record). IsSetting active page records l frame.page counts frame)
+        (sym (append-nil records))
+        (setting_first active page records counts frame (all_come active counts counted) idle)
 
-  pub left_at_first : (left all : List Record) (f : FrameView) → left ≡ all → AreLeft left all f f
-  left_at_first left all f same = record {
-    values = λ slot low.
-        ap (λ (l : List Record). after_records committed page slot l (values_in f slot)) same;
-    pending = λ slot low.
-        ap (λ (l : List Record). pending_after active page slot l (pending_in f slot)) same;
-  }
+    pub all_to_set : AreToSet active page records counts frame
+    all_to_set = record { all = records; rest = []; base = frame.page; going = start_set }
 
-  pub left_part : (left part after all : List Record) (now next first : FrameView)
-      → left ≡ part ++ after → AreLeft left all now first
-      → AreTaken committed active page part now next → AreLeft after all next first
-  left_part left part after all now next first step so_far taken = record {
-    values = λ slot low.
-        ap (after_records committed page slot after) (taken.values slot low)
-        ∙ sym (after_both committed page slot part after (values_in now slot))
-        ∙ ap (λ (l : List Record). after_records committed page slot l (values_in now slot))
-        (sym step)
-        ∙ so_far.values slot low;
-    pending = λ slot low.
-        ap (pending_after active page slot after) (taken.pending slot low)
-        ∙ sym (pending_both active page slot part after (pending_in now slot))
-        ∙ ap (λ (l : List Record). pending_after active page slot l (pending_in now slot))
-        (sym step)
-        ∙ so_far.pending slot low;
-  }
+    -- then they were passed
+    module _ (committed : ℕ → Bool) (old : FrameView)
+        (made : (slot : ℕ) → slot < 64
+        → values_in frame slot ≡ with_records committed page records (values_in old) slot)
+        (later : List ℕ) (new : FrameView) where
+      taken : AreSet active page records counts frame later new true
+          → AreTaken committed active page records old new
+      taken set =
+          let so = set records [] frame.page start_set in
+          record {
+            values = λ slot low. ap (λ (p : Slots). value_in p slot) so.same ∙ made slot low;
+            pending = so.set;
+          }
 
--- ---- of those that are left each is in form
+      pub all_taken : (room : Bool) → AreSet active page records counts frame later new room
+          → OnTrue room (AreTaken committed active page records old new)
+      all_taken true set = taken set
+      all_taken false set = tt
 
-pub later_valid : (left after : List Record) (r : Record) → All (IsRecord VERSION) left → left ≡ r ∷ after
-    → All (IsRecord VERSION) after
-later_valid left after r all step =
-    λ i d within. (subst (All (IsRecord VERSION)) step all) (suc i) d (omega (arith, within))
+      pub room_told : (room : Bool) → AreSet active page records counts frame later new room
+          → OnTrue room (frame_fill new ≤ PAGE_LEN)
+          → IsTrue room ↔ (fill_by (with_records committed page records (values_in old))
+          (last_changes active page records) ≤ PAGE_LEN)
+      room_told true set room =
+          let are = taken set in (
+            λ yes. omega (
+              arith,
+              room,
+              same_fills (values_in new) (with_records committed page records (values_in old))
+                  (pending_in new) (last_changes active page records) are.values are.pending,
+            ),
+            λ fits. refl,
+          )
+      room_told false set room = (
+        λ yes. absurd (false≢true yes),
+        λ fits. absurd (let over = set records [] frame.page start_set in
+            omega (
+              arith,
+              over,
+              fits,
+              same_fills (values_in frame) (with_records committed page records (values_in old))
+                  (last_changes active page records) (last_changes active page records) made
+                  (λ slot low. refl),
+            )),
+      )

@@ -1,3 +1,6 @@
 pub mod Taken
+pub mod Parts
+pub mod Made
+pub mod Pended
 pub mod Loaded
 pub mod Keeps

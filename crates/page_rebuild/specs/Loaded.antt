@@ -1,34 +1,42 @@
 -- A page that is loaded from the chip into a frame.
-use Rattle.std.specs.Prelude.{ℕ, ◌≡◌, ◌⊎◌, ◌<◌, Bool, List, Option, None, slice_index}
-use Rattle.ipl_base.specs.declared.limits.TheConstants.{SLOTS, PAGE_SECTORS}
+use Rattle.std.specs.Prelude.{ℕ, ◌≡◌, ◌⊎◌, ◌<◌, ◌≤◌, ◌↔◌, Bool, List, Option, Some, None, nat_lt, slice_index, if◌then◌else◌}
+use Rattle.std.specs.Option.{option_or}
+use Rattle.ipl_base.specs.declared.limits.TheConstants.{PAGE_LEN, SLOTS, PAGE_SECTORS}
 use Rattle.chip_trait.specs.Story.{Contents}
 use Rattle.chip_trait.specs.Told.{Told}
 use Rattle.ipl_base.specs.declared.fault.ChipFault.{ChipFault}
+use Rattle.ipl_base.specs.declared.fault.ChipFault.TheVariants.{Malformed}
 use Rattle.ipl_rules.specs.State.{Map}
 use Rattle.ipl_meaning.specs.Chart.{Chart, chart_of}
-use Rattle.ipl_meaning.specs.Values.{counts_for}
+use Rattle.ipl_meaning.specs.Values.{Values}
 use Rattle.ipl_meaning.specs.Layout.{Layout, records_of}
-use Rattle.ipl_meaning.specs.Last.{last_that}
 use Rattle.ipl_meaning.specs.Stands.{Shows, page_in}
 use Rattle.ipl_meaning.specs.Tables.{Places, OverflowLists, Status, Tables}
-use Rattle.unit_io.specs.Faults.{page_fault, IsPageCause}
+use Rattle.unit_io.specs.Faults.{page_fault, text_below, IsPageCause}
 use Rattle.unit_io.specs.Reads.{OfContents}
 use Rattle.unit_io.specs.ReadsAt.{IsCauseAt}
 use Rattle.unit_io.specs.Spots.{IsPieceSpot}
 use Rattle.unit_log.specs.Live.{AreMirrored}
 use Rattle.unit_log.specs.Paged.{IsPageLogRead}
+use Rattle.page_ops.specs.Pending.{Pendings, fill_by}
 use Rattle.page_ops.specs.Frames.{FrameView, values_in, pending_in}
-use Rattle.page_rebuild.specs.Taken.{pending_of}
+use Rattle.page_ops.specs.Rebuilt.{values_of, with_records}
+use Rattle.page_rebuild.specs.Taken.{last_changes}
 
 -- ---- what the frame has
+
+-- what is pending in each slot of a page, where the layout has it: the last change there of an active
+-- number
+abbrev pub loaded_pending : Layout → (ℕ → Bool) → ℕ → ℕ → Pendings
+loaded_pending it active u page slot = last_changes active page (records_of (it.units u).log) slot
 
 -- The frame has the values that the chart shows of the page. In each slot the last change there of
 -- an active number is pending.
 pub record IsLoaded (c : Chart) (it : Layout) (active : ℕ → Bool) (u page : ℕ) (f : FrameView)
     : Type 0 where
   pub shows : Shows c it.committed u (it.units u) page (values_in f)
-  pub pending : (slot : ℕ) → slot < SLOTS → pending_in f slot
-      ≡ pending_of (last_that (counts_for active page slot) (records_of (it.units u).log) None)
+  pub pending : (slot : ℕ) → slot < SLOTS
+      → pending_in f slot ≡ loaded_pending it active u page slot
 
 -- the frame has the values of the map's page
 abbrev pub HasPageOf : Map → ℕ → ℕ → FrameView → Type 0
@@ -52,6 +60,31 @@ abbrev pub base_fault : Contents → Layout → ℕ → ℕ → Option ChipFault
 base_fault x it u page = page_fault x (it.units u).home (it.units u).head.version u
     (it.units u).head.generation page (slice_index (it.units u).pieces page)
 
+-- the base page's values with the committed records of the log done to them, where the layout has it
+abbrev pub loaded_values : Contents → Layout → ℕ → ℕ → Values
+loaded_values x it u page = with_records it.committed page (records_of (it.units u).log)
+    (values_of (it.units u).head.version
+    (text_below (chart_of x) (it.units u).home page (slice_index (it.units u).pieces page)))
+
+-- more than a page holds, whichever pending changes become values: what is said of a unit that stands
+-- at this place
+abbrev pub fill_fault : ℕ → Values → Pendings → Option ChipFault
+fill_fault place values pending =
+    if nat_lt PAGE_LEN (fill_by values pending) then Some (Malformed place 0) else None
+
+-- what is wrong with a page: its base page, or where that reads well, more than a page holds
+abbrev pub load_fault : Contents → Layout → (ℕ → Bool) → ℕ → ℕ → Option ChipFault
+load_fault x it active u page = option_or (base_fault x it u page)
+    (fill_fault (it.units u).home (loaded_values x it u page) (loaded_pending it active u page))
+
+-- nothing is wrong with a page exactly where it shows values for which, with what is pending, a page
+-- has room
+abbrev pub SoundPagesShowValues : Type 0
+SoundPagesShowValues = (x : Contents) (it : Layout) (active : ℕ → Bool) (u page : ℕ)
+    → (load_fault x it active u page ≡ None)
+    ↔ ((now : Values) × Shows (chart_of x) it.committed u (it.units u) page now
+    × (fill_by now (loaded_pending it active u page) ≤ PAGE_LEN))
+
 -- ---- what is read
 
 -- one of the first base sectors of the page, so many, at the unit's place
@@ -62,7 +95,8 @@ IsBaseRead home page pieces p s = (p ≡ home) × IsPieceSpot page pieces s
 abbrev pub IsLoadRead : ℕ → List (ℕ × ℕ) → ℕ → ℕ → ℕ → Type 0
 IsLoadRead home spots page p s = IsPageLogRead home spots p s ⊎ IsBaseRead home page PAGE_SECTORS p s
 
--- why a page isn't loaded, whatever the chip tells: its log isn't read, or its base page
+-- why a page isn't loaded, whatever the chip tells: its log isn't read, or its base page; or a page
+-- has no room for its values with what is pending, which is said of its unit's header
 abbrev pub IsLoadCause : ℕ → List (ℕ × ℕ) → ℕ → ChipFault → Told → Told → Type 0
 IsLoadCause home spots page fault old new =
     IsCauseAt (IsPageLogRead home spots) fault old new ⊎ IsPageCause home page fault old new

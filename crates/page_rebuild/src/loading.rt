@@ -13,8 +13,8 @@ ghost use Rattle.unit_io.specs.Faults.{page_fault, TellsChipFault, HoldsPage, Is
 ghost use Rattle.unit_io.specs.Reads.{OfContents};
 ghost use Rattle.unit_io.specs.ReadsAt.{ReadsAt};
 ghost use Rattle.unit_log.specs.Paged.{page_spots, AddsAtMost};
-ghost use Rattle.page_ops.specs.Frames.{empty_frame};
-ghost use Rattle.page_rebuild.specs.Loaded.{IsLoaded, OfTables, HasPageOf, IsBaseRead, IsLoadRead, IsLoadCause, base_fault};
+ghost use Rattle.page_ops.specs.Frames.{empty_frame, IsIdle};
+ghost use Rattle.page_rebuild.specs.Loaded.{IsLoaded, OfTables, HasPageOf, IsBaseRead, IsLoadRead, IsLoadCause, load_fault};
 ghost use Rattle.page_rebuild.specs.Keeps.{KeepsWhatRests};
 
 use crate::taking::take_sectors;
@@ -28,8 +28,8 @@ use unit_directory::Directory;
 use unit_io::read_page;
 use unit_log::{Scratch, UnitHead, read_page_log};
 
-/// Reads the base sectors of a page (0 to 14) into a frame, as many as the header of its unit says,
-/// at most 16. After a fault the frame's page is empty.
+/// Reads the base sectors of a page (0 to 14) into a frame of which nothing is pending, as many as the
+/// header of its unit says, at most 16. After a fault the frame's page is empty.
 fn read_base<C: Chip>(
     chip: &mut C,
     place: u32,
@@ -41,6 +41,7 @@ fn read_base<C: Chip>(
     requires place { place < (C.told chip.old).places }
     requires few { All (λ n. n ≤ PAGE_SECTORS) header.now.pieces }
     requires page { page < 15 }
+    requires idle { IsIdle frame.old }
     ensures exact { OfContents (C.told chip.old) (λ x. TellsChipFault
         (page_fault x place header.now.version unit header.now.generation page
         (slice_index header.now.pieces page)) result) }
@@ -71,8 +72,9 @@ fn read_base<C: Chip>(
 /// values; of those of active numbers the last one on each slot is pending there. What was in the frame
 /// and in the scratch memory before is gone, however the call ends, and after a fault the frame is empty.
 ///
-/// Where the tables mirror what the chip holds, it fails only where a read failed or the base page
-/// reads badly. Else it may find a sector malformed that isn't what the tables say.
+/// Where the tables mirror what the chip holds, it fails only where a read failed, the base page reads
+/// badly, or a page has no room for the values, whichever pending changes become values, which is told
+/// as a malformed header. Else it may find a sector malformed that isn't what the tables say.
 pub fn load<C: Chip>(
     chip: &mut C,
     directory: &Directory,
@@ -93,7 +95,7 @@ pub fn load<C: Chip>(
     ensures loads { OnOk result (OfTables (C.told chip.old) directory.now overflow.now status.now
         (λ x it. IsLoaded (chart_of x) it (among active.now) unit page frame.new)) }
     ensures fault { OfTables (C.told chip.old) directory.now overflow.now status.now
-        (λ x it. TellsChipFault (base_fault x it unit page) result) }
+        (λ x it. TellsChipFault (load_fault x it (among active.now) unit page) result) }
     ensures stands { OnOk result (OfTables (C.told chip.old) directory.now overflow.now status.now
         (λ x it. (m : Map) → Stands (C.told chip.old).places (chart_of x) m
         → HasPageOf m unit page frame.new)) }
@@ -119,8 +121,9 @@ pub fn load<C: Chip>(
     let place = directory.current(unit);
     let header = read_page_log(chip, directory, overflow, unit, page, scratch)?;
     read_base(chip, place, unit, &header, page, frame)?;
-    take_sectors(frame, page, scratch.sectors(), status, active);
-    // What is kept in memory as a text has room for it.
-    let _ = frame.committed().text();
+    if !take_sectors(frame, page, scratch.sectors(), status, active) {
+        frame.reset();
+        return Err(ChipFault::Malformed { place, sector: 0 });
+    }
     Ok(())
 }

@@ -1,85 +1,48 @@
 //! Records, taken into the frame of a page: those of committed numbers become values, those of
 //! active numbers are pending.
-ghost use Rattle.std.specs.Prelude.{◌≡◌, ◌≢◌, ◌<◌, ℕ, [], ◌∷◌};
-ghost use Rattle.log_records.specs.Reading.{records_of};
-ghost use Rattle.log_records.specs.View.{record_of};
+ghost use Rattle.std.specs.Prelude.{◌≤◌, ◌↔◌, IsTrue, length};
+ghost use Rattle.std.specs.Bool.{OnTrue};
+ghost use Rattle.ipl_base.specs.declared.limits.TheConstants.{LIVE_SECTORS, PAGE_LEN};
 ghost use Rattle.number_set.specs.Numbers.{among};
 ghost use Rattle.unit_log.specs.Kept.{records_kept};
-ghost use Rattle.page_ops.specs.Frames.{values_in};
-ghost use Rattle.page_rebuild.specs.Taken.{AreTaken};
+ghost use Rattle.page_ops.specs.Frames.{values_in, IsIdle};
+ghost use Rattle.page_ops.specs.Pending.{fill_by};
+ghost use Rattle.page_ops.specs.Rebuilt.{with_records};
+ghost use Rattle.page_rebuild.specs.Taken.{last_changes, AreTaken};
 
-use log_records::{Payload, Record, records};
-use page_ops::{Frame, apply};
+use crate::counting::count_sectors;
+use crate::making::pass_sectors;
+use crate::pending::set_sectors;
+use page_ops::{Coming, Frame};
 use txn_status::Status;
 use unit_log::LogSector;
 
-/// Whether a number is one of these.
-fn is_among(numbers: &[u64], tid: u64) -> bool
-    ensures { result ≡ among numbers.now tid }
-{
-    numbers.contains(&tid)
-}
-
-/// Whether a number is committed.
-fn is_committed(status: &Status, tid: u64) -> bool
-    ensures { result ≡ among status.now.numbers tid }
-{
-    status.is_committed(tid)
-}
-
-/// Does to the committed page of a frame what a record says.
-fn commit_record(frame: &mut Frame, logged: &Record)
-    requires { logged.now.slot < 64 }
-    ensures here { values_in frame.new logged.now.slot ≡ (record_of logged.now).change }
-    ensures others { (slot : ℕ) → slot ≢ logged.now.slot
-        → values_in frame.new slot ≡ values_in frame.old slot }
-    ensures pending { frame.new.pending ≡ frame.old.pending }
-{
-    apply(frame.committed_mut(), logged);
-}
-
-/// Takes a record, where it is one of the page.
-fn take_record(frame: &mut Frame, page: u32, logged: &Record, status: &Status, active: &[u64])
-    requires { logged.now.slot < 64 }
-    ensures { AreTaken (among status.now.numbers) (among active.now) page
-        (record_of logged.now ∷ []) frame.old frame.new }
-{
-    if logged.page != page {
-        return;
-    }
-    if is_committed(status, logged.tid) {
-        commit_record(frame, logged);
-    }
-    // No number is both, where the tables are right; what is done here doesn't rest on that.
-    if is_among(active, logged.tid) {
-        frame.set_pending(logged.slot, logged.tid, &logged.change);
-    }
-}
-
-/// Takes the records of a payload, in order.
-fn take_payload(frame: &mut Frame, page: u32, payload: &Payload, status: &Status, active: &[u64])
-    ensures { AreTaken (among status.now.numbers) (among active.now) page
-        (records_of payload.now.version payload.now.bytes) frame.old frame.new }
-{
-    // The bytes are a list of records, so each slot is one of 64.
-    let _ = payload.bytes();
-    for logged in records(payload) {
-        take_record(frame, page, &logged, status, active);
-    }
-}
-
-/// Takes the records of log sectors, in order.
-pub fn take_sectors(
+/// Takes the records of log sectors, at most 31, in order, into a frame of which nothing is pending.
+/// Answers whether the page has room for the values that it has then, whichever pending changes
+/// become values.
+pub(crate) fn take_sectors(
     frame: &mut Frame,
     page: u32,
     sectors: &[LogSector],
     status: &Status,
     active: &[u64],
-)
-    ensures { AreTaken (among status.now.numbers) (among active.now) page
-        (records_kept sectors.now) frame.old frame.new }
+) -> bool
+    requires idle { IsIdle frame.old }
+    requires few { length sectors.now ≤ LIVE_SECTORS }
+    ensures room { IsTrue result ↔ (fill_by
+        (with_records (among status.now.numbers) page (records_kept sectors.now)
+        (values_in frame.old))
+        (last_changes (among active.now) page (records_kept sectors.now)) ≤ PAGE_LEN) }
+    ensures taken { OnTrue result (AreTaken (among status.now.numbers) (among active.now) page
+        (records_kept sectors.now) frame.old frame.new) }
 {
-    for sector in sectors {
-        take_payload(frame, page, &sector.payload, status, active);
+    let mut values = Coming::none();
+    let mut changes = Coming::none();
+    count_sectors(&mut values, &mut changes, page, sectors, status, active);
+    values.clear(frame.committed_mut());
+    if !pass_sectors(frame.committed_mut(), &mut values, page, sectors, status) {
+        return false;
     }
+    // A frame lends its page only while nothing is pending, so pending changes come last.
+    set_sectors(frame, &mut changes, page, sectors, active)
 }

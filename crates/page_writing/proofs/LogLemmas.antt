@@ -7,6 +7,7 @@ use Rattle.chip_trait.specs.Lawful.{Clean, age}
 use Rattle.chip_trait.specs.Told.{History, Told}
 use Rattle.log_records.specs.View.{Versioned}
 use Rattle.ipl_base.specs.declared.fault.ChipFault.{ChipFault}
+use Rattle.ipl_base.specs.declared.limits.TheConstants.{VERSION}
 use Rattle.ipl_base.specs.declared.spot.Spot.{Spot}
 use Rattle.ipl_format.specs.Record.{Record, SpellsLog}
 use Rattle.ipl_format.specs.Sector.{Sector}
@@ -27,6 +28,9 @@ use Rattle.ipl_meaning.proofs.HomeLogLemmas.{tables_follow_home_logs}
 use Rattle.ipl_meaning.proofs.MirrorLemmas.{log_sectors_may_go_home, log_sectors_may_go_elsewhere}
 use Rattle.ipl_meaning.proofs.OverflowLogLemmas.{tables_follow_overflow_logs}
 use Rattle.ipl_meaning.proofs.WaitLemmas.{log_sectors_wait}
+use Rattle.sector_format.specs.Decode.{sector_of}
+use Rattle.sector_format.specs.Written.{written_head}
+use Rattle.sector_format.specs.declared.sector.Head.{Head}
 use Rattle.unit_io.specs.Charts.{Charts, Gains}
 use Rattle.unit_io.specs.Leads.{IsSteady, IsStopped, KeepsMap, RestsWith}
 use Rattle.unit_io.specs.Spots.{Programs, IsSpot}
@@ -34,6 +38,19 @@ use Rattle.steps.proofs.StepLemmas.{writes_are_steps, failed_writes_are_steps}
 use Rattle.selective_merge.specs.Spotting.{IsSpotFor}
 use Rattle.page_writing.specs.Writing.{mask_by, IsAfterLog, IsLogOf, IsToLog, HasLogSector, WritesLog, WritesLogInSteps}
 use Rattle.page_writing.proofs.SpotLemmas.{spot_counted, spot_of_log, log_active}
+
+-- a head that is written for it makes such a sector
+pub log_of : (u generation serial g s : ℕ) (payload : Versioned) (head : Head)
+    → payload.version ≡ VERSION → head ≡ written_head 5 u g s → g ≡ generation → s ≡ serial
+    → IsLogOf u generation serial payload (sector_of head payload.bytes)
+log_of u generation serial g s payload head version is of_generation of_serial = record {
+  kind = ap (λ (h : Head). h.kind) is;
+  version_is = ap (λ (h : Head). h.version) is ∙ sym version;
+  of_unit = ap (λ (h : Head). h.unit) is;
+  of_generation = ap (λ (h : Head). h.generation) is ∙ of_generation;
+  serial_is = ap (λ (h : Head). h.serial) is ∙ of_serial;
+  payload_is = refl;
+}
 
 module _ (places : ℕ) (c : Chart) (it : Layout) (t : Tables) (u : ℕ) (at : Spot)
     (payload : Versioned) (records : List Record) (sector : Sector) (low : u < places - 4)

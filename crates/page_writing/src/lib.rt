@@ -11,7 +11,7 @@
 //! programmed elsewhere, a log sector; where one is clean at the unit's home, nothing is read or
 //! erased, there is no barrier, and no other sector counts as written than before. Over what the chip holds
 //! it fails with what is wrong with the unit that it had to merge, which is where it was, or where
-//! a call of the chip failed; with that alone where the unit's pages read well and few log sectors
+//! a call of the chip failed; with that alone where the unit's pages show values and few log sectors
 //! would be carried.
 #![tactic(auto)]
 

@@ -22,7 +22,7 @@ ghost use Rattle.page_writing.specs.Writing.{
 };
 
 use chip_trait::Chip;
-use ipl_base::{ChipFault, Spot, VERSION};
+use ipl_base::{ChipFault, Spot};
 use log_records::Payload;
 use overflow::overflow_laws;
 use sector_format::Head;
@@ -92,13 +92,8 @@ fn write_log<C: Chip>(
     parts.overflow.facts();
     let places = chip.units();
     let mask = mask_of(payload);
-    let head = Head {
-        kind: Head::LOG,
-        version: VERSION,
-        unit,
-        generation: parts.directory.generation(unit),
-        serial: parts.counter.draw(),
-    };
+    let generation = parts.directory.generation(unit);
+    let head = Head::written(Head::LOG, unit, generation, parts.counter.draw());
     program_log(chip, at, &head, payload)?;
     use_spot(parts, unit, at, mask, places);
     Ok(())
@@ -131,7 +126,7 @@ pub fn write_out<C: Chip>(
     ensures steps { WritesOutInSteps (C.told chip.old).places payload.old
         (tables_of parts.old) (tables_of parts.new) (C.told chip.old) result (C.told chip.new) }
 
-    // Why it fails over what the chip holds: where the unit's pages read well and few log sectors
+    // Why it fails over what the chip holds: where the unit's pages show values and few log sectors
     // would be carried, only where a call of the chip failed. Else the unit is where it was.
     ensures fault { FailsAsMerge (C.told chip.old).places (tables_of parts.old) unit result
         (C.told chip.old) }

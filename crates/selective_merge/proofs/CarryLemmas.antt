@@ -1,36 +1,17 @@
 -- What is carried, packed record by record.
-use Rattle.std.proofs.Common.{◌≡◌, ◌<◌, ◌≤◌, ◌+◌, ℕ, Bool, true, false, List, [], ◌∷◌, ◌++◌, length, map, drop, get_or, refl, sym, ◌∙◌, ap, subst, arith, ◌≢◌, inl, inr, append_assoc, length-append, add-one, drop-cons}
-use Rattle.std.specs.List.{All}
-use Rattle.std.proofs.Math.Seq.{drop-length}
+use Rattle.std.proofs.Common.{◌≡◌, ◌<◌, ◌≤◌, ◌+◌, ℕ, true, false, List, [], ◌∷◌, ◌++◌, length, refl, sym, ◌∙◌, ap, arith, ◌≢◌, inl, inr, append_assoc, length-append}
 use Rattle.std.proofs.lemmas.Bool.{cases_Bool, leb-true, leb-false}
-use Rattle.std.proofs.lemmas.List.{length-map, get_or-map, append-nil}
+use Rattle.std.proofs.lemmas.List.{append-nil}
 use Rattle.std.proofs.lemmas.List.Elements.{All-nil, All-cons, All-push}
-use Rattle.std.proofs.lemmas.List.Sums.{sum_by-append}
 use Rattle.std.proofs.lemmas.Grind.{flat_map-append}
 use Rattle.ipl_base.specs.declared.limits.TheConstants.{VERSION}
 use Rattle.ipl_format.specs.Record.{Record as LogRecord, IsRecord, log_bytes, record_bytes}
 use Rattle.ipl_format.proofs.RecordLemmas.{records_have_sizes}
-use Rattle.log_records.specs.declared.record.Record.{Record}
-use Rattle.log_records.specs.View.{record_of, Versioned}
-use Rattle.ipl_meaning.specs.Last.{size_of, size_of_all, has_room, pack, pack_after, carried}
+use Rattle.log_records.specs.View.{Versioned}
+use Rattle.ipl_meaning.specs.Last.{size_of, size_of_all, has_room, pack_after}
 use Rattle.merge_rules.specs.Packs.{payloads_of, payload_of}
-use Rattle.selective_merge.specs.Packing.{is_kept, pack_open, IsPacking, IsAdded, IsPayload}
-
--- how many bytes records have
-bytes_size : (records : List LogRecord)
-    → length (log_bytes VERSION records) ≡ size_of_all records
-bytes_size [] = refl
-bytes_size (r ∷ records) =
-    let rest = bytes_size records in
-    let sum : size_of_all (r ∷ records) ≡ 0 + size_of r + size_of_all records =
-    sum_by-append size_of (r ∷ []) records in
-    omega (
-      arith,
-      length-append (record_bytes VERSION r) (log_bytes VERSION records),
-      records_have_sizes VERSION r,
-      rest,
-      sum,
-    )
+use Rattle.selective_merge.proofs.LogLemmas.{bytes_size}
+use Rattle.selective_merge.specs.Packing.{pack_open, IsAdded, IsPayload}
 
 -- the record has room exactly where it fits
 room_there : (full : List LogRecord) (r : LogRecord) → size_of_all full + size_of r ≤ 480
@@ -63,7 +44,7 @@ joined_bytes last full r spelled is = record {
 size_is : (last : Versioned) (full : List LogRecord) → IsPayload last full
     → length last.bytes ≡ size_of_all full
 size_is last full spelled =
-    ap (λ (p : Versioned). length p.bytes) spelled.is ∙ bytes_size full
+    ap (λ (p : Versioned). length p.bytes) spelled.is ∙ bytes_size VERSION full
 
 -- a record that fits
 pub fitted : (closed : List Versioned) (full : List LogRecord) (r : LogRecord) (last : Versioned)
@@ -168,90 +149,3 @@ pub finished_full : (closed : List Versioned) (full : List LogRecord) (last : Ve
 finished_full closed [] last spelled some many = absurd (some (ap (λ (p : Versioned). length p.bytes) spelled.is))
 finished_full closed (r ∷ full) last spelled some many =
     omega (arith, many, length-append closed (payload_of (r ∷ full) ∷ []))
-
--- ---- what is carried
-
--- the i-th record and those behind it
-pub records_split : (records : List Record) (i : ℕ) (r : Record) → i < length records
-    → r ≡ get_or records i r → map record_of (drop i records) ≡ record_of r ∷ map record_of
-    (drop (i + 1) records)
-records_split records i r low is = rw (add-one, drop-cons records i r low, sym is) refl
-
-pub at_record : (records : List Record) (i : ℕ) (r : Record) → All (IsRecord VERSION) (map record_of records)
-    → i < length records → r ≡ get_or records i r → IsRecord VERSION (record_of r)
-at_record records i r valid low is =
-    subst (IsRecord VERSION) (get_or-map record_of records i r (record_of r) low ∙ ap record_of (sym is))
-    (valid i (record_of r) (omega (arith, low, length-map records record_of)))
-
-module _ (active : ℕ → Bool) (all : List LogRecord) where
-  -- a record that isn't carried
-  pub passed : (records rest : List LogRecord) (r : LogRecord) (closed : List Versioned)
-      (last : Versioned) → records ≡ r ∷ rest → is_kept active r rest ≡ false
-      → IsPacking active all records closed last → IsPacking active all rest closed last
-  passed records rest r closed last split dropped so_far = record {
-    full = so_far.full;
-    spelled = so_far.spelled;
-    same = ap (λ (l : List LogRecord). closed ++ payloads_of (pack_open so_far.full l))
-        (sym (ap (carried active) split ∙ rw dropped refl)) ∙ so_far.same;
-  }
-
-  -- one that is
-  pub taken : (records rest : List LogRecord) (r : LogRecord) (closed after : List Versioned)
-      (last then_last : Versioned) → records ≡ r ∷ rest → is_kept active r rest ≡ true
-      → (so_far : IsPacking active all records closed last)
-      → IsAdded closed so_far.full r after then_last → IsPacking active all rest after then_last
-  taken records rest r closed after last then_last split kept so_far added = record {
-    full = added.next;
-    spelled = added.spelled;
-    same = added.same (carried active rest)
-        ∙ ap (λ (l : List LogRecord). closed ++ payloads_of (pack_open so_far.full l))
-        (sym (ap (carried active) split ∙ rw kept refl)) ∙ so_far.same;
-  }
-
-  -- one that is, where 12 are full
-  pub refused : (records rest : List LogRecord) (r : LogRecord) (closed : List Versioned)
-      (last : Versioned) → records ≡ r ∷ rest → is_kept active r rest ≡ true
-      → (so_far : IsPacking active all records closed last)
-      → 12 < length (closed ++ payloads_of (pack_open so_far.full (r ∷ carried active rest)))
-      → 12 < length (pack (carried active all))
-  refused records rest r closed last split kept so_far many =
-      let same : closed ++ payloads_of (pack_open so_far.full (r ∷ carried active rest))
-      ≡ payloads_of (pack (carried active all)) =
-      ap (λ (l : List LogRecord). closed ++ payloads_of (pack_open so_far.full l))
-      (sym (ap (carried active) split ∙ rw kept refl)) ∙ so_far.same in
-      omega (arith, many, ap length same, length-map (pack (carried active all)) payload_of)
-
-  -- nothing yet
-  pub packing_none : (records : List LogRecord) (closed : List Versioned) (last : Versioned)
-      → records ≡ all → closed ≡ [] → last ≡ payload_of [] → IsPacking active all records closed last
-  packing_none records closed last is none empty = record {
-    full = [];
-    spelled = record { is = empty; valid = All-nil (IsRecord VERSION) };
-    same = ap (λ (l : List Versioned). l ++ payloads_of (pack (carried active records))) none
-        ∙ ap (λ (l : List LogRecord). payloads_of (pack (carried active l))) is;
-  }
-
-  -- all
-  pub packing_all : (records : List LogRecord) (closed after : List Versioned) (last : Versioned)
-      → records ≡ [] → (so_far : IsPacking active all records closed last)
-      → after ≡ closed ++ payloads_of (pack_open so_far.full [])
-      → after ≡ payloads_of (pack (carried active all))
-  packing_all records closed after last none so_far is =
-      is ∙ ap (λ (l : List LogRecord). closed ++ payloads_of (pack_open so_far.full l))
-      (sym (ap (carried active) none)) ∙ so_far.same
-
-  pub packing_many : (records : List LogRecord) (closed : List Versioned) (last : Versioned)
-      → records ≡ [] → (so_far : IsPacking active all records closed last)
-      → 12 < length (closed ++ payloads_of (pack_open so_far.full []))
-      → 12 < length (pack (carried active all))
-  packing_many records closed last none so_far many =
-      let same : closed ++ payloads_of (pack_open so_far.full []) ≡ payloads_of
-      (pack (carried active all)) =
-      ap (λ (l : List LogRecord). closed ++ payloads_of (pack_open so_far.full l))
-      (sym (ap (carried active) none)) ∙ so_far.same in
-      omega (arith, many, ap length same, length-map (pack (carried active all)) payload_of)
-
-pub records_past : (records : List Record) (i : ℕ) → length records ≡ i
-    → map record_of (drop i records) ≡ []
-records_past records i past = ap (λ (k : ℕ). map record_of (drop k records)) (sym past)
-    ∙ ap (map record_of) (drop-length records)

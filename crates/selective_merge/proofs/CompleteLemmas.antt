@@ -4,6 +4,7 @@ use Rattle.chip_trait.specs.Story.{Contents}
 use Rattle.chip_trait.specs.Told.{Told}
 use Rattle.ipl_base.specs.declared.fault.ChipFault.{ChipFault}
 use Rattle.ipl_format.specs.Record.{Record}
+use Rattle.ipl_meaning.specs.Chart.{chart_of}
 use Rattle.ipl_meaning.specs.Layout.{Shape}
 use Rattle.ipl_meaning.specs.Tables.{IsFree, Places, Tables}
 use Rattle.unit_io.specs.Charts.{Spares}
@@ -11,7 +12,7 @@ use Rattle.merge_rules.specs.Faults.{fault_with, merge_fault, TellsTheFault}
 use Rattle.merge_rules.specs.Merged.{source_of}
 use Rattle.merge_rules.specs.Moved.{Source}
 use Rattle.merge_rules.specs.Packs.{packs_of}
-use Rattle.merge_rules.proofs.FaultLemmas.{tells_fault, mergeable_units_have_no_fault, by_chip_alone}
+use Rattle.merge_rules.proofs.FaultLemmas.{tells_fault, mergeable_units_have_no_fault, mergeable_by, by_chip_alone}
 use Rattle.selective_merge.specs.declared.home.Home.{Home}
 use Rattle.selective_merge.specs.Homes.{from_home, IsHomeOf}
 use Rattle.selective_merge.specs.Merging.{TellsMergeFault, FailsAsMerge, CompletesMerge}
@@ -35,7 +36,8 @@ pub fails_complete : {T : Type 0} (places : ℕ) (t : Tables) (u : ℕ) (result 
     (told : Told) → FailsAsMerge places t u result told → CompletesMerge places t u result told
 fails_complete places t u result told fails x is it mirrors may =
     by_chip_alone (merge_fault x t (it.units u) u) result
-    (mergeable_units_have_no_fault x t (it.units u) u may) (fails x is it mirrors)
+    (mergeable_units_have_no_fault x t (it.units u) u
+    (mergeable_by (chart_of x) it t u mirrors.status may)) (fails x is it mirrors)
 
 pub merge_completes : {T : Type 0} (places : ℕ) (t : Tables) (u : ℕ) (result : Result T ChipFault)
     (told : Told) → TellsMergeFault places t u result told → CompletesMerge places t u result told

@@ -1,6 +1,7 @@
 mod CarryLemmas
 mod RecordTestLemmas
 mod LogLemmas
+mod KeptLemmas
 mod PageLemmas
 mod ThroughoutLemmas
 mod ReadLemmas

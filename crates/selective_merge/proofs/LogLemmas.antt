@@ -1,24 +1,33 @@
 -- Records of payloads, taken one after another.
-use Rattle.std.proofs.Common.{◌≡◌, ◌<◌, ◌≤◌, ◌+◌, ◌*◌, ℕ, suc, List, [], ◌∷◌, ◌++◌, length, map, refl, sym, ◌∙◌, ap, subst, arith, length-append, append_assoc}
+use Rattle.std.proofs.Common.{◌≡◌, ◌≤◌, ◌+◌, ℕ, suc, List, [], ◌∷◌, ◌++◌, length, map, refl, sym, ◌∙◌, ap, subst, arith, length-append, append_assoc}
 use Rattle.std.specs.List.{All}
-use Rattle.std.proofs.lemmas.List.{append-nil}
+use Rattle.std.proofs.lemmas.List.Sums.{sum_by-append, sum_by-cons}
 use Rattle.log_records.specs.View.{Versioned, Spells}
 use Rattle.ipl_base.specs.declared.limits.TheConstants.{VERSION}
 use Rattle.ipl_format.specs.Record.{Record, IsRecord, SpellsLog, record_bytes, log_bytes}
 use Rattle.ipl_format.proofs.RecordLemmas.{records_have_sizes, all_stay}
+use Rattle.ipl_meaning.specs.Last.{size_of, size_of_all}
 use Rattle.ipl_meaning.specs.Layout.{Entry, records_of as records_in}
 use Rattle.log_records.specs.Reading.{records_of}
 use Rattle.log_records.proofs.RecordsLemmas.{records_list}
 use Rattle.unit_log.specs.Kept.{kept_of, records_kept}
+use Rattle.selective_merge.specs.Logs.{live_bytes}
 
 -- ---- one payload
 
--- 40 records at most have so few bytes
-least_bytes : (version : ℕ) (records : List Record) → 12 * length records ≤ length (log_bytes version records)
-least_bytes version [] = omega arith
-least_bytes version (r ∷ records) =
-    let rest = least_bytes version records in
-    omega (arith, rest, records_have_sizes version r, length-append (record_bytes version r) (log_bytes version records))
+-- how many bytes records have
+pub bytes_size : (version : ℕ) (records : List Record)
+    → length (log_bytes version records) ≡ size_of_all records
+bytes_size version [] = refl
+bytes_size version (r ∷ records) =
+    let rest = bytes_size version records in
+    omega (
+      arith,
+      length-append (record_bytes version r) (log_bytes version records),
+      records_have_sizes version r,
+      rest,
+      sum_by-cons size_of r records,
+    )
 
 -- the records of a payload
 abbrev pub read : Versioned → List Record
@@ -28,7 +37,7 @@ read p = records_of p.version p.bytes
 pub record IsTaking (before now : List Record) (payload left : Versioned) : Type 0 where
   pub same : now ++ read left ≡ before ++ read payload
   pub valid : All (IsRecord VERSION) (read left)
-  pub few : length (read payload) ≤ 40
+  pub few : size_of_all (read payload) ≤ 480
 
 pub taking_none : (log : List Record) (payload items left : Versioned)
     → Spells payload (read items) → length payload.bytes ≤ 480 → left ≡ items
@@ -42,8 +51,8 @@ taking_none log payload items left spelled fits same =
           (all_stay payload.version (read items) spelled.valid);
       few = omega (
         arith,
-        ap length one,
-        least_bytes payload.version (read items),
+        ap size_of_all one,
+        bytes_size payload.version (read items),
         ap length spelled.bytes,
         fits,
       );
@@ -57,15 +66,16 @@ module _ (before now : List Record) (payload left after : Versioned) (r : Record
   pub next_valid : IsRecord VERSION r
   next_valid = parts 0 r (omega arith)
 
-  pub next_room : length before ≤ 1200 → length now < 1240
+  pub next_room : size_of_all before + 480 ≤ live_bytes → size_of_all now + size_of r ≤ live_bytes
   next_room low = omega (
     arith,
     low,
     so.few,
-    ap length so.same,
-    ap length step,
-    length-append now (read left),
-    length-append before (read payload),
+    ap size_of_all so.same,
+    ap size_of_all step,
+    sum_by-append size_of now (read left),
+    sum_by-append size_of before (read payload),
+    sum_by-cons size_of r (read after),
   )
 
   pub taking_more : (then_log : List Record) → then_log ≡ now ++ r ∷ []
@@ -77,22 +87,6 @@ module _ (before now : List Record) (payload left after : Versioned) (r : Record
     valid = λ i d within. parts (suc i) d (omega (arith, within));
     few = so.few;
   }
-
-pub taking_all : (before now : List Record) (payload left : Versioned)
-    → IsTaking before now payload left → read left ≡ []
-    → now ≡ before ++ read payload
-taking_all before now payload left so none =
-    sym (append-nil now) ∙ (ap (λ (l : List Record). now ++ l) (sym none) ∙ so.same)
-
-pub taking_few : (before now : List Record) (payload left : Versioned)
-    → IsTaking before now payload left → length now ≤ length before + 40
-taking_few before now payload left so = omega (
-  arith,
-  so.few,
-  ap length so.same,
-  length-append now (read left),
-  length-append before (read payload),
-)
 
 -- ---- a log that was read
 

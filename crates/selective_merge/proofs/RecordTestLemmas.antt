@@ -1,25 +1,14 @@
 -- What the code's tests say of records and of payloads.
-use Rattle.std.proofs.Common.{◌≡◌, ◌<◌, ◌≤◌, ◌+◌, ◌-◌, ℕ, eqb, take, length-drop, Bool, true, false, IsTrue, List, [], ◌∷◌, ◌++◌, length, map, drop, refl, sym, ◌∙◌, ap, subst, arith, ◌≢◌, inl, inr}
+use Rattle.std.proofs.Common.{◌≡◌, ◌<◌, ◌≤◌, ◌+◌, ℕ, eqb, Bool, true, false, IsTrue, List, [], ◌∷◌, ◌++◌, length, sym, ◌∙◌, ap, subst, arith, ◌≢◌, inl, inr}
 use Rattle.std.specs.Bool.{OnTrue, OnFalse}
-use Rattle.std.specs.List.{list_any}
-use Rattle.std.proofs.lemmas.Bool.{cases_Bool, cases_lt, eqb-true, eq-eqb}
-use Rattle.std.proofs.lemmas.List.{take_all}
+use Rattle.std.proofs.lemmas.Bool.{cases_lt, eqb-true, eq-eqb}
 use Rattle.merge_rules.specs.Packs.{payload_of}
 use Rattle.ipl_base.specs.declared.limits.TheConstants.{VERSION}
 use Rattle.ipl_format.specs.Record.{Record as LogRecord, IsRecord, record_bytes}
 use Rattle.ipl_format.proofs.RecordLemmas.{records_have_sizes}
-use Rattle.log_records.specs.declared.record.Record.{Record}
-use Rattle.log_records.specs.View.{record_of, Versioned}
-use Rattle.selective_merge.specs.Packing.{is_kept, IsAdded, IsPayload}
+use Rattle.log_records.specs.View.{Versioned}
+use Rattle.selective_merge.specs.Packing.{IsAdded, IsPayload}
 use Rattle.selective_merge.proofs.CarryLemmas.{begun, with_entry}
-
-pub any_mapped : {X Y : Type 0} (p : Y → Bool) (f : X → Y) (xs : List X)
-    → list_any (λ x. p (f x)) xs ≡ list_any p (map f xs)
-any_mapped p f [] = refl
-any_mapped p f (x ∷ xs) = elim (cases_Bool (p (f x))) [
-  | inl is ↦ rw is refl
-  | inr not_so ↦ rw not_so (any_mapped p f xs)
-]
 
 pub over_from : (n : ℕ) → (n ≤ 480 → IsTrue false) → 480 < n
 over_from n never =
@@ -63,16 +52,6 @@ begun_by closed after full r last put_last empty then_last spelled is over same 
     (sym (moved ∙ ap (λ (b : Versioned). closed ++ b ∷ []) same))
     (begun closed full r last then_last spelled is over
     (put ∙ ap (λ (l : Versioned). with_entry l r) none))
-
-slice_rest : {X : Type 0} (xs : List X) (n : ℕ) → take (length xs - n) (drop n xs) ≡ drop n xs
-slice_rest xs n = take_all (length xs - n) (drop n xs) (omega (arith, length-drop n xs))
-
--- the records behind one, as the code has them
-pub kept_there : (active : ℕ → Bool) (r : LogRecord) (records : List Record) (n : ℕ) (b : Bool)
-    → is_kept active r (map record_of (take (length records - n) (drop n records))) ≡ b
-    → is_kept active r (map record_of (drop n records)) ≡ b
-kept_there active r records n b is = ap (λ (l : List Record). is_kept active r (map record_of l))
-    (sym (slice_rest records n)) ∙ is
 
 pub empty_is : (xs last : List ℕ) (b : Bool) → b ≡ eqb (length xs) 0 → b ≡ true → xs ≡ last
     → length last ≡ 0

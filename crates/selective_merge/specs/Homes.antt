@@ -1,5 +1,5 @@
 -- Where a unit is moved from, what is read of it, and why it isn't merged.
-use Rattle.std.specs.Prelude.{ℕ, ◌≡◌, ◌≢◌, ◌⊎◌, Bool, List, Option, Result, Ok, MatchResult, slice_index, if◌then◌else◌}
+use Rattle.std.specs.Prelude.{ℕ, ◌≡◌, ◌≢◌, ◌⊎◌, ◌==◌, ◌&&◌, Bool, List, Result, Ok, MatchResult, slice_index}
 use Rattle.ipl_base.specs.declared.limits.TheConstants.{PAGES}
 use Rattle.chip_trait.specs.Told.{Told, Rose}
 use Rattle.ipl_base.specs.declared.fault.ChipFault.{ChipFault}
@@ -7,7 +7,6 @@ use Rattle.ipl_base.specs.declared.fault.ChipFault.TheVariants.{ReadFault, Stopp
 use Rattle.ipl_format.specs.Record.{Record}
 use Rattle.ipl_meaning.specs.Layout.{Shape, records_of}
 use Rattle.ipl_meaning.specs.Tables.{Places, OverflowLists, Tables}
-use Rattle.ipl_meaning.specs.Values.{counts_for}
 use Rattle.unit_log.specs.Live.{OfMirrored}
 use Rattle.unit_log.specs.Looks.{IsLogRead}
 use Rattle.merge_rules.specs.Packs.{among}
@@ -27,10 +26,9 @@ from_home home numbers records = record {
   records = records;
 }
 
--- a slot's value once a record was applied, where it is of the page and its number is committed
-abbrev pub value_with : (ℕ → Bool) → ℕ → ℕ → Record → Option (List ℕ) → Option (List ℕ)
-value_with committed page slot r value =
-    if counts_for committed page slot r then r.change else value
+-- the record counts: it is of this page, and its number is in the set
+abbrev pub is_counted : (ℕ → Bool) → ℕ → Record → Bool
+is_counted committed page r = (r.page == page) && committed r.tid
 
 -- ---- what is read
 
@@ -58,13 +56,14 @@ pub record IsLearnt (t : Tables) (u : ℕ) (told : Told) (home : Home) (log : Li
 -- ---- causes
 
 -- why a unit isn't moved from this place, whatever the chip tells: a read or a write failed, and its
--- count rose; or a base sector of the place is at fault, and where it is damaged its sums differ
+-- count rose; or a base sector of the place is at fault, and where it is damaged its sums differ; or a
+-- page has no room, which is said of sector 0
 abbrev pub MoveCause : ℕ → ChipFault → Told → Told → Type 0
 MoveCause place ReadFault old new = Rose old.read_faults new.read_faults
 MoveCause place Stopped old new = Rose old.write_faults new.write_faults
 MoveCause place (Damaged p s stored computed) old new =
     (p ≡ place) × IsBaseSpotBelow PAGES s × (stored ≢ computed)
-MoveCause place (Malformed p s) old new = (p ≡ place) × IsBaseSpotBelow PAGES s
+MoveCause place (Malformed p s) old new = (p ≡ place) × (IsBaseSpotBelow PAGES s ⊎ (s ≡ 0))
 
 -- why it isn't merged: this, or its header or a sector where its log may be read is at fault
 abbrev pub MergeCause : ℕ → List (ℕ × ℕ) → ChipFault → Told → Told → Type 0

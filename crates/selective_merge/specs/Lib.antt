@@ -1,3 +1,4 @@
+pub mod Logs
 pub mod Throughout
 pub mod Packing
 pub mod Homes

@@ -37,11 +37,10 @@ StaysMirrored places t after c y = (it : Layout) → Mirrors places c it t
     → Mirrors places y it after × KeepsPages places c it y it
 
 -- where so many log sectors are carried, they are at most 12 once it is done; where they are more and
--- no read failed, sector 0 of this place is malformed, and only then
+-- no read failed, sector 0 of this place is malformed
 abbrev pub CarriesFew : {T : Type 0} → ℕ → ℕ → Result T ChipFault → Type 0
-CarriesFew place n result = MatchResult result (λ done. n ≤ CARRIED_SECTORS) (λ fault.
-    (fault ≡ Malformed place 0 → CARRIED_SECTORS < n)
-    × (CARRIED_SECTORS < n → (fault ≡ ReadFault) ⊎ (fault ≡ Malformed place 0)))
+CarriesFew place n result = MatchResult result (λ done. n ≤ CARRIED_SECTORS)
+    (λ fault. CARRIED_SECTORS < n → (fault ≡ ReadFault) ⊎ (fault ≡ Malformed place 0))
 
 -- ---- why it fails over what the chip holds
 
@@ -56,11 +55,11 @@ FailsAsMerge places t u result told = OfContents told (λ x. (it : Layout)
     → Mirrors places (chart_of x) it t
     → IfErr result (IsTheFault (merge_fault x t (it.units u) u)))
 
--- where the unit's pages read well and few log sectors would be carried, it fails only where a call
+-- where the unit's pages show values and few log sectors would be carried, it fails only where a call
 -- of the chip failed
 abbrev pub CompletesMerge : {T : Type 0} → ℕ → Tables → ℕ → Result T ChipFault → Told → Type 0
 CompletesMerge places t u result told = OfContents told (λ x. (it : Layout)
-    → Mirrors places (chart_of x) it t → IsMergeable (chart_of x) t (it.units u) u
+    → Mirrors places (chart_of x) it t → IsMergeable (chart_of x) it.committed t (it.units u) u
     → FailsByChipAlone result)
 
 -- ---- what a power cut leaves

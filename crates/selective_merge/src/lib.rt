@@ -11,10 +11,10 @@
 //! log sector.
 //!
 //! Proved, by `merge`, `log_place`: over what the chip holds it tells exactly what is wrong with
-//! the unit: too many log sectors to carry, or the first page that doesn't read well
-//! (`merge_fault`). So where the unit's pages read well and at most 12 log sectors would be
-//! carried, it fails only where a call of the chip failed, and the same goes for the place of a
-//! log sector.
+//! the unit: too many log sectors to carry, or the first page that doesn't read well or has no room
+//! for its committed records (`merge_fault`). So where the unit's pages show values, for which a
+//! page has room, and at most 12 log sectors would be carried, it fails only where a call of the
+//! chip failed, and the same goes for the place of a log sector.
 //!
 //! Proved, by `log_place`, `carried`: the next log sector goes where the first rule that applies
 //! says, exactly by what would be carried; how many sectors that is.
@@ -22,6 +22,7 @@
 
 mod active;
 mod carry;
+mod heads;
 mod home;
 mod learning;
 mod log;

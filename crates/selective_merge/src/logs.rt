@@ -10,7 +10,7 @@ ghost use Rattle.merge_rules.specs.Packs.{log_sector, IsLogSpotBelow, HasLogs};
 ghost use Rattle.selective_merge.specs.Writing.{WritesLog, WritesLogs};
 
 use chip_trait::Chip;
-use ipl_base::{ChipFault, Counter, Spot, VERSION};
+use ipl_base::{ChipFault, Counter, Spot};
 use log_records::Payload;
 use sector_format::Head;
 use unit_io::program_log;
@@ -41,13 +41,7 @@ fn write_log<C: Chip>(
         (C.told chip.old) (C.told chip.new) }
     ensures accounts { Accounts IsStopped result (C.told chip.old) (C.told chip.new) }
 {
-    let log = Head {
-        kind: Head::LOG,
-        version: VERSION,
-        unit: head.unit,
-        generation: head.generation,
-        serial: counter.draw(),
-    };
+    let log = Head::written(Head::LOG, head.unit, head.generation, counter.draw());
     let sector = log_sector(i);
     program_log(chip, Spot { place, sector }, &log, payload)
 }

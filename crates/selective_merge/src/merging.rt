@@ -117,8 +117,8 @@ fn merge_packed<C: Chip>(
     }
 }
 
-/// Merges a unit that was read. Malformed at sector 0 of its place exactly where more than 12 log
-/// sectors would be carried.
+/// Merges a unit that was read. Malformed at sector 0 of its place, where more than 12 log sectors
+/// would be carried.
 fn merge_known<C: Chip>(
     chip: &mut C,
     parts: &mut Parts,
@@ -199,7 +199,7 @@ pub fn merge_learnt<C: Chip>(
     ensures spares { OnOk result (SparesUsed parts.old.directory
         (C.told chip.old) (C.told chip.new)) }
 
-    // Why it fails over what the chip holds: where the unit's pages read well and few log sectors
+    // Why it fails over what the chip holds: where the unit's pages show values and few log sectors
     // would be carried, only where a call of the chip failed.
     ensures fault { TellsMergeFault (C.told chip.old).places (tables_of parts.old) unit result
         (C.told chip.old) }
@@ -237,11 +237,12 @@ pub fn merge_learnt<C: Chip>(
 ///
 /// Done, it drew a generation and a serial for each log sector that it wrote.
 ///
-/// It fails where a read or a write failed, where a base sector of a page is damaged or malformed, or
-/// where the log isn't what it must be. Over contents that the tables mirror it tells exactly what is
-/// wrong with the unit: that more than 12 log sectors would be carried, which is Malformed at sector 0
-/// of its place, or the fault of its first page that doesn't read well; and where neither is so, it
-/// fails only where a read or a write failed.
+/// It fails where a read or a write failed, where a base sector of a page is damaged or malformed, where
+/// a page has no room for its committed records, or where the log isn't what it must be. Over contents
+/// that the tables mirror it tells exactly what is wrong with the unit: that more than 12 log sectors
+/// would be carried, which is Malformed at sector 0 of its place, or the fault of its first page that
+/// doesn't read well, or has no room, which is that one too; and where neither is so, it fails only
+/// where a read or a write failed.
 pub fn merge<C: Chip>(chip: &mut C, parts: &mut Parts, unit: u32) -> Result<(), ChipFault>
     requires known { KnowsPlaces (C.told chip.old).places (tables_of parts.old) }
     requires unit { unit + 4 < (C.told chip.old).places }
@@ -261,7 +262,7 @@ pub fn merge<C: Chip>(chip: &mut C, parts: &mut Parts, unit: u32) -> Result<(), 
     ensures spares { OnOk result (SparesUsed parts.old.directory
         (C.told chip.old) (C.told chip.new)) }
 
-    // Why it fails over what the chip holds: where the unit's pages read well and few log sectors
+    // Why it fails over what the chip holds: where the unit's pages show values and few log sectors
     // would be carried, only where a call of the chip failed.
     ensures fault { TellsMergeFault (C.told chip.old).places (tables_of parts.old) unit result
         (C.told chip.old) }

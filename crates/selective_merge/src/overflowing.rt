@@ -15,7 +15,7 @@ ghost use Rattle.selective_merge.specs.Placing.{IsOpened, OpensPlace, Opens, Ope
 
 use crate::Parts;
 use chip_trait::Chip;
-use ipl_base::{ChipFault, Spot, VERSION};
+use ipl_base::{ChipFault, Spot};
 use merge_rules::known_laws;
 use sector_format::Head;
 use unit_io::{begin_unit, seal};
@@ -40,13 +40,7 @@ fn write_overflow<C: Chip>(
     begin_unit(chip, place)?;
     let mut payload = [0; 4];
     write_overflow_header(units, &mut payload);
-    let head = Head {
-        kind: Head::OVERFLOW_HEADER,
-        version: VERSION,
-        unit: 0,
-        generation,
-        serial: generation,
-    };
+    let head = Head::written(Head::OVERFLOW_HEADER, 0, generation, generation);
     seal(chip, place, &head, &payload)
 }
 

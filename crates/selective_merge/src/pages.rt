@@ -1,18 +1,22 @@
 //! The pages of a unit, moved to another place with the committed records applied.
-ghost use Rattle.std.specs.Prelude.{◌≡◌, ◌≢◌, ◌<◌, ◌≤◌, ◌↔◌, ℕ, is_ok, IfOk, OnOk};
-ghost use Rattle.ipl_base.specs.declared.limits.TheConstants.{PAGE_SECTORS, VERSION};
+ghost use Rattle.std.specs.Prelude.{◌≡◌, ◌≢◌, ◌<◌, ◌≤◌, ◌+◌, is_ok, length, take, drop, slice_index, IfOk, OnOk};
+ghost use Rattle.std.specs.Bool.{OnTrue, OnFalse};
+ghost use Rattle.ipl_base.specs.Sizes.{size_of_values};
+ghost use Rattle.ipl_base.specs.declared.limits.TheConstants.{LIVE_RECORDS, PAGE_LEN, PAGE_SECTORS, VERSION};
 ghost use Rattle.ipl_format.specs.Page.{IsPage, value_in};
-ghost use Rattle.log_records.specs.View.{record_of};
+ghost use Rattle.ipl_meaning.specs.Values.{Values};
 ghost use Rattle.unit_io.specs.Accounts.{Accounts};
 ghost use Rattle.unit_io.specs.Charts.{Spares};
 ghost use Rattle.unit_io.specs.Costs.{ProgramsAt, Spends};
 ghost use Rattle.unit_io.specs.Reads.{OfContents};
 ghost use Rattle.unit_io.specs.Spots.{Programs, IsPieceSpot};
+ghost use Rattle.page_ops.specs.Rebuilt.{with_records, AreComing, IsMaking};
 ghost use Rattle.merge_rules.specs.Faults.{page_fault_from, pages_fault, TellsTheFault};
 ghost use Rattle.merge_rules.specs.Pages.{IsBaseSpotBelow, IsFew};
 ghost use Rattle.merge_rules.specs.Packs.{among};
 ghost use Rattle.merge_rules.specs.Moved.{IsRebased, MovesPage, HasMoved, IsAside};
-ghost use Rattle.selective_merge.specs.Homes.{from_home, value_with, MoveCause};
+ghost use Rattle.selective_merge.specs.Homes.{from_home, is_counted, MoveCause};
+ghost use Rattle.selective_merge.specs.Logs.{nth_record};
 ghost use Rattle.selective_merge.specs.Throughout.{ChartsThroughout};
 ghost use Rattle.selective_merge.specs.Writing.{MovesOnePage, MovesPages};
 
@@ -20,8 +24,7 @@ use crate::home::Home;
 use crate::log::Log;
 use chip_trait::Chip;
 use ipl_base::{ChipFault, PAGES};
-use log_records::Record;
-use page_ops::apply;
+use page_ops::{Coming, apply_where_room};
 use page_text::PageMap;
 use sector_format::Head;
 use txn_status::Status;
@@ -34,32 +37,94 @@ fn is_committed(status: &Status, tid: u64) -> bool
     status.is_committed(tid)
 }
 
-/// Does what a record says, where it is of this page and its number is committed.
-fn apply_if(slots: &mut PageMap, page: u32, logged: &Record, status: &Status)
-    requires { logged.now.slot < 64 }
-    ensures applied { (slot : ℕ) → value_in slots.new slot
-        ≡ value_with (among status.now.numbers) page slot (record_of logged.now)
-        (value_in slots.old slot) }
+/// Whether the i-th record counts: it is of this page, and its number is committed.
+fn is_counted(log: &Log, i: usize, page: u32, status: &Status) -> bool
+    requires { i < length log.now }
+    ensures { result ≡ is_counted (among status.now.numbers) page (nth_record log.now i) }
 {
-    if logged.page == page && is_committed(status, logged.tid) {
-        apply(slots, logged);
-    }
+    log.page(i) == page && is_committed(status, log.number(i))
 }
 
-/// Applies the records of a page (0 to 14) whose numbers are committed, in their order.
-fn apply_committed(slots: &mut PageMap, page: u32, log: &Log, status: &Status)
-    ensures rebased { IsRebased (among status.now.numbers) log.now page slots.old slots.new }
-    ensures page { IsPage VERSION slots.new }
+/// Counts the i-th record on its slot, where it counts.
+fn count_record(coming: &mut Coming, page: u32, log: &Log, i: usize, status: &Status)
+    requires within { i < length log.now }
+    requires few { length log.now ≤ LIVE_RECORDS }
+    requires before { AreComing (among status.now.numbers) page (take i log.now) coming.old }
+    ensures { AreComing (among status.now.numbers) page (take (i + 1) log.now) coming.new }
 {
-    for logged in log.records() {
-        apply_if(slots, page, logged, status);
+    if !is_counted(log, i, page, status) {
+        return;
+    }
+    coming.add(log.slot(i));
+}
+
+/// For each slot of a page (0 to 14), how many records count.
+fn count_coming(page: u32, log: &Log, status: &Status) -> Coming
+    ensures { AreComing (among status.now.numbers) page log.now result }
+{
+    let mut coming = Coming::none();
+    for i in 0..log.len() {
+        count_record(&mut coming, page, log, i, status);
+    }
+    coming
+}
+
+/// Takes the i-th record, where it counts, off the count of its slot, and does what it says where it
+/// was the last one there. False where the page has no room for it.
+fn take_record(
+    slots: &mut PageMap,
+    coming: &mut Coming,
+    page: u32,
+    log: &Log,
+    i: usize,
+    status: &Status,
+) -> bool
+    requires within { i < length log.now }
+    requires coming { AreComing (among status.now.numbers) page (drop i log.now) coming.old }
+    ensures made { (base : Values)
+        → IsMaking (among status.now.numbers) page log.now (drop i log.now) base
+        coming.old slots.old
+        → OnTrue result (IsMaking (among status.now.numbers) page log.now (drop (i + 1) log.now) base
+        coming.new slots.new) }
+    ensures full { (base : Values)
+        → IsMaking (among status.now.numbers) page log.now (drop i log.now) base
+        coming.old slots.old
+        → OnFalse result (PAGE_LEN < size_of_values
+        (with_records (among status.now.numbers) page log.now base)) }
+{
+    if !is_counted(log, i, page, status) {
+        return true;
+    }
+    if !coming.take(log.slot(i)) {
+        return true;
+    }
+    apply_where_room(slots, &log.get(i))
+}
+
+/// Makes a page (0 to 14) anew with the records whose numbers are committed: each slot that has such
+/// records is emptied, and then its last one is done. False where the page has no room for all of them.
+fn make_anew(slots: &mut PageMap, page: u32, log: &Log, status: &Status) -> bool
+    ensures rebased { OnTrue result
+        (IsRebased (among status.now.numbers) log.now page slots.old slots.new) }
+    ensures page { OnTrue result (IsPage VERSION slots.new) }
+    ensures full { OnFalse result (PAGE_LEN < size_of_values
+        (with_records (among status.now.numbers) page log.now (value_in slots.old))) }
+{
+    let mut coming = count_coming(page, log, status);
+    coming.clear(slots);
+    for i in 0..log.len() {
+        if !take_record(slots, &mut coming, page, log, i, status) {
+            return false;
+        }
     }
     // What is kept in memory as a text has room for it.
     let _ = slots.text();
+    true
 }
 
 /// Reads a page (0 to 14) where the unit stands into a page in memory, and programs it as the
 /// committed records leave it, at another place; answers how many sectors it took there, 0 to 16.
+/// Malformed at sector 0 where the unit stands, where the page has no room for them.
 fn move_page<C: Chip>(
     chip: &mut C,
     home: &Home,
@@ -93,12 +158,18 @@ fn move_page<C: Chip>(
 {
     let count = u32::from(home.pieces[page as usize]);
     read_page(chip, home.place, &home.head, page, count, slots)?;
-    apply_committed(slots, page, log, status);
+    if !make_anew(slots, page, log, status) {
+        return Err(ChipFault::Malformed {
+            place: home.place,
+            sector: 0,
+        });
+    }
     program_page(chip, place, head, page, slots)
 }
 
 /// Moves all pages of a unit to a place without a header, as the committed records leave them, and
-/// answers how many sectors each took there.
+/// answers how many sectors each took there. Malformed at sector 0 where the unit stands, where a page
+/// has no room for them.
 pub fn move_pages<C: Chip>(
     chip: &mut C,
     home: &Home,

@@ -20,7 +20,7 @@ use crate::log::Log;
 use crate::logs::write_logs;
 use crate::pages::move_pages;
 use chip_trait::Chip;
-use ipl_base::{ChipFault, Counter, VERSION};
+use ipl_base::{ChipFault, Counter};
 use log_records::Payload;
 use sector_format::Head;
 use txn_status::Status;
@@ -158,13 +158,7 @@ pub fn write_unit<C: Chip>(
     ensures accounts { Accounts (MoveCause home.now.place) result
         (C.told chip.old) (C.told chip.new) }
 {
-    let head = Head {
-        kind: Head::DATA_HEADER,
-        version: VERSION,
-        unit: home.head.unit,
-        generation,
-        serial: generation,
-    };
+    let head = Head::written(Head::DATA_HEADER, home.head.unit, generation, generation);
     let pieces = fill(chip, home, log, status, place, &head, payloads, counter)?;
     let carried = count_of(payloads);
     seal_unit(chip, place, &head, units, pieces, carried)

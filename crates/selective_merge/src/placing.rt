@@ -123,7 +123,7 @@ pub fn log_place<C: Chip>(chip: &mut C, parts: &mut Parts, unit: u32) -> Result<
     ensures steps { MakesRoomInSteps IsPlaced (C.told chip.old).places unit
         (tables_of parts.old) (tables_of parts.new) (C.told chip.old) result (C.told chip.new) }
 
-    // Why it fails over what the chip holds: where the unit's pages read well and few log sectors
+    // Why it fails over what the chip holds: where the unit's pages show values and few log sectors
     // would be carried, only where a call of the chip failed.
     ensures fault { FailsAsMerge (C.told chip.old).places (tables_of parts.old) unit result
         (C.told chip.old) }

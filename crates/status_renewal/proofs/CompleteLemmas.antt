@@ -1,25 +1,18 @@
 -- A renewal and an opening of what reads well fail only where a call of the chip failed.
 use Rattle.std.proofs.Common.{◌≡◌, ◌⊎◌, ℕ, ◌<◌, ◌≤◌, ◌-◌, Bool, true, List, [], ◌∷◌, Some, None, Result, Ok, Err, IfErr, inl, inr, refl, sym, ◌∙◌, ap, subst, arith}
 use Rattle.std.proofs.lemmas.Bool.{cases_Bool}
-use Rattle.std.specs.List.{All}
 use Rattle.chip_trait.specs.Told.{Told}
-use Rattle.merge_rules.proofs.PacksLemmas.{all_records}
-use Rattle.ipl_base.specs.declared.limits.TheConstants.{VERSION}
-use Rattle.ipl_format.proofs.RecordLemmas.{all_stay}
-use Rattle.ipl_meaning.proofs.RoomLemmas.{shown_room}
 use Rattle.ipl_base.specs.declared.fault.ChipFault.{ChipFault}
 use Rattle.ipl_base.specs.declared.fault.ChipFault.TheVariants.{ReadFault, Stopped}
 use Rattle.ipl_base.specs.declared.fault.ImageFault.{ImageFault}
 use Rattle.ipl_base.specs.declared.fault.ImageFault.TheVariants.{Chip}
-use Rattle.ipl_format.specs.Page.{Slots, value_in}
-use Rattle.ipl_format.specs.Record.{Record, IsRecord}
+use Rattle.ipl_format.specs.Record.{Record}
 use Rattle.ipl_rules.specs.State.{Map}
 use Rattle.ipl_meaning.specs.Chart.{Chart, chart_of}
 use Rattle.ipl_meaning.specs.Last.{carried, carried_count}
-use Rattle.ipl_meaning.specs.Layout.{Shape, Layout, ReadsWell, records_of}
-use Rattle.ipl_meaning.specs.Stands.{Says, Shows}
+use Rattle.ipl_meaning.specs.Layout.{Shape, Layout, records_of}
+use Rattle.ipl_meaning.specs.Stands.{Says}
 use Rattle.ipl_meaning.specs.Tables.{Tables}
-use Rattle.ipl_meaning.specs.Values.{after_records}
 use Rattle.merge_rules.specs.Faults.{IsMergeable, FailsByChipAlone}
 use Rattle.merge_rules.specs.Packs.{among}
 use Rattle.merge_rules.proofs.FaultLemmas.{said_units_are_mergeable}
@@ -32,35 +25,17 @@ use Rattle.status_renewal.specs.Recovers.{FailsByCallAlone}
 
 -- ---- units
 
--- a page that reads well shows something
-shows_of : (c : Chart) (committed : ℕ → Bool) (u : ℕ) (it : Shape) (page : ℕ) (slots : Slots)
-    → ReadsWell c u it page slots → All (IsRecord VERSION) (records_of it.log)
-    → Shows c committed u it page
-    (λ slot. after_records committed page slot (records_of it.log) (value_in slots slot))
-shows_of c committed u it page slots reads valid = record {
-  base = slots;
-  reads = reads;
-  says = λ slot low. refl;
-  room = shown_room c committed u it page slots _ reads valid (λ slot low. refl);
-}
-
 -- a unit that the pass hasn't come to may be merged still
 pub mergeable_then : (places n : ℕ) (c : Chart) (it : Layout) (t : Tables) (kept : List ℕ)
     (old : Told) (mid : Tables) (was : HasPassed places n c it t kept old mid) → n < places - 4
     → mid.active ≡ t.active → AreMergeable places c it t
-    → IsMergeable (chart_of was.contents) mid (was.now.units n) n
+    → IsMergeable (chart_of was.contents) was.now.committed mid (was.now.units n) n
 mergeable_then places n c it t kept old mid was low active all =
     let may = all n low in
-    let same : was.now.units n ≡ it.units n = was.passed.same n low (inl (omega arith)) in
-    let log = (was.mirrors.laid.each n low).log in
-    let valid : All (IsRecord VERSION) (records_of (it.units n).log) =
-    subst (λ (s : Shape). All (IsRecord VERSION) (records_of s.log)) same
-    (all_records (was.now.units n).log
-    (λ k d within. all_stay _ _ (log.each k d within).records.valid)) in record {
+    let same : was.now.units n ≡ it.units n = was.passed.same n low (inl (omega arith)) in record {
       pages = λ page below.
-          let (slots, reads) = may.pages page below in
-          let shows = was.pages n page _ low below
-          (shows_of c it.committed n (it.units n) page slots reads valid) in (shows.base, shows.reads);
+          let (now, shows) = may.pages page below in
+          (now, was.pages n page now low below shows);
       few = subst (λ (a : List ℕ). carried_count (among a) (was.now.units n).log ≤ 12) (sym active)
           (subst (λ (s : Shape). carried_count (among t.active) s.log ≤ 12) (sym same) may.few);
     }

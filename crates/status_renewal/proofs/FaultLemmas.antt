@@ -1,5 +1,5 @@
 -- What is wrong with a unit that a pass comes to is what was wrong with it at first.
-use Rattle.std.proofs.Common.{◌≡◌, ℕ, ◌<◌, ◌≤◌, ◌+◌, ◌-◌, false, List, [], length, slice_index, Some, None, Result, Ok, Err, OnOk, IfErr, inl, inr, refl, sym, ◌∙◌, ap, subst, arith}
+use Rattle.std.proofs.Common.{◌≡◌, ℕ, ◌<◌, ◌≤◌, ◌+◌, ◌-◌, false, List, [], length, slice_index, Some, None, Result, Ok, Err, OnOk, IfErr, inl, inr, refl, sym, ◌∙◌, ap, ap₂, subst, arith}
 use Rattle.std.specs.Prelude.{nat_le, if◌then◌else◌}
 use Rattle.std.proofs.lemmas.Bool.{lt-leb}
 use Rattle.std.proofs.lemmas.List.Elements.{Contains-get_or}
@@ -12,12 +12,13 @@ use Rattle.ipl_base.specs.declared.fault.ImageFault.TheVariants.{Chip}
 use Rattle.ipl_meaning.specs.Chart.{chart_of}
 use Rattle.ipl_meaning.specs.Last.{carried_count}
 use Rattle.ipl_meaning.specs.Layout.{Shape, Layout, records_of}
+use Rattle.ipl_meaning.specs.Mirrors.{MirrorsStatus}
 use Rattle.ipl_meaning.specs.Tables.{IsFree, Tables, Status}
 use Rattle.merge_rules.specs.Faults.{pages_fault, merge_fault, IsTheFault}
 use Rattle.merge_rules.specs.Known.{KnowsPlaces}
 use Rattle.merge_rules.specs.Merged.{source_of}
 use Rattle.merge_rules.specs.Packs.{among}
-use Rattle.merge_rules.proofs.FaultLemmas.{faults_are_of_the_place, fault_with_few}
+use Rattle.merge_rules.proofs.FaultLemmas.{faults_are_of_the_place, merge_faults_are_of_the_unit}
 use Rattle.opening_rules.specs.Faults.{first_fault}
 use Rattle.opening_rules.specs.LaidOut.{layout_in}
 use Rattle.selective_merge.specs.Merging.{Merges, StaysMirrored, FailsAsMerge}
@@ -82,9 +83,10 @@ module _ (places n : ℕ) (x : Contents) (it : Layout) (t : Tables) (kept : List
         ≡ merge_fault x t (it.units n) n
     fault_is =
         ap (λ (s : Shape). merge_fault was.contents between s n) same_unit
-        ∙ ap (λ (a : List ℕ). if nat_le (carried_count (among a) (it.units n).log) 12
-        then pages_fault was.contents (source_of between (it.units n) n)
-        else Some (Malformed (it.units n).home 0)) active
+        ∙ ap₂ (λ (a numbers : List ℕ). if nat_le (carried_count (among a) (it.units n).log) 12
+        then pages_fault was.contents
+        (record (source_of t (it.units n) n) { committed = among numbers })
+        else Some (Malformed (it.units n).home 0)) active (ap (λ (s : Status). s.numbers) status)
         ∙ faults_are_of_the_place x was.contents t (it.units n) n
         (spared was.contents was.told n low (omega arith))
 
@@ -154,14 +156,16 @@ place_written places x it t after old new (Err e) is = λ read stopped. absurd (
 
 -- where no session is open, it is the fault of a page
 pub opening_fault : (places : ℕ) (x : Contents) (t : Tables) (fault : ChipFault)
-    → t.active ≡ [] → first_fault (chart_of x) places ≡ None
+    → t.active ≡ [] → MirrorsStatus (layout_in (chart_of x) places) t
+    → first_fault (chart_of x) places ≡ None
     → IsRenewalFault places x (layout_in (chart_of x) places) t fault
     → IsOpeningFault places x (Chip fault)
-opening_fault places x t fault none sound is =
-    let shape = (layout_in (chart_of x) places).units is.unit in
-    let few : carried_count (among t.active) shape.log ≤ 12 =
-    subst (λ (a : List ℕ). carried_count (among a) shape.log ≤ 12) (sym none)
-    (rw (carried_none (records_of shape.log)) (omega arith)) in
+opening_fault places x t fault none status sound is =
+    let it = layout_in (chart_of x) places in
+    let log = (it.units is.unit).log in
+    let few : carried_count (among t.active) log ≤ 12 =
+    subst (λ (a : List ℕ). carried_count (among a) log ≤ 12) (sym none)
+    (rw (carried_none (records_of log)) (omega arith)) in
     inr (
       sound,
       record {
@@ -169,6 +173,6 @@ opening_fault places x t fault none sound is =
         is = refl;
         unit = is.unit;
         low = is.low;
-        page = sym (fault_with_few x (source_of t shape is.unit) _ few) ∙ is.fault;
+        page = sym (merge_faults_are_of_the_unit x it t is.unit status few) ∙ is.fault;
       },
     )

@@ -182,9 +182,9 @@ abbrev pub FailsAsRenewal : ℕ → Tables → Result (Unit {0}) ChipFault → T
 FailsAsRenewal places t result told = OfContents told (λ x. (it : Layout)
     → Mirrors places (chart_of x) it t → IfErr result (FailsAsPass places x it t))
 
--- each unit's pages read well, and at most 12 log sectors of it would be carried
+-- each unit's pages show values, and at most 12 log sectors of it would be carried
 abbrev pub AreMergeable : ℕ → Chart → Layout → Tables → Type 0
-AreMergeable places c it t = (u : ℕ) → u < places - 4 → IsMergeable c t (it.units u) u
+AreMergeable places c it t = (u : ℕ) → u < places - 4 → IsMergeable c it.committed t (it.units u) u
 
 -- over contents that the tables mirror, where all units are such, it fails only where a call of the
 -- chip failed

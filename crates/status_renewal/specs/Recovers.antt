@@ -43,13 +43,14 @@ pub record HasOpened (places : ℕ) (c : Chart) (after : Tables) (y : Chart) : T
   pub exact : (tid : ℕ) → IsTrue (now.committed tid)
       ↔ (IsTrue ((layout_in c places).committed tid) × IsLoggedBelow (places - RESERVED_PLACES) now tid)
 
--- it is what is wrong with the first page of a unit that doesn't read well
+-- it is what is wrong with the first page of a unit that doesn't read well or, with its committed
+-- records, is more than a page holds
 pub record IsPageFault (places : ℕ) (x : Contents) (e : ImageFault) : Type 0 where
   pub fault : ChipFault
   pub is : e ≡ Chip fault
   pub unit : ℕ
   pub low : unit < places - RESERVED_PLACES
-  pub page : unit_fault x ((layout_in (chart_of x) places).units unit) unit ≡ Some fault
+  pub page : unit_fault x (layout_in (chart_of x) places) unit ≡ Some fault
 
 -- the fault is the first one of the chart; or it has none, and it is that of a page of a unit
 abbrev pub IsOpeningFault : ℕ → Contents → ImageFault → Type 0

@@ -10,12 +10,13 @@
 //! would have made more than 3,840. Not done, and no write failed, all pages show what they showed
 //! and the same numbers are committed. Over what the chip holds it fails with exactly what was
 //! wrong with a unit whose numbers don't fit, which is where it was, or where a call of the chip
-//! failed; with that alone where all units' pages read well and few log sectors of each would be
+//! failed; with that alone where all units' pages show values and few log sectors of each would be
 //! carried.
 //!
 //! Proved, by `recover`: an opening that ends with a renewal: the first fault, exactly, and a chip
 //! that has one was only read; or where there is none that of the first page of a unit that had to
-//! be merged and doesn't read well; where the pages say a map, only a failed call of the chip. Or
+//! be merged and doesn't read well, or has no room for its committed records; where the pages say a
+//! map, only a failed call of the chip. Or
 //! tables that mirror what the chip holds then, in which all pages show what they showed; the
 //! counter is above every number found, and by how much at most. Where the numbers that are kept
 //! are at most 3,840, each sector is read at most once (`once`). At each moment of it a power cut

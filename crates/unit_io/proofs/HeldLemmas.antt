@@ -217,10 +217,17 @@ module _ (x : Contents) (place v u g page pieces : ℕ) where
         said_fault place (base_sector_of page i) v u g (page * 16 + i) (eqb (i + 1) pieces) (x place (base_sector_of page i)) (base_sector v u g page i (page_text v slots)) true
         (it.here i low) (sym (rw (eq-eqb v v refl, eq-eqb u u refl, eq-eqb g g refl, eq-eqb (page * 16 + i) (page * 16 + i) refl) (filled_piece i low)))
 
+    -- what its base sectors hold is the text of the page
+    pub spells_text : SpellsPage v (text_below (chart_of x) place page pieces) slots
+    spells_text = record {
+      slots = it.fits;
+      text = text_is pieces (omega arith) ∙ take_all (480 * pieces) (page_text v slots) it.cut.enough;
+    }
+
     held_sound : page_fault x place v u g page pieces ≡ None
     held_sound =
         no_page_fault (first_none (piece_fault_at x place v u g page pieces) pieces sound_piece)
-        (slots, record { slots = it.fits; text = text_is pieces (omega arith) ∙ take_all (480 * pieces) (page_text v slots) it.cut.enough })
+        (slots, spells_text)
 
 pub sound_pages_are_held : SoundPagesAreHeld
 sound_pages_are_held x place v u g page pieces = (sound_page x place v u g page pieces, λ (slots, it). held_sound x place v u g page pieces slots it)

@@ -61,7 +61,7 @@ spares_waited p old new (Err e) did = tt
 -- ---- pages
 
 module _ (x y : Contents) (place : ℕ) (same : (s : ℕ) → y place s ≡ x place s) where
-  texts_alike : (page n : ℕ)
+  pub texts_alike : (page n : ℕ)
       → text_below (chart_of y) place page n ≡ text_below (chart_of x) place page n
   texts_alike page zero = refl
   texts_alike page (suc n) =

@@ -1,11 +1,10 @@
-use Rattle.std.proofs.Common.{◌+◌, ℕ, slice_index, Ok, Err, refl, subst, arith, sym}
+use Rattle.std.proofs.Common.{◌+◌, ℕ, slice_index, Ok, Err, refl, subst, arith}
 use Rattle.std.proofs.lemmas.Result.{err_from_is_err_and}
-use Rattle.ipl_base.specs.declared.limits.TheConstants.{VERSION}
-use Rattle.ipl_format.specs.Sector.{Sector}
 use Rattle.ipl_meaning.specs.TableSteps.{with_next}
+use Rattle.sector_format.specs.Decode.{sector_of}
 use Rattle.selective_merge.specs.Moving.{tables_of}
-use Rattle.page_writing.specs.Writing.{mask_by, IsAfterLog, IsLogOf}
-use Rattle.page_writing.proofs.LogLemmas.{log_told, log_steps}
+use Rattle.page_writing.specs.Writing.{mask_by, IsAfterLog}
+use Rattle.page_writing.proofs.LogLemmas.{log_of, log_told, log_steps}
 use Rattle.page_writing.proofs.SpotLemmas.{spot_within, spot_drawn, drawn_before, known_drawn, holds_drawn, log_holds}
 use Rattle.page_writing.proofs.SpendLemmas.{log_uses}
 use Rattle.page_writing.proofs.TidyLemmas.{logs_tidily, fails_tidily}
@@ -48,24 +47,12 @@ returns-in_err-program_log-clause-steps g c =
     let at = c.args.at in
     let t = tables_of c.args.parts.now in
     let payload = c.args.payload.now in
-    let sector : Sector = record {
-      kind = 5;
-      version = VERSION;
-      unit = c.args.unit;
-      generation = c.generation.result;
-      serial = c.draw.result;
-      payload = payload.bytes;
-    } in
-    let is : IsLogOf c.args.unit (slice_index t.places.generations c.args.unit) t.next payload sector = record {
-      kind = refl;
-      version_is = sym c.requires.version;
-      of_unit = refl;
-      of_generation = c.generation.ensures;
-      serial_is = c.draw.ensures.drawn;
-      payload_is = refl;
-    } in
+    let head = c.written-head.result in
+    let is = log_of c.args.unit (slice_index t.places.generations c.args.unit) t.next _ _ payload head
+    c.requires.version c.written-head.ensures c.generation-generation.ensures c.draw.ensures.drawn in
     let says = c.in_err-program_log.ensures in
-    rw (e.1, e.2) (log_steps old.places c.args.unit at payload t (with_next t c.draw.new.self) sector old
+    rw (e.1, e.2) (log_steps old.places c.args.unit at payload t (with_next t c.draw.new.self)
+    (sector_of head payload.bytes) old
     (g.C.Chip.told c.program_log.new.chip) (omega (arith, c.requires.unit)) is
     (Err c.in_err-program_log.field-0.0) c.requires.spot tt says.keeps says.accounts.cause)
 
@@ -82,28 +69,16 @@ returns-clause-steps g c =
     let t = tables_of c.args.parts.now in
     let after = tables_of c.use_spot.new.parts in
     let payload = c.args.payload.now in
-    let sector : Sector = record {
-      kind = 5;
-      version = VERSION;
-      unit = u;
-      generation = c.generation.result;
-      serial = c.draw.result;
-      payload = payload.bytes;
-    } in
-    let is : IsLogOf u (slice_index t.places.generations u) t.next payload sector = record {
-      kind = refl;
-      version_is = sym c.requires.version;
-      of_unit = refl;
-      of_generation = c.generation.ensures;
-      serial_is = c.draw.ensures.drawn;
-      payload_is = refl;
-    } in
+    let head = c.written-head.result in
+    let is = log_of u (slice_index t.places.generations u) t.next _ _ payload head
+    c.requires.version c.written-head.ensures c.generation-generation.ensures c.draw.ensures.drawn in
     let tables : IsAfterLog t after u at.place at.sector (mask_by payload) (t.next + 1) =
     drawn_before t after c.draw.new.self u at.place at.sector (mask_by c.args.payload.now) (t.next + 1)
     (subst (λ (n : ℕ). IsAfterLog (with_next t c.draw.new.self) after u at.place
     at.sector (mask_by c.args.payload.now) n) c.draw.ensures.next (used g c)) in
     let says = c.in_ok-program_log.ensures in
-    log_steps old.places u at payload t after sector old (g.C.Chip.told c.program_log.new.chip)
+    log_steps old.places u at payload t after (sector_of head payload.bytes) old
+    (g.C.Chip.told c.program_log.new.chip)
     (omega (arith, c.requires.unit)) is (Ok tt) c.requires.spot tables says.keeps
     says.accounts.cause
 
@@ -115,29 +90,17 @@ returns-clause-tells g c =
     let t = tables_of c.args.parts.now in
     let after = tables_of c.use_spot.new.parts in
     let payload = c.args.payload.now in
-    let sector : Sector = record {
-      kind = 5;
-      version = VERSION;
-      unit = u;
-      generation = c.generation.result;
-      serial = c.draw.result;
-      payload = payload.bytes;
-    } in
-    let is : IsLogOf u (slice_index t.places.generations u) t.next payload sector = record {
-      kind = refl;
-      version_is = sym c.requires.version;
-      of_unit = refl;
-      of_generation = c.generation.ensures;
-      serial_is = c.draw.ensures.drawn;
-      payload_is = refl;
-    } in
+    let head = c.written-head.result in
+    let is = log_of u (slice_index t.places.generations u) t.next _ _ payload head
+    c.requires.version c.written-head.ensures c.generation-generation.ensures c.draw.ensures.drawn in
     let tables : IsAfterLog t after u at.place at.sector (mask_by payload) (t.next + 1) =
     drawn_before t after c.draw.new.self u at.place at.sector (mask_by c.args.payload.now) (t.next + 1)
     (subst (λ (n : ℕ). IsAfterLog (with_next t c.draw.new.self) after u at.place
     at.sector (mask_by c.args.payload.now) n) c.draw.ensures.next (used g c)) in
     let holds = log_holds old.places t u at.place at.sector (mask_by payload) (t.next + 1)
     c.requires.known after tables in
-    log_told old.places u at payload t after sector old (g.C.Chip.told c.program_log.new.chip)
+    log_told old.places u at payload t after (sector_of head payload.bytes) old
+    (g.C.Chip.told c.program_log.new.chip)
     (omega (arith, c.requires.unit)) is tables holds.known.none_lost
     c.in_ok-program_log.ensures.tells
 

@@ -36,9 +36,7 @@ returns-then-not-pack_carried-clause-few g c =
 
 pub returns-clause-few : goal.returns-clause-few
 returns-clause-few g c =
-    few_packed c.args.home.now.place _ _ (g.C.Chip.told c.args.chip.now)
-    (g.C.Chip.told c.merge_packed.new.chip) c.merge_packed.result c.merge_packed.ensures.few
-    c.merge_packed.ensures.accounts.cause
+    few_packed c.args.home.now.place _ c.merge_packed.result c.merge_packed.ensures.few
 
 pub returns-then-not-pack_carried-clause-fault : goal.returns-then-not-pack_carried-clause-fault
 returns-then-not-pack_carried-clause-fault g c = λ x told read stopped.

@@ -1,9 +1,13 @@
-use Rattle.std.proofs.Common.{false, arith, ℕ, refl, subst}
+use Rattle.std.proofs.Common.{false, arith, ℕ, OnOk, refl, subst}
 use Rattle.std.proofs.lemmas.Result.{err_from_is_err_and}
 use Rattle.std.specs.Prelude.{is_ok}
 use Rattle.ipl_base.specs.declared.limits.TheConstants.{VERSION}
 use Rattle.ipl_format.specs.Sector.{Sector}
 use Rattle.ipl_meaning.proofs.MirrorLemmas.{free_places_are_idle}
+use Rattle.sector_format.specs.Decode.{sector_of}
+use Rattle.sector_format.specs.declared.sector.Head.{Head}
+use Rattle.unit_io.specs.Charts.{Charts, Gains}
+use Rattle.unit_io.specs.Costs.{ProgramsAt, Spends}
 use Rattle.unit_io.proofs.CostLemmas.{spends_once_at_most, spends_once_then}
 use Rattle.selective_merge.proofs.OverflowLemmas.{HeaderSays, IsOverflowHead, open_unerased, place_opened, opened_told}
 use Rattle.selective_merge.proofs.TidyLemmas.{tidy_headed}
@@ -39,13 +43,16 @@ returns-clause-opens g c = λ m it t h steady rests mirrors free.
       counts = c.write_overflow_header.ensures;
     } in
     let begun = c.in_ok-begin_unit.ensures in
+    let says = subst (λ (w : Head). HeaderSays mid.places c.args.place
+    (sector_of w c.write_overflow_header.new.out) mid c.seal.result new) c.written-head.ensures
+    c.seal.ensures.leads in
     place_opened places c.args.place c.args.units c.args.generation m it t h mirrors free head
     (g.C.Chip.told c.args.chip.now) mid new
     c.seal.result is
     (begun.keeps m it h steady rests mirrors.laid
     (free_places_are_idle places _ it t c.args.place mirrors free))
     (subst (λ (q : ℕ). HeaderSays q c.args.place head mid c.seal.result new)
-    begun.accounts.counts.places c.seal.ensures.leads)
+    begun.accounts.counts.places says)
 
 pub returns-clause-tells : goal.returns-clause-tells
 returns-clause-tells g c =
@@ -63,9 +70,13 @@ returns-clause-tells g c =
       serial = refl;
       counts = c.write_overflow_header.ensures;
     } in
+    let mid = g.C.Chip.told c.begin_unit.new.chip in
+    let new = g.C.Chip.told c.seal.new.chip in
     opened_told c.args.place c.args.units c.args.generation head (g.C.Chip.told c.args.chip.now)
-    (g.C.Chip.told c.begin_unit.new.chip) (g.C.Chip.told c.seal.new.chip) is
-    c.in_ok-begin_unit.ensures.tells c.seal.result c.seal.ensures.tells
+    mid new is c.in_ok-begin_unit.ensures.tells c.seal.result
+    (subst (λ (w : Head). OnOk c.seal.result (Charts (Gains c.args.place 0
+    (sector_of w c.write_overflow_header.new.out)) mid new)) c.written-head.ensures
+    c.seal.ensures.tells)
 
 pub returns-in_err-begin_unit-clause-costs : goal.returns-in_err-begin_unit-clause-costs
 returns-in_err-begin_unit-clause-costs g c =
@@ -75,9 +86,12 @@ returns-in_err-begin_unit-clause-costs g c =
 
 pub returns-clause-costs : goal.returns-clause-costs
 returns-clause-costs g c =
-    spends_once_then c.args.place 1 1 2 3 (is_ok c.seal.result) (g.C.Chip.told c.args.chip.now)
-    (g.C.Chip.told c.begin_unit.new.chip) (g.C.Chip.told c.seal.new.chip)
-    c.in_ok-begin_unit.ensures.costs c.seal.ensures.costs
+    let mid = g.C.Chip.told c.begin_unit.new.chip in
+    let new = g.C.Chip.told c.seal.new.chip in
+    spends_once_then c.args.place 1 1 2 3 (is_ok c.seal.result) (g.C.Chip.told c.args.chip.now) mid new
+    c.in_ok-begin_unit.ensures.costs
+    (subst (λ (w : Head). Spends (ProgramsAt c.args.place 1 2 w.kind) mid new) c.written-head.ensures
+    c.seal.ensures.costs)
 
 pub returns-clause-tidy : goal.returns-clause-tidy
 returns-clause-tidy g c =

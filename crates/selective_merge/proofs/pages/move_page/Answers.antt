@@ -1,5 +1,6 @@
-use Rattle.std.proofs.Common.{Ok, Err, arith}
+use Rattle.std.proofs.Common.{Ok, Err, ◌∙◌, arith}
 use Rattle.std.proofs.lemmas.Result.{err_from_is_err_and}
+use Rattle.ipl_meaning.specs.Chart.{chart_of}
 use Rattle.unit_io.proofs.CostLemmas.{spends_at_most}
 use Rattle.selective_merge.specs.Homes.{from_home}
 use Rattle.selective_merge.proofs.PageMoveLemmas.{page_unread, page_moves, page_tells}
@@ -7,7 +8,10 @@ use Rattle.selective_merge.proofs.SpendLemmas.{spends_read, programs_behind}
 use Rattle.selective_merge.proofs.ThroughoutLemmas.{page_asked_at}
 use Rattle.unit_io.proofs.SparesLemmas.{spares_none, spares_behind}
 use Rattle.merge_rules.specs.Faults.{page_fault_from}
-use Rattle.merge_rules.proofs.FaultLemmas.{fault_as, page_told, page_fine, tells_written}
+use Rattle.ipl_base.specs.declared.fault.ChipFault.TheVariants.{Malformed}
+use Rattle.merge_rules.proofs.FaultLemmas.{fault_as, page_told, page_fine, page_full, tells_written}
+use Rattle.selective_merge.proofs.MoveLemmas.{aside_none}
+use Rattle.selective_merge.proofs.PageLemmas.{rebased_fits}
 use Rattle.unit_io.specs.Spots.{IsPieceSpot}
 use Rattle.selective_merge.proofs.TidyLemmas.{tidy_read, tidy_behind}
 use Rattle.selective_merge.proofs.pages.move_page.Goals as goal
@@ -31,8 +35,8 @@ returns-clause-moves g c =
     let from = from_home c.args.home.now c.args.status.now.numbers c.args.log.now in
     let read = c.in_ok-read_page.ensures in
     page_moves old.places from c.args.place c.args.head.now.generation c.args.page
-    c.read_page.new.into c.apply_committed.new.slots c.apply_committed.ensures.page
-    c.apply_committed.ensures.rebased old mid late
+    c.read_page.new.into c.make_anew.new.slots c.if-not-make_anew.ensures.page
+    c.if-not-make_anew.ensures.rebased old mid late
     (page_asked_at {T = Unit {0}} from.place c.args.page c.from-count.result (Ok tt) old mid read.asks
     read.accounts.counts) _ c.from-count.ensures c.args.head.now.unit c.requires.unit read.page
     c.program_page.result c.program_page.ensures.keeps
@@ -46,8 +50,8 @@ returns-clause-tells g c =
     let from = from_home c.args.home.now c.args.status.now.numbers c.args.log.now in
     let read = c.in_ok-read_page.ensures in
     page_tells old.places from c.args.place c.args.head.now.generation c.args.page
-    c.read_page.new.into c.apply_committed.new.slots c.apply_committed.ensures.page
-    c.apply_committed.ensures.rebased old mid late
+    c.read_page.new.into c.make_anew.new.slots c.if-not-make_anew.ensures.page
+    c.if-not-make_anew.ensures.rebased old mid late
     (page_asked_at {T = Unit {0}} from.place c.args.page c.from-count.result (Ok tt) old mid read.asks
     read.accounts.counts) _ c.from-count.ensures c.args.head.now.unit c.requires.unit read.page
     c.program_page.result c.program_page.ensures.tells c.program_page.ensures.accounts.cause
@@ -83,8 +87,59 @@ returns-clause-fault g c = λ x told.
     let from = from_home c.args.home.now c.args.status.now.numbers c.args.log.now in
     tells_written (page_fault_from x from c.args.page) (g.C.Chip.told c.read_page.new.chip)
     (g.C.Chip.told c.program_page.new.chip) c.program_page.result
-    (page_fine x from c.args.page c.from-count.result c.from-count.ensures
-    (c.in_ok-read_page.ensures.exact x told)) c.program_page.ensures.accounts.cause
+    (page_fine x from c.args.page c.from-count.result c.read_page.new.into c.from-count.ensures
+    (c.in_ok-read_page.ensures.page x told)
+    (rebased_fits from.committed from.records c.args.page c.read_page.new.into c.make_anew.new.slots
+    c.if-not-make_anew.ensures.rebased c.if-not-make_anew.ensures.page))
+    c.program_page.ensures.accounts.cause
+
+-- ---- no room
+
+pub returns-then-not-make_anew-clause-moves : goal.returns-then-not-make_anew-clause-moves
+returns-then-not-make_anew-clause-moves g c =
+    let old = g.C.Chip.told c.args.chip.now in
+    let new = g.C.Chip.told c.read_page.new.chip in
+    let from = from_home c.args.home.now c.args.status.now.numbers c.args.log.now in
+    let read = c.in_ok-read_page.ensures in
+    page_unread old.places from c.args.place c.args.head.now.generation c.args.page
+    (Malformed from.place 0) old new (page_asked_at {T = Unit {0}} from.place c.args.page
+    c.from-count.result (Ok tt) old new read.asks read.accounts.counts)
+
+pub returns-then-not-make_anew-clause-tells : goal.returns-then-not-make_anew-clause-tells
+returns-then-not-make_anew-clause-tells g c =
+    let old = g.C.Chip.told c.args.chip.now in
+    let new = g.C.Chip.told c.read_page.new.chip in
+    let read = c.in_ok-read_page.ensures in
+    λ soft x told. (
+      x,
+      (page_asked_at {T = Unit {0}} c.args.home.now.place c.args.page c.from-count.result (Ok tt)
+          old new read.asks read.accounts.counts).contents ∙ told,
+      aside_none c.args.place (chart_of x),
+    )
+
+pub returns-then-not-make_anew-clause-fault : goal.returns-then-not-make_anew-clause-fault
+returns-then-not-make_anew-clause-fault g c = λ x told read stopped.
+    page_full x (from_home c.args.home.now c.args.status.now.numbers c.args.log.now) c.args.page
+    c.from-count.result c.read_page.new.into c.from-count.ensures
+    (c.in_ok-read_page.ensures.page x told) c.if-not-make_anew.ensures.full
+
+pub returns-then-not-make_anew-clause-costs : goal.returns-then-not-make_anew-clause-costs
+returns-then-not-make_anew-clause-costs g c =
+    let old = g.C.Chip.told c.args.chip.now in
+    let new = g.C.Chip.told c.read_page.new.chip in
+    let read = c.in_ok-read_page.ensures in
+    spends_at_most c.args.place 0 16 0 0 4 old new (omega arith) (omega arith)
+    (spends_read _ c.args.place 4 old new (page_asked_at {T = Unit {0}} c.args.home.now.place
+    c.args.page c.from-count.result (Ok tt) old new read.asks read.accounts.counts))
+
+pub returns-then-not-make_anew-clause-tidy : goal.returns-then-not-make_anew-clause-tidy
+returns-then-not-make_anew-clause-tidy g c =
+    let old = g.C.Chip.told c.args.chip.now in
+    let new = g.C.Chip.told c.read_page.new.chip in
+    let read = c.in_ok-read_page.ensures in
+    tidy_read _ c.args.place (IsPieceSpot c.args.page 16) _ old new (page_asked_at {T = Unit {0}}
+    c.args.home.now.place c.args.page c.from-count.result (Ok tt) old new read.asks
+    read.accounts.counts)
 
 pub returns-clause-spares : goal.returns-clause-spares
 returns-clause-spares g c =

@@ -1,10 +1,13 @@
-use Rattle.std.proofs.Common.{ℕ, false, length, arith, subst}
+use Rattle.std.proofs.Common.{ℕ, false, length, Ok, OnOk, arith, subst}
 use Rattle.std.proofs.lemmas.Result.{err_from_is_err_and}
 use Rattle.std.specs.Prelude.{is_ok}
 use Rattle.ipl_meaning.proofs.MirrorLemmas.{free_places_are_idle}
 use Rattle.unit_io.proofs.CostLemmas.{spends_once_at_most, spends_once_then}
 use Rattle.selective_merge.specs.Homes.{from_home}
-use Rattle.selective_merge.specs.Writing.{SealsUnit}
+use Rattle.sector_format.specs.declared.sector.Head.{Head}
+use Rattle.unit_io.specs.Charts.{Charts}
+use Rattle.merge_rules.specs.Merged.{IsFilled}
+use Rattle.selective_merge.specs.Writing.{FillsPlace, IsSealed, SealsUnit}
 use Rattle.selective_merge.proofs.SealLemmas.{unit_written, written_told, fill_failed}
 use Rattle.merge_rules.specs.Faults.{pages_fault}
 use Rattle.merge_rules.proofs.FaultLemmas.{fault_as, tells_written}
@@ -30,14 +33,20 @@ returns-clause-writes g c = λ m it t u h steady rests what.
     let from = from_home c.args.home.now c.args.status.now.numbers c.args.log.now in
     let pieces = c.in_ok-pieces.pieces in
     let filled = c.in_ok-pieces.ensures in
+    let fills = subst (λ (w : Head). FillsPlace old.places from c.args.place w.generation
+    c.args.counter.now c.args.payloads.now old (Ok pieces) mid) c.written-head.ensures
+    filled.fills in
+    let seals = subst (λ (w : Head). SealsUnit mid.places c.args.place c.args.units w.unit
+    w.generation pieces c.count_of-carried.result mid c.seal_unit.result new)
+    c.written-head.ensures c.seal_unit.ensures.seals in
     unit_written old.places c.args.units c.args.place c.args.generation c.args.counter.now
     c.count_of-carried.result from c.args.payloads.now pieces c.requires.sized filled.few
     c.count_of-carried.ensures m it t u h old mid new c.seal_unit.result what rests
     filled.accounts.counts
-    (filled.fills m it h steady rests what.mirrors.laid
+    (fills m it h steady rests what.mirrors.laid
     (free_places_are_idle _ _ it t c.args.place what.mirrors what.free))
     (subst (λ (q : ℕ). SealsUnit q c.args.place c.args.units from.unit c.args.generation pieces
-    c.count_of-carried.result mid c.seal_unit.result new) filled.accounts.counts.places c.seal_unit.ensures.seals)
+    c.count_of-carried.result mid c.seal_unit.result new) filled.accounts.counts.places seals)
     c.seal_unit.ensures.accounts.cause
 
 pub returns-clause-tells : goal.returns-clause-tells
@@ -46,10 +55,16 @@ returns-clause-tells g c =
     let mid = g.C.Chip.told c.fill.new.chip in
     let new = g.C.Chip.told c.seal_unit.new.chip in
     let from = from_home c.args.home.now c.args.status.now.numbers c.args.log.now in
+    let pieces = c.in_ok-pieces.pieces in
     let filled = c.in_ok-pieces.ensures in
     written_told old.places c.args.units c.args.place c.args.generation c.args.counter.now
-    c.count_of-carried.result from c.args.payloads.now c.in_ok-pieces.pieces c.requires.sized filled.few
-    c.count_of-carried.ensures old mid new c.seal_unit.result filled.tells c.seal_unit.ensures.tells
+    c.count_of-carried.result from c.args.payloads.now pieces c.requires.sized filled.few
+    c.count_of-carried.ensures old mid new c.seal_unit.result
+    (subst (λ (w : Head). Charts (IsFilled from c.args.place w.generation c.args.counter.now pieces
+    c.args.payloads.now) old mid) c.written-head.ensures filled.tells)
+    (subst (λ (w : Head). OnOk c.seal_unit.result (Charts (IsSealed c.args.place c.args.units w.unit
+    w.generation pieces c.count_of-carried.result) mid new)) c.written-head.ensures
+    c.seal_unit.ensures.tells)
     c.seal_unit.ensures.accounts.cause
 
 pub returns-in_err-pieces-clause-costs : goal.returns-in_err-pieces-clause-costs

@@ -192,7 +192,7 @@ returns-in_err-renew_with-clause-tells g c = λ x told.
     c.recover.new.overflow c.recover.new.status c.recover.new.counter active c.requires.active
     (c.in_ok-found.ensures.opened x told) (c.in_ok-found.ensures.mirrors x told) in
     rw (e.1 ∙ ap Err e.2) (λ no_read no_stop. opening_fault old.places x t fault c.requires.active
-    (c.in_ok-found.ensures.fault x told)
+    parts.1.status (c.in_ok-found.ensures.fault x told)
     (subst (λ n. FailsAsRenewal n t (Err fault) mid) reads.counts.places
     c.in_err-renew_with.ensures.fault x (reads.contents ∙ told) it parts.1
     (λ is. no_read (ap Chip is)) (λ is. no_stop (ap Chip is))))

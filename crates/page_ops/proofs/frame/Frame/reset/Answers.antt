@@ -1,8 +1,9 @@
-use Rattle.page_ops.proofs.SlotLemmas.{all_none, none_tidy}
+use Rattle.page_ops.proofs.FrameLemmas.{fresh}
+use Rattle.page_ops.proofs.SlotLemmas.{all_none}
 use Rattle.page_ops.proofs.frame.Frame.reset.Goals as goal
 
 pub invariant_of-self : goal.invariant_of-self
-invariant_of-self c = none_tidy c.reset-3.new.self c.reset-2.new.self c.reset-2.ensures
+invariant_of-self c = fresh c.reset.new.self c.reset-3.new.self c.reset-2.new.self c.reset-2.ensures
     c.reset-3.ensures
 
 pub returns : goal.returns

@@ -1,8 +1,25 @@
-use Rattle.std.proofs.Common.{◌<◌, ◌∙◌, sym, length, ap, arith}
+use Rattle.std.proofs.Common.{◌<◌, ◌∙◌, refl, sym, length, ap, arith}
 use Rattle.page_ops.specs.Pending.{seen_by, without_pending}
 use Rattle.page_ops.specs.Frames.{FrameView, pending_in, values_in}
+use Rattle.page_ops.proofs.FrameLemmas.{dropped_frame, room_to_settle, settled_frame}
 use Rattle.page_ops.proofs.SlotLemmas.{becomes, changed_others, gone, not_seen, stays}
 use Rattle.page_ops.proofs.frame.Frame.settle_at.Goals as goal
+
+pub copy_slot-requires-clause-room : goal.copy_slot-requires-clause-room
+copy_slot-requires-clause-room c =
+    let p = c.self.inside in
+    room_to_settle p.page _ p.numbers p.values c.args.slot c.self.invariant refl
+    c.text.ensures.text.slots
+
+pub invariant_of-self : goal.invariant_of-self
+invariant_of-self c =
+    let p = c.self.inside in
+    let within : c.args.slot < length c.clear.new.self =
+    omega (arith, c.clear.ensures.page.slots, c.requires) in
+    let settled = settled_frame p.page c.copy_slot.new.to p.numbers p.values c.args.slot
+    c.self.invariant c.copy_slot.ensures.copied c.text.ensures.text.slots in
+    dropped_frame c.copy_slot.new.to p.numbers c.take.new.self p.values c.clear.new.self
+    c.args.slot settled c.requires within c.take.ensures c.clear.ensures.cleared
 
 pub returns-then-is_of-clause-value : goal.returns-then-is_of-clause-value
 returns-then-is_of-clause-value c =
@@ -17,7 +34,7 @@ returns-then-is_of-clause-value c =
 pub returns-then-is_of-clause-pending : goal.returns-then-is_of-clause-pending
 returns-then-is_of-clause-pending c =
     let p = c.self.inside in
-    let low : c.args.slot < length p.numbers = omega (arith, c.self.invariant.count, c.requires) in
+    let low : c.args.slot < length p.numbers = omega (arith, c.self.invariant.own.count, c.requires) in
     let within : c.args.slot < length c.clear.new.self =
     omega (arith, c.clear.ensures.page.slots, c.requires) in
     gone p.numbers p.values c.args.slot c.args.tid c.get.result c.get.ensures c.take.new.self
