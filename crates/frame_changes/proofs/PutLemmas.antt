@@ -6,10 +6,11 @@ use Rattle.std.proofs.lemmas.Bool.{false≢true}
 use Rattle.mem_log_sector.proofs.MemLemmas.{done_as_it_fits}
 use Rattle.buffer_pool.proofs.IndexLemmas.{some_is, no_some}
 use Rattle.slab.specs.Slab.{get}
+use Rattle.ipl_base.specs.declared.limits.TheConstants.{PAGE_LEN}
 use Rattle.ipl_format.specs.Record.{Record}
 use Rattle.ipl_meaning.specs.Last.{size_of, size_of_all}
-use Rattle.page_ops.specs.Frames.{FrameView, pending_in, IsSettled, IsDropped}
-use Rattle.page_ops.specs.Pending.{with_pending}
+use Rattle.page_ops.specs.Frames.{FrameView, values_in, pending_in, IsSettled, IsDropped}
+use Rattle.page_ops.specs.Pending.{fill_by, with_pending}
 use Rattle.mem_log_sector.specs.MemLogs.{without_tid}
 use Rattle.buffer_pool.specs.declared.pool.Buffer.{Buffer}
 use Rattle.buffer_pool.specs.Pools.{PoolView, HasPage, IsAbsent, AreOnce, with_buffers}
@@ -25,7 +26,7 @@ use Rattle.pending_writes.specs.Frames.{Frame, Frames, logs_of, with_frame_at, I
 use Rattle.store_steps.specs.Views.{frame_of}
 use Rattle.store_steps.proofs.ViewLemmas.{settled_frames_are_committed, dropped_frames_are_aborted, changed_frames_are_written}
 use Rattle.frame_changes.specs.Views.{frame_in, frames_of}
-use Rattle.frame_changes.specs.Changes.{FrameChanges, IsClearedFrame, MayPut}
+use Rattle.frame_changes.specs.Changes.{noted, FrameChanges, IsClearedFrame, MayPut, PutHasRoom}
 use Rattle.frame_changes.proofs.FrameLemmas.{frame_found, loans_change_a_frame, put_again}
 
 -- a page that is in no frame has none
@@ -156,6 +157,16 @@ module _ (p : PoolView) (u page key : ℕ) (once : AreOnce p.buffers)
     changes = did;
     frames = loans_change_a_frame p u page key (with_frame f) once has (refl, refl);
   }
+
+  -- whether the page's frame has room for a record's change
+  pub room_told : (r : Record) (before : FrameView) (told : Bool) (f : Frame) → before ≡ has.buffer.frame
+      → (IsTrue told ↔ (fill_by (values_in before) (noted (pending_in before) r) ≤ PAGE_LEN))
+      → frames_of p u page ≡ Some f → IsTrue told ↔ PutHasRoom f r
+  room_told r before told f framed when there =
+      let own : f ≡ frame_in has.buffer = some_is f (frame_in has.buffer)
+      (sym there ∙ frame_found p u page key once has) in
+      subst (λ (g : Frame). IsTrue told ↔ PutHasRoom g r) (sym own)
+      (subst (λ (x : FrameView). IsTrue told ↔ (fill_by (values_in x) (noted (pending_in x) r) ≤ PAGE_LEN)) framed when)
 
   pub frame_pins : (f : FrameView) → KeepsPins p (with_frame_under p key f)
   frame_pins f = loans_keep p key (with_frame f) some_there (λ b. ((refl, refl), refl))

@@ -1,8 +1,10 @@
 -- What calls make of the frames of a pool.
 use Rattle.std.specs.Prelude.{ℕ, ◌≡◌, ◌≤◌, ◌+◌, [], Some}
 use Rattle.ipl_base.specs.Places.{home_of}
+use Rattle.ipl_base.specs.declared.limits.TheConstants.{PAGE_LEN}
 use Rattle.ipl_format.specs.Record.{Record}
 use Rattle.ipl_meaning.specs.Last.{size_of, size_of_all}
+use Rattle.page_ops.specs.Pending.{Pendings, fill_by, with_pending}
 use Rattle.pending_writes.specs.Frames.{Frame, Frames, with_frame_at, with_frame_log}
 use Rattle.store_steps.specs.NamedFrames.{ChangesPageOf}
 
@@ -11,6 +13,14 @@ pub record MayPut (frames : Frames) (unit : ℕ) (r : Record) : Type 0 where
   pub frame : Frame
   pub there : frames unit r.page ≡ Some frame
   pub fits : size_of_all frame.log + size_of r ≤ 480
+
+-- what is pending once the record's change is noted
+abbrev pub noted : Pendings → Record → Pendings
+noted pending r = with_pending pending r.slot (r.tid, r.change)
+
+-- the page has room for all that may become values then
+abbrev pub PutHasRoom : Frame → Record → Type 0
+PutHasRoom f r = fill_by f.values (noted f.pending r) ≤ PAGE_LEN
 
 -- the page's frame changes so, and no other
 pub record FrameChanges (R : Frame → Frame → Type 0) (old new : Frames) (unit page : ℕ)

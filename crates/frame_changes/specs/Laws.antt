@@ -1,14 +1,21 @@
 -- What the calls of a pool make of its frames.
-use Rattle.std.specs.Prelude.{ℕ, ◌≡◌, [], Some, None}
+use Rattle.std.specs.Prelude.{ℕ, ◌≡◌, ◌≤◌, ◌<◌, List, [], Some, None}
+use Rattle.ipl_base.specs.declared.limits.TheConstants.{SLOTS}
+use Rattle.ipl_rules.specs.Marks.{Marks}
+use Rattle.ipl_format.specs.Record.{Record}
 use Rattle.slab.specs.Slab.{get, Updates}
 use Rattle.page_ops.specs.Frames.{empty_frame}
+use Rattle.page_ops.specs.Pending.{mark_of}
 use Rattle.buffer_pool.specs.declared.pool.Buffer.{Buffer}
 use Rattle.buffer_pool.specs.Pools.{PoolView, HasPage, IsAbsent, AreOnce, Changes, new_buffer, with_buffers}
 use Rattle.buffer_pool.specs.Lending.{changed_at}
 use Rattle.buffer_pool.specs.Laws.{SamePage}
-use Rattle.pending_writes.specs.Frames.{with_frame_at}
+use Rattle.pending_writes.specs.Pending.{name_at}
+use Rattle.pending_writes.specs.Room.{PageHasRoomFor}
+use Rattle.pending_writes.specs.Frames.{Frame, with_frame_at}
 use Rattle.store_steps.specs.Views.{frame_of}
 use Rattle.frame_changes.specs.Views.{frame_in, frames_of}
+use Rattle.frame_changes.specs.Changes.{PutHasRoom}
 
 -- a page that is brought in has an empty frame
 abbrev pub BringsAddAFrame : Type 0
@@ -42,3 +49,10 @@ LoansChangeAFrame = (p : PoolView) (unit page key : ℕ) (change : Buffer → Bu
     → SamePage (change has.buffer) has.buffer
     → frames_of (with_buffers p (changed_at p.buffers key change))
     ≡ with_frame_at (frames_of p) unit page (Some (frame_in (change has.buffer)))
+
+-- where what is pending in a frame takes no more than these marks, a put for which its page has room
+-- by them has room there
+abbrev pub PutsByMarksHaveRoom : Type 0
+PutsByMarksHaveRoom = (marks : Marks) (u : ℕ) (r : Record) (f : Frame) (bytes : List ℕ)
+    → ((slot : ℕ) → slot < SLOTS → mark_of (f.pending slot) ≤ marks (name_at u r.page slot))
+    → r.change ≡ Some bytes → PageHasRoomFor marks u r f.values → PutHasRoom f r

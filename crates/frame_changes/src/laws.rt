@@ -4,6 +4,7 @@ ghost use Rattle.frame_changes.specs.Laws.{
   EvictionsTakeAFrame,
   PinsKeepFrames,
   LoansChangeAFrame,
+  PutsByMarksHaveRoom,
 };
 
 /// What the calls of a pool make of its frames: a page brought in has an empty one, a page evicted has
@@ -13,4 +14,10 @@ pub fn buffer_laws()
     ensures evicts { EvictionsTakeAFrame }
     ensures pins { PinsKeepFrames }
     ensures loans { LoansChangeAFrame }
+{}
+
+/// What the marks of open sessions tell of a frame: where what is pending there takes no more than these,
+/// a put for which the page has room by them has room in the frame.
+pub fn room_laws()
+    ensures { PutsByMarksHaveRoom }
 {}

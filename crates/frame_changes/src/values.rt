@@ -9,7 +9,7 @@ ghost use Rattle.frame_changes.specs.Views.{frames_of};
 use buffer_pool::Pool;
 use page_ops::Frame;
 
-/// The committed value of a slot (0 to 63) of a page (0 to 14 of a unit), at most 108 bytes, where the
+/// The committed value of a slot (0 to 63) of a page (0 to 14 of a unit), at most 464 bytes, where the
 /// page is in a frame.
 pub fn committed_value(pool: &Pool, unit: u32, page: u32, slot: u32) -> Option<&[u8]>
     requires page { page < 15 }
@@ -26,7 +26,7 @@ pub fn committed_value(pool: &Pool, unit: u32, page: u32, slot: u32) -> Option<&
 }
 
 /// What a session of this number sees in a slot (0 to 63) of a page (0 to 14 of a unit): its own change,
-/// where it has one there, or else the committed value. At most 108 bytes, where the page is in a frame.
+/// where it has one there, or else the committed value. At most 464 bytes, where the page is in a frame.
 pub fn seen_value(pool: &Pool, unit: u32, page: u32, slot: u32, tid: u64) -> Option<&[u8]>
     requires page { page < 15 }
     requires slot { slot < 64 }

@@ -33,7 +33,8 @@ use Rattle.page_frames.specs.Complete.{Completes}
 use Rattle.page_frames.specs.Faulty.{FailsByPage, TellsFaults}
 use Rattle.page_frames.specs.Pages.{tables_in, IsFramed, KeepsFramed, KeepsFramedFor, PageCause, Upholds}
 use Rattle.transactions.specs.declared.transactions.Transactions.{Transactions}
-use Rattle.transactions.specs.Turns.{memory_in, IsInOrder, Turns, TurnsInMemory}
+use Rattle.transactions.specs.Turns.{memory_in, CompletesFor, IsInOrder, TellsFaultsFor, Turns, TurnsInMemory}
+use Rattle.transactions.proofs.TurnLemmas.{completes_for, tells_for}
 use Rattle.ipl_store.specs.declared.store.Store.{Store}
 use Rattle.ipl_store.specs.Calls.{memory_of_store, view_of, counter_of, IsMade, IsSound, early_fault, entry_fault, down_fault, is_stopped, EndsAs, IsOfTheChip, EndsFor, KeepsHolds, Calls}
 use Rattle.ipl_store.specs.Shown.{IsUsedLastIn}
@@ -95,14 +96,14 @@ pub record Moves (next : State → State) (most : ℕ) (old : Transactions) (bef
   pub least : old.pages.parts.counter ≤ new.pages.parts.counter
   pub drawn : new.pages.parts.counter ≤ old.pages.parts.counter + most
   pub accounts : Accounts PageCause done before after
-  pub complete : Completes old.pages done before
-  pub faults : TellsFaults old.pages done before new.pages
+  pub complete : CompletesFor old done before
+  pub faults : TellsFaultsFor old done before new.pages
 
-pub turns_move : (next : State → State) (most : ℕ) (old new : Transactions) (before after : Told)
+pub writes_move : (next : State → State) (most : ℕ) (old new : Transactions) (before after : Told)
     (done : Result (Unit {0}) ChipFault) → Turns next most old before done new after
-    → Completes old.pages done before → TellsFaults old.pages done before new.pages
+    → CompletesFor old done before → TellsFaultsFor old done before new.pages
     → Moves next most old before done new after
-turns_move next most old new before after done did complete faults = record {
+writes_move next most old new before after done did complete faults = record {
   leads = did.leads;
   tidy = did.tidy;
   order = did.order;
@@ -113,6 +114,14 @@ turns_move next most old new before after done did complete faults = record {
   complete = complete;
   faults = faults;
 }
+
+pub turns_move : (next : State → State) (most : ℕ) (old new : Transactions) (before after : Told)
+    (done : Result (Unit {0}) ChipFault) → Turns next most old before done new after
+    → Completes old.pages done before → TellsFaults old.pages done before new.pages
+    → Moves next most old before done new after
+turns_move next most old new before after done did complete faults =
+    writes_move next most old new before after done did (completes_for old done before complete)
+    (tells_for old done before new.pages faults)
 
 -- one in memory alone
 pub memory_moves : (next : State → State) (most : ℕ) (old new : Transactions) (told : Told)
@@ -129,8 +138,8 @@ memory_moves next most old new told did order least drawn = record {
   least = least;
   drawn = drawn;
   accounts = record { counts = counts_none told; cause = tt };
-  complete = λ x there slots it state fits says. tt;
-  faults = λ x there slots it state fits. tt;
+  complete = λ x there it state fits says. tt;
+  faults = λ x there it state fits. tt;
 }
 
 -- one that knows the pages alone
@@ -147,8 +156,8 @@ pages_move most old pages before after result order did complete faults = record
   least = did.least;
   drawn = did.drawn;
   accounts = did.accounts;
-  complete = complete;
-  faults = faults;
+  complete = completes_for old result before complete;
+  faults = tells_for old result before pages faults;
 }
 
 -- ---- the end of a call
@@ -204,11 +213,11 @@ blamed_so places x it (Err e) was is result ends a b same blamed =
 
 -- work that is complete, where store and contents show a state
 shown_complete : (store : Store) (before : Told) (done : Result (Unit {0}) ChipFault)
-    → store.units + 4 ≡ before.places → Completes store.transactions.pages done before
+    → store.units + 4 ≡ before.places → CompletesFor store.transactions done before
     → OfContents before (λ x. (state : State) → ShowsState (view_of store) state x
     → FailsByChipAlone done)
 shown_complete store before done suits complete x told state shown =
-    complete x told store.transactions.sessions shown.layout state
+    complete x told shown.layout state
     (subst (λ (n : ℕ). MemoryFits n (chart_of x) shown.layout (memory_of_store store) state) suits
     shown.fits)
     (subst (λ (n : ℕ). Says n (chart_of x) shown.layout state.map) suits shown.says)
@@ -258,7 +267,7 @@ module _ (next : State → State) (most : ℕ) (old : Store) (t : Transactions) 
       faults = λ x told it state fits. blamed_so before.places x it done old.down new.down result
           ends (tables_in t.pages) (tables_in new.transactions.pages)
           (ap (λ (it : Transactions). tables_in it.pages) (sym moved))
-          (moves.faults x told old.transactions.sessions it state fits);
+          (moves.faults x told it state fits);
     };
     sound = record {
       made = made;
@@ -308,6 +317,52 @@ let_in_calls early next most old before result new after none calls = record {
   counts = calls.counts;
 }
 
+-- ---- a call with another answer
+
+pub calls_as : {T U : Type 0} (early : Option StoreFault) (next : State → State) (most : ℕ)
+    (old : Store) (before : Told) (v : T) (w : U) (new : Store) (after : Told)
+    → Calls early next most old before (Ok v) new after
+    → Calls early next most old before (Ok w) new after
+calls_as early next most old before v w new after did = record {
+  refuses = λ fault is. let no : Ok v ≡ Err fault = (did.refuses fault is).0 in absurd (cc no);
+  serves = λ none.
+      let serves = did.serves none in record {
+        leads = answers_advance (TurnsMapOf next) next (memory_of_store old) (memory_of_store new)
+            (Ok v) (Ok w) before after refl serves.leads;
+        ends = serves.ends;
+        least = serves.least;
+        drawn = serves.drawn;
+        complete = λ x told state shown. tt;
+        faults = λ x told it state fits. tt;
+      };
+  sound = did.sound;
+  tidy = did.tidy;
+  counts = did.counts;
+}
+
+pub calls_fail_as : {T U : Type 0} (early : Option StoreFault) (next : State → State) (most : ℕ)
+    (old : Store) (before : Told) (fault : StoreFault) (new : Store) (after : Told)
+    → Calls {T = T} early next most old before (Err fault) new after
+    → Calls {T = U} early next most old before (Err fault) new after
+calls_fail_as early next most old before fault new after did = record {
+  refuses = λ first is.
+      let (answer, same, idle) = did.refuses first is in
+      let which : fault ≡ first = cc answer in (ap Err which, same, idle);
+  serves = λ none.
+      let serves = did.serves none in record {
+        leads = answers_advance (TurnsMapOf next) next (memory_of_store old) (memory_of_store new)
+            (Err fault) (Err fault) before after refl serves.leads;
+        ends = serves.ends;
+        least = serves.least;
+        drawn = serves.drawn;
+        complete = serves.complete;
+        faults = serves.faults;
+      };
+  sound = did.sound;
+  tidy = did.tidy;
+  counts = did.counts;
+}
+
 -- ---- a call that does nothing
 
 pub idle_calls : (most : ℕ) (store : Store) (told : Told) (early : Option StoreFault)
@@ -326,8 +381,8 @@ idle_calls most store told early sound up none =
       least = omega arith;
       drawn = omega arith;
       accounts = record { counts = counts_none told; cause = tt };
-      complete = λ x there slots it state fits says. tt;
-      faults = λ x there slots it state fits. tt;
+      complete = λ x there it state fits says. tt;
+      faults = λ x there it state fits. tt;
     }) refl (refl, refl) early none
 
 -- what holds where the work was done holds where the call was

@@ -13,9 +13,8 @@ use Rattle.ipl_meaning.specs.Tables.{Tables}
 use Rattle.unit_io.specs.Reads.{OfContents}
 use Rattle.pending_writes.specs.Pending.{name_at}
 use Rattle.pending_writes.specs.Frames.{Frame, Frames}
-use Rattle.store_steps.specs.Advances.{TurnsMapOf, KeepsState}
+use Rattle.store_steps.specs.Advances.{KeepsState}
 use Rattle.store_steps.specs.Keeps.{View, ShowsState, TellsName}
-use Rattle.store_steps.proofs.AdvanceLemmas.{answers_advance}
 use Rattle.store_steps.proofs.ViewLemmas.{frames_tell_state}
 use Rattle.record_locks.specs.Held.{number_of}
 use Rattle.page_ops.specs.Pending.{seen_by}
@@ -30,8 +29,8 @@ use Rattle.transactions.specs.declared.transactions.Transactions.{Transactions}
 use Rattle.transactions.specs.Costs.{AsksToWrite}
 use Rattle.transactions.specs.Turns.{TurnsInMemory}
 use Rattle.ipl_store.specs.declared.store.Store.{Store}
-use Rattle.ipl_store.specs.Calls.{memory_of_store, view_of, IsSound}
-use Rattle.ipl_store.proofs.CallLemmas.{calls_refused, let_in_calls, failed_calls, calls_joined}
+use Rattle.ipl_store.specs.Calls.{view_of, IsSound}
+use Rattle.ipl_store.proofs.CallLemmas.{calls_refused, let_in_calls, calls_as, calls_fail_as, failed_calls, calls_joined}
 use Rattle.ipl_store.specs.Shown.{ShowsName, FramesName, IsSeen, IsCommitted, Fetches, answered, AsksForPage, Looks}
 
 name_of_home : (n : ℕ) → name_at (home_of n).unit (home_of n).page (home_of n).slot ≡ n
@@ -68,7 +67,7 @@ shown_frames_tell v n store t later f old new suits keeper there state x told sh
 
 -- ---- the name of a page that was brought in
 
-some_is : {A : Type 0} (o : Option A) → IsSome o → (x : A) × (o ≡ Some x)
+pub some_is : {A : Type 0} (o : Option A) → IsSome o → (x : A) × (o ≡ Some x)
 some_is None some = absurd (cc some)
 some_is (Some x) some = (x, refl)
 
@@ -97,23 +96,7 @@ pub looks_as : {U : Type 0} (early : Option StoreFault) (next : State → State)
     → Fetches early next n old before (Ok tt) new after
     → Looks early next n old before (Ok v) new after
 looks_as early next n old before v new after did = record {
-  calls = record {
-    refuses = λ fault is.
-        let no : Ok tt ≡ Err fault = (did.calls.refuses fault is).0 in absurd (cc no);
-    serves = λ none.
-        let serves = did.calls.serves none in record {
-          leads = answers_advance (TurnsMapOf next) next (memory_of_store old)
-              (memory_of_store new) (Ok tt) (Ok v) before after refl serves.leads;
-          ends = serves.ends;
-          least = serves.least;
-          drawn = serves.drawn;
-          complete = λ x told state shown. tt;
-          faults = λ x told it state fits. tt;
-        };
-    sound = did.calls.sound;
-    tidy = did.calls.tidy;
-    counts = did.calls.counts;
-  };
+  calls = calls_as early next 14 old before tt v new after did.calls;
   holds = did.holds;
   framed = subst IsSome (sym did.names.there) refl;
   used = did.used;
@@ -125,24 +108,7 @@ looks_fail : {U : Type 0} (early : Option StoreFault) (next : State → State) (
     → Fetches early next n old before (Err fault) new after
     → Looks {T = U} early next n old before (Err fault) new after
 looks_fail {U} early next n old before fault new after did = record {
-  calls = record {
-    refuses = λ first is.
-        let (answer, same, idle) = did.calls.refuses first is in
-        let which : fault ≡ first = cc answer in (ap Err which, same, idle);
-    serves = λ none.
-        let serves = did.calls.serves none in record {
-          leads = answers_advance (TurnsMapOf next) next (memory_of_store old)
-              (memory_of_store new) (Err fault) (Err fault) before after refl serves.leads;
-          ends = serves.ends;
-          least = serves.least;
-          drawn = serves.drawn;
-          complete = serves.complete;
-          faults = serves.faults;
-        };
-    sound = did.calls.sound;
-    tidy = did.calls.tidy;
-    counts = did.calls.counts;
-  };
+  calls = calls_fail_as early next 14 old before fault new after did.calls;
   holds = did.holds;
   framed = tt;
   used = tt;

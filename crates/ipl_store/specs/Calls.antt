@@ -135,7 +135,8 @@ EndsFor before result new after = MatchResult result (λ v. new.down ≡ false)
     × (new.down ≡ is_stopped e))
 
 -- Over contents that the memory fits, whatever their pages say, the fault is of a page that didn't
--- read well, at the place where its unit is then; or a call of the chip failed.
+-- read well or had no room for its values, at the place where its unit is then; or a call of the
+-- chip failed.
 abbrev pub BlamesPages : {T : Type 0} → Store → Told → Result T StoreFault → Store → Type 0
 BlamesPages old before result new = OfContents before (λ x. (it : Layout) (state : State)
     → MemoryFits before.places (chart_of x) it (memory_of_store old) state
@@ -144,7 +145,7 @@ BlamesPages old before result new = OfContents before (λ x. (it : Layout) (stat
 
 -- A call that is let in. It leads from each state that memory and chip stand for to the next one,
 -- and at most so many numbers were drawn. Over contents that the memory shows a state of, it fails
--- only where a call of the chip failed; and else by a page that doesn't read well.
+-- only where a call of the chip failed; and else by a page that doesn't read well or has no room.
 pub record Serves {T : Type 0} (next : State → State) (most : ℕ) (old : Store) (before : Told)
     (result : Result T StoreFault) (new : Store) (after : Told) : Type 0 where
   pub leads : LeadsTo next (memory_of_store old) before result (memory_of_store new) after

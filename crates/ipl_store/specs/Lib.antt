@@ -1,3 +1,4 @@
 pub mod Calls
 pub mod Openings
 pub mod Shown
+pub mod Puts

@@ -1,25 +1,29 @@
 //! Sessions change names, and are committed.
-ghost use Rattle.std.specs.Prelude.{◌≤◌, ◌^◌, [], ◌∷◌, Some, None, length, OnOk};
+ghost use Rattle.std.specs.Prelude.{◌≡◌, ◌≤◌, ◌^◌, [], ◌∷◌, Some, None, length, OnOk};
 ghost use Rattle.ipl_base.specs.declared.limits.TheConstants.{SESSIONS};
 ghost use Rattle.ipl_base.specs.Places.{home_of};
 ghost use Rattle.ipl_rules.specs.Operations.{after_write, after_commit, after_batch};
-ghost use Rattle.ipl_rules.specs.Refusals.{refuses_put, refuses_del, refuses_end, refuses_batch};
+ghost use Rattle.ipl_rules.specs.Refusals.{refuses_end, refuses_batch};
 ghost use Rattle.record_locks.specs.Standing.{state_of};
 ghost use Rattle.store_steps.specs.Keeps.{limits_of};
+ghost use Rattle.store_steps.specs.Refusals.{sessions_refuse_del};
 ghost use Rattle.page_frames.specs.Pages.{IsFramed, KeepsFramed, KeepsFramedFor};
 ghost use Rattle.transactions.specs.Costs.{AsksToWrite, CommitAsks};
 ghost use Rattle.ipl_store.specs.Calls.{IsSound, KeepsHolds, Calls, early_fault, entry_fault};
+ghost use Rattle.ipl_store.specs.Puts.{found_room, put_fault, put_next, PutsBy, TellsRoom};
 ghost use Rattle.ipl_store.specs.Shown.{IsUsedLastIn};
 
 use crate::Store;
 use chip_trait::Chip;
-use ipl_base::{Name, StoreFault, Value};
+use frame_changes::overfills;
+use ipl_base::{Name, Refusal, StoreFault, Value};
 use log_records::Change;
 use store_steps::passing_laws;
 
 impl Store {
-    /// Puts a value of at most 108 bytes at a name, for a session. It counts once that is
-    /// committed.
+    /// Puts a value of at most 464 bytes at a name, for a session. It counts once that is
+    /// committed. The page of the name is brought into a frame before it is refused as full: where
+    /// it might come to take more than it has, whichever open sessions commit.
     pub fn put<C: Chip>(
         &mut self,
         chip: &mut C,
@@ -28,14 +32,20 @@ impl Store {
         value: &[u8],
     ) -> Result<(), StoreFault>
         requires sound { IsSound (C.told chip.old).places self.old }
-        ensures calls { Calls (early_fault (entry_fault self.old)
-            (refuses_put (limits_of self.old.units) (state_of self.old.transactions.sessions)
-            s n value.now)) (λ state. after_write state s (n, Some value.now)) 14
-            self.old (C.told chip.old) result self.new (C.told chip.new) }
+        ensures calls { Calls (put_fault self.old s n value.now)
+            (put_next s n value.now (found_room result)) 14
+            self.old (C.told chip.old) (found_room result) self.new (C.told chip.new) }
+        ensures steps { put_fault self.old s n value.now ≡ None → PutsBy s n value.now
+            self.old (C.told chip.old) (found_room result) self.new (C.told chip.new) }
+        // It is refused as full exactly where the states that the store and the chip's contents
+        // show have no room for it.
+        ensures full { put_fault self.old s n value.now ≡ None → TellsRoom n value.now
+            self.old (C.told chip.old) (found_room result) }
         ensures holds { KeepsHolds self.old self.new }
-        ensures framed { OnOk result
+        ensures framed { OnOk (found_room result)
             (IsFramed self.new.transactions.pages (home_of n).unit (home_of n).page) }
-        ensures used { OnOk result (IsUsedLastIn self.new (home_of n).unit (home_of n).page) }
+        ensures used { OnOk (found_room result)
+            (IsUsedLastIn self.new (home_of n).unit (home_of n).page) }
         ensures stays { KeepsFramedFor (home_of n).unit (home_of n).page
             self.old.transactions.pages self.new.transactions.pages }
         ensures asks { AsksToWrite n (Some value.now) self.old.transactions.pages
@@ -43,12 +53,15 @@ impl Store {
     {
         self.admit(self.refuses_put(s, n, value))?;
         passing_laws();
-        let Some(value) = Value::of(value) else {
-            unreachable!("it has at most 108 bytes");
+        let Some(copy) = Value::of(value) else {
+            unreachable!("it has at most 464 bytes");
         };
-        let done = self
-            .transactions
-            .write(chip, s, Name(n), Change::Put(value));
+        self.bring(chip, n)?;
+        let held = &self.transactions;
+        if overfills(&held.pages.pool, &held.sessions, Name(n), value) {
+            return Err(StoreFault::Refused(Refusal::PageFull));
+        }
+        let done = self.transactions.write(chip, s, Name(n), Change::Put(copy));
         self.end(done)
     }
 
@@ -56,7 +69,7 @@ impl Store {
     pub fn del<C: Chip>(&mut self, chip: &mut C, s: u32, n: u32) -> Result<(), StoreFault>
         requires sound { IsSound (C.told chip.old).places self.old }
         ensures calls { Calls (early_fault (entry_fault self.old)
-            (refuses_del (limits_of self.old.units) (state_of self.old.transactions.sessions) s n))
+            (sessions_refuse_del (limits_of self.old.units) self.old.transactions.sessions s n))
             (λ state. after_write state s (n, None)) 14
             self.old (C.told chip.old) result self.new (C.told chip.new) }
         ensures holds { KeepsHolds self.old self.new }

@@ -22,6 +22,7 @@ ghost use Rattle.ipl_store.specs.Calls.{
   entry_fault,
   refuses_name,
 };
+ghost use Rattle.ipl_store.specs.Puts.{HasBrought};
 ghost use Rattle.ipl_store.specs.Shown.{answered, AsksFor, Fetches, IsSeen, IsCommitted, Looks};
 
 use crate::Store;
@@ -33,7 +34,7 @@ use store_steps::passing_laws;
 impl Store {
     /// Brings the page of a name of the chip into a frame. The store isn't down, and has numbers
     /// left.
-    fn bring<C: Chip>(&mut self, chip: &mut C, n: u32) -> Result<(), StoreFault>
+    pub(crate) fn bring<C: Chip>(&mut self, chip: &mut C, n: u32) -> Result<(), StoreFault>
         requires sound { IsSound (C.told chip.old).places self.old }
         requires up { self.old.down ≡ false }
         requires name { n < 960 * self.old.units }
@@ -42,13 +43,16 @@ impl Store {
             self.old (C.told chip.old) result self.new (C.told chip.new) }
         ensures sessions { self.new.transactions.sessions ≡ self.old.transactions.sessions }
         ensures asks { AsksFor n self.old (C.told chip.old) (C.told chip.new) }
+        ensures brought { OnOk result (HasBrought (home_of n).unit (home_of n).page
+            self.old (C.told chip.old) self.new (C.told chip.new)) }
     {
         let home = home(Name(n));
+        self.transactions.pages.pool.facts();
         let done = self.transactions.pages.bring(chip, home.unit, home.page);
         self.end(done)
     }
 
-    /// What a session (0 to 31) sees of a name whose page is in a frame, at most 108 bytes.
+    /// What a session (0 to 31) sees of a name whose page is in a frame, at most 464 bytes.
     fn seen(&self, s: u32, n: u32) -> Option<&[u8]>
         requires session { s < SESSIONS }
         ensures seen { (f : Frame) (tid : ℕ) → number_of self.now.transactions.sessions s ≡ Some tid
@@ -90,7 +94,7 @@ impl Store {
     }
 
     /// What a session sees of a name: its own last write there, or else the committed record. It
-    /// takes no lock. The slice, of at most 108 bytes, is lent from the page's frame.
+    /// takes no lock. The slice, of at most 464 bytes, is lent from the page's frame.
     pub fn get<C: Chip>(
         &mut self,
         chip: &mut C,
@@ -189,7 +193,7 @@ impl Store {
         )
     }
 
-    /// The committed record of a name, where it has one. The slice, of at most 108 bytes, is
+    /// The committed record of a name, where it has one. The slice, of at most 464 bytes, is
     /// lent from the page's frame.
     pub fn committed<C: Chip>(&mut self, chip: &mut C, n: u32) -> Result<Option<&[u8]>, StoreFault>
         requires sound { IsSound (C.told chip.old).places self.old }

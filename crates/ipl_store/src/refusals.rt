@@ -1,18 +1,19 @@
 //! When calls are refused, by the sessions alone.
-ghost use Rattle.std.specs.Prelude.{◌≡◌, ◌<◌, ◌≤◌, ◌↔◌, IsTrue, IfNone};
+ghost use Rattle.std.specs.Prelude.{◌≡◌, ◌<◌, ◌≤◌, ◌↔◌, Some, length, IsTrue, IfNone};
+ghost use Rattle.ipl_base.specs.declared.limits.TheConstants.{VALUE_LEN};
+ghost use Rattle.ipl_base.specs.Sizes.{size_in_page};
 ghost use Rattle.buffer_pool.specs.Holding.{IsHeld};
 ghost use Rattle.record_locks.specs.Standing.{state_of};
 ghost use Rattle.ipl_rules.specs.Refusals.{
   refuses_begin,
   refuses_get,
   refuses_share,
-  refuses_put,
-  refuses_del,
   refuses_end,
   refuses_batch,
   refuses_merge,
 };
 ghost use Rattle.store_steps.specs.Keeps.{limits_of};
+ghost use Rattle.store_steps.specs.Refusals.{sessions_refuse_put, sessions_refuse_del};
 ghost use Rattle.ipl_store.specs.Calls.{
   is_held,
   refuses_pair,
@@ -101,10 +102,10 @@ impl Store {
         self.transactions.sessions.refuses_share(s, Name(n))
     }
 
-    /// Why a put is refused, if it is.
+    /// Why a put is refused before its page is looked at, if it is.
     pub(crate) fn refuses_put(&self, s: u32, n: u32, value: &[u8]) -> Option<Refusal>
-        ensures { result ≡ refuses_put (limits_of self.now.units)
-            (state_of self.now.transactions.sessions) s n value.now }
+        ensures { result ≡ sessions_refuse_put (limits_of self.now.units)
+            self.now.transactions.sessions s n value.now }
     {
         if let Some(refusal) = self.refuses_pair(s, n) {
             return Some(refusal);
@@ -112,18 +113,19 @@ impl Store {
         if value.len() > VALUE_LEN {
             return Some(Refusal::TooLong);
         }
-        self.transactions.sessions.refuses_write(s, Name(n))
+        let size = size_in_page(value);
+        self.transactions.sessions.refuses_write(s, Name(n), size)
     }
 
     /// Why a delete is refused, if it is.
     pub(crate) fn refuses_del(&self, s: u32, n: u32) -> Option<Refusal>
-        ensures { result ≡ refuses_del (limits_of self.now.units)
-            (state_of self.now.transactions.sessions) s n }
+        ensures { result ≡ sessions_refuse_del (limits_of self.now.units)
+            self.now.transactions.sessions s n }
     {
         if let Some(refusal) = self.refuses_pair(s, n) {
             return Some(refusal);
         }
-        self.transactions.sessions.refuses_write(s, Name(n))
+        self.transactions.sessions.refuses_write(s, Name(n), 0)
     }
 
     /// Why a merge is refused, if it is.
@@ -187,6 +189,14 @@ impl Store {
         }
         None
     }
+}
+
+/// What a value of at most 464 bytes takes in the text of its page.
+fn size_in_page(value: &[u8]) -> u32
+    requires { length value.now ≤ VALUE_LEN }
+    ensures { result ≡ size_in_page (Some value.now) }
+{
+    3 + value.len() as u32
 }
 
 /// Whether a page (0 to 14 of a unit) is held.

@@ -1,4 +1,4 @@
--- What calls on pages ask of the chip: one page written out, or made ready for a record.
+-- What calls on pages ask of the chip: one page written out, brought in, or made ready for a record.
 use Rattle.std.proofs.Common.{◌≡◌, ◌≢◌, ℕ, [], ◌∷◌, Result, Ok, inl, refl, sym, subst, arith}
 use Rattle.std.specs.Prelude.{IsSome}
 use Rattle.std.proofs.lemmas.Bool.{false≢true}
@@ -7,6 +7,8 @@ use Rattle.ipl_base.specs.declared.fault.ChipFault.{ChipFault}
 use Rattle.ipl_format.specs.Record.{Record}
 use Rattle.unit_io.specs.Costs.{Costs, Spends}
 use Rattle.unit_io.proofs.CostLemmas.{costs_at_most, spends_weaker}
+use Rattle.buffer_pool.specs.Pools.{PoolView}
+use Rattle.buffer_pool.specs.Uses.{UsesPage}
 use Rattle.pending_writes.specs.Frames.{logs_of}
 use Rattle.selective_merge.specs.declared.parts.Parts.{Parts}
 use Rattle.selective_merge.specs.Moving.{tables_of}
@@ -16,7 +18,7 @@ use Rattle.page_writing.specs.Spending.{ErasesAndLogs, WritingCosts}
 use Rattle.page_writing.proofs.SpendLemmas.{no_kind}
 use Rattle.page_frames.specs.declared.pages.Pages.{Pages}
 use Rattle.page_frames.specs.Pages.{tables_in, frames_in, IsFramed, HasFreeFrame}
-use Rattle.page_frames.specs.Asks.{AsksToWriteOut, AsksToPrepare}
+use Rattle.page_frames.specs.Asks.{AsksToWriteOut, AsksToBring, AsksToPrepare}
 use Rattle.page_frames.proofs.SpendLemmas.{nothing_spent, logs_of_reads}
 
 -- nothing is within one program
@@ -56,22 +58,44 @@ some_to_write u page result old new before after full costs = record {
   costs = costs.any;
 }
 
+-- ---- a page that is brought in
+
+-- it is in a frame, and a use is counted
+pub used_asks : (u page : ℕ) (old : Pages) (p : PoolView) (t : Told) → UsesPage old.pool p u page
+    → AsksToBring u page old (record old { pool = p }) t t
+used_asks u page old p t uses = record {
+  idle = λ there. (record { parts = refl; pool = uses }, refl);
+  free = λ free. nothing_spent t;
+  costs = logs_of_reads old.parts.directory t t (nothing_spent t);
+}
+
+-- it is in none
+pub brought_asks : (u page : ℕ) (old new : Pages) (before after : Told) → ¬ IsFramed old u page
+    → (HasFreeFrame old → Spends (Costs 0 0 0 []) before after)
+    → Spends (ErasesAndLogs old.parts.directory) before after → AsksToBring u page old new before after
+brought_asks u page old new before after absent reads costs = record {
+  idle = λ there. absurd (absent there);
+  free = reads;
+  costs = costs;
+}
+
 -- ---- a record
 
--- it fits behind those in memory
-pub fitting_asks : (u : ℕ) (r : Record) (pages : Pages) (t : Told) → AsksToPrepare u r pages t t
-fitting_asks u r pages t = record {
-  idle = λ may. refl;
+-- it fits behind those in memory, and a use is counted
+pub fitting_asks : (u : ℕ) (r : Record) (old : Pages) (p : PoolView) (t : Told)
+    → UsesPage old.pool p u r.page → AsksToPrepare u r old (record old { pool = p }) t t
+fitting_asks u r old p t uses = record {
+  idle = λ may. (record { parts = refl; pool = uses }, refl);
   free = λ none free. nothing_spent t;
   home = λ there has. one_of_none t;
-  costs = logs_of_reads pages.parts.directory t t (nothing_spent t);
+  costs = logs_of_reads old.parts.directory t t (nothing_spent t);
 }
 
 -- its page is in a frame, and its records are written out once the use is counted
 pub framed_asks : (u : ℕ) (r : Record) (result : Result (Unit {0}) ChipFault) (old used new : Pages)
     (before after : Told) → used.parts ≡ old.parts → ¬ MayPut (frames_in old) u r
     → IsFramed old u r.page
-    → AsksToWriteOut u r.page result used new before after → AsksToPrepare u r old before after
+    → AsksToWriteOut u r.page result used new before after → AsksToPrepare u r old new before after
 framed_asks u r result old used new before after same full there asks = record {
   idle = λ may. absurd (full may);
   free = λ none free. absurd (false≢true (subst IsSome none there));
@@ -81,10 +105,10 @@ framed_asks u r result old used new before after same full there asks = record {
 }
 
 -- its page is in none
-pub fetched_asks : (u : ℕ) (r : Record) (old : Pages) (before after : Told)
+pub fetched_asks : (u : ℕ) (r : Record) (old new : Pages) (before after : Told)
     → ¬ IsFramed old u r.page → (HasFreeFrame old → Spends (Costs 0 0 0 []) before after)
-    → Spends (ErasesAndLogs old.parts.directory) before after → AsksToPrepare u r old before after
-fetched_asks u r old before after absent reads costs = record {
+    → Spends (ErasesAndLogs old.parts.directory) before after → AsksToPrepare u r old new before after
+fetched_asks u r old new before after absent reads costs = record {
   idle = λ may. absurd (absent (subst IsSome (sym may.there) refl));
   free = λ none. reads;
   home = λ framed has. absurd (absent framed);

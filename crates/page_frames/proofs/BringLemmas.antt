@@ -1,5 +1,5 @@
 -- A page that was brought in, and room for its next record.
-use Rattle.std.proofs.Common.{◌≡◌, ◌≤◌, ℕ, [], Some, Result, Ok, Err, OnOk, refl, ◌∙◌, ap, arith}
+use Rattle.std.proofs.Common.{◌≡◌, ◌≤◌, ℕ, [], Some, Result, Ok, Err, OnOk, refl, sym, ◌∙◌, ap, subst, arith}
 use Rattle.std.specs.Prelude.{IsSome}
 use Rattle.std.specs.Option.{option_map}
 use Rattle.ipl_base.specs.declared.fault.ChipFault.{ChipFault}
@@ -9,7 +9,7 @@ use Rattle.pending_writes.specs.Frames.{Frames, with_frame_log}
 use Rattle.pending_writes.proofs.SameLemmas.{frame_here}
 use Rattle.frame_changes.specs.Changes.{MayPut}
 use Rattle.page_frames.specs.declared.pages.Pages.{Pages}
-use Rattle.page_frames.specs.Pages.{frames_in, IsFresh, BringsPage, frames_after}
+use Rattle.page_frames.specs.Pages.{frames_in, IsFramed, IsFresh, KeepsValues, BringsPage, frames_after}
 use Rattle.page_frames.proofs.HeldLemmas.{some_of}
 
 -- done, the page has no records in memory
@@ -23,7 +23,7 @@ brings_fresh (Ok v) u page old new (f, empty, is) = (
 brings_fresh (Err e) u page old new same = tt
 
 -- so that one record fits
-pub fits_fresh : (new : Pages) (u : ℕ) (r : Record) → size_of r ≤ 120 → IsFresh new u r.page
+pub fits_fresh : (new : Pages) (u : ℕ) (r : Record) → size_of r ≤ 476 → IsFresh new u r.page
     → MayPut (frames_in new) u r
 fits_fresh new u r short (f, there, empty) = record {
   frame = f;
@@ -44,3 +44,29 @@ out_fresh (Ok v) u page old new there is =
       refl,
     )
 out_fresh (Err e) u page old new there is = tt
+
+-- ---- values
+
+-- a page's frame has its values after calls that keep all frames
+pub same_values : (u page : ℕ) (old new : Pages) → frames_in new ≡ frames_in old
+    → KeepsValues u page old new
+same_values u page old new same f there = (f, ap (λ (F : Frames). F u page) same ∙ there, refl)
+
+-- and after its records were written out
+pub out_values : (result : Result (Unit {0}) ChipFault) (u page : ℕ) (old used new : Pages)
+    → frames_in used ≡ frames_in old → frames_in new ≡ frames_after result (frames_in used) u page
+    → OnOk result (KeepsValues u page old new)
+out_values (Ok v) u page old used new same is = λ f there. (
+  with_frame_log f [],
+  ap (λ (F : Frames). F u page) is
+      ∙ (frame_here (frames_in used) u page _ u page refl refl
+      ∙ ap (option_map (λ g. with_frame_log g [])) (ap (λ (F : Frames). F u page) same ∙ there)),
+  refl,
+)
+out_values (Err e) u page old used new same is = tt
+
+-- a page that was in no frame had none
+pub no_values : (result : Result (Unit {0}) ChipFault) (u page : ℕ) (old new : Pages)
+    → ¬ IsFramed old u page → OnOk result (KeepsValues u page old new)
+no_values (Ok v) u page old new absent = λ f there. absurd (absent (subst IsSome (sym there) refl))
+no_values (Err e) u page old new absent = tt

@@ -1,8 +1,9 @@
 -- Calls over contents that stand for a state fail only where a call of the chip failed.
-use Rattle.std.proofs.Common.{◌≡◌, ◌<◌, ◌+◌, ◌-◌, ℕ, Option, None, Result, Ok, Err, IfErr, refl, sym, subst, arith}
+use Rattle.std.proofs.Common.{◌≡◌, ◌≤◌, ◌<◌, ◌+◌, ◌-◌, ℕ, Bool, Option, None, Result, Ok, Err, IfErr, refl, sym, subst, arith}
 use Rattle.chip_trait.specs.Story.{Contents}
 use Rattle.chip_trait.specs.Told.{Told}
 use Rattle.ipl_base.specs.declared.fault.ChipFault.{ChipFault}
+use Rattle.ipl_base.specs.declared.limits.TheConstants.{PAGE_LEN}
 use Rattle.ipl_rules.specs.State.{State}
 use Rattle.record_locks.specs.Held.{Slots}
 use Rattle.ipl_meaning.specs.Chart.{Chart, chart_of}
@@ -11,14 +12,17 @@ use Rattle.ipl_meaning.specs.Stands.{Shows, Says, page_in}
 use Rattle.ipl_meaning.specs.Tables.{Tables}
 use Rattle.ipl_meaning.specs.Values.{Values}
 use Rattle.unit_io.specs.Faults.{TellsChipFault}
-use Rattle.unit_io.proofs.HeldLemmas.{sound_pages_are_held, held_pages_read_well}
 use Rattle.merge_rules.specs.Faults.{IsMergeable, IsTheFault}
 use Rattle.merge_rules.proofs.FaultLemmas.{said_units_are_mergeable, by_chip_alone}
 use Rattle.selective_merge.specs.Merging.{CompletesMerge}
 use Rattle.status_renewal.specs.Passes.{CompletesRenewal}
-use Rattle.page_rebuild.specs.Loaded.{OfTables, base_fault}
+use Rattle.number_set.specs.Numbers.{among}
+use Rattle.page_ops.specs.Pending.{fill_by}
+use Rattle.page_rebuild.specs.Loaded.{OfTables, loaded_pending, load_fault}
+use Rattle.page_rebuild.proofs.LoadedLemmas.{sound_pages_show_values}
 use Rattle.pending_writes.specs.Frames.{Frames}
 use Rattle.pending_writes.proofs.FitLemmas.{merges_are_small}
+use Rattle.pending_writes.proofs.PendingRoomLemmas.{loaded_pages_fit}
 use Rattle.store_steps.specs.Advances.{memory_of, MemoryFits, KeepsState}
 use Rattle.page_frames.specs.declared.pages.Pages.{Pages}
 use Rattle.page_frames.specs.Pages.{tables_in, frames_in}
@@ -30,7 +34,7 @@ use Rattle.page_frames.specs.Complete.{Completes, CompletesLoad}
 all_mergeable : (places : ℕ) (c : Chart) (it : Layout) (t : Tables) (frames : Frames)
     (slots : Slots) (state : State) (u : ℕ)
     → MemoryFits places c it (memory_of t frames slots) state → Says places c it state.map
-    → u < places - 4 → IsMergeable c t (it.units u) u
+    → u < places - 4 → IsMergeable c it.committed t (it.units u) u
 all_mergeable places c it t frames slots state u fits says low =
     said_units_are_mergeable places c it state.map t u says low
     (merges_are_small places c it t frames slots state u fits low)
@@ -52,13 +56,12 @@ renew_completes pages result told complete x there slots it state fits says =
 
 -- ---- loads
 
--- a page that shows something has no fault
-pub no_base_fault : (x : Contents) (it : Layout) (u page : ℕ) (now : Values)
-    → Shows (chart_of x) it.committed u (it.units u) page now → base_fault x it u page ≡ None
-no_base_fault x it u page now shows =
-    (sound_pages_are_held x (it.units u).home (it.units u).head.version u
-    (it.units u).head.generation page _).1
-    (shows.base, (held_pages_read_well (chart_of x) u (it.units u) page shows.base).1 shows.reads)
+-- a page that shows something has no fault, where it has room for that with what is pending
+pub no_load_fault : (x : Contents) (it : Layout) (active : ℕ → Bool) (u page : ℕ) (now : Values)
+    → Shows (chart_of x) it.committed u (it.units u) page now
+    → fill_by now (loaded_pending it active u page) ≤ PAGE_LEN → load_fault x it active u page ≡ None
+no_load_fault x it active u page now shows room =
+    (sound_pages_show_values x it active u page).1 (now, shows, room)
 
 fault_told : {T : Type 0} (fault : Option ChipFault) (result : Result T ChipFault)
     → TellsChipFault fault result → IfErr result (IsTheFault fault)
@@ -68,22 +71,27 @@ fault_told fault (Err e) tells = λ read stopped. tells read
 pub load_completes : {T : Type 0} (t : Tables) (u page : ℕ) (result : Result T ChipFault)
     (told : Told)
     → OfTables told t.places t.overflow t.status
-    (λ x it. TellsChipFault (base_fault x it u page) result)
+    (λ x it. TellsChipFault (load_fault x it (among t.active) u page) result)
     → CompletesLoad t u page result told
-load_completes t u page result told tells x there it now mirrors shows =
-    by_chip_alone (base_fault x it u page) result (no_base_fault x it u page now shows)
-    (fault_told (base_fault x it u page) result (tells x there it t (record {
+load_completes t u page result told tells x there it now mirrors shows room =
+    let fault = load_fault x it (among t.active) u page in
+    by_chip_alone fault result (no_load_fault x it (among t.active) u page now shows room)
+    (fault_told fault result (tells x there it t (record {
       mirrored = record { mirrors = mirrors; directory_is = refl; overflow_is = refl };
       status_is = refl;
     })))
 
--- where a state is stood for, the page shows its values
+-- where a state is stood for, the page shows its values, and has room for what is pending
 pub loaded_completes : {T : Type 0} (u page : ℕ) (pages : Pages) (result : Result T ChipFault)
     (told : Told) → u + 4 < told.places → page < 15
     → CompletesLoad (tables_in pages) u page result told → Completes pages result told
 loaded_completes u page pages result told low few complete x there slots it state fits says =
-    complete x there it (page_in state.map u page) fits.mirrors
-    (says.pages u page (omega (arith, low)) few)
+    let below : u < told.places - 4 = omega (arith, low) in
+    let values = page_in state.map u page in
+    let shows = says.pages u page below few in
+    complete x there it values fits.mirrors shows
+    (loaded_pages_fit told.places (chart_of x) it (tables_in pages) (frames_in pages) slots state u page
+    values fits below few shows)
 
 -- ---- two calls
 

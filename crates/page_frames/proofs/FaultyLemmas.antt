@@ -1,17 +1,16 @@
 -- What a page's fault names, and pages that go on reading well.
-use Rattle.std.proofs.Common.{◌≡◌, ◌≤◌, ◌<◌, ◌+◌, ◌-◌, ◌*◌, ◌⊎◌, ◌==◌, ℕ, zero, suc, Bool, true, false, List, Option, Some, None, slice_index, inl, inr, refl, sym, ◌∙◌, ap, subst, arith}
-use Rattle.std.specs.Prelude.{if◌then◌else◌}
+use Rattle.std.proofs.Common.{◌≡◌, ◌≤◌, ◌<◌, ◌+◌, ◌-◌, ◌*◌, ◌⊎◌, ◌==◌, ℕ, zero, suc, Bool, true, false, List, Option, Some, None, slice_index, inl, inr, refl, sym, ◌∙◌, subst, arith}
+use Rattle.std.specs.Prelude.{nat_lt, if◌then◌else◌}
 use Rattle.std.specs.Option.{option_or}
+use Rattle.std.proofs.Math.Nat.{le-max_left}
 use Rattle.std.proofs.lemmas.Bool.{false≢true}
+use Rattle.std.proofs.lemmas.Bool.Decides.{nat_tests}
 use Rattle.std.proofs.lemmas.List.Elements.{All-get_or}
 use Rattle.std.proofs.lemmas.Option.{same_Some}
-use Rattle.std.specs.List.{All}
+use Rattle.std.proofs.Math.Path.{fun_ext}
 use Rattle.chip_trait.specs.Story.{Contents}
-use Rattle.merge_rules.proofs.PacksLemmas.{all_records}
-use Rattle.ipl_format.proofs.RecordLemmas.{all_stay}
-use Rattle.ipl_meaning.proofs.RoomLemmas.{shown_room}
-use Rattle.ipl_format.specs.Record.{IsRecord}
-use Rattle.ipl_base.specs.declared.limits.TheConstants.{VERSION}
+use Rattle.ipl_base.specs.declared.limits.TheConstants.{PAGE_LEN}
+use Rattle.ipl_base.specs.Sizes.{size_in_page, size_of_values}
 use Rattle.ipl_base.specs.First.{first_below}
 use Rattle.ipl_base.specs.declared.fault.ChipFault.{ChipFault}
 use Rattle.ipl_base.specs.declared.fault.ChipFault.TheVariants.{Damaged, Malformed}
@@ -20,20 +19,29 @@ use Rattle.ipl_format.specs.Place.{base_sector_of}
 use Rattle.ipl_format.specs.Sector.{stored_sum, computed_sum, sector_in}
 use Rattle.ipl_rules.specs.State.{Map, State}
 use Rattle.ipl_meaning.specs.Chart.{Chart, chart_of}
-use Rattle.ipl_meaning.specs.Layout.{Shape, Layout, records_of}
+use Rattle.ipl_meaning.specs.Layout.{Shape, Layout, Laid, records_of}
 use Rattle.ipl_meaning.specs.Mirrors.{Mirrors}
 use Rattle.ipl_meaning.specs.Stands.{Shows, page_in}
 use Rattle.ipl_meaning.specs.Tables.{Tables}
-use Rattle.ipl_meaning.specs.Values.{Values, after_records}
-use Rattle.ipl_format.specs.Page.{value_in}
+use Rattle.ipl_meaning.specs.Values.{Values}
+use Rattle.ipl_meaning.proofs.RoomLemmas.{same_sizes}
 use Rattle.ipl_meaning.proofs.OnceLemmas.{laid_once}
 use Rattle.unit_io.specs.Faults.{is_damaged, is_piece, piece_fault, piece_fault_at, text_below, is_page_text, text_fault, page_fault}
 use Rattle.unit_io.proofs.FaultLemmas.{undamaged}
-use Rattle.unit_io.proofs.HeldLemmas.{sound_pages_are_held, held_pages_read_well}
-use Rattle.page_rebuild.specs.Loaded.{base_fault}
+use Rattle.number_set.specs.Numbers.{among}
+use Rattle.merge_rules.specs.Faults.{page_fault_from}
+use Rattle.merge_rules.specs.Merged.{source_in}
+use Rattle.page_ops.specs.Pending.{Pendings, fill_by, mark_of}
+use Rattle.page_ops.specs.Rebuilt.{full_fault}
+use Rattle.page_ops.proofs.FillLemmas.{room_in_fill}
+use Rattle.page_rebuild.specs.Taken.{last_changes}
+use Rattle.page_rebuild.specs.Loaded.{base_fault, loaded_values, loaded_pending, fill_fault, load_fault}
+use Rattle.page_rebuild.proofs.LoadedLemmas.{sound_pages_show_values}
+use Rattle.pending_writes.proofs.FitLemmas.{fits_whatever_the_map}
+use Rattle.pending_writes.proofs.PendingRoomLemmas.{loaded_pages_fit}
 use Rattle.store_steps.specs.Advances.{Memory, MemoryFits, FitsOn}
 use Rattle.page_frames.specs.Faulty.{IsOfPage, NamesBadPage}
-use Rattle.page_frames.proofs.CompleteLemmas.{no_base_fault}
+use Rattle.page_frames.proofs.CompleteLemmas.{no_load_fault}
 use Rattle.page_frames.proofs.SlotMapLemmas.{page_map, page_has}
 
 -- ---- the first of several
@@ -77,7 +85,7 @@ piece_of_page place page i v u g serial last bytes e few found =
     by_tests false true damaged is = absurd (cc is)
     by_tests false false damaged is =
         fault_as place page (Malformed place (base_sector_of page i)) e
-        (refl, (omega arith, omega (arith, few))) is
+        (refl, inr (omega arith, omega (arith, few))) is
 
 text_of_page : (place v page : ℕ) (text : List ℕ) (e : ChipFault)
     → text_fault place v page text ≡ Some e → IsOfPage place page e
@@ -88,7 +96,7 @@ text_of_page place v page text e found = by_test (is_page_text v text) found
     by_test true is = absurd (cc is)
     by_test false is =
         fault_as place page (Malformed place (base_sector_of page 0)) e
-        (refl, (omega arith, omega arith)) is
+        (refl, inr (omega arith, omega arith)) is
 
 -- the fault of a page of at most 16 pieces is of that page
 pub page_of_page : (x : Contents) (place v u g page pieces : ℕ) (e : ChipFault) → pieces ≤ 16
@@ -104,77 +112,129 @@ page_of_page x place v u g page pieces e few found =
       | inr text ↦ text_of_page place v page (text_below (chart_of x) place page pieces) e text
     ]
 
--- that of a page of a unit is so at the unit's home
-pub base_of_page : (places : ℕ) (x : Contents) (it : Layout) (t : Tables) (u page : ℕ)
-    (e : ChipFault) → Mirrors places (chart_of x) it t → u < places - 4 → page < 15
-    → base_fault x it u page ≡ Some e → IsOfPage (it.units u).home page e
-base_of_page places x it t u page e mirrors low few found =
-    let counts = (mirrors.laid.each u low).counts in
-    page_of_page x (it.units u).home (it.units u).head.version u (it.units u).head.generation page
-    (slice_index (it.units u).pieces page) e
-    (All-get_or IsCount (it.units u).pieces page 0 (omega (arith, few, counts.fifteen)) counts.each)
-    found
+-- and so is that of values for which a page has no room
+full_of_page : (place page : ℕ) (values : Values) (pending : Pendings) (e : ChipFault)
+    → fill_fault place values pending ≡ Some e → IsOfPage place page e
+full_of_page place page values pending e found =
+    by_test (nat_lt PAGE_LEN (fill_by values pending)) found
+  where
+    by_test : (a : Bool) → (if a then Some (Malformed place 0) else None) ≡ Some e
+        → IsOfPage place page e
+    by_test true is = fault_as place page (Malformed place 0) e (refl, inl refl) is
+    by_test false is = absurd (cc is)
 
--- so it names that page where the tables then have the unit there still
+-- that of a page of a unit is so at the unit's home
+pub load_of_page : (places : ℕ) (x : Contents) (it : Layout) (active : ℕ → Bool) (t : Tables)
+    (u page : ℕ) (e : ChipFault) → Mirrors places (chart_of x) it t → u < places - 4 → page < 15
+    → load_fault x it active u page ≡ Some e → IsOfPage (it.units u).home page e
+load_of_page places x it active t u page e mirrors low few found =
+    let unit = it.units u in
+    let counts = (mirrors.laid.each u low).counts in
+    let values = loaded_values x it u page in
+    let pending = loaded_pending it active u page in
+    elim (or_some (base_fault x it u page) (fill_fault unit.home values pending) e found) [
+      | inl base ↦ page_of_page x unit.home unit.head.version u unit.head.generation page
+          (slice_index unit.pieces page) e
+          (All-get_or IsCount unit.pieces page 0 (omega (arith, few, counts.fifteen)) counts.each)
+          base
+      | inr full ↦ full_of_page unit.home page values pending e full
+    ]
+
+-- so it names that page where the tables then have the unit there still, with the same sessions open
 pub names_page : (places : ℕ) (x : Contents) (it : Layout) (t after : Tables) (u page : ℕ)
     (e : ChipFault) → Mirrors places (chart_of x) it t → u < places - 4 → page < 15
+    → after.active ≡ t.active
     → slice_index after.places.current u ≡ slice_index t.places.current u
-    → base_fault x it u page ≡ Some e → NamesBadPage places x it after e
-names_page places x it t after u page e mirrors low few stays found = record {
+    → load_fault x it (among t.active) u page ≡ Some e → NamesBadPage places x it after e
+names_page places x it t after u page e mirrors low few alike stays found = record {
   unit = u;
   page = page;
   low = low;
   few = few;
-  bad = λ none. let clash = sym none ∙ found in cc clash;
+  bad = λ none.
+      let was = subst (λ (l : List ℕ). load_fault x it (among l) u page ≡ None) alike none in
+      let clash = sym was ∙ found in cc clash;
   names = subst (λ (p : ℕ). IsOfPage p page e)
       (sym (stays ∙ mirrors.directory.current u low))
-      (base_of_page places x it t u page e mirrors low few found);
+      (load_of_page places x it (among t.active) t u page e mirrors low few found);
 }
+
+-- ---- a page that a merge moves
+
+over_less : (few more : ℕ) → few ≤ more → nat_lt PAGE_LEN few ≡ true → nat_lt PAGE_LEN more ≡ true
+over_less few more less over = grind (arith, nat_tests)
+
+-- values that are more than a page holds are so with whatever is pending
+full_with : (place : ℕ) (values : Values) (pending : Pendings) (e : ChipFault)
+    → full_fault place values ≡ Some e → fill_fault place values pending ≡ Some e
+full_with place values pending e found =
+    by_test (nat_lt PAGE_LEN (size_of_values values)) refl found
+  where
+    fewer : size_of_values values ≤ fill_by values pending
+    fewer = room_in_fill (λ slot. mark_of (pending slot)) values values (λ slot low.
+        le-max_left (size_in_page (values slot)) (mark_of (pending slot) - 1))
+
+    by_test : (a : Bool) → nat_lt PAGE_LEN (size_of_values values) ≡ a
+        → (if a then Some (Malformed place 0) else None) ≡ Some e
+        → fill_fault place values pending ≡ Some e
+    by_test true over is =
+        let more = over_less (size_of_values values) (fill_by values pending) fewer over in
+        rw more is
+    by_test false room is = absurd (cc is)
+
+or_weaker : {A : Type 0} (x y z : Option A) (a : A) → (y ≡ Some a → z ≡ Some a)
+    → option_or x y ≡ Some a → option_or x z ≡ Some a
+or_weaker None y z a weaker is = weaker is
+or_weaker (Some x) y z a weaker is = is
+
+-- what is wrong with it there is wrong where it is read, whatever is pending
+pub moved_fault : (x : Contents) (it : Layout) (active : ℕ → Bool) (u page : ℕ) (e : ChipFault)
+    → page_fault_from x (source_in it u) page ≡ Some e → load_fault x it active u page ≡ Some e
+moved_fault x it active u page e found =
+    let home = (it.units u).home in
+    let values = loaded_values x it u page in
+    let pending = loaded_pending it active u page in
+    or_weaker (base_fault x it u page) (full_fault home values) (fill_fault home values pending) e
+    (full_with home values pending e) found
 
 -- ---- pages go on reading well
 
--- whatever the map is
-fits_map : (places : ℕ) (c : Chart) (it : Layout) (memory : Memory) (state : State) (m : Map)
-    → MemoryFits places c it memory state
-    → MemoryFits places c it memory (record { map = m; sessions = state.sessions })
-fits_map places c it memory state m fits = record {
-  mirrors = fits.mirrors;
-  none_lost = fits.none_lost;
-  pending = record {
-    opens = fits.pending.opens;
-    apart = fits.pending.apart;
-    waits = fits.pending.waits;
-    last = fits.pending.last;
-    nowhere_else = fits.pending.nowhere_else;
-    none_behind = fits.pending.none_behind;
-    valid = fits.pending.valid;
-    in_memory = fits.pending.in_memory;
-  };
-  active = fits.active;
-  framed = fits.framed;
-  sessions = record { names = fits.sessions.names; locked = fits.sessions.locked };
-}
-
 -- a page without a fault shows some values, and so those of some map
-sound_shows : (x : Contents) (it : Layout) (u page : ℕ)
-    → All (IsRecord VERSION) (records_of (it.units u).log) → base_fault x it u page ≡ None
+sound_shows : (x : Contents) (it : Layout) (active : ℕ → Bool) (u page : ℕ)
+    → load_fault x it active u page ≡ None
     → (m : Map) × Shows (chart_of x) it.committed u (it.units u) page (page_in m u page)
-sound_shows x it u page valid none =
-    let shape = it.units u in
-    let (slots, held) = (sound_pages_are_held x shape.home shape.head.version u shape.head.generation page _).0 none in
-    let now : Values = λ slot. after_records it.committed page slot (records_of shape.log)
-    (value_in slots slot) in (
-      page_map u page now,
+sound_shows x it active u page none =
+    let (now, shows, room) = (sound_pages_show_values x it active u page).0 none in
+    let m = page_map u page now in (
+      m,
       record {
-        base = slots;
-        reads = (held_pages_read_well (chart_of x) u shape page slots).0 held;
-        says = λ slot less. page_has u page now slot less;
-        room = shown_room (chart_of x) it.committed u shape page slots
-            (page_in (page_map u page now) u page)
-            ((held_pages_read_well (chart_of x) u shape page slots).0 held) valid
-            (λ slot less. page_has u page now slot less);
+        base = shows.base;
+        reads = shows.reads;
+        says = λ slot less. page_has u page now slot less ∙ shows.says slot less;
+        room = subst (λ (n : ℕ). n ≤ PAGE_LEN)
+            (sym (same_sizes (page_in m u page) now (λ slot less. page_has u page now slot less)))
+            shows.room;
       },
     )
+
+-- what is shown by one layout of a chart is shown by the other
+shows_other : {places u page : ℕ} {c : Chart} {it new : Layout} {now : Values}
+    → Laid places c it → Laid places c new → u < places - 4
+    → Shows c it.committed u (it.units u) page now → Shows c new.committed u (new.units u) page now
+shows_other {places} {u} {page} {c} {it} {new} {now} laid other low shows =
+    let one = laid_once places c it new laid other in
+    subst (λ (committed : ℕ → Bool). Shows c committed u (new.units u) page now)
+    (fun_ext one.committed)
+    (subst (λ (s : Shape). Shows c it.committed u s page now) (one.units u low) shows)
+
+-- and has room by the other where it has by the one
+room_other : {places u : ℕ} {c : Chart} {it new : Layout} (page : ℕ) (now : Values)
+    (active : ℕ → Bool) → Laid places c it → Laid places c new → u < places - 4
+    → fill_by now (loaded_pending it active u page) ≤ PAGE_LEN
+    → fill_by now (loaded_pending new active u page) ≤ PAGE_LEN
+room_other {places} {u} {c} {it} {new} page now active laid other low room =
+    subst (λ (s : Shape). fill_by now (last_changes active page (records_of s.log)) ≤ PAGE_LEN)
+    ((laid_once places c it new laid other).units u low) room
 
 -- after a call that keeps each state, a page that had no fault has none
 pub still_sound : (places : ℕ) (x y : Contents) (it new : Layout) (before after : Memory)
@@ -182,14 +242,18 @@ pub still_sound : (places : ℕ) (x y : Contents) (it new : Layout) (before afte
     → ((s : State) → MemoryFits places (chart_of x) it before s
     → FitsOn places (chart_of x) it s.map (chart_of y) after s)
     → MemoryFits places (chart_of x) it before state → Mirrors places (chart_of y) new after.tables
-    → base_fault x it u page ≡ None → base_fault y new u page ≡ None
+    → load_fault x it (among after.tables.active) u page ≡ None
+    → load_fault y new (among after.tables.active) u page ≡ None
 still_sound places x y it new before after state u page low few keeps fits mirrors none =
-    let log = (fits.mirrors.laid.each u low).log in
-    let (m, shows) = sound_shows x it u page (all_records (it.units u).log
-    (λ k d within. all_stay _ _ (log.each k d within).records.valid)) none in
-    let other : State = record { map = m; sessions = state.sessions } in
-    let on = keeps other (fits_map places (chart_of x) it before state m fits) in
-    let one = laid_once places (chart_of y) on.layout new on.fits.mirrors.laid mirrors.laid in
-    ap (λ (s : Shape). page_fault y s.home s.head.version u s.head.generation page (slice_index s.pieces page))
-    (sym (one.units u low))
-    ∙ no_base_fault y on.layout u page _ (on.shows.pages u page low few shows)
+    let active = among after.tables.active in
+    let (m, shows) = sound_shows x it active u page none in
+    let other : State = record state { map = m } in
+    let values = page_in m u page in
+    let on = keeps other (fits_whatever_the_map places (chart_of x) it before.tables before.frames
+    before.slots state m fits) in
+    let shown = on.shows.pages u page low few shows in
+    let room = loaded_pages_fit places (chart_of y) on.layout after.tables after.frames after.slots other
+    u page values on.fits low few shown in
+    let laid = on.fits.mirrors.laid in
+    no_load_fault y new active u page values (shows_other laid mirrors.laid low shown)
+    (room_other page values active laid mirrors.laid low room)

@@ -1,5 +1,5 @@
 -- A page that is in no frame is loaded into the one that it was given.
-use Rattle.std.proofs.Common.{◌≡◌, ℕ, None, Result, Ok, refl, sym, subst}
+use Rattle.std.proofs.Common.{◌≡◌, ℕ, None, Result, Ok, refl, sym, ◌∙◌, subst}
 use Rattle.chip_trait.specs.Told.{Told}
 use Rattle.ipl_base.specs.declared.fault.ChipFault.{ChipFault}
 use Rattle.buffer_pool.specs.Pools.{PoolView, AreOnce}
@@ -41,6 +41,7 @@ fetched victim u page old mid new between result before late after did once may 
           (upholds_then 0 0 mid made new result late late after given fills.upholds);
       complete = completes_then old mid result before late sized did.keeps
           (completes_then mid made result late late refl given.keeps fills.complete);
-      faults = tells_then old mid new result before late sized did.keeps
-          (tells_then mid made new result late late refl given.keeps fills.faults);
+      faults = tells_then old mid new result before late sized
+          (fills.upholds.active ∙ given.active) did.keeps
+          (tells_then mid made new result late late refl fills.upholds.active given.keeps fills.faults);
     }

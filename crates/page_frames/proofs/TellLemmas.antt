@@ -1,5 +1,5 @@
 -- Calls over contents that stand for a state tell the fault of a page that didn't read well.
-use Rattle.std.proofs.Common.{◌≡◌, ◌≢◌, ◌<◌, ◌+◌, ◌-◌, ℕ, Option, Some, slice_index, Result, Ok, Err, IfErr, inl, inr, refl, sym, ◌∙◌, ap, subst, arith}
+use Rattle.std.proofs.Common.{◌≡◌, ◌≢◌, ◌<◌, ◌+◌, ◌-◌, ℕ, List, Option, Some, None, slice_index, Result, Ok, Err, IfErr, inl, inr, refl, sym, ◌∙◌, ap, subst, arith}
 use Rattle.chip_trait.specs.Story.{Contents}
 use Rattle.chip_trait.specs.Told.{Told}
 use Rattle.ipl_base.specs.declared.fault.ChipFault.{ChipFault}
@@ -11,20 +11,21 @@ use Rattle.ipl_meaning.specs.Layout.{Layout}
 use Rattle.ipl_meaning.specs.Tables.{Tables}
 use Rattle.unit_io.specs.Faults.{TellsChipFault}
 use Rattle.merge_rules.specs.Faults.{page_fault_from, merge_fault, FailsByChipAlone}
-use Rattle.merge_rules.specs.Merged.{source_of}
-use Rattle.merge_rules.proofs.FaultLemmas.{fault_with_few}
+use Rattle.merge_rules.specs.Merged.{source_in}
+use Rattle.merge_rules.proofs.FaultLemmas.{merge_faults_are_of_the_unit}
 use Rattle.selective_merge.specs.Merging.{Merges, StaysMirrored, FailsAsMerge, TellsMergeFault}
 use Rattle.selective_merge.specs.Throughout.{ChartsThroughout}
 use Rattle.selective_merge.proofs.CompleteLemmas.{merge_fails_so}
 use Rattle.status_renewal.specs.InPlace.{RenewalFailsInPlace}
-use Rattle.page_rebuild.specs.Loaded.{OfTables, base_fault}
+use Rattle.number_set.specs.Numbers.{among}
+use Rattle.page_rebuild.specs.Loaded.{OfTables, load_fault}
 use Rattle.page_writing.specs.InPlace.{StaysInPlace}
 use Rattle.pending_writes.proofs.FitLemmas.{merges_are_small}
 use Rattle.store_steps.specs.Advances.{memory_of, MemoryFits, KeepsState}
 use Rattle.page_frames.specs.declared.pages.Pages.{Pages}
 use Rattle.page_frames.specs.Pages.{tables_in, frames_in}
 use Rattle.page_frames.specs.Faulty.{FailsAsPage, NamesBadPage, TellsFaults}
-use Rattle.page_frames.proofs.FaultyLemmas.{first_some, names_page, still_sound}
+use Rattle.page_frames.proofs.FaultyLemmas.{first_some, moved_fault, names_page, still_sound}
 
 -- ---- merges
 
@@ -32,23 +33,25 @@ use Rattle.page_frames.proofs.FaultyLemmas.{first_some, names_page, still_sound}
 unit_names : (places : ℕ) (x : Contents) (it : Layout) (old : Pages) (after : Tables)
     (slots : Slots) (state : State) (u : ℕ) (e : ChipFault) → u < places - 4
     → MemoryFits places (chart_of x) it (memory_of (tables_in old) (frames_in old) slots) state
+    → after.active ≡ (tables_in old).active
     → slice_index after.places.current u ≡ slice_index (tables_in old).places.current u
     → merge_fault x (tables_in old) (it.units u) u ≡ Some e → NamesBadPage places x it after e
-unit_names places x it old after slots state u e low fits stays is =
+unit_names places x it old after slots state u e low fits alike stays is =
     let t = tables_in old in
-    let from = source_of t (it.units u) u in
     let few = merges_are_small places (chart_of x) it t (frames_in old) slots state u fits low in
-    let (page, below, found) = first_some (page_fault_from x from) 15 e
-    (sym (fault_with_few x from _ few) ∙ is) in
-    names_page places x it t after u page e fits.mirrors low below stays found
+    let (page, below, found) = first_some (page_fault_from x (source_in it u)) 15 e
+    (sym (merge_faults_are_of_the_unit x it t u fits.mirrors.status few) ∙ is) in
+    names_page places x it t after u page e fits.mirrors low below alike stays
+    (moved_fault x it (among t.active) u page e found)
 
 pub merge_tells : {T : Type 0} (u : ℕ) (old new : Pages) (result : Result T ChipFault)
-    (told : Told) → u + 4 < told.places → FailsAsMerge told.places (tables_in old) u result told
+    (told : Told) → u + 4 < told.places → (tables_in new).active ≡ (tables_in old).active
+    → FailsAsMerge told.places (tables_in old) u result told
     → StaysInPlace told.places (tables_in old) u (tables_in new) result told
     → TellsFaults old result told new
-merge_tells u old new (Ok v) told low fails stays x there slots it state fits = tt
-merge_tells u old new (Err e) told low fails stays x there slots it state fits = λ read stopped.
-    unit_names told.places x it old (tables_in new) slots state u e (omega (arith, low)) fits
+merge_tells u old new (Ok v) told low alike fails stays x there slots it state fits = tt
+merge_tells u old new (Err e) told low alike fails stays x there slots it state fits = λ read stopped.
+    unit_names told.places x it old (tables_in new) slots state u e (omega (arith, low)) fits alike
     (stays x there it fits.mirrors read stopped) (fails x there it fits.mirrors read stopped)
 
 -- where it fails the tables mirror the same layout
@@ -62,24 +65,25 @@ merge_in_place places u t after (Err e) old new low tells x told it mirrors = λ
     (still it mirrors).0.directory.current u low ∙ sym (mirrors.directory.current u low)
 
 pub merged_tells : (u : ℕ) (old new : Pages) (result : Result (Unit {0}) ChipFault)
-    (before after : Told) → u + 4 < before.places
+    (before after : Told) → u + 4 < before.places → (tables_in new).active ≡ (tables_in old).active
     → TellsMergeFault before.places (tables_in old) u result before
     → ChartsThroughout (λ done. Merges before.places u (tables_in old) (tables_in new))
     (StaysMirrored before.places (tables_in old) (tables_in new)) result before after
     → TellsFaults old result before new
-merged_tells u old new result before after low fault tells =
-    merge_tells u old new result before low
+merged_tells u old new result before after low alike fault tells =
+    merge_tells u old new result before low alike
     (merge_fails_so before.places (tables_in old) u result before fault)
     (merge_in_place before.places u (tables_in old) (tables_in new) result before after
     (omega (arith, low)) tells)
 
 pub renew_tells : (old new : Pages) (result : Result (Unit {0}) ChipFault) (told : Told)
+    → (tables_in new).active ≡ (tables_in old).active
     → RenewalFailsInPlace told.places (tables_in old) (tables_in new) result told
     → TellsFaults old result told new
-renew_tells old new (Ok v) told fails x there slots it state fits = tt
-renew_tells old new (Err e) told fails x there slots it state fits = λ read stopped.
+renew_tells old new (Ok v) told alike fails x there slots it state fits = tt
+renew_tells old new (Err e) told alike fails x there slots it state fits = λ read stopped.
     let here = fails x there it fits.mirrors read stopped in
-    unit_names told.places x it old (tables_in new) slots state here.is.unit e here.is.low fits
+    unit_names told.places x it old (tables_in new) slots state here.is.unit e here.is.low fits alike
     (here.stays ∙ sym (fits.mirrors.directory.current here.is.unit here.is.low)) here.is.fault
 
 -- ---- loads
@@ -91,10 +95,10 @@ fault_read fault (Err e) tells = tells
 
 pub load_exact : {T : Type 0} (t : Tables) (u page : ℕ) (result : Result T ChipFault) (told : Told)
     → OfTables told t.places t.overflow t.status
-    (λ x it. TellsChipFault (base_fault x it u page) result)
+    (λ x it. TellsChipFault (load_fault x it (among t.active) u page) result)
     → FailsAsPage t u page result told
 load_exact t u page result told tells x there it mirrors =
-    fault_read (base_fault x it u page) result (tells x there it t (record {
+    fault_read (load_fault x it (among t.active) u page) result (tells x there it t (record {
       mirrored = record { mirrors = mirrors; directory_is = refl; overflow_is = refl };
       status_is = refl;
     }))
@@ -105,7 +109,8 @@ pub loaded_tells : {T : Type 0} (u page : ℕ) (old new : Pages) (result : Resul
 loaded_tells u page old new (Ok v) told low few same fails x there slots it state fits = tt
 loaded_tells u page old new (Err e) told low few same fails x there slots it state fits =
     λ read stopped. names_page told.places x it (tables_in old) (tables_in new) u page e fits.mirrors
-    (omega (arith, low)) few (ap (λ (t : Tables). slice_index t.places.current u) same)
+    (omega (arith, low)) few (ap (λ (t : Tables). t.active) same)
+    (ap (λ (t : Tables). slice_index t.places.current u) same)
     (fails x there it fits.mirrors read)
 
 -- ---- calls of the chip
@@ -121,14 +126,15 @@ alone_tells old new (Err e) told alone x there slots it state fits = λ read sto
 
 -- ---- two calls
 
--- after one that keeps each state and was done: a page without a fault has none still
+-- after one that keeps each state and was done: a page without a fault has none still, with the same
+-- sessions open
 pub tells_then : {T : Type 0} (first between last : Pages) (result : Result T ChipFault)
-    (old mid : Told) → mid.places ≡ old.places
+    (old mid : Told) → mid.places ≡ old.places → (tables_in last).active ≡ (tables_in between).active
     → KeepsState {T = Unit {0}} {E = ChipFault} (tables_in first) (frames_in first) old (Ok tt)
     (tables_in between) (frames_in between) mid
     → TellsFaults between result mid last → TellsFaults first result old last
-tells_then first between last (Ok v) old mid sized keeps tells x there slots it state fits = tt
-tells_then first between last (Err e) old mid sized keeps tells x there slots it state fits =
+tells_then first between last (Ok v) old mid sized alike keeps tells x there slots it state fits = tt
+tells_then first between last (Err e) old mid sized alike keeps tells x there slots it state fits =
     λ read stopped.
     let memory = memory_of (tables_in first) (frames_in first) slots in
     let after = memory_of (tables_in between) (frames_in between) slots in
@@ -143,7 +149,9 @@ tells_then first between last (Err e) old mid sized keeps tells x there slots it
       page = is.page;
       low = is.low;
       few = is.few;
-      bad = λ none. is.bad (still_sound old.places x y it on.layout memory after state is.unit is.page
-          is.low is.few (λ s held. had it s held) fits on.fits.mirrors none);
+      bad = λ none. is.bad (subst (λ (l : List ℕ). load_fault y on.layout (among l) is.unit is.page ≡ None)
+          (sym alike) (still_sound old.places x y it on.layout memory after state is.unit is.page
+          is.low is.few (λ s held. had it s held) fits on.fits.mirrors
+          (subst (λ (l : List ℕ). load_fault x it (among l) is.unit is.page ≡ None) alike none)));
       names = is.names;
     }

@@ -9,7 +9,7 @@ use Rattle.pending_writes.specs.Frames.{logs_of}
 use Rattle.frame_changes.specs.Changes.{MayPut}
 use Rattle.page_writing.specs.Spending.{ErasesAndLogs, UsesHome}
 use Rattle.page_frames.specs.declared.pages.Pages.{Pages}
-use Rattle.page_frames.specs.Pages.{tables_in, frames_in, IsFramed, HasFreeFrame}
+use Rattle.page_frames.specs.Pages.{tables_in, frames_in, IsFramed, HasFreeFrame, OnlyUses}
 use Rattle.page_frames.specs.Changed.{changed_pages, HasHomesFor}
 
 -- A page's records written out: nothing, and all stays as it is, where it has none in memory; where
@@ -22,12 +22,19 @@ pub record AsksToWriteOut (u page : ℕ) (result : Result (Unit {0}) ChipFault) 
       × UsesHome result old.parts.directory new.parts.directory u
   pub costs : Spends (ErasesAndLogs old.parts.directory) before after
 
+-- A page brought into a frame: nothing where it is in one, but that a use is counted; reads alone where
+-- a frame is free; and what writing one page out may cost in any case.
+pub record AsksToBring (u page : ℕ) (old new : Pages) (before after : Told) : Type 0 where
+  pub idle : IsFramed old u page → OnlyUses u page old new × (after ≡ before)
+  pub free : HasFreeFrame old → Spends (Costs 0 0 0 []) before after
+  pub costs : Spends (ErasesAndLogs old.parts.directory) before after
+
 -- A page made ready for a record: nothing where it is in a frame and the record fits behind those in
--- memory; reads alone where it is in none and a frame is free; where it is in a frame and a log
--- sector is clean at its unit's home, at most one program, of a log sector, with no erase and no
--- barrier; and what writing one page out may cost in any case.
-pub record AsksToPrepare (u : ℕ) (r : Record) (old : Pages) (before after : Told) : Type 0 where
-  pub idle : MayPut (frames_in old) u r → after ≡ before
+-- memory, but that a use is counted; reads alone where it is in none and a frame is free; where it is
+-- in a frame and a log sector is clean at its unit's home, at most one program, of a log sector, with
+-- no erase and no barrier; and what writing one page out may cost in any case.
+pub record AsksToPrepare (u : ℕ) (r : Record) (old new : Pages) (before after : Told) : Type 0 where
+  pub idle : MayPut (frames_in old) u r → OnlyUses u r.page old new × (after ≡ before)
   pub free : frames_in old u r.page ≡ None → HasFreeFrame old → Spends (Costs 0 0 0 []) before after
   pub home : IsFramed old u r.page → HasHomeSpot (tables_in old) u
       → Spends (Costs 0 1 0 (5 ∷ [])) before after

@@ -1,5 +1,5 @@
 -- Which fault calls on pages tell, where a page doesn't read well.
-use Rattle.std.specs.Prelude.{ℕ, ◌≡◌, ◌≢◌, ◌<◌, ◌-◌, slice_index, Some, None, Result, IfErr}
+use Rattle.std.specs.Prelude.{ℕ, ◌≡◌, ◌≢◌, ◌⊎◌, ◌<◌, ◌-◌, slice_index, Some, None, Result, IfErr}
 use Rattle.ipl_base.specs.declared.limits.TheConstants.{RESERVED_PLACES, PAGES, PAGE_SECTORS}
 use Rattle.chip_trait.specs.Story.{Contents}
 use Rattle.chip_trait.specs.Told.{Told}
@@ -11,42 +11,45 @@ use Rattle.ipl_meaning.specs.Chart.{chart_of}
 use Rattle.ipl_meaning.specs.Layout.{Layout}
 use Rattle.ipl_meaning.specs.Mirrors.{Mirrors}
 use Rattle.ipl_meaning.specs.Tables.{Tables}
+use Rattle.number_set.specs.Numbers.{among}
 use Rattle.unit_io.specs.Reads.{OfContents}
 use Rattle.unit_io.specs.Spots.{IsPieceSpot}
-use Rattle.page_rebuild.specs.Loaded.{base_fault}
+use Rattle.page_rebuild.specs.Loaded.{load_fault}
 use Rattle.store_steps.specs.Advances.{memory_of, MemoryFits}
 use Rattle.page_frames.specs.declared.pages.Pages.{Pages}
 use Rattle.page_frames.specs.Pages.{tables_in, frames_in}
 
 -- ---- one page
 
--- the fault names a base sector of the page at this place, and where that is damaged its sums
--- differ
+-- The fault names a base sector of the page at this place, and where that is damaged its sums differ;
+-- or it says that the place's header, sector 0, is malformed, where a page has no room for the values,
+-- whichever pending changes become values.
 abbrev pub IsOfPage : ℕ → ℕ → ChipFault → Type 0
 IsOfPage place page ReadFault = ⊥
 IsOfPage place page Stopped = ⊥
 IsOfPage place page (Damaged p s stored computed) =
     (p ≡ place) × IsPieceSpot page PAGE_SECTORS s × (stored ≢ computed)
-IsOfPage place page (Malformed p s) = (p ≡ place) × IsPieceSpot page PAGE_SECTORS s
+IsOfPage place page (Malformed p s) =
+    (p ≡ place) × ((s ≡ 0) ⊎ IsPieceSpot page PAGE_SECTORS s)
 
 -- over contents that the tables mirror it fails exactly with what is wrong with the page, unless a
 -- read failed
 abbrev pub FailsAsPage : {T : Type 0} → Tables → ℕ → ℕ → Result T ChipFault → Told → Type 0
 FailsAsPage t u page result told = OfContents told (λ x. (it : Layout)
     → Mirrors told.places (chart_of x) it t
-    → IfErr result (λ e. e ≢ ReadFault → base_fault x it u page ≡ Some e))
+    → IfErr result (λ e. e ≢ ReadFault → load_fault x it (among t.active) u page ≡ Some e))
 
 -- ---- any page
 
--- a page that didn't read well, and the fault is of it, at the place where the tables then have its
--- unit
+-- a page that didn't read well or had no room for its values, with what is pending of the sessions
+-- that are open then; and the fault is of it, at the place where the tables then have its unit
 pub record NamesBadPage (places : ℕ) (x : Contents) (it : Layout) (after : Tables)
     (e : ChipFault) : Type 0 where
   pub unit : ℕ
   pub page : ℕ
   pub low : unit < places - RESERVED_PLACES
   pub few : page < PAGES
-  pub bad : base_fault x it unit page ≢ None
+  pub bad : load_fault x it (among after.active) unit page ≢ None
   pub names : IsOfPage (slice_index after.places.current unit) page e
 
 -- the fault is of such a page, unless a call of the chip failed
@@ -54,8 +57,8 @@ abbrev pub FailsByPage : ℕ → Contents → Layout → Tables → ChipFault �
 FailsByPage places x it after e = e ≢ ReadFault → e ≢ Stopped → NamesBadPage places x it after e
 
 -- Where the chip tells what it holds, and that with the tables, the frames and whatever sessions
--- stands for a state, the call fails by a page that didn't read well, or where a call of the chip
--- failed. Nothing is asked of what the pages say.
+-- stands for a state, the call fails by a page that didn't read well or had no room for its values with
+-- what is pending, or where a call of the chip failed. Nothing is asked of what the pages say.
 abbrev pub TellsFaults : {T : Type 0} → Pages → Result T ChipFault → Told → Pages → Type 0
 TellsFaults old result told new = OfContents told (λ x. (slots : Slots) (it : Layout)
     (state : State) → MemoryFits told.places (chart_of x) it

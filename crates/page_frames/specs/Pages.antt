@@ -63,6 +63,11 @@ pub record OnlyUses (u page : ℕ) (old new : Pages) : Type 0 where
 abbrev pub IsFresh : Pages → ℕ → ℕ → Type 0
 IsFresh pages u page = (f : Frame) × (frames_in pages u page ≡ Some f) × (f.log ≡ [])
 
+-- the page's frame, where it had one, has the same values
+abbrev pub KeepsValues : ℕ → ℕ → Pages → Pages → Type 0
+KeepsValues u page old new = (f : Frame) → frames_in old u page ≡ Some f
+    → (g : Frame) × (frames_in new u page ≡ Some g) × (g.values ≡ f.values)
+
 -- ---- what always holds between calls
 
 -- The tables know each place, pages in frames are of the chip's units, and fewer pages are held than

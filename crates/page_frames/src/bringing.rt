@@ -12,7 +12,7 @@ ghost use Rattle.log_records.specs.View.{record_of};
 ghost use Rattle.page_writing.specs.Spending.{ErasesAndLogs};
 ghost use Rattle.frame_changes.specs.Changes.{MayPut};
 ghost use Rattle.frame_changes.specs.Views.{frames_of};
-ghost use Rattle.page_frames.specs.Asks.{AsksToPrepare};
+ghost use Rattle.page_frames.specs.Asks.{AsksToBring, AsksToPrepare};
 ghost use Rattle.page_frames.specs.Frames.{IsChosen, IsUnheld, MayGive, TakesFrame};
 ghost use Rattle.page_frames.specs.Complete.{Completes, CompletesLoad};
 ghost use Rattle.page_frames.specs.Faulty.{FailsAsPage, TellsFaults};
@@ -25,7 +25,7 @@ ghost use Rattle.page_frames.specs.Pages.{
   HasFreeFrame,
   KeepsFramed,
   KeepsFramedFor,
-  OnlyUses,
+  KeepsValues,
   IsReady,
   Upholds,
   LoadsFrame,
@@ -177,7 +177,7 @@ impl Pages {
     }
 
     /// Brings a page into a frame, where it is in none; another page may have to leave its frame then.
-    /// It is the page used last then.
+    /// It is the page used last then, and has no records in memory where it was in no frame.
     pub fn bring<C: Chip>(&mut self, chip: &mut C, unit: u32, page: u32) -> Result<(), ChipFault>
         requires ready { IsReady (C.told chip.old).places self.old }
         requires unit { unit + 4 < (C.told chip.old).places }
@@ -189,15 +189,12 @@ impl Pages {
         ensures exact { (IsFramed self.old unit page ⊎ HasFreeFrame self.old)
             → FailsAsPage (tables_in self.old) unit page result (C.told chip.old) }
         ensures there { OnOk result (IsFramed self.new unit page) }
+        ensures fresh { frames_in self.old unit page ≡ None
+            → OnOk result (IsFresh self.new unit page) }
         ensures used { OnOk result (IsUsedLast self.new.pool unit page) }
         ensures framed { KeepsFramedFor unit page self.old self.new }
-        ensures idle { IsFramed self.old unit page
-            → OnlyUses unit page self.old self.new × (C.told chip.new ≡ C.told chip.old) }
-        ensures free { HasFreeFrame self.old
-            → Spends (Costs 0 0 0 []) (C.told chip.old) (C.told chip.new) }
         ensures status { self.new.parts.status ≡ self.old.parts.status }
-        ensures costs { Spends (ErasesAndLogs self.old.parts.directory)
-            (C.told chip.old) (C.told chip.new) }
+        ensures asks { AsksToBring unit page self.old self.new (C.told chip.old) (C.told chip.new) }
     {
         if is_framed(&self.pool, unit, page) {
             use_page(&mut self.pool, unit, page);
@@ -207,8 +204,8 @@ impl Pages {
     }
 
     /// Brings the page of a record into a frame, where the record fits behind the page's records in
-    /// memory then. Where the page is in a frame with no room for it, these are written out first. It is
-    /// the page used last then.
+    /// memory then. Where the page is in a frame with no room for it, these are written out first. Its
+    /// values stay, and it is the page used last then.
     pub fn prepare<C: Chip>(
         &mut self,
         chip: &mut C,
@@ -225,10 +222,11 @@ impl Pages {
         ensures exact { frames_in self.old unit logged.now.page ≡ None → HasFreeFrame self.old
             → FailsAsPage (tables_in self.old) unit logged.now.page result (C.told chip.old) }
         ensures room { OnOk result (MayPut (frames_in self.new) unit (record_of logged.now)) }
+        ensures values { OnOk result (KeepsValues unit logged.now.page self.old self.new) }
         ensures used { OnOk result (IsUsedLast self.new.pool unit logged.now.page) }
         ensures framed { KeepsFramedFor unit logged.now.page self.old self.new }
         ensures status { self.new.parts.status ≡ self.old.parts.status }
-        ensures asks { AsksToPrepare unit (record_of logged.now) self.old
+        ensures asks { AsksToPrepare unit (record_of logged.now) self.old self.new
             (C.told chip.old) (C.told chip.new) }
     {
         short(logged);

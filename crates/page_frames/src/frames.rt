@@ -1,6 +1,7 @@
 //! What frames have of a page, and frames that are taken and freed.
-ghost use Rattle.std.specs.Prelude.{◌≡◌, ◌≢◌, ◌<◌, ◌≤◌, ◌↔◌, [], false, Some, None, IsTrue, IsSome};
+ghost use Rattle.std.specs.Prelude.{◌≡◌, ◌≢◌, ◌<◌, ◌≤◌, ◌+◌, ◌↔◌, [], false, Some, None, IsTrue, IsSome};
 ghost use Rattle.slab.specs.Slab.{slab_len};
+ghost use Rattle.ipl_base.specs.declared.limits.TheConstants.{RECORD_HEAD, VALUE_LEN};
 ghost use Rattle.ipl_meaning.specs.Last.{size_of};
 ghost use Rattle.log_records.specs.View.{record_of};
 ghost use Rattle.buffer_pool.specs.Holding.{KeepsPins};
@@ -101,9 +102,9 @@ pub(crate) fn give_frame(pool: &mut Pool, victim: Option<(u32, u32)>, unit: u32,
     }
 }
 
-/// A record takes at most 120 bytes of a log sector.
+/// A record takes at most 476 bytes of a log sector.
 pub(crate) fn short(logged: &Record)
-    ensures { size_of (record_of logged.now) ≤ 120 }
+    ensures { size_of (record_of logged.now) ≤ RECORD_HEAD + VALUE_LEN }
 {
     match &logged.change {
         Change::Put(value) => {

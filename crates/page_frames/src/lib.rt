@@ -4,25 +4,26 @@
 //! `page_rebuild` for what a page is on the chip, and on `page_writing` for its records on their way
 //! there. A contract sees the tables (`tables_in`) and the frames by unit and page (`frames_in`), and
 //! that each call keeps whatever state they stand for (`KeepsState`), and over a chip that holds one
-//! fails only where a call of the chip failed (`Completes`), or by a page that doesn't read well
-//! (`TellsFaults`).
+//! fails only where a call of the chip failed (`Completes`), or by a page that doesn't read well or has
+//! no room for its values with what is pending there (`TellsFaults`).
 //!
 //! Proved, by its calls: pages in frames: a page is brought into a frame, from which another that
-//! isn't held may have to leave, the one used longest ago; it is the page used last then, also
-//! where it was in its frame. A page's records are written out, or those of all pages of the names
-//! that some sessions wrote, each page once; the status place gets a clean sector for a commit; a
-//! unit is merged. Each call keeps whatever state the tables, the frames and the chip stand for,
-//! the held pages and the open sessions; over a chip that tells what it holds, where that stands
-//! for a state, it fails only where a call of the chip failed; and where it stands for all of a
-//! state but what the pages say, also by a page that didn't read well, of which the fault names a
-//! base sector at the place where its unit is then. With a frame free, a page that is brought fails
-//! with exactly what is wrong with it. A page that is in a frame costs nothing, and one for which a
-//! frame is free only reads; in both cases every page stays in its frame. Where records are written
-//! out, a unit is merged or the status place is renewed, every page stays in its frame; the pages of
-//! sessions' names cost at most one erase and one log sector for each that has records in memory,
-//! whichever sessions have them, and no erase where each unit has as many log sectors clean at home
-//! as it has such pages. A record of a page that is in a frame costs one log sector where one is
-//! clean at its unit's home, and nothing where it fits behind those in memory.
+//! isn't held may have to leave, the one used longest ago; it is the page used last then, also where
+//! it was in its frame. A page's records are written out, or those of all pages of the names that some
+//! sessions wrote, each page once; the status place gets a clean sector for a commit; a unit is
+//! merged. Each call keeps whatever state the tables, the frames and the chip stand for, the held
+//! pages and the open sessions; over a chip that tells what it holds, where that stands for a state,
+//! it fails only where a call of the chip failed; and where it stands for all of a state but what the
+//! pages say, also by a page that didn't read well or had no room for its values with what is pending
+//! there, of which the fault names a base sector or the header at the place where its unit is then.
+//! With a frame free, a page that is brought fails with exactly what is wrong with it. A page that is
+//! in a frame costs nothing, and one for which a frame is free only reads; in both cases every page
+//! stays in its frame. Where records are written out, a unit is merged or the status place is renewed,
+//! every page stays in its frame; the pages of sessions' names cost at most one erase and one log
+//! sector for each that has records in memory, whichever sessions have them, and no erase where each
+//! unit has as many log sectors clean at home as it has such pages. A record of a page that is in a
+//! frame costs one log sector where one is clean at its unit's home, and nothing where it fits behind
+//! those in memory; the values of its frame stay.
 #![tactic(auto)]
 
 mod bringing;

@@ -7,7 +7,7 @@ use Rattle.ipl_rules.proofs.BatchLemmas.{distinct}
 use Rattle.ipl_rules.specs.Operations as rules
 use Rattle.ipl_rules.specs.State.{State}
 use Rattle.record_locks.specs.Held.{Slots, after_end, after_batch, is_among, number_of, numbers_in}
-use Rattle.record_locks.proofs.BatchLemmas.{batches_keep_names}
+use Rattle.record_locks.proofs.BatchLemmas.{batches_keep_names, batches_keep_marks}
 use Rattle.ipl_meaning.specs.Chart.{Chart}
 use Rattle.ipl_meaning.specs.Last.{last_that}
 use Rattle.ipl_meaning.specs.Layout.{Layout}
@@ -26,6 +26,7 @@ use Rattle.pending_writes.proofs.ElementLemmas.{all_listed, contains_here, conta
 use Rattle.pending_writes.proofs.FitLemmas.{sessions_are_sound, wrote_listed}
 use Rattle.pending_writes.proofs.ListedLemmas.{listed_active, listed_number, listed_once}
 use Rattle.pending_writes.proofs.NumberLemmas.{number_ended, still_open}
+use Rattle.pending_writes.proofs.RoomLemmas.{room_kept}
 use Rattle.pending_writes.proofs.SameLemmas.{pending_with_numbers}
 use Rattle.pending_writes.proofs.TableLemmas.{others_mirror}
 use Rattle.pending_writes.proofs.TurnLemmas.{Waits}
@@ -55,6 +56,7 @@ pub fits_wait : (places : ℕ) (c : Chart) (it : Layout) (t : Tables) (frames : 
 fits_wait places c it t frames slots state fits = record {
   tables = t;
   pending = fits.pending;
+  filled = fits.filled;
   one_writer = (sessions_are_sound slots state fits.sessions).0;
   tells = fits.active;
   framed = fits.framed;
@@ -109,10 +111,16 @@ batches_fit places c y it t later frames after slots state ss committed fits are
       none_lost = none_lost;
       pending = pending_with_numbers (places - 4) new (logs_of after) (without_sessions (number_of slots) ss)
           (number_of closed) (rules.after_batch state ss) numbers waits.pending;
+      filled = room_kept (places - 4) c y new new (rules.after_batch state ss) (rules.after_batch state ss) keeps
+          (λ n. omega arith) waits.filled;
       active = listed_active closed;
       framed = frames_over places c y new (is_active waits.tables) (λ n. is_among n (numbers_in closed)) after keeps
           alike waits.framed;
-      sessions = record { names = batches_keep_names slots state ss are.within fits.sessions.names; locked = locked };
+      sessions = record {
+        names = batches_keep_names slots state ss are.within fits.sessions.names;
+        marks = batches_keep_marks slots state ss are.within fits.sessions.marks;
+        locked = locked;
+      };
     }
   where
     new : Layout

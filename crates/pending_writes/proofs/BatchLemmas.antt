@@ -13,10 +13,11 @@ use Rattle.ipl_meaning.specs.Stands.{Shows, page_in}
 use Rattle.ipl_meaning.specs.Steps.{with_committed}
 use Rattle.pending_writes.specs.Pending.{Logs, Numbers, with_number, wrote, HasPending, IsWrittenOut}
 use Rattle.pending_writes.specs.PendingLaws.{StateHasOneWriter, NumberJoins, NumbersJoin, JoinsIfWritten, JoinInTurn, without_sessions, BatchesKeepPending, BatchesSayWrites}
+use Rattle.pending_writes.specs.Room.{PagesHaveRoom}
 use Rattle.pending_writes.specs.Frames.{Frames, logs_of, CommitInTurn}
 use Rattle.pending_writes.proofs.ElementLemmas.{contains_here, contains_there, contains_nil}
 use Rattle.pending_writes.proofs.NumberLemmas.{number_other}
-use Rattle.pending_writes.proofs.TurnLemmas.{wrote_before, one_writer_then, turn_pending, turn_shows, Waits, logs_stay, turn_waits}
+use Rattle.pending_writes.proofs.TurnLemmas.{wrote_before, one_writer_then, turn_pending, turn_room, turn_shows, Waits, logs_stay, turn_waits}
 
 -- ---- the committed numbers
 
@@ -109,22 +110,25 @@ batches_keep_pending units it logs numbers state (s ∷ ss) after has one join =
 
 -- a page that shows the map shows the map after them
 pub batch_shows : (units : ℕ) (c : Chart) (it : Layout) (logs : Logs) (numbers : Numbers) (state : State)
-    (ss : List ℕ) (after : ℕ → Bool) → HasPending units it logs numbers state → StateHasOneWriter state
+    (ss : List ℕ) (after : ℕ → Bool) → HasPending units it logs numbers state → PagesHaveRoom units c it state
+    → StateHasOneWriter state
     → JoinInTurn numbers logs state ss it.committed after → (u page : ℕ) → u < units → page < 15
     → Shows c it.committed u (it.units u) page (page_in state.map u page)
     → Shows c after u (it.units u) page (page_in (after_batch state ss).map u page)
-batch_shows units c it logs numbers state [] after has one join u page low few shows =
+batch_shows units c it logs numbers state [] after has filled one join u page low few shows =
     subst (λ (f : ℕ → Bool). Shows c f u (it.units u) page (page_in state.map u page)) (sym join) shows
-batch_shows units c it logs numbers state (s ∷ ss) after has one join u page low few shows =
+batch_shows units c it logs numbers state (s ∷ ss) after has filled one join u page low few shows =
     let (tid, between, mine, out, joins, rest) = join in
     batch_shows units c (with_committed it between) logs (with_number numbers s None) (after_commit state s) ss after
-    (turn_pending units it logs numbers state s tid between has mine out one joins) (one_writer_then state s one) rest
-    u page low few (turn_shows units it logs numbers state s tid between has mine out joins c u page low few shows)
+    (turn_pending units it logs numbers state s tid between has mine out one joins)
+    (turn_room units it logs numbers state s tid between has mine out joins c filled) (one_writer_then state s one) rest
+    u page low few
+    (turn_shows units it logs numbers state s tid between has mine out joins c filled u page low few shows)
 
 pub batches_say_writes : BatchesSayWrites
-batches_say_writes places c it logs numbers state ss after has one join says = record {
+batches_say_writes places c it logs numbers state ss after has filled one join says = record {
   pages = λ u page low few.
-      batch_shows (places - 4) c it logs numbers state ss after has one join u page low few
+      batch_shows (places - 4) c it logs numbers state ss after has filled one join u page low few
       (says.pages u page low few);
   nowhere_else = λ n high. batches_keep state ss n (λ t there. has.nowhere_else t n high) ∙ says.nowhere_else n high;
 }

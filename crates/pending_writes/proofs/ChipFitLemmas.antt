@@ -1,5 +1,5 @@
 -- A store fits after each step on the chip.
-use Rattle.std.proofs.Common.{List, Some, [], ap, inl, refl, subst, sym, ℕ, ◌-◌, ◌<◌, ◌∙◌, ◌≡◌}
+use Rattle.std.proofs.Common.{List, Some, [], ap, arith, inl, refl, subst, sym, ℕ, ◌-◌, ◌<◌, ◌∙◌, ◌≡◌}
 use Rattle.std.specs.List.{All}
 use Rattle.ipl_rules.specs.State.{State}
 use Rattle.record_locks.specs.Held.{Slots, number_of}
@@ -17,6 +17,7 @@ use Rattle.pending_writes.specs.StepLaws.{LogSectorsFit, MergesFit, OtherStepsFi
 use Rattle.pending_writes.proofs.CarriedLemmas.{merged_or_same}
 use Rattle.pending_writes.proofs.LogSectorLemmas.{log_sectors_keep_pending}
 use Rattle.pending_writes.proofs.RenewLemmas.{renewals_keep_pending}
+use Rattle.pending_writes.proofs.RoomLemmas.{room_kept}
 use Rattle.pending_writes.proofs.FrameLemmas.{log_sectors_keep_frames, other_steps_keep_frames}
 use Rattle.pending_writes.proofs.ActiveLemmas.{still_active, waits_for}
 use Rattle.pending_writes.proofs.FitLemmas.{sessions_are_sound, resting_pages_keep}
@@ -70,6 +71,7 @@ log_sectors_fit places c y it t after frames slots state u page f e fits there i
       mirrors = mirrors;
       none_lost = none_lost;
       pending = pending places c y it t frames slots state u page f e fits there its keeps;
+      filled = room_kept (places - 4) c y it (with_log it u e) state state keeps (λ n. omega arith) fits.filled;
       active = still_active (number_of slots) t after active fits.active;
       framed = frames_still (places - 4) y (with_log it u e) t after later active
           (framed places c y it t frames slots state u page f e fits there its keeps);
@@ -92,6 +94,7 @@ same_or_merged_fit places c y it new t after frames slots state fits alike kept 
       pending = renewals_keep_pending (places - 4) it new (logs_of frames) (number_of slots) state (is_active t)
           fits.pending (sessions_are_sound slots state fits.sessions).0 fits.active alike kept
           (waits_for new (number_of slots) after still mirrors.numbers.waits);
+      filled = room_kept (places - 4) c y it new state state keeps (λ n. omega arith) fits.filled;
       active = still;
       framed = frames_still (places - 4) y new t after frames active (record {
         within = fits.framed.within;

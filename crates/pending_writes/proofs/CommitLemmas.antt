@@ -1,19 +1,20 @@
 -- The records of open sessions, after one of them is committed or aborted.
-use Rattle.std.proofs.Common.{Bool, None, Some, ap, eqb, inl, inr, is_some, refl, sym, true, ℕ, ◌<◌, ◌∙◌, ◌≡◌, ◌≢◌}
-use Rattle.std.specs.List.{filter}
+use Rattle.std.proofs.Common.{Bool, None, Some, ap, eqb, inl, inr, is_some, refl, subst, sym, true, ℕ, ◌<◌, ◌∙◌, ◌≡◌, ◌≢◌}
+use Rattle.std.specs.List.{Contains, filter}
 use Rattle.std.proofs.lemmas.Bool.{cases_eq, cond-false, eqb-true, ne_eqb, not_from_false}
-use Rattle.std.proofs.lemmas.List.Elements.{Contains-append_left}
+use Rattle.std.proofs.lemmas.List.Elements.{Contains-append_cases, Contains-append_left, Contains-append_right}
 use Rattle.ipl_rules.specs.Operations.{after_abort}
-use Rattle.ipl_rules.specs.State.{State, is_open, last_write, writes_of}
+use Rattle.ipl_rules.specs.State.{State, Write, is_open, last_write, writes_of}
 use Rattle.ipl_format.specs.Record.{Record}
 use Rattle.ipl_meaning.specs.Last.{NoneIsBehind, is_number, last_that}
 use Rattle.ipl_meaning.specs.Layout.{Layout, records_of}
 use Rattle.ipl_meaning.specs.Values.{counts_for}
 use Rattle.pending_writes.specs.Pending.{Logs, Numbers, is_other, without_number, with_number, name_at, records_at, change_in, last_change, HasPending}
 use Rattle.pending_writes.specs.PendingLaws.{NumberJoins, CommitsKeepPending, AbortsKeepPending}
+use Rattle.pending_writes.proofs.ElementLemmas.{contains_filter}
 use Rattle.pending_writes.proofs.LastLemmas.{counted, last_that-append, last_that-filter}
 use Rattle.pending_writes.proofs.BehindLemmas.{behind_other}
-use Rattle.pending_writes.proofs.StateLemmas.{closed_here, closed_other, closed_last, closed_nowhere}
+use Rattle.pending_writes.proofs.StateLemmas.{writes_in, closed_here, closed_other, closed_last, closed_nowhere}
 use Rattle.pending_writes.proofs.NumberLemmas.{number_here, number_other, still_open}
 use Rattle.pending_writes.proofs.InMemoryLemmas.{records_stay_pending}
 use Rattle.pending_writes.proofs.FollowLemmas.{one_number}
@@ -39,6 +40,13 @@ module _ (units : ℕ) (it : Layout) (logs : Logs) (numbers : Numbers) (state : 
       let (other, running) = still_open numbers s t n is in
       other (has.apart t s n running (mine ∙ ap (λ (k : ℕ). Some k) (sym same)))
 
+  -- what they wrote stays
+  still_wrote : (t n : ℕ) (w : Write) → with_number numbers s None t ≡ Some n → Contains (writes_of state t) w
+      → Contains (writes_of (after_abort state s) t) w
+  still_wrote t n w is wrote =
+      let (other, running) = still_open numbers s t n is in
+      subst (λ ws. Contains ws w) (sym (ap writes_in (closed_other state s t other))) wrote
+
 -- ---- a commit
 
 -- a number that joins changes no other
@@ -54,6 +62,9 @@ commits_keep_pending units it logs numbers state s tid after has one mine out jo
   waits = λ t n is.
       joined_other it.committed tid after joins n (not_mine units it logs numbers state s tid has mine t n is)
       ∙ has.waits t n (still_open numbers s t n is).1;
+  among = λ t u page r is low there.
+      still_wrote units it logs numbers state s tid has mine t r.tid (name_at u r.page r.slot, r.change) is
+      (has.among t u page r (still_open numbers s t r.tid is).1 low there);
   last = λ t n u page slot is low few less.
       let (other, running) = still_open numbers s t n is in
       has.last t n u page slot running low few less ∙ closed_last state s t (name_at u page slot) other;
@@ -89,6 +100,9 @@ aborts_keep_pending units it logs numbers state s tid has mine = record {
   opens = opens_others units it logs numbers state s tid has mine;
   apart = others_apart units it logs numbers state s tid has mine;
   waits = λ t n is. has.waits t n (still_open numbers s t n is).1;
+  among = λ t u page r is low there.
+      still_wrote units it logs numbers state s tid has mine t r.tid (name_at u r.page r.slot, r.change) is
+      (has.among t u page r (still_open numbers s t r.tid is).1 low (stood u page r there));
   last = last;
   nowhere_else = λ t n high. closed_nowhere state s t n (has.nowhere_else t n high);
   none_behind = λ t n u is low. has.none_behind t n u (still_open numbers s t n is).1 low;
@@ -96,6 +110,16 @@ aborts_keep_pending units it logs numbers state s tid has mine = record {
   in_memory = (records_stay_pending numbers logs has.in_memory).aborts s tid mine;
 }
   where
+    stood : (u page : ℕ) (r : Record) → Contains (records_at it (without_number logs tid) u page) r
+        → Contains (records_at it logs u page) r
+    stood u page r there =
+        let live = records_of (it.units u).log in
+        elim (Contains-append_cases live (filter (is_other tid) (logs u page)) r there) [
+          | inl on_chip ↦ Contains-append_left live (logs u page) r on_chip
+          | inr waits ↦
+              Contains-append_right live (logs u page) r (contains_filter (is_other tid) (logs u page) r waits).0
+        ]
+
     last : (t n u page slot : ℕ) → with_number numbers s None t ≡ Some n → u < units → page < 15 → slot < 64
         → last_change n (records_at it (without_number logs tid) u page) page slot
         ≡ last_write (writes_of (after_abort state s) t) (name_at u page slot)

@@ -2,6 +2,7 @@
 use Rattle.std.proofs.Common.{Bool, None, refl, ℕ, ◌-◌, ◌≡◌}
 use Rattle.std.specs.List.{filter}
 use Rattle.ipl_rules.specs.Operations.{after_abort}
+use Rattle.ipl_rules.proofs.MarkLemmas.{removed_most}
 use Rattle.record_locks.specs.Held.{after_end, number_of}
 use Rattle.record_locks.proofs.KeepLemmas.{keeps_names}
 use Rattle.page_ops.specs.Pending.{without_pending}
@@ -16,6 +17,8 @@ use Rattle.pending_writes.proofs.FrameEndLemmas.{aborts_keep_frames}
 use Rattle.pending_writes.proofs.ActiveLemmas.{active_ended}
 use Rattle.pending_writes.proofs.TableLemmas.{ended_mirrors}
 use Rattle.pending_writes.proofs.FitLemmas.{sessions_are_sound}
+use Rattle.pending_writes.proofs.MemoryFitLemmas.{keep_marks}
+use Rattle.pending_writes.proofs.RoomLemmas.{room_kept}
 use Rattle.pending_writes.proofs.SameLemmas.{pending_with_logs, pending_with_numbers, active_with_numbers, frame_as, IsPlaced, both_logs, frames_all}
 use Rattle.ipl_rules.specs.Operations as rules
 
@@ -28,10 +31,16 @@ aborts_fit places c it t frames after slots state s tid fits within mine all loc
       (pending_with_logs (places - 4) it (without_number (logs_of frames) tid) (logs_of after)
       (with_number (number_of slots) s None) (rules.after_abort state s) same
       (aborts_keep_pending (places - 4) it (logs_of frames) (number_of slots) state s tid fits.pending mine));
+  filled = room_kept (places - 4) c c it it state (rules.after_abort state s) (λ u page now low few shows. shows)
+      (λ n. removed_most state.sessions s n) fits.filled;
   active = active_with_numbers (with_number (number_of slots) s None) (number_of (after_end slots s)) rest ended tells;
   framed = frames_all (places - 4) c c it it (is_active t) rest frames after (IsAbortedFrame tid) fits.framed all
       framed;
-  sessions = record { names = (keeps_names slots state s within fits.sessions.names).aborts; locked = locked };
+  sessions = record {
+    names = (keeps_names slots state s within fits.sessions.names).aborts;
+    marks = (keep_marks slots state s within fits.sessions).aborts;
+    locked = locked;
+  };
 }
   where
     rest : ℕ → Bool

@@ -1,18 +1,20 @@
 -- A chip that was just formatted, with its first tables and no session.
-use Rattle.std.proofs.Common.{Bool, None, Option, ap, arith, false, get_or, inl, inr, refl, replicate, sym, true, ℕ, ◌+◌, ◌-◌, ◌/◌, ◌==◌, ◌∙◌, ◌≡◌, ◌≤◌}
+use Rattle.std.proofs.Common.{None, Option, ap, arith, false, get_or, inl, inr, refl, replicate, sym, true, ℕ, ◌+◌, ◌-◌, ◌∙◌, ◌≡◌, ◌≤◌}
 use Rattle.std.specs.FinMap.{empty, get-empty}
 use Rattle.std.specs.Option.{option_map}
 use Rattle.std.specs.Ordering.{nat_cmp}
 use Rattle.std.proofs.lemmas.Bool.{cases_eq, cases_lt}
 use Rattle.std.proofs.lemmas.List.{get_or-append_right, get_or-replicate, get_or_past, length-replicate}
 use Rattle.std.proofs.lemmas.List.FromFn.{get_or-range_with_len, length-range_with_len}
-use Rattle.ipl_rules.specs.State.{at_rest}
-use Rattle.record_locks.specs.Held.{Held}
-use Rattle.record_locks.specs.Locks.{AreSoundSlots, total}
-use Rattle.record_locks.specs.Names.{names_of, SameNames}
+use Rattle.ipl_base.specs.declared.limits.TheConstants.{SESSIONS}
+use Rattle.ipl_rules.specs.Marks.{marks_of}
+use Rattle.ipl_rules.specs.State.{Session, at_rest}
+use Rattle.record_locks.specs.Held.{Held, slot_marks}
+use Rattle.record_locks.specs.Names.{names_of, SameMarks, SameNames}
 use Rattle.record_locks.specs.Standing.{slot_of, state_of}
 use Rattle.record_locks.proofs.StandingLemmas.{session_at}
-use Rattle.record_locks.proofs.TotalLemmas.{few_pending, one_writer}
+use Rattle.record_locks.proofs.SoundLemmas.{sound_none}
+use Rattle.record_locks.proofs.TotalLemmas.{one_writer}
 use Rattle.ipl_meaning.specs.FirstTables.{first_layout, first_tables}
 use Rattle.ipl_meaning.specs.Formatted.{formatted}
 use Rattle.ipl_meaning.specs.Mirrors.{NoneIsLost}
@@ -20,6 +22,7 @@ use Rattle.ipl_meaning.proofs.FirstTableLemmas.{first_tables_mirror}
 use Rattle.pending_writes.specs.Fits.{LocksHold}
 use Rattle.pending_writes.specs.FittingLaws.{EmptySlotsAreAtRest, FirstStoresFit}
 use Rattle.pending_writes.proofs.MemoryFitLemmas.{openings_fit}
+use Rattle.pending_writes.proofs.StateLemmas.{writes_in}
 
 -- ---- no session
 
@@ -32,29 +35,25 @@ none_at n s = elim (cases_lt s n) [
   | inr past ↦ get_or_past (replicate n no_one) s no_one (omega (arith, past, length-replicate n no_one))
 ]
 
-none_counted : (p : ℕ → Bool) → total p (replicate 32 None) ≡ 0
-none_counted p = refl
-
-sound : AreSoundSlots (replicate 32 None)
-sound = record {
-  all = length-replicate 32 no_one;
-  once = λ n. omega (arith, none_counted (λ k. k == n));
-  few = λ unit. omega (arith, none_counted (λ k. k / 960 == unit));
-}
-
 pub empty_slots_are_at_rest : EmptySlotsAreAtRest
-empty_slots_are_at_rest m = record { names = names; locked = locked }
+empty_slots_are_at_rest m = record { names = names; marks = marked; locked = locked }
   where
-    names : SameNames (state_of (replicate 32 None)) (at_rest m)
+    names : SameNames (state_of (replicate SESSIONS None)) (at_rest m)
     names s =
         ap (option_map names_of)
-        (session_at (replicate 32 None) s ∙ ap slot_of (none_at 32 s) ∙ sym (get-empty nat_cmp s))
+        (session_at (replicate SESSIONS None) s ∙ ap slot_of (none_at SESSIONS s) ∙ sym (get-empty nat_cmp s))
 
-    locked : LocksHold (replicate 32 None)
+    marked : SameMarks (replicate SESSIONS None) (at_rest m)
+    marked s n =
+        ap (λ (o : Option Held). slot_marks o n) (none_at SESSIONS s)
+        ∙ sym (ap (λ (o : Option Session). marks_of (writes_in o) n) (get-empty nat_cmp s))
+
+    locked : LocksHold (replicate SESSIONS None)
     locked = record {
-      all = length-replicate 32 no_one;
-      one_writer = one_writer (replicate 32 None) sound;
-      few = few_pending (replicate 32 None) sound;
+      all = sound_none.all;
+      one_writer = one_writer (replicate SESSIONS None) sound_none;
+      sized = sound_none.sized;
+      few = sound_none.few;
     }
 
 -- ---- the first tables

@@ -1,15 +1,19 @@
 -- What a store gives that fits.
-use Rattle.std.proofs.Common.{Bool, Some, not, refl, subst, sym, true, ℕ, ◌-◌, ◌<◌, ◌∙◌, ◌≡◌, ◌≤◌}
+use Rattle.std.proofs.Common.{Bool, Some, arith, not, refl, subst, sym, true, ℕ, ◌*◌, ◌+◌, ◌-◌, ◌<◌, ◌∙◌, ◌≡◌, ◌≤◌}
 use Rattle.std.specs.List.{Contains}
 use Rattle.std.proofs.lemmas.Bool.{not-false, not_from_true}
 use Rattle.std.proofs.lemmas.List.Elements.{Contains-append_left}
+use Rattle.ipl_rules.specs.Marks.{marks, weight_of_mark, weights}
 use Rattle.ipl_rules.specs.State.{Map, State}
-use Rattle.record_locks.specs.Held.{Slots, is_among, number_of, written_of}
+use Rattle.ipl_rules.proofs.MarkLemmas.{le_trans}
+use Rattle.ipl_rules.proofs.WeightLemmas.{weights_less}
+use Rattle.record_locks.specs.Held.{Slots, is_among, marks_in, number_of, written_of}
 use Rattle.record_locks.specs.Standing.{state_of}
-use Rattle.record_locks.proofs.SameLemmas.{new_writes_alike, pends_alike}
+use Rattle.record_locks.proofs.SameLemmas.{marks_are, new_writes_alike}
 use Rattle.record_locks.proofs.StandingLemmas.{new_write_at}
 use Rattle.ipl_meaning.specs.Chart.{Chart, chart_of}
 use Rattle.ipl_meaning.specs.Laws.{AreOneLayout}
+use Rattle.ipl_meaning.specs.Last.{weight_of}
 use Rattle.ipl_meaning.specs.Layout.{Layout, Shape, records_of}
 use Rattle.ipl_meaning.specs.Rests.{now}
 use Rattle.ipl_meaning.specs.Stands.{Says, Shows, page_in}
@@ -18,14 +22,40 @@ use Rattle.ipl_meaning.specs.Tables.{Tables}
 use Rattle.ipl_meaning.proofs.OnceLemmas.{laid_once, shows_once}
 use Rattle.ipl_meaning.proofs.PackLemmas.{few_are_carried}
 use Rattle.ipl_meaning.proofs.StoryLemmas.{held_stands}
-use Rattle.pending_writes.specs.Pending.{wrote}
+use Rattle.pending_writes.specs.Pending.{name_at, wrote}
 use Rattle.pending_writes.specs.Frames.{Frame, Frames, logs_of}
 use Rattle.pending_writes.specs.FrameLaws.{TellsSlot}
 use Rattle.pending_writes.specs.Fits.{AreSessionsOf, is_active, Fits}
-use Rattle.pending_writes.specs.FittingLaws.{SessionsAreSound, MergesAreSmall, RestingPagesSay, RestingPagesKeep, FittingFramesTell, FittingContentsTell}
+use Rattle.pending_writes.specs.FittingLaws.{FitsWhateverTheMap, SessionsAreSound, MergesAreSmall, RestingPagesSay, RestingPagesKeep, FittingFramesTell, FittingContentsTell}
 use Rattle.pending_writes.proofs.ActiveLemmas.{listed_among}
-use Rattle.pending_writes.proofs.FewLemmas.{few_are_pending}
 use Rattle.pending_writes.proofs.FrameLemmas.{frames_tell}
+use Rattle.pending_writes.proofs.WeightLemmas.{records_weigh_no_more}
+
+-- ---- the map
+
+pub fits_whatever_the_map : FitsWhateverTheMap
+fits_whatever_the_map places c it t frames slots state m fits = record {
+  mirrors = fits.mirrors;
+  none_lost = fits.none_lost;
+  pending = record {
+    opens = fits.pending.opens;
+    apart = fits.pending.apart;
+    waits = fits.pending.waits;
+    among = fits.pending.among;
+    last = fits.pending.last;
+    nowhere_else = fits.pending.nowhere_else;
+    none_behind = fits.pending.none_behind;
+    valid = fits.pending.valid;
+    in_memory = fits.pending.in_memory;
+  };
+  filled = λ u page slot low few less marked.
+      let is = fits.filled u page slot low few less marked in
+      record { values = is.values; shows = is.shows; room = is.room };
+  active = fits.active;
+  framed = fits.framed;
+  sessions =
+      record { names = fits.sessions.names; marks = fits.sessions.marks; locked = fits.sessions.locked };
+}
 
 -- ---- sessions
 
@@ -45,18 +75,28 @@ pub sessions_are_sound : SessionsAreSound
 sessions_are_sound slots state are = (
   λ s t n by_s by_t.
       are.locked.one_writer s t n (wrote_is slots state are s n by_s) (wrote_is slots state are t n by_t),
-  λ u. subst (λ (k : ℕ). k ≤ 48) (pends_alike (state_of slots) state are.names u) (are.locked.few u),
+  λ u. le_trans (weights_less (marks state) (marks_in slots) u (λ n. same_less (marks_are slots state are.marks n)))
+      (are.locked.few u),
 )
+  where
+    same_less : {a b : ℕ} → b ≡ a → a ≤ b
+    same_less same = omega (arith, same)
+
+-- the number of a name within its unit
+in_unit : (u page slot : ℕ) → name_at u page slot ≡ 960 * u + (64 * page + slot)
+in_unit u page slot = omega arith
 
 pub merges_are_small : MergesAreSmall
+unfolding weights
 merges_are_small places c it t frames slots state u fits low =
-    let (names, few, all) = few_are_pending (places - 4) it (logs_of frames) (number_of slots) state (is_active t) u
-    fits.pending (sessions_are_sound slots state fits.sessions).1 fits.active low in
     let live = records_of (it.units u).log in
-    few_are_carried (is_active t) (it.units u).log names (fits.pending.valid u low) few
-    (λ r there is. all r.page r (Contains-append_left live (logs_of frames u r.page) r there) is)
+    few_are_carried (is_active t) (it.units u).log (λ i. weight_of_mark (marks state (960 * u + i)))
+    (fits.pending.valid u low) ((sessions_are_sound slots state fits.sessions).1 u) (λ r there is.
+    subst (λ (n : ℕ). weight_of r ≤ weight_of_mark (marks state n)) (in_unit u r.page r.slot)
+    (records_weigh_no_more (places - 4) it (logs_of frames) (number_of slots) state (is_active t) u r.page r
+    fits.pending fits.active low (Contains-append_left live (logs_of frames u r.page) r there) is))
 
--- ---- the map
+-- ---- pages
 
 -- as any layout of the chart does
 says_as : (places : ℕ) (c : Chart) (it other : Layout) (m : Map) → AreOneLayout places it other

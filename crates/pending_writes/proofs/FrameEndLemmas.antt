@@ -3,14 +3,11 @@ use Rattle.std.proofs.Common.{Bool, List, None, Option, Some, ap, eqb, false, in
 use Rattle.std.specs.List.{Contains, filter, list_any}
 use Rattle.std.proofs.lemmas.Bool.{ne_eqb, not_from_false, both_ways, false_from_ne_true}
 use Rattle.std.proofs.lemmas.Option.{none-some, same_Some}
-use Rattle.ipl_meaning.proofs.RoomLemmas.{shown_room}
 use Rattle.ipl_rules.specs.State.{State}
-use Rattle.ipl_format.specs.Page.{value_in}
 use Rattle.ipl_format.specs.Record.{Record}
 use Rattle.ipl_meaning.specs.Last.{applied, is_number, last_that}
 use Rattle.ipl_meaning.specs.Layout.{Layout, records_of}
-use Rattle.ipl_meaning.specs.Values.{counts_for, after_records}
-use Rattle.ipl_meaning.proofs.LastLemmas.{commits_apply_the_last}
+use Rattle.ipl_meaning.specs.Values.{counts_for}
 use Rattle.page_ops.specs.Pending.{seen_by, without_pending}
 use Rattle.pending_writes.specs.Pending.{Logs, Numbers, is_other, without_number, with_number, records_at, HasPending, IsWrittenOut}
 use Rattle.pending_writes.specs.PendingLaws.{StateHasOneWriter, AreActive}
@@ -21,7 +18,7 @@ use Rattle.pending_writes.proofs.LastLemmas.{counted, counts, is_one, counts_ali
 use Rattle.pending_writes.proofs.OwnerLemmas.{IsIts, IsNotIts, whose}
 use Rattle.pending_writes.proofs.NumberLemmas.{still_open}
 use Rattle.pending_writes.proofs.FollowLemmas.{of_one_at}
-use Rattle.pending_writes.proofs.SayLemmas.{on_chip}
+use Rattle.pending_writes.proofs.SayLemmas.{on_chip, settled_shows}
 use Rattle.pending_writes.proofs.FrameLemmas.{seen_own, seen_else, drops_own, drops_else}
 use Rattle.pending_writes.proofs.ActiveLemmas.{others_alike}
 
@@ -109,16 +106,12 @@ module _ (units : ℕ) (it : Layout) (logs : Logs) (numbers : Numbers) (state : 
       ]
 
 pub commits_keep_frames : CommitsKeepFrames
-commits_keep_frames places c y it logs numbers state active rest after s tid u page values pending has one tells later
-    mine out joins keeps low few framed =
+commits_keep_frames places c y it logs numbers state active rest after s tid u page values pending has filled one tells
+    later mine out joins keeps low few framed =
     record {
-      shows = keeps u page (λ slot. seen_by tid (values slot) (pending slot)) low few (record {
-        base = framed.shows.base;
-        reads = framed.shows.reads;
-        says = says;
-        room = shown_room c after u (it.units u) page framed.shows.base
-            (λ slot. seen_by tid (values slot) (pending slot)) framed.shows.reads (has.valid u low) says;
-      });
+      shows = keeps u page (λ slot. seen_by tid (values slot) (pending slot)) low few
+          (settled_shows (places - 4) c it logs numbers state s tid after has filled mine out joins u page low few
+          values (λ slot. seen_by tid (values slot) (pending slot)) says framed.shows);
       changes = λ slot less.
           ap (without_pending tid) (framed.changes slot less)
           ∙ changes_without (places - 4) it logs numbers state active rest s tid has one tells later mine u page slot
@@ -126,15 +119,11 @@ commits_keep_frames places c y it logs numbers state active rest after s tid u p
     }
   where
     says : (slot : ℕ) → slot < 64 → seen_by tid (values slot) (pending slot)
-        ≡ after_records after page slot (records_of (it.units u).log) (value_in framed.shows.base slot)
+        ≡ applied (last_that (counts_for (is_number tid) page slot) (records_of (it.units u).log) None) (values slot)
     says slot less =
-        let live = records_of (it.units u).log in
         ap (seen_by tid (values slot)) (framed.changes slot less)
         ∙ value_with (places - 4) it logs numbers state active rest s tid has one tells later mine u page slot low
         out (values slot)
-        ∙ ap (applied (last_that (counts_for (is_number tid) page slot) live None)) (framed.shows.says slot less)
-        ∙ sym (commits_apply_the_last it.committed after tid live joins (has.none_behind s tid u mine low) page slot
-        (value_in framed.shows.base slot))
 
 pub aborts_keep_frames : AbortsKeepFrames
 aborts_keep_frames units c it logs numbers state active rest s tid u page values pending has one tells later mine low

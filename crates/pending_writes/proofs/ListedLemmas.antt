@@ -73,6 +73,7 @@ members_fit places c it t frames slots state active fits tells once = record {
       (of_open (λ n. it.committed n ≡ false) was.numbers.waits);
   none_lost = fits.none_lost;
   pending = fits.pending;
+  filled = fits.filled;
   active = tells;
   framed = subst (λ (test : ℕ → Bool). AreFramesOf (places - 4) c it test frames) (λ i n. alike n i) fits.framed;
   sessions = fits.sessions;

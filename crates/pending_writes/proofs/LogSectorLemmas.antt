@@ -1,9 +1,9 @@
 -- The records of open sessions, after a log sector.
 use Rattle.std.proofs.Common.{Bool, List, None, Some, [], ap, append-nil, false, inl, inr, subst, sym, ℕ, ◌++◌, ◌<◌, ◌∙◌, ◌∷◌, ◌≡◌, ◌≢◌}
-use Rattle.std.specs.List.{All, list_any}
+use Rattle.std.specs.List.{All, Contains, list_any}
 use Rattle.std.proofs.lemmas.Bool.{cases_eq, false_from_ne_true}
 use Rattle.std.proofs.lemmas.List.Concat.{flat_map-append}
-use Rattle.std.proofs.lemmas.List.Elements.{All-append, All-contains, All-weaker}
+use Rattle.std.proofs.lemmas.List.Elements.{All-append, All-contains, All-weaker, Contains-append_cases, Contains-append_left, Contains-append_right}
 use Rattle.ipl_base.specs.declared.limits.TheConstants.{VERSION}
 use Rattle.ipl_rules.specs.State.{State}
 use Rattle.ipl_format.specs.Record.{IsRecord, Record}
@@ -15,7 +15,8 @@ use Rattle.pending_writes.specs.Pending.{Logs, Numbers, with_records, records_at
 use Rattle.pending_writes.specs.PendingLaws.{LogSectorsKeepPending}
 use Rattle.pending_writes.proofs.LastLemmas.{counted, last_that-append, last_that-none, last_that-some}
 use Rattle.pending_writes.proofs.BehindLemmas.{behind_append}
-use Rattle.pending_writes.proofs.MemoryLemmas.{records_here, records_other, unit_here, unit_other}
+use Rattle.pending_writes.proofs.ElementLemmas.{contains_nil}
+use Rattle.pending_writes.proofs.MemoryLemmas.{cases_page, records_here, records_other, unit_here, unit_other}
 use Rattle.pending_writes.proofs.InMemoryLemmas.{records_stay_pending}
 
 module _ (units : ℕ) (it : Layout) (logs : Logs) (numbers : Numbers) (state : State) (u page : ℕ) (e : Entry)
@@ -73,6 +74,26 @@ module _ (units : ℕ) (it : Layout) (logs : Logs) (numbers : Numbers) (state : 
         ]
       ]
 
+  -- no record is new
+  still : (v q : ℕ) (r : Record) → Contains (after v q) r → Contains (logs v q) r
+  still v q r there = elim (cases_page u page v q) [
+    | inl (same, also) ↦
+        absurd (contains_nil r (subst (λ l. Contains l r) (records_here logs u page [] v q same also) there))
+    | inr apart ↦ subst (λ l. Contains l r) (records_other logs u page [] v q apart) there
+  ]
+
+  stood : (v q : ℕ) (r : Record) → Contains (records_at new after v q) r → (p : ℕ) × Contains (records_at it logs v p) r
+  stood v q r there =
+      let live = records_of (it.units v).log in
+      elim (Contains-append_cases (records_of (new.units v).log) (after v q) r there) [
+        | inr waits ↦ (q, Contains-append_right live (logs v q) r (still v q r waits))
+        | inl on_chip ↦ elim (cases_eq v u) [
+          | inr other ↦
+              (q, Contains-append_left live (logs v q) r (subst (λ l. Contains l r) (live_other v other) on_chip))
+          | inl same ↦ (page, subst (λ l. Contains l r) (live_here v same) on_chip)
+        ]
+      ]
+
   -- the records that join the log wait
   behind : (s tid v : ℕ) → numbers s ≡ Some tid → v < units
       → NoneIsBehind it.committed tid (records_of (new.units v).log)
@@ -101,6 +122,7 @@ module _ (units : ℕ) (it : Layout) (logs : Logs) (numbers : Numbers) (state : 
     opens = has.opens;
     apart = has.apart;
     waits = has.waits;
+    among = λ s v q r mine low there. let (p, was) = stood v q r there in has.among s v p r mine low was;
     last = λ s tid v q slot mine low few less.
         ap change_in (last_same (is_number tid) v q slot) ∙ has.last s tid v q slot mine low few less;
     nowhere_else = has.nowhere_else;

@@ -1,15 +1,21 @@
 -- A store fits after each step in memory.
-use Rattle.std.proofs.Common.{List, None, Option, Some, [], ap, arith, length, refl, sym, ℕ, ◌++◌, ◌-◌, ◌<◌, ◌∙◌, ◌∷◌, ◌≡◌}
-use Rattle.std.specs.FinMap.{empty}
+use Rattle.std.proofs.Common.{List, None, Option, Some, [], ap, arith, length, refl, subst, sym, ℕ, ◌++◌, ◌-◌, ◌<◌, ◌≤◌, ◌∙◌, ◌∷◌, ◌≡◌}
+use Rattle.std.specs.FinMap.{empty, get-empty}
 use Rattle.std.specs.List.{All}
+use Rattle.std.specs.Ordering.{nat_cmp}
 use Rattle.std.proofs.lemmas.Bool.{both_ways}
 use Rattle.std.proofs.lemmas.List.Elements.{All-append, All-contains}
 use Rattle.std.proofs.lemmas.Option.{none-some}
 use Rattle.ipl_format.proofs.RecordLemmas.{all_stay}
 use Rattle.ipl_base.specs.declared.limits.TheConstants.{VERSION}
-use Rattle.ipl_rules.specs.State.{State, at_rest}
-use Rattle.record_locks.specs.Held.{Slots, after_begin, after_share, after_write, is_among, number_of}
-use Rattle.record_locks.proofs.KeepLemmas.{keeps_names}
+use Rattle.ipl_base.specs.Sizes.{size_in_page}
+use Rattle.ipl_rules.specs.Marks.{Marks, marks}
+use Rattle.ipl_rules.specs.State.{Map, State, at_rest}
+use Rattle.ipl_rules.proofs.MarkLemmas.{by_number, inserted_most, shared_less}
+use Rattle.record_locks.specs.Held.{Slots, after_begin, after_share, is_among, marks_in, number_of}
+use Rattle.record_locks.specs.Names.{KeepsMarks}
+use Rattle.record_locks.proofs.KeepLemmas.{keeps_marks, keeps_names}
+use Rattle.record_locks.proofs.SameLemmas.{marks_are}
 use Rattle.ipl_format.specs.Record.{IsRecord, Record}
 use Rattle.ipl_meaning.specs.Chart.{Chart}
 use Rattle.ipl_meaning.specs.Layout.{Laid, Layout, records_of}
@@ -19,13 +25,15 @@ use Rattle.page_ops.specs.Pending.{with_pending}
 use Rattle.pending_writes.specs.Pending.{Logs, Numbers, with_records, with_number, name_at, IsPending, HasPending, HasOtherNumber, HasNoRecords}
 use Rattle.pending_writes.specs.PendingLaws.{AreActive}
 use Rattle.pending_writes.specs.Frames.{Frame, Frames, logs_of, with_frame_at, IsWrittenFrame}
-use Rattle.pending_writes.specs.Fits.{LocksHold, is_active, with_active, Fits}
-use Rattle.pending_writes.specs.StepLaws.{BeginsFit, SharesFit, WritesFit, LoadsFit, EvictionsFit, OpeningsFit}
+use Rattle.pending_writes.specs.Room.{PageHasRoomFor}
+use Rattle.pending_writes.specs.Fits.{LocksHold, AreSessionsOf, is_active, with_active, Fits}
+use Rattle.pending_writes.specs.StepLaws.{after_record, BeginsFit, SharesFit, WritesFit, LoadsFit, EvictionsFit, OpeningsFit}
 use Rattle.pending_writes.proofs.ElementLemmas.{all_listed}
 use Rattle.pending_writes.proofs.MemoryLemmas.{all_records}
 use Rattle.pending_writes.proofs.NumberLemmas.{number_begun, number_written, number_shared}
 use Rattle.pending_writes.proofs.SessionLemmas.{begins_keep_pending, shares_keep_pending, restarts_leave_none}
 use Rattle.pending_writes.proofs.WriteLemmas.{writes_keep_pending}
+use Rattle.pending_writes.proofs.RoomLemmas.{room_kept, room_written}
 use Rattle.pending_writes.proofs.FrameLemmas.{begins_keep_frames, writes_keep_frames}
 use Rattle.pending_writes.proofs.ActiveLemmas.{is_listed, active_begun}
 use Rattle.pending_writes.proofs.TableLemmas.{begun_mirrors}
@@ -33,6 +41,14 @@ use Rattle.pending_writes.proofs.SameLemmas.{pending_with_logs, pending_with_num
 use Rattle.ipl_rules.specs.Operations as rules
 
 -- ---- sessions
+
+-- what the calls keep of the sessions' marks
+pub keep_marks : (slots : Slots) (state : State) (s : ℕ) → s < length slots → AreSessionsOf slots state
+    → KeepsMarks slots state s
+keep_marks slots state s within are = keeps_marks slots state s within are.locked.sized are.names are.marks
+
+begun_marks : (state : State) (s n : ℕ) → marks (rules.after_begin state s) n ≤ marks state n
+begun_marks state s n = inserted_most state s rules.new_session n (marks state n) (omega arith) (omega arith)
 
 pub begins_fit : BeginsFit
 begins_fit places c it t frames slots state s tid fits within closed later locked = record {
@@ -43,6 +59,8 @@ begins_fit places c it t frames slots state s tid fits within closed later locke
       (begins_keep_pending units it logs numbers state s tid fits.pending closed
       (λ a its. is_new a tid its refl) (new_numbers_wait places c it t.next tid fits.mirrors.laid
       fits.mirrors.numbers.above later).0 no_records);
+  filled = room_kept units c c it it state (rules.after_begin state s) (λ u page now low few shows. shows)
+      (λ n. begun_marks state s n) fits.filled;
   active = active_with_numbers (with_number numbers s (Some tid)) (number_of (after_begin slots s tid))
       (is_active (with_active t tid)) begun tells;
   framed = record {
@@ -52,7 +70,11 @@ begins_fit places c it t frames slots state s tid fits within closed later locke
         f.pending fits.active tells closed no_records (fits.framed.within u page f is).0
         (fits.framed.each u page f is);
   };
-  sessions = record { names = (keeps_names slots state s within fits.sessions.names).begins tid; locked = locked };
+  sessions = record {
+    names = (keeps_names slots state s within fits.sessions.names).begins tid;
+    marks = (keep_marks slots state s within fits.sessions).begins tid;
+    locked = locked;
+  };
 }
   where
     units : ℕ
@@ -94,10 +116,16 @@ shares_fit places c it t frames slots state s n fits within locked =
       pending = pending_with_numbers (places - 4) it (logs_of frames) (number_of slots)
           (number_of (after_share slots s n)) (rules.after_share state s n) shared
           (shares_keep_pending (places - 4) it (logs_of frames) (number_of slots) state s n fits.pending);
+      filled = room_kept (places - 4) c c it it state (rules.after_share state s n) (λ u page now low few shows. shows)
+          (λ k. shared_less state s n k) fits.filled;
       active = active_with_numbers (number_of slots) (number_of (after_share slots s n)) (is_active t) shared
           fits.active;
       framed = fits.framed;
-      sessions = record { names = (keeps_names slots state s within fits.sessions.names).shares n; locked = locked };
+      sessions = record {
+        names = (keeps_names slots state s within fits.sessions.names).shares n;
+        marks = (keep_marks slots state s within fits.sessions).shares n;
+        locked = locked;
+      };
     }
 
 -- ---- a write
@@ -109,6 +137,9 @@ module _ (places : ℕ) (c : Chart) (it : Layout) (t : Tables) (frames : Frames)
     (there : frames u r.page ≡ Some f) (written : IsWrittenFrame r f g) where
   abbrev name : ℕ
   name = name_at u r.page r.slot
+
+  abbrev held : Slots
+  held = after_record slots s u r
 
   abbrev logs : Logs
   logs = with_records (logs_of frames) u r.page (logs_of frames u r.page ++ r ∷ [])
@@ -122,11 +153,13 @@ module _ (places : ℕ) (c : Chart) (it : Layout) (t : Tables) (frames : Frames)
       ap (λ (l : List Record). with_records (logs_of frames) u r.page l v q) log_is
       ∙ logs_with frames u r.page (Some g) v q
 
-  pending : HasPending (places - 4) it (logs_of after) (number_of (after_write slots s name))
-      (rules.after_write state s (name, r.change))
+  numbers_stay : number_of held ≡ number_of slots
+  numbers_stay = number_written slots s name (size_in_page r.change) within
+
+  pending : HasPending (places - 4) it (logs_of after) (number_of held) (rules.after_write state s (name, r.change))
   pending =
-      pending_with_numbers (places - 4) it (logs_of after) (number_of slots) (number_of (after_write slots s name))
-      (rules.after_write state s (name, r.change)) (number_written slots s name within)
+      pending_with_numbers (places - 4) it (logs_of after) (number_of slots) (number_of held)
+      (rules.after_write state s (name, r.change)) numbers_stay
       (pending_with_logs (places - 4) it logs (logs_of after) (number_of slots)
       (rules.after_write state s (name, r.change)) same
       (writes_keep_pending (places - 4) it (logs_of frames) (number_of slots) state s u r fits.pending mine low valid))
@@ -141,25 +174,32 @@ module _ (places : ℕ) (c : Chart) (it : Layout) (t : Tables) (frames : Frames)
         fits.active mine (fits.framed.each u r.page f there)),
   )
 
-  fit : LocksHold (after_write slots s name)
-      → Fits places c it t after (after_write slots s name) (rules.after_write state s (name, r.change))
-  fit locked = record {
+  -- the sessions' marks are the state's, and so is the room that they leave
+  room_by_state : PageHasRoomFor (marks_in slots) u r f.values → PageHasRoomFor (marks state) u r f.values
+  room_by_state room =
+      subst (λ (m : Marks). PageHasRoomFor m u r f.values) (λ i n. marks_are slots state fits.sessions.marks n i) room
+
+  fit : PageHasRoomFor (marks_in slots) u r f.values → LocksHold held
+      → Fits places c it t after held (rules.after_write state s (name, r.change))
+  fit room locked = record {
     mirrors = fits.mirrors;
     none_lost = fits.none_lost;
     pending = pending;
-    active = active_with_numbers (number_of slots) (number_of (after_write slots s name)) (is_active t)
-        (number_written slots s name within) fits.active;
+    filled = room_written (places - 4) c it state s u r f.values fits.filled low valid.page valid.slot
+        (fits.framed.each u r.page f there).shows (room_by_state room);
+    active = active_with_numbers (number_of slots) (number_of held) (is_active t) numbers_stay fits.active;
     framed = frames_put (places - 4) c it (is_active t) frames u r.page g here
         (other_frames (places - 4) c it (is_active t) frames u r.page (Some g) fits.framed);
     sessions = record {
-      names = (keeps_names slots state s within fits.sessions.names).writes name r.change;
+      names = (keeps_names slots state s within fits.sessions.names).writes name (size_in_page r.change) r.change;
+      marks = (keep_marks slots state s within fits.sessions).writes name r.change;
       locked = locked;
     };
   }
 
 pub writes_fit : WritesFit
-writes_fit places c it t frames slots state s u r f g fits within mine low valid there written locked =
-    fit places c it t frames slots state s u r f g fits within mine low valid there written locked
+writes_fit places c it t frames slots state s u r f g fits within mine low valid there written room locked =
+    fit places c it t frames slots state s u r f g fits within mine low valid there written room locked
 
 -- ---- pages
 
@@ -169,6 +209,7 @@ loads_fit places c it t frames slots state u page f fits low few absent empty fr
   none_lost = fits.none_lost;
   pending = pending_with_logs (places - 4) it (logs_of frames) (logs_of (with_frame_at frames u page (Some f)))
       (number_of slots) state same fits.pending;
+  filled = fits.filled;
   active = fits.active;
   framed = frames_put (places - 4) c it (is_active t) frames u page f here
       (other_frames (places - 4) c it (is_active t) frames u page (Some f) fits.framed);
@@ -193,6 +234,7 @@ evictions_fit places c it t frames slots state u page f fits there empty =
       none_lost = fits.none_lost;
       pending = pending_with_logs (places - 4) it (logs_of frames) (logs_of (with_frame_at frames u page None))
           (number_of slots) state same fits.pending;
+      filled = fits.filled;
       active = fits.active;
       framed = frames_with (places - 4) c it (is_active t) frames u page None (λ x is. absurd (none-some x is))
           (other_frames (places - 4) c it (is_active t) frames u page None fits.framed);
@@ -208,12 +250,18 @@ log_valid places c it laid u low =
     all_records (IsRecord VERSION) (it.units u).log
     (λ k d within. all_stay _ _ (log.each k d within).records.valid)
 
+-- no name is marked
+unmarked_at_rest : (m : Map) (n : ℕ) → marks (at_rest m) n ≤ 0
+unmarked_at_rest m n =
+    by_number empty n 0 (λ q session is. absurd (let clash = sym (get-empty nat_cmp q) ∙ is in cc clash))
+
 pub openings_fit : OpeningsFit
 openings_fit places c it t slots m mirrors none_lost nothing closed sessions = record {
   mirrors = mirrors;
   none_lost = none_lost;
   pending = pending_with_numbers (places - 4) it (λ u page. []) (λ s. None) (number_of slots) (at_rest m) none
       (restarts_leave_none (places - 4) it (at_rest m) (log_valid places c it mirrors.laid));
+  filled = λ u page slot low few less marked. absurd (no_mark (unmarked_at_rest m (name_at u page slot)) marked);
   active = active_with_numbers (λ s. None) (number_of slots) (is_active t) none (λ tid. (
     (λ is. absurd (both_ways (is_among tid t.active) (ap (is_among tid) nothing) is)),
     (λ is. absurd (none-some tid is.1)),
@@ -225,5 +273,8 @@ openings_fit places c it t slots m mirrors none_lost nothing closed sessions = r
   sessions = sessions;
 }
   where
+    no_mark : {k : ℕ} → k ≤ 0 → 0 < k → ⊥
+    no_mark none some = omega (arith, none, some)
+
     none : number_of slots ≡ (λ s. None)
     none = λ i s. closed s i

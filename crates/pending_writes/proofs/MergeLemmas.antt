@@ -1,8 +1,8 @@
 -- The records of open sessions, after a merge, and after steps that change no log.
 use Rattle.std.proofs.Common.{Bool, List, None, Some, ap, false, inl, inr, subst, sym, ℕ, ◌++◌, ◌<◌, ◌∙◌, ◌≡◌, ◌≢◌}
-use Rattle.std.specs.List.{All}
+use Rattle.std.specs.List.{All, Contains}
 use Rattle.std.proofs.lemmas.Bool.{cases_eq}
-use Rattle.std.proofs.lemmas.List.Elements.{All-contains, Contains-append_left}
+use Rattle.std.proofs.lemmas.List.Elements.{All-contains, Contains-append_cases, Contains-append_left, Contains-append_right}
 use Rattle.ipl_base.specs.declared.limits.TheConstants.{VERSION}
 use Rattle.ipl_rules.specs.State.{State}
 use Rattle.ipl_format.specs.Record.{IsRecord, Record}
@@ -74,11 +74,27 @@ module _ (units : ℕ) (it : Layout) (logs : Logs) (numbers : Numbers) (state : 
       let was = (carried_some active (records_of (it.units v).log) r there).0 in
       All-contains (IsRecord VERSION) (records_of (it.units v).log) r (has.valid v low) was)
 
+  -- no record is new
+  stood : (v q : ℕ) (r : Record) → Contains (records_at moved logs v q) r → Contains (records_at it logs v q) r
+  stood v q r there =
+      let live = records_of (it.units v).log in
+      elim (Contains-append_cases (records_of (moved.units v).log) (logs v q) r there) [
+        | inr waits ↦ Contains-append_right live (logs v q) r waits
+        | inl on_chip ↦ elim (cases_eq v u) [
+          | inr other ↦
+              Contains-append_left live (logs v q) r (subst (λ l. Contains l r) (merged_other v other) on_chip)
+          | inl same ↦
+              Contains-append_left live (logs v q) r
+              (carried_some active live r (subst (λ l. Contains l r) (merged_here v same) on_chip)).0
+        ]
+      ]
+
   merged : HasPending units moved logs numbers state
   merged = record {
     opens = has.opens;
     apart = has.apart;
     waits = has.waits;
+    among = λ s v q r mine low there. has.among s v q r mine low (stood v q r there);
     last = λ s tid v page slot mine low few less.
         ap change_in (last_kept s tid v page slot mine low) ∙ has.last s tid v page slot mine low few less;
     nowhere_else = has.nowhere_else;
@@ -107,6 +123,8 @@ same_logs_keep_pending units it new logs numbers state has same keeps waits = re
   opens = has.opens;
   apart = has.apart;
   waits = waits;
+  among = λ s u page r mine low there.
+      has.among s u page r mine low (subst (λ (l : List Record). Contains (l ++ logs u page) r) (same u low) there);
   last = λ s tid u page slot mine low few less.
       ap (λ (l : List Record). last_change tid (l ++ logs u page) page slot) (same u low)
       ∙ has.last s tid u page slot mine low few less;

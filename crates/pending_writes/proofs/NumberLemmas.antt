@@ -1,9 +1,9 @@
 -- The sessions' numbers, after a change of one.
-use Rattle.std.proofs.Common.{None, Option, Some, [], ap, get_or-set_other, get_or-set_same, inl, inr, length, refl, set, sym, ℕ, ◌<◌, ◌∙◌, ◌≡◌, ◌≢◌, ◌⊎◌}
+use Rattle.std.proofs.Common.{None, Option, Some, ap, get_or-set_other, get_or-set_same, inl, inr, length, refl, set, sym, ℕ, ◌<◌, ◌∙◌, ◌≡◌, ◌≢◌, ◌⊎◌}
 use Rattle.std.specs.Option.{option_map}
 use Rattle.std.proofs.lemmas.Bool.{cases_Bool, cases_eq, cond-false, cond-true, eq-eqb, ne_eqb}
 use Rattle.std.proofs.lemmas.Option.{none-some}
-use Rattle.record_locks.specs.Held.{Held, Slots, after_begin, after_end, after_share, after_write, held_at, is_among, number_of, with_shared, with_written}
+use Rattle.record_locks.specs.Held.{Held, Slots, after_begin, after_end, after_share, after_write, held_at, is_among, new_held, number_of, with_shared, with_written}
 use Rattle.pending_writes.specs.Pending.{Numbers, with_number}
 
 -- ---- as a function
@@ -47,7 +47,7 @@ number_set slots s o t within = elim (cases_eq t s) [
 pub number_begun : (slots : Slots) (s tid : ℕ) → s < length slots
     → number_of (after_begin slots s tid) ≡ with_number (number_of slots) s (Some tid)
 number_begun slots s tid within =
-    λ i t. number_set slots s (Some (record { number = tid; written = []; shared = [] })) t within i
+    λ i t. number_set slots s (Some (new_held tid)) t within i
 
 pub number_ended : (slots : Slots) (s : ℕ) → s < length slots
     → number_of (after_end slots s) ≡ with_number (number_of slots) s None
@@ -75,8 +75,8 @@ number_kept slots s f same within =
           number_other (number_of slots) s (option_map (λ h. h.number) (option_map f (held_at slots s))) t other
     ]
 
-written_number : (n : ℕ) (h : Held) → (with_written n h).number ≡ h.number
-written_number n h = elim (cases_Bool (is_among n h.written)) [
+written_number : (n size : ℕ) (h : Held) → (with_written n size h).number ≡ h.number
+written_number n size h = elim (cases_Bool (is_among n h.written)) [
   | inl there ↦ rw there refl
   | inr new ↦ rw new refl
 ]
@@ -90,9 +90,9 @@ shared_number n h = elim (cases_Bool (is_among n h.written)) [
   ]
 ]
 
-pub number_written : (slots : Slots) (s n : ℕ) → s < length slots
-    → number_of (after_write slots s n) ≡ number_of slots
-number_written slots s n within = number_kept slots s (with_written n) (written_number n) within
+pub number_written : (slots : Slots) (s n size : ℕ) → s < length slots
+    → number_of (after_write slots s n size) ≡ number_of slots
+number_written slots s n size within = number_kept slots s (with_written n size) (written_number n size) within
 
 pub number_shared : (slots : Slots) (s n : ℕ) → s < length slots
     → number_of (after_share slots s n) ≡ number_of slots

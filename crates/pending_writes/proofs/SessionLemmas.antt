@@ -1,6 +1,7 @@
 -- The records of open sessions, after one is opened, or shares a name; and after a restart.
 use Rattle.std.proofs.Common.{None, Option, Some, ap, inl, inr, is_some, subst, sym, ℕ, ◌<◌, ◌∙◌, ◌≡◌}
 use Rattle.std.specs.FinMap.{get-empty}
+use Rattle.std.specs.List.{Contains}
 use Rattle.std.specs.Ordering.{nat_cmp}
 use Rattle.std.proofs.lemmas.Bool.{cases_eq}
 use Rattle.std.proofs.lemmas.List.Elements.{All-contains, All-nil, Contains-append_left}
@@ -27,6 +28,14 @@ begins_keep_pending units it logs numbers state s tid has closed fresh waits now
   waits = λ t n is. elim (number_cases numbers s (Some tid) t n is) [
     | inl here ↦ ap it.committed (sym (its_number n here.1)) ∙ waits
     | inr other ↦ has.waits t n other.1
+  ];
+  among = λ t v q r is low there. elim (number_cases numbers s (Some tid) t r.tid is) [
+    | inl here ↦
+        let other = All-contains (HasOtherNumber tid) (records_at it logs v q) r (nowhere v q low) there in
+        absurd (other (sym (its_number r.tid here.1)))
+    | inr other ↦
+        subst (λ ws. Contains ws (name_at v r.page r.slot, r.change))
+        (sym (ap writes_in (begun_other state s t other.0))) (has.among t v q r other.1 low there)
   ];
   last = last;
   nowhere_else = λ t n high. elim (cases_eq t s) [
@@ -96,6 +105,9 @@ shares_keep_pending units it logs numbers state s n has = record {
   opens = λ t. has.opens t ∙ sym (shared_same state s n t).1;
   apart = has.apart;
   waits = has.waits;
+  among = λ t u page r mine low there.
+      subst (λ ws. Contains ws (name_at u r.page r.slot, r.change)) (sym (shared_same state s n t).0)
+      (has.among t u page r mine low there);
   last = λ t tid u page slot mine low few less.
       has.last t tid u page slot mine low few less
       ∙ sym (ap (λ ws. last_write ws (name_at u page slot)) (shared_same state s n t).0);
@@ -112,6 +124,7 @@ restarts_leave_none units it state valid = record {
   opens = λ s. sym (ap is_some (get-empty nat_cmp s));
   apart = λ s t tid one two. absurd (cc one);
   waits = λ s tid one. absurd (cc one);
+  among = λ s u page r one low there. absurd (cc one);
   last = λ s tid u page slot one low few less. absurd (cc one);
   nowhere_else = λ s n high. ap (λ (o : Option Session). last_write (writes_in o) n) (get-empty nat_cmp s);
   none_behind = λ s tid u one low. absurd (cc one);

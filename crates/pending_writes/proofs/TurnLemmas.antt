@@ -3,6 +3,7 @@ use Rattle.std.proofs.Common.{Bool, None, Some, ap, false, inl, inr, is_some, re
 use Rattle.std.proofs.lemmas.Bool.{cases_eq}
 use Rattle.ipl_rules.specs.Operations.{after_commit}
 use Rattle.ipl_rules.specs.State.{State, last_write}
+use Rattle.ipl_rules.proofs.MarkLemmas.{removed_most}
 use Rattle.ipl_meaning.specs.Chart.{Chart}
 use Rattle.ipl_meaning.specs.Layout.{Layout}
 use Rattle.ipl_meaning.specs.Stands.{Shows, page_in}
@@ -13,13 +14,15 @@ use Rattle.page_ops.specs.Pending.{Pendings, seen_by, without_pending}
 use Rattle.pending_writes.specs.Pending.{Logs, Numbers, with_number, wrote, HasPending, IsWrittenOut}
 use Rattle.pending_writes.specs.PendingLaws.{StateHasOneWriter, AreActive, JoinsIfWritten}
 use Rattle.pending_writes.specs.Frames.{Frame, Frames, logs_of, IsFrameOf, AreFramesOf, IsCommittedFrame, EachFrameChanges}
+use Rattle.pending_writes.specs.Room.{PagesHaveRoom}
 use Rattle.pending_writes.specs.Fits.{is_active, without_active}
 use Rattle.pending_writes.proofs.ActiveLemmas.{active_ended}
 use Rattle.pending_writes.proofs.CommitLemmas.{commits_keep_pending}
 use Rattle.pending_writes.proofs.EmptyLemmas.{empty_map, empty_pending, empty_frame}
 use Rattle.pending_writes.proofs.FrameEndLemmas.{commits_keep_frames}
 use Rattle.pending_writes.proofs.SameLemmas.{frame_as, IsPlaced, both_logs, frames_all}
-use Rattle.pending_writes.proofs.SayLemmas.{commit_shows}
+use Rattle.pending_writes.proofs.RoomLemmas.{room_kept}
+use Rattle.pending_writes.proofs.SayLemmas.{commit_shows, room_committed}
 use Rattle.pending_writes.proofs.StateLemmas.{closed_here, closed_other, writes_in}
 
 -- ---- what sessions wrote
@@ -50,31 +53,43 @@ module _ (units : ℕ) (it : Layout) (logs : Logs) (numbers : Numbers) (state : 
       subst (λ (f : ℕ → Bool). HasPending units (with_committed it f) logs (with_number numbers s None)
       (after_commit state s)) (sym same) (empty_pending units it logs numbers state s tid has mine out none)
 
+  -- the pages have room for what the others wrote
+  pub turn_room : JoinsIfWritten state s tid it.committed after → (c : Chart) → PagesHaveRoom units c it state
+      → PagesHaveRoom units c (with_committed it after) (after_commit state s)
+  turn_room (inl joins) c filled =
+      room_committed units c it logs numbers state s tid after has filled mine out joins
+  turn_room (inr (none, same)) c filled =
+      subst (λ (f : ℕ → Bool). PagesHaveRoom units c (with_committed it f) (after_commit state s)) (sym same)
+      (room_kept units c c it it state (after_commit state s) (λ u page now low few shows. shows)
+      (λ n. removed_most state.sessions s n) filled)
+
   -- a page that shows the map shows the map after it
-  pub turn_shows : JoinsIfWritten state s tid it.committed after → (c : Chart) (u page : ℕ) → u < units → page < 15
+  pub turn_shows : JoinsIfWritten state s tid it.committed after → (c : Chart) → PagesHaveRoom units c it state
+      → (u page : ℕ) → u < units → page < 15
       → Shows c it.committed u (it.units u) page (page_in state.map u page)
       → Shows c after u (it.units u) page (page_in (after_commit state s).map u page)
-  turn_shows (inl joins) c u page low few shows =
-      commit_shows units c it logs numbers state s tid after has mine out joins u page low few shows
-  turn_shows (inr (none, same)) c u page low few shows =
+  turn_shows (inl joins) c filled u page low few shows =
+      commit_shows units c it logs numbers state s tid after has filled mine out joins u page low few shows
+  turn_shows (inr (none, same)) c filled u page low few shows =
       subst (λ (f : ℕ → Bool). Shows c f u (it.units u) page (page_in (after_commit state s).map u page)) (sym same)
       (subst (λ m. Shows c it.committed u (it.units u) page (page_in m u page)) (sym (empty_map state s none)) shows)
 
 -- its changes become values of the frame
 turn_frame : (places : ℕ) (c : Chart) (it : Layout) (logs : Logs) (numbers : Numbers) (state : State)
     (active rest after : ℕ → Bool) (s tid u page : ℕ) (values : Values) (pending : Pendings)
-    → HasPending (places - 4) it logs numbers state → StateHasOneWriter state → AreActive numbers active
+    → HasPending (places - 4) it logs numbers state → PagesHaveRoom (places - 4) c it state
+    → StateHasOneWriter state → AreActive numbers active
     → AreActive (with_number numbers s None) rest → numbers s ≡ Some tid → IsWrittenOut logs tid
     → JoinsIfWritten state s tid it.committed after → u < places - 4 → page < 15
     → IsFrameOf c it logs active u page values pending
     → IsFrameOf c (with_committed it after) logs rest u page (λ slot. seen_by tid (values slot) (pending slot))
     (λ slot. without_pending tid (pending slot))
-turn_frame places c it logs numbers state active rest after s tid u page values pending has one tells later mine out
-    (inl joins) low few framed =
-    commits_keep_frames places c c it logs numbers state active rest after s tid u page values pending has one tells
-    later mine out joins (λ u page now low few shows. shows) low few framed
-turn_frame places c it logs numbers state active rest after s tid u page values pending has one tells later mine out
-    (inr (none, same)) low few framed =
+turn_frame places c it logs numbers state active rest after s tid u page values pending has filled one tells later mine
+    out (inl joins) low few framed =
+    commits_keep_frames places c c it logs numbers state active rest after s tid u page values pending has filled one
+    tells later mine out joins (λ u page now low few shows. shows) low few framed
+turn_frame places c it logs numbers state active rest after s tid u page values pending has filled one tells later mine
+    out (inr (none, same)) low few framed =
     subst (λ (f : ℕ → Bool). IsFrameOf c (with_committed it f) logs rest u page
     (λ slot. seen_by tid (values slot) (pending slot)) (λ slot. without_pending tid (pending slot))) (sym same)
     (empty_frame (places - 4) it logs numbers state s tid has mine out none c active rest u page values pending one
@@ -82,12 +97,13 @@ turn_frame places c it logs numbers state active rest after s tid u page values 
 
 -- ---- all that waits
 
--- The records and the frames of open sessions, with tables that have these sessions' numbers. Nothing is said of the
--- chart's commit sectors, so that the committed numbers may be any.
+-- The records and the frames of open sessions, for which the pages have room, with tables that have these sessions'
+-- numbers. Nothing is said of the chart's commit sectors, so that the committed numbers may be any.
 pub record Waits (places : ℕ) (c : Chart) (it : Layout) (frames : Frames) (numbers : Numbers) (state : State)
     : Type 0 where
   pub tables : Tables
   pub pending : HasPending (places - 4) it (logs_of frames) numbers state
+  pub filled : PagesHaveRoom (places - 4) c it state
   pub one_writer : StateHasOneWriter state
   pub tells : AreActive numbers (is_active tables)
   pub framed : AreFramesOf (places - 4) c it (is_active tables) frames
@@ -110,6 +126,8 @@ turn_waits places c it frames after numbers state s tid committed waits mine out
   pending = subst (λ (l : Logs). HasPending (places - 4) new l rest (after_commit state s)) same
       (turn_pending (places - 4) it (logs_of frames) numbers state s tid committed waits.pending mine out
       waits.one_writer joins);
+  filled = turn_room (places - 4) it (logs_of frames) numbers state s tid committed waits.pending mine out joins c
+      waits.filled;
   one_writer = one_writer_then state s waits.one_writer;
   tells = tells;
   framed = frames_all (places - 4) c c it new active later frames after (IsCommittedFrame tid) waits.framed all framed;
@@ -140,4 +158,4 @@ turn_waits places c it frames after numbers state s tid committed waits mine out
         (λ slot. seen_by tid (a.values slot) (a.pending slot)) b.values
         (λ slot. without_pending tid (a.pending slot)) b.pending (λ i. same i u page) changed.values changed.pending
         (turn_frame places c it (logs_of frames) numbers state active later committed s tid u page a.values a.pending
-        waits.pending waits.one_writer waits.tells tells mine out joins low few was)
+        waits.pending waits.filled waits.one_writer waits.tells tells mine out joins low few was)

@@ -1,6 +1,8 @@
 -- The records of open sessions, after one of them writes.
-use Rattle.std.proofs.Common.{Bool, List, None, Some, [], ap, ap₂, arith, if◌then◌else◌, inl, inr, is_some, sym, true, ℕ, ◌++◌, ◌<◌, ◌∙◌, ◌∷◌, ◌≡◌, ◌≢◌}
+use Rattle.std.proofs.Common.{Bool, List, None, Some, [], ap, ap₂, arith, if◌then◌else◌, inl, inr, is_some, subst, sym, true, ℕ, ◌++◌, ◌<◌, ◌∙◌, ◌∷◌, ◌≡◌, ◌≢◌, ◌⊎◌}
+use Rattle.std.specs.List.{Contains}
 use Rattle.std.proofs.lemmas.Bool.{cases_Bool, cases_eq, cond-false, cond-true, eqb-true, both_ways}
+use Rattle.std.proofs.lemmas.List.Elements.{Contains-append_cases, Contains-append_left, Contains-append_right, Contains-push_cases}
 use Rattle.ipl_base.specs.declared.limits.TheConstants.{VERSION}
 use Rattle.ipl_rules.specs.Operations.{after_write}
 use Rattle.ipl_rules.specs.State.{State, Write, is_open, last_write, writes_of}
@@ -10,6 +12,7 @@ use Rattle.ipl_meaning.specs.Layout.{Layout, records_of}
 use Rattle.ipl_meaning.specs.Values.{counts_for}
 use Rattle.pending_writes.specs.Pending.{Logs, Numbers, with_records, name_at, records_at, change_in, last_change, HasPending}
 use Rattle.pending_writes.specs.PendingLaws.{WritesKeepPending}
+use Rattle.pending_writes.proofs.ElementLemmas.{contains_here, contains_there}
 use Rattle.pending_writes.proofs.LastLemmas.{counted, counts, is_one, last_pushed}
 use Rattle.pending_writes.proofs.StateLemmas.{writes_in, wrote_here, wrote_other, last_here, last_before}
 use Rattle.pending_writes.proofs.MemoryLemmas.{records_here, records_other, cases_page, names_once}
@@ -90,6 +93,55 @@ module _ (units : ℕ) (it : Layout) (logs : Logs) (numbers : Numbers) (state : 
       at : put.0 ≡ name_at v q slot → (v ≡ u) × (q ≡ r.page) × (slot ≡ r.slot)
       at one = names_once u r.page r.slot v q slot valid.page few valid.slot less one
 
+  -- what a session wrote before it wrote still
+  grown : (t : ℕ) (w : Write) → Contains (writes_of state t) w → Contains (writes_of later t) w
+  grown t w is = elim (cases_eq t s) [
+    | inl same ↦
+        subst (λ (k : ℕ). Contains (writes_of later k) w) (sym same)
+        (subst (λ ws. Contains ws w) (sym by_session.1)
+        (contains_there put (writes_of state s) w (subst (λ (k : ℕ). Contains (writes_of state k) w) same is)))
+    | inr other ↦ subst (λ ws. Contains ws w) (sym (ap writes_in (wrote_other state s t put other))) is
+  ]
+
+  -- and the record is its newest write
+  newest : (t v : ℕ) (x : Record) → t ≡ s → v ≡ u → r ≡ x
+      → Contains (writes_of later t) (name_at v x.page x.slot, x.change)
+  newest t v x here same new =
+      subst (λ (y : Record). Contains (writes_of later t) (name_at v y.page y.slot, y.change)) new
+      (subst (λ (k : ℕ). Contains (writes_of later k) (name_at v r.page r.slot, r.change)) (sym here)
+      (subst (λ (a : ℕ). Contains (writes_of later s) (name_at a r.page r.slot, r.change)) (sym same)
+      (subst (λ ws. Contains ws put) (sym by_session.1) (contains_here put (writes_of state s)))))
+
+  -- a record of a page is the new one, or stood there
+  stood : (v q : ℕ) (x : Record) → Contains (records_at it after v q) x
+      → Contains (records_at it logs v q) x ⊎ ((v ≡ u) × (r ≡ x))
+  stood v q x there =
+      let live = records_of (it.units v).log in
+      elim (Contains-append_cases live (after v q) x there) [
+        | inl on_chip ↦ inl (Contains-append_left live (logs v q) x on_chip)
+        | inr waits ↦ elim (cases_page u r.page v q) [
+          | inr apart ↦
+              let same = records_other logs u r.page (logs u r.page ++ r ∷ []) v q apart in
+              inl (Contains-append_right live (logs v q) x (subst (λ l. Contains l x) same waits))
+          | inl (same, also) ↦
+              let here = records_here logs u r.page (logs u r.page ++ r ∷ []) v q same also in
+              let at_page : logs u r.page ≡ logs v q = ap₂ logs (sym same) (sym also) in
+              elim (Contains-push_cases (logs u r.page) r x (subst (λ l. Contains l x) here waits)) [
+                | inl before ↦
+                    inl (Contains-append_right live (logs v q) x (subst (λ l. Contains l x) at_page before))
+                | inr new ↦ inr (same, new)
+              ]
+        ]
+      ]
+
+  among_written : (t v q : ℕ) (x : Record) → numbers t ≡ Some x.tid → v < units
+      → Contains (records_at it after v q) x → Contains (writes_of later t) (name_at v x.page x.slot, x.change)
+  among_written t v q x is low there = elim (stood v q x there) [
+    | inl before ↦ grown t (name_at v x.page x.slot, x.change) (has.among t v q x is low before)
+    | inr (same, new) ↦
+        newest t v x (has.apart t s x.tid is (mine ∙ ap (λ (y : Record). Some y.tid) new)) same new
+  ]
+
   opens_still : (t : ℕ) → is_some (numbers t) ≡ is_open later t
   opens_still t = elim (cases_eq t s) [
     | inl same ↦
@@ -103,6 +155,7 @@ module _ (units : ℕ) (it : Layout) (logs : Logs) (numbers : Numbers) (state : 
     opens = opens_still;
     apart = has.apart;
     waits = has.waits;
+    among = among_written;
     last = last_written;
     nowhere_else = λ t n high.
         unchanged t n (λ _ one. omega (arith, one, high, low_u, valid.page, valid.slot)) ∙ has.nowhere_else t n high;

@@ -1,13 +1,13 @@
 -- When a store's memory and a chip together stand for a state.
-use Rattle.std.specs.Prelude.{ℕ, ◌≡◌, ◌+◌, ◌-◌, ◌==◌, not, Bool, List, [], ◌∷◌, ◌++◌, length, filter}
+use Rattle.std.specs.Prelude.{ℕ, ◌≡◌, ◌+◌, ◌-◌, ◌==◌, not, Bool, List, [], ◌∷◌, ◌++◌, length, filter, All}
 use Rattle.ipl_base.specs.declared.limits.TheConstants.{RESERVED_PLACES, SESSIONS}
 use Rattle.chip_trait.specs.Story.{Contents, blank}
 use Rattle.chip_trait.specs.Told.{History}
 use Rattle.ipl_rules.specs.State.{State}
 use Rattle.record_locks.specs.Held.{Slots, number_of, is_among}
 use Rattle.record_locks.specs.Standing.{state_of}
-use Rattle.record_locks.specs.Locks.{OneWriter, FewPending}
-use Rattle.record_locks.specs.Names.{SameNames}
+use Rattle.record_locks.specs.Locks.{OneWriter, FewPending, IsSized}
+use Rattle.record_locks.specs.Names.{SameNames, SameMarks}
 use Rattle.ipl_meaning.specs.Chart.{Chart, chart_of}
 use Rattle.ipl_meaning.specs.Layout.{Layout}
 use Rattle.ipl_meaning.specs.Stands.{Says}
@@ -16,21 +16,24 @@ use Rattle.ipl_meaning.specs.Tables.{Tables, IsCountedClean}
 use Rattle.ipl_meaning.specs.Mirrors.{Mirrors, NoneIsLost}
 use Rattle.ipl_meaning.specs.Agrees.{IsTidy}
 use Rattle.pending_writes.specs.Pending.{HasPending}
+use Rattle.pending_writes.specs.Room.{PagesHaveRoom}
 use Rattle.pending_writes.specs.PendingLaws.{AreActive}
 use Rattle.pending_writes.specs.Frames.{Frames, logs_of, AreFramesOf}
 
 -- ---- sessions
 
--- what `Sessions` keeps: there are 32 slots, no name is written by two sessions, and at most 48 names of each unit are
--- written
+-- what `Sessions` keeps: there are 32 slots, no name is written by two sessions, each that is written has its size, and
+-- the pending names of each unit weigh at most 48
 pub record LocksHold (slots : Slots) : Type 0 where
   pub all : length slots ≡ SESSIONS
   pub one_writer : OneWriter slots
+  pub sized : All IsSized slots
   pub few : FewPending slots
 
--- the same sessions are open as in the state, with the same names, and the locks hold
+-- the same sessions are open as in the state, with the same names and the same marks, and the locks hold
 pub record AreSessionsOf (slots : Slots) (state : State) : Type 0 where
   pub names : SameNames (state_of slots) state
+  pub marks : SameMarks slots state
   pub locked : LocksHold slots
 
 -- ---- the numbers of open sessions
@@ -58,13 +61,14 @@ without_active t tid = record t { active = filter (is_another tid) t.active }
 -- ---- all of it
 
 -- The memory and a chart stand for all of the state but its map. The tables mirror the chart, and no place is lost; the
--- records on the chip and in memory say what the open sessions wrote; the tables have the sessions' numbers; each frame
--- is of its page; and the sessions are the state's.
+-- records on the chip and in memory say what the open sessions wrote, and their pages have room for it; the tables have
+-- the sessions' numbers; each frame is of its page; and the sessions are the state's.
 pub record Fits (places : ℕ) (c : Chart) (it : Layout) (t : Tables) (frames : Frames) (slots : Slots)
     (state : State) : Type 0 where
   pub mirrors : Mirrors places c it t
   pub none_lost : NoneIsLost places t
   pub pending : HasPending (places - RESERVED_PLACES) it (logs_of frames) (number_of slots) state
+  pub filled : PagesHaveRoom (places - RESERVED_PLACES) c it state
   pub active : AreActive (number_of slots) (is_active t)
   pub framed : AreFramesOf (places - RESERVED_PLACES) c it (is_active t) frames
   pub sessions : AreSessionsOf slots state

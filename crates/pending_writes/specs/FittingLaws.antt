@@ -1,23 +1,31 @@
 -- What a store gives whose memory and chip stand for a state, and that there is one.
-use Rattle.std.specs.Prelude.{ℕ, ◌≡◌, ◌<◌, ◌≤◌, ◌-◌, replicate, Some, None}
+use Rattle.std.specs.Prelude.{ℕ, ◌≡◌, ◌<◌, ◌≤◌, ◌-◌, ◌/◌, false, List, replicate, Some, None}
 use Rattle.std.specs.FinMap.{empty}
-use Rattle.ipl_base.specs.declared.limits.TheConstants.{LEAST_PLACES, MOST_PLACES, RESERVED_PLACES, SLOTS, CARRIED_SECTORS, SESSIONS}
+use Rattle.ipl_base.specs.declared.limits.TheConstants.{LEAST_PLACES, MOST_PLACES, RESERVED_PLACES, PAGE_LEN, PAGES, SLOTS, CARRIED_SECTORS, SESSIONS}
 use Rattle.chip_trait.specs.Story.{Contents}
 use Rattle.chip_trait.specs.Told.{History}
+use Rattle.ipl_base.specs.Places.{home_of}
+use Rattle.ipl_rules.specs.Marks.{Marks, marks, overfills}
 use Rattle.ipl_rules.specs.State.{Map, State, at_rest}
-use Rattle.record_locks.specs.Held.{Slots, number_of}
+use Rattle.ipl_format.specs.Record.{Record}
+use Rattle.record_locks.specs.Held.{Slots, marks_in, number_of}
 use Rattle.ipl_meaning.specs.Chart.{Chart}
-use Rattle.ipl_meaning.specs.Layout.{Layout, Laid}
-use Rattle.ipl_meaning.specs.Last.{carried_count}
-use Rattle.ipl_meaning.specs.Stands.{Says}
+use Rattle.ipl_meaning.specs.Layout.{Layout, Laid, records_of}
+use Rattle.ipl_meaning.specs.Last.{carried_count, last_that}
+use Rattle.ipl_meaning.specs.Stands.{Says, Shows, page_in}
+use Rattle.ipl_meaning.specs.Values.{Values, counts_for}
 use Rattle.ipl_meaning.specs.Rests.{now, StoryRests}
 use Rattle.ipl_meaning.specs.Steps.{KeepsPages}
 use Rattle.ipl_meaning.specs.Tables.{IsFree, Tables}
 use Rattle.ipl_meaning.specs.Mirrors.{Mirrors, NoneIsLost}
 use Rattle.ipl_meaning.specs.Formatted.{formatted}
 use Rattle.ipl_meaning.specs.FirstTables.{first_layout, first_tables}
-use Rattle.pending_writes.specs.PendingLaws.{StateHasOneWriter, StateHasFewPending}
-use Rattle.pending_writes.specs.Frames.{Frame, Frames}
+use Rattle.ipl_rules.specs.FillLaws.{PageFits, UnitsFit}
+use Rattle.page_ops.specs.Pending.{fill_by, mark_of}
+use Rattle.pending_writes.specs.Pending.{name_at}
+use Rattle.pending_writes.specs.PendingLaws.{StateHasOneWriter}
+use Rattle.pending_writes.specs.Room.{PageHasRoomFor, overfills_at}
+use Rattle.pending_writes.specs.Frames.{Frame, Frames, pending_of}
 use Rattle.pending_writes.specs.FrameLaws.{TellsSlot}
 use Rattle.pending_writes.specs.Fits.{AreSessionsOf, is_active, Fits, FitsStory, FitsContents}
 
@@ -28,10 +36,62 @@ abbrev pub APlaceIsFree : Type 0
 APlaceIsFree = (places : ℕ) (c : Chart) (it : Layout) (t : Tables) → Mirrors places c it t → NoneIsLost places t
     → (p : ℕ) × (p < places) × IsFree t.places p
 
--- no name of the state is written by two sessions, and at most 48 names of each unit are written
+-- memory and chart fit whatever the records of the state are
+abbrev pub FitsWhateverTheMap : Type 0
+FitsWhateverTheMap =
+    (places : ℕ) (c : Chart) (it : Layout) (t : Tables) (frames : Frames) (slots : Slots) (state : State) (m : Map)
+    → Fits places c it t frames slots state → Fits places c it t frames slots (record state { map = m })
+
+-- no name of the state is written by two sessions, and the pending names of each unit weigh at most 48
 abbrev pub SessionsAreSound : Type 0
 SessionsAreSound = (slots : Slots) (state : State) → AreSessionsOf slots state
-    → StateHasOneWriter state × StateHasFewPending state
+    → StateHasOneWriter state × UnitsFit state
+
+-- where the pages say the map, each page of which an open session wrote a name has room for whatever comes of them
+abbrev pub WrittenPagesFit : Type 0
+WrittenPagesFit =
+    (places : ℕ) (c : Chart) (it : Layout) (t : Tables) (frames : Frames) (slots : Slots) (state : State) (n : ℕ)
+    → Fits places c it t frames slots state → Says places c it state.map → 0 < marks state n
+    → PageFits state (n / SLOTS)
+
+-- where these are the records of its page, the sessions' marks tell whether a put is refused since the page is full
+abbrev pub MarksTellFullPages : Type 0
+MarksTellFullPages =
+    (slots : Slots) (state : State) (n : ℕ) (bytes : List ℕ) (values : Values) → AreSessionsOf slots state
+    → ((slot : ℕ) → slot < SLOTS → values slot ≡ page_in state.map (home_of n).unit (home_of n).page slot)
+    → overfills state n bytes ≡ overfills_at (marks_in slots) n bytes values
+
+-- where it isn't, its record has room there
+abbrev pub PutsThatPassHaveRoom : Type 0
+PutsThatPassHaveRoom =
+    (marks : Marks) (n : ℕ) (bytes : List ℕ) (values : Values) (r : Record) → r.page ≡ (home_of n).page
+    → r.slot ≡ (home_of n).slot → r.change ≡ Some bytes → overfills_at marks n bytes values ≡ false
+    → PageHasRoomFor marks (home_of n).unit r values
+
+-- and so it has over the same values
+abbrev pub SameValuesHaveRoom : Type 0
+SameValuesHaveRoom =
+    (marks : Marks) (u : ℕ) (r : Record) (values now : Values)
+    → ((slot : ℕ) → slot < SLOTS → now slot ≡ values slot) → PageHasRoomFor marks u r values
+    → PageHasRoomFor marks u r now
+
+-- a page that is read from the chip has room for what it shows and for what is pending there
+abbrev pub LoadedPagesFit : Type 0
+LoadedPagesFit =
+    (places : ℕ) (c : Chart) (it : Layout) (t : Tables) (frames : Frames) (slots : Slots) (state : State) (u page : ℕ)
+    (now : Values)
+    → Fits places c it t frames slots state → u < places - RESERVED_PLACES → page < PAGES
+    → Shows c it.committed u (it.units u) page now
+    → fill_by now
+    (λ slot. pending_of (last_that (counts_for (is_active t) page slot) (records_of (it.units u).log) None)) ≤ PAGE_LEN
+
+-- a change that is pending in a frame takes no more than the sessions' writes of its name
+abbrev pub FramesKeepMarks : Type 0
+FramesKeepMarks =
+    (places : ℕ) (c : Chart) (it : Layout) (t : Tables) (frames : Frames) (slots : Slots) (state : State)
+    (u page slot : ℕ) (f : Frame)
+    → Fits places c it t frames slots state → frames u page ≡ Some f → slot < SLOTS
+    → mark_of (f.pending slot) ≤ marks_in slots (name_at u page slot)
 
 -- a merge of a unit carries at most 12 sectors
 abbrev pub MergesAreSmall : Type 0

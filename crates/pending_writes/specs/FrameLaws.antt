@@ -15,6 +15,7 @@ use Rattle.ipl_meaning.specs.Steps.{KeepsPages, with_unit, with_log, with_commit
 use Rattle.page_ops.specs.Pending.{Pendings, seen_by, without_pending, with_pending}
 use Rattle.pending_writes.specs.Pending.{Logs, Numbers, with_records, without_number, with_number, name_at, HasPending, HasNoRecords, IsWrittenOut}
 use Rattle.pending_writes.specs.PendingLaws.{StateHasOneWriter, AreActive, NumberJoins, IsSameOrMerged}
+use Rattle.pending_writes.specs.Room.{PagesHaveRoom}
 use Rattle.pending_writes.specs.Frames.{IsFrameOf, pending_of}
 
 -- a frame tells the record of a name of its page, and what each session sees of it
@@ -102,12 +103,13 @@ OtherStepsKeepFrames =
     → IsSameOrMerged active (it.units v) (new.units v) → KeepsPages places c it y new → v < places - RESERVED_PLACES → q < PAGES
     → IsFrameOf c it logs active v q values pending → IsFrameOf y new logs active v q values pending
 
--- a session is committed, all its records being on the chip: its changes become values
+-- a session is committed, all its records being on the chip: its changes become values, for which the page has room
 abbrev pub CommitsKeepFrames : Type 0
 CommitsKeepFrames =
     (places : ℕ) (c y : Chart) (it : Layout) (logs : Logs) (numbers : Numbers) (state : State)
     (active rest after : ℕ → Bool) (s tid u page : ℕ) (values : Values) (pending : Pendings)
-    → HasPending (places - RESERVED_PLACES) it logs numbers state → StateHasOneWriter state → AreActive numbers active
+    → HasPending (places - RESERVED_PLACES) it logs numbers state → PagesHaveRoom (places - RESERVED_PLACES) c it state
+    → StateHasOneWriter state → AreActive numbers active
     → AreActive (with_number numbers s None) rest → numbers s ≡ Some tid → IsWrittenOut logs tid
     → NumberJoins it.committed tid after → KeepsPages places c (with_committed it after) y (with_committed it after)
     → u < places - RESERVED_PLACES → page < PAGES → IsFrameOf c it logs active u page values pending

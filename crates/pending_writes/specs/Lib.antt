@@ -1,4 +1,5 @@
 pub mod Pending
+pub mod Room
 pub mod PendingLaws
 pub mod Frames
 pub mod FrameLaws

@@ -1,5 +1,5 @@
 -- What open sessions wrote and haven't committed: log records on the chip, and behind them those in memory.
-use Rattle.std.specs.Prelude.{ℕ, ◌≡◌, ◌≢◌, ◌<◌, ◌≤◌, ◌+◌, ◌*◌, ◌==◌, ◌&&◌, not, Bool, false, List, ◌++◌, filter, Option, Some, None, is_some, All, if◌then◌else◌}
+use Rattle.std.specs.Prelude.{ℕ, ◌≡◌, ◌≢◌, ◌<◌, ◌≤◌, ◌+◌, ◌*◌, ◌==◌, ◌&&◌, not, Bool, false, List, ◌++◌, filter, Option, Some, None, is_some, All, Contains, if◌then◌else◌}
 use Rattle.std.specs.Option.{option_map}
 use Rattle.ipl_base.specs.declared.limits.TheConstants.{PAGES, SLOTS, UNIT_NAMES, VERSION}
 use Rattle.ipl_rules.specs.State.{State, is_open, writes_of, last_write}
@@ -69,13 +69,15 @@ abbrev pub ArePending : Numbers → Logs → Type 0
 ArePending numbers logs = (u page : ℕ) → All (IsPending numbers page) (logs u page)
 
 -- The records say what the open sessions of the state wrote. Each of these has a number of its own, which is not
--- committed; of its records on a name the last one is its last write there, and it has none where it wrote nothing.
--- Behind none of them stands a committed record on the same name. What is in memory is of open sessions and of its own
--- page.
+-- committed; each of its records, on the chip and in memory, is one of its writes; of those on a name the last one is
+-- its last write there, and it has none where it wrote nothing. Behind none of them stands a committed record on the
+-- same name. What is in memory is of open sessions and of its own page.
 pub record HasPending (units : ℕ) (it : Layout) (logs : Logs) (numbers : Numbers) (state : State) : Type 0 where
   pub opens : (s : ℕ) → is_some (numbers s) ≡ is_open state s
   pub apart : (s t tid : ℕ) → numbers s ≡ Some tid → numbers t ≡ Some tid → s ≡ t
   pub waits : (s tid : ℕ) → numbers s ≡ Some tid → it.committed tid ≡ false
+  pub among : (s u page : ℕ) (r : Record) → numbers s ≡ Some r.tid → u < units → Contains (records_at it logs u page) r
+      → Contains (writes_of state s) (name_at u r.page r.slot, r.change)
   pub last : (s tid u page slot : ℕ) → numbers s ≡ Some tid → u < units → page < PAGES
       → slot < SLOTS
       → last_change tid (records_at it logs u page) page slot ≡ last_write (writes_of state s) (name_at u page slot)

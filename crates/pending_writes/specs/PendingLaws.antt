@@ -1,26 +1,24 @@
 -- What each step makes of the records of open sessions.
-use Rattle.std.specs.Prelude.{ℕ, ◌≡◌, ◌≢◌, ◌↔◌, ◌⊎◌, ◌<◌, ◌≤◌, ◌-◌, ◌∷◌, ◌++◌, Bool, true, false, IsTrue, List, [], length, Some, None, All, Contains, if◌then◌else◌}
+use Rattle.std.specs.Prelude.{ℕ, ◌≡◌, ◌≢◌, ◌↔◌, ◌⊎◌, ◌<◌, ◌≤◌, ◌-◌, ◌∷◌, ◌++◌, Bool, true, false, IsTrue, List, [], Some, None, All, Contains, if◌then◌else◌}
 use Rattle.std.specs.List.{list_any}
-use Rattle.ipl_base.specs.declared.limits.TheConstants.{RESERVED_PLACES, PAGES, SLOTS, PENDING_NAMES, VERSION}
-use Rattle.ipl_rules.specs.State.{State, pending}
+use Rattle.ipl_base.specs.declared.limits.TheConstants.{RESERVED_PLACES, PAGES, SLOTS, VERSION}
+use Rattle.ipl_rules.specs.Marks.{weight_of_mark, marks}
+use Rattle.ipl_rules.specs.State.{State}
 use Rattle.ipl_rules.specs.Operations.{after_begin, after_share, after_write, after_commit, after_batch, after_abort, after_restart}
 use Rattle.ipl_format.specs.Record.{Record, IsRecord}
 use Rattle.ipl_meaning.specs.Chart.{Chart}
 use Rattle.ipl_meaning.specs.Layout.{Entry, Shape, Layout, records_of}
-use Rattle.ipl_meaning.specs.Last.{carried, name_in_unit, is_number}
+use Rattle.ipl_meaning.specs.Last.{carried, weight_of, is_number}
 use Rattle.ipl_meaning.specs.Stands.{Says}
 use Rattle.ipl_meaning.specs.Steps.{with_unit, with_log, with_committed}
 use Rattle.pending_writes.specs.Pending.{Logs, Numbers, with_records, without_number, with_number, name_at, wrote, records_at, ArePending, HasPending, HasNoRecords, IsWrittenOut}
+use Rattle.pending_writes.specs.Room.{PagesHaveRoom}
 
 -- ---- sessions of a state
 
 -- no name is written by two sessions
 abbrev pub StateHasOneWriter : State → Type 0
 StateHasOneWriter state = (s t n : ℕ) → wrote state s n ≡ true → wrote state t n ≡ true → s ≡ t
-
--- at most 48 names of each unit are written
-abbrev pub StateHasFewPending : State → Type 0
-StateHasFewPending state = (u : ℕ) → pending state u ≤ PENDING_NAMES
 
 -- the test passes exactly the numbers of open sessions
 abbrev pub AreActive : Numbers → (ℕ → Bool) → Type 0
@@ -120,13 +118,13 @@ CommitsKeepPending =
     → NumberJoins it.committed tid after
     → HasPending units (with_committed it after) logs (with_number numbers s None) (after_commit state s)
 
--- and with its number the pages say what its writes make of the map
+-- and with its number the pages say what its writes make of the map, for which they have room
 abbrev pub CommitsSayWrites : Type 0
 CommitsSayWrites =
     (places : ℕ) (c : Chart) (it : Layout) (logs : Logs) (numbers : Numbers) (state : State) (s tid : ℕ)
     (after : ℕ → Bool)
-    → HasPending (places - RESERVED_PLACES) it logs numbers state → numbers s ≡ Some tid
-    → IsWrittenOut logs tid
+    → HasPending (places - RESERVED_PLACES) it logs numbers state → PagesHaveRoom (places - RESERVED_PLACES) c it state
+    → numbers s ≡ Some tid → IsWrittenOut logs tid
     → NumberJoins it.committed tid after → Says places c it state.map
     → Says places c (with_committed it after) (after_commit state s).map
 
@@ -167,8 +165,8 @@ abbrev pub BatchesSayWrites : Type 0
 BatchesSayWrites =
     (places : ℕ) (c : Chart) (it : Layout) (logs : Logs) (numbers : Numbers) (state : State) (ss : List ℕ)
     (after : ℕ → Bool)
-    → HasPending (places - RESERVED_PLACES) it logs numbers state → StateHasOneWriter state
-    → JoinInTurn numbers logs state ss it.committed after → Says places c it state.map
+    → HasPending (places - RESERVED_PLACES) it logs numbers state → PagesHaveRoom (places - RESERVED_PLACES) c it state
+    → StateHasOneWriter state → JoinInTurn numbers logs state ss it.committed after → Says places c it state.map
     → Says places c (with_committed it after) (after_batch state ss).map
 
 -- ---- an abort, and a restart
@@ -205,11 +203,11 @@ ChangedPagesSuffice =
     → ((u page : ℕ) → units ≤ u → logs u page ≡ [])
     → IsWrittenOut logs tid
 
--- at most 48 names of a unit have records of open sessions, on the chip and in memory
-abbrev pub FewArePending : Type 0
-FewArePending =
-    (units : ℕ) (it : Layout) (logs : Logs) (numbers : Numbers) (state : State) (active : ℕ → Bool) (u : ℕ)
-    → HasPending units it logs numbers state → StateHasFewPending state → AreActive numbers active → u < units
-    → (names : List ℕ) × (length names ≤ PENDING_NAMES)
-    × ((page : ℕ) (r : Record) → Contains (records_at it logs u page) r → IsTrue (active r.tid)
-    → Contains names (name_in_unit r))
+-- a record of an open session, on the chip or in memory, weighs at most what its name does by the mark in the state
+abbrev pub RecordsWeighNoMore : Type 0
+RecordsWeighNoMore =
+    (units : ℕ) (it : Layout) (logs : Logs) (numbers : Numbers) (state : State) (active : ℕ → Bool) (u page : ℕ)
+    (r : Record)
+    → HasPending units it logs numbers state → AreActive numbers active → u < units
+    → Contains (records_at it logs u page) r → IsTrue (active r.tid)
+    → weight_of r ≤ weight_of_mark (marks state (name_at u r.page r.slot))

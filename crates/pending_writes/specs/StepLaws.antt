@@ -2,10 +2,11 @@
 use Rattle.std.specs.Prelude.{ℕ, ◌≡◌, ◌<◌, ◌≤◌, ◌-◌, Bool, false, List, [], length, Some, None, All, Contains}
 use Rattle.ipl_base.specs.declared.limits.TheConstants.{RESERVED_PLACES, PAGES, VERSION}
 use Rattle.chip_trait.specs.Told.{History}
+use Rattle.ipl_base.specs.Sizes.{size_in_page}
 use Rattle.ipl_rules.specs.State.{Map, State, at_rest}
 use Rattle.ipl_rules.specs.Refusals.{is_twice}
 use Rattle.ipl_rules.specs.Operations as rules
-use Rattle.record_locks.specs.Held.{Slots, number_of, numbers_in, writer_numbers, after_begin, after_share, after_write, after_end, after_batch}
+use Rattle.record_locks.specs.Held.{Slots, number_of, numbers_in, writer_numbers, marks_in, after_begin, after_share, after_write, after_end, after_batch}
 use Rattle.ipl_format.specs.Record.{Record, IsRecord}
 use Rattle.ipl_meaning.specs.Chart.{Chart}
 use Rattle.ipl_meaning.specs.Layout.{Entry, Shape, Layout, records_of}
@@ -17,6 +18,7 @@ use Rattle.ipl_meaning.specs.Mirrors.{Mirrors, NoneIsLost}
 use Rattle.ipl_meaning.specs.Agrees.{Agrees}
 use Rattle.pending_writes.specs.Pending.{name_at, IsWrittenOut}
 use Rattle.pending_writes.specs.PendingLaws.{NumbersJoin, IsSameOrMerged}
+use Rattle.pending_writes.specs.Room.{PageHasRoomFor}
 use Rattle.pending_writes.specs.Frames.{Frame, Frames, logs_of, with_frame_at, with_frame_log, IsFrameOf, IsWrittenFrame, IsAbortedFrame, EachFrameChanges, CommitInTurn}
 use Rattle.pending_writes.specs.Fits.{LocksHold, AreSessionsOf, is_active, with_active, without_active, Fits, FitsStory}
 
@@ -37,15 +39,19 @@ SharesFit =
     → Fits places c it t frames slots state → s < length slots → LocksHold (after_share slots s n)
     → Fits places c it t frames (after_share slots s n) (rules.after_share state s n)
 
--- a put or a delete: its record stands behind those of its page
+-- the sessions, once a record's change is written
+abbrev pub after_record : Slots → ℕ → ℕ → Record → Slots
+after_record slots s u r = after_write slots s (name_at u r.page r.slot) (size_in_page r.change)
+
+-- a put or a delete: its record stands behind those of its page, which has room for it by what its frame shows
 abbrev pub WritesFit : Type 0
 WritesFit =
     (places : ℕ) (c : Chart) (it : Layout) (t : Tables) (frames : Frames) (slots : Slots) (state : State) (s u : ℕ)
     (r : Record) (f g : Frame)
     → Fits places c it t frames slots state → s < length slots → number_of slots s ≡ Some r.tid → u < places - RESERVED_PLACES
     → IsRecord VERSION r → frames u r.page ≡ Some f → IsWrittenFrame r f g
-    → LocksHold (after_write slots s (name_at u r.page r.slot))
-    → Fits places c it t (with_frame_at frames u r.page (Some g)) (after_write slots s (name_at u r.page r.slot))
+    → PageHasRoomFor (marks_in slots) u r f.values → LocksHold (after_record slots s u r)
+    → Fits places c it t (with_frame_at frames u r.page (Some g)) (after_record slots s u r)
     (rules.after_write state s (name_at u r.page r.slot, r.change))
 
 -- a session is aborted: its changes are dropped from all frames

@@ -1,12 +1,12 @@
 //! The laws of pending writes.
-ghost use Rattle.pending_writes.specs.PendingLaws.{BeginsKeepPending, SharesKeepPending, WritesKeepPending, LogSectorsKeepPending, MergesKeepPending, SameLogsKeepPending, RenewalsKeepPending, CommitsKeepPending, CommitsSayWrites, BatchesKeepPending, BatchesSayWrites, AbortsKeepPending, RestartsLeaveNone, RecordsStayPending, RecordsAreWrites, ChangedPagesSuffice, FewArePending};
+ghost use Rattle.pending_writes.specs.PendingLaws.{BeginsKeepPending, SharesKeepPending, WritesKeepPending, LogSectorsKeepPending, MergesKeepPending, SameLogsKeepPending, RenewalsKeepPending, CommitsKeepPending, CommitsSayWrites, BatchesKeepPending, BatchesSayWrites, AbortsKeepPending, RestartsLeaveNone, RecordsStayPending, RecordsAreWrites, ChangedPagesSuffice, RecordsWeighNoMore};
 ghost use Rattle.pending_writes.specs.FrameLaws.{FramesTell, LoadsMakeFrames, BeginsKeepFrames, WritesKeepFrames, OtherWritesKeepFrames, LogSectorsKeepFrames, MergesKeepFrames, OtherStepsKeepFrames, CommitsKeepFrames, AbortsKeepFrames};
-ghost use Rattle.pending_writes.specs.FittingLaws.{APlaceIsFree, SessionsAreSound, MergesAreSmall, RestingPagesSay, RestingPagesKeep, FittingFramesTell, FittingContentsTell, EmptySlotsAreAtRest, FirstStoresFit};
+ghost use Rattle.pending_writes.specs.FittingLaws.{APlaceIsFree, FitsWhateverTheMap, SessionsAreSound, WrittenPagesFit, LoadedPagesFit, FramesKeepMarks, MarksTellFullPages, PutsThatPassHaveRoom, SameValuesHaveRoom, MergesAreSmall, RestingPagesSay, RestingPagesKeep, FittingFramesTell, FittingContentsTell, EmptySlotsAreAtRest, FirstStoresFit};
 ghost use Rattle.pending_writes.specs.StepLaws.{BeginsFit, SharesFit, WritesFit, AbortsFit, SessionNumbersFit, LoadsFit, EvictionsFit, OpeningsFit, LogSectorsFit, MergesFit, OtherStepsFit, RenewalsFit, BatchesFit};
 
 /// After each step of a store the records on the chip and in memory say what its open sessions
 /// wrote; a commit makes of the map what the writes of its session do, and one of several sessions
-/// what theirs do one after the other; and the records of open sessions are few.
+/// what theirs do one after the other; and a record of an open session weighs no more than its name.
 pub fn pending_laws()
     ensures begins { BeginsKeepPending }
     ensures shares { SharesKeepPending }
@@ -28,7 +28,7 @@ pub fn pending_laws()
     // what follows
     ensures written { RecordsAreWrites }
     ensures changed { ChangedPagesSuffice }
-    ensures few { FewArePending }
+    ensures weighed { RecordsWeighNoMore }
 {}
 
 /// A frame tells what each session sees of its page, and each step keeps it so.
@@ -46,16 +46,26 @@ pub fn frame_laws()
 {}
 
 /// What a store gives whose memory and chip stand for a state: a free place, one writer of each
-/// name, merges that have room, pages that say the map, and frames that tell it. And that there is
-/// one.
+/// name, room in the pages that sessions wrote, also with what is pending there, whether a put
+/// finds its page full, merges that have room, pages that say the map, and frames that tell it.
+/// And that there is one.
 pub fn fitting_laws()
     ensures free { APlaceIsFree }
+    ensures any_map { FitsWhateverTheMap }
     ensures sound { SessionsAreSound }
     ensures small { MergesAreSmall }
     ensures says { RestingPagesSay }
     ensures keeps { RestingPagesKeep }
     ensures tells { FittingFramesTell }
     ensures contents_tell { FittingContentsTell }
+
+    // room in pages
+    ensures written { WrittenPagesFit }
+    ensures loaded { LoadedPagesFit }
+    ensures marks { FramesKeepMarks }
+    ensures full { MarksTellFullPages }
+    ensures room { PutsThatPassHaveRoom }
+    ensures same_room { SameValuesHaveRoom }
 
     // that it can be met
     ensures at_rest { EmptySlotsAreAtRest }

@@ -7,7 +7,8 @@
 //! Proved, by its five laws: after each step of a store the records on the chip and in memory say
 //! what its open sessions wrote, each frame tells what each session sees, and memory and chip
 //! stand for the state; a commit, of one session or of several together, makes of the map what
-//! their writes do; at most 48 names of a unit have records of open sessions.
+//! their writes do; each record of an open session is one of its writes, weighs no more than its
+//! name, and has room in its page.
 #![tactic(auto)]
 
 mod laws;

@@ -1,5 +1,6 @@
 pub mod KeepLemmas
 pub mod WorkLemmas
+pub mod PutLemmas
 pub mod SeeLemmas
 pub mod RestartLemmas
 pub mod DoneLemmas

@@ -212,8 +212,8 @@ module _ (a b : ScriptStore) (before after : Told) (runs : IsRunning before.plac
       → Does command.Restart a before (Ok reply.Ok) b after
   opened_does opens tries leads = record {
     works = works_so a b before after runs.up units command.Restart (Ok reply.Ok)
-        (leads_are_work command.Restart first last (Ok reply.Ok) before after suits units
-        runs.up (answers_advance (TurnsMapOf (λ state. after_restart state))
+        (leads_are_work command.Restart (λ state. after_restart state) first last (Ok reply.Ok)
+        before after suits units runs.up (answers_advance (TurnsMapOf (λ state. after_restart state))
         (λ state. after_restart state) first.memory last.memory (Ok tt) (Ok reply.Ok) before after
         refl leads) (λ h state keeps. refl) few tt);
     tidy = record {

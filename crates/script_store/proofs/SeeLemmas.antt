@@ -194,7 +194,7 @@ module _ (n : ℕ) (a b : ScriptStore) (before after : Told) (runs : IsRunning b
         few = let drawn = did.drawn in omega (arith, drawn)
 
         works : Works store_keeping command.Syntax first before (Ok reply.Syntax) last after
-        works = leads_are_work command.Syntax first last (Ok reply.Syntax) before after
+        works = leads_are_work command.Syntax (λ state. state) first last (Ok reply.Syntax) before after
             runs.sound.made.units units runs.up
             (answers_advance (TurnsMapOf (λ state. state)) (λ state. state) first.memory
             last.memory (Ok found) (Ok reply.Syntax) before after refl did.leads)
@@ -234,10 +234,11 @@ module _ (n : ℕ) (a b : ScriptStore) (before after : Told) (runs : IsRunning b
         few = let drawn = did.drawn in omega (arith, drawn)
 
         works : Works store_keeping command.Syntax first before (Err (Chip e)) last after
-        works = leads_are_work command.Syntax first last (Err (Chip e)) before after
+        works = leads_are_work command.Syntax (λ state. state) first last (Err (Chip e)) before after
             runs.sound.made.units units runs.up
             (answers_advance (TurnsMapOf (λ state. state)) (λ state. state) first.memory
-            last.memory (Err (store.Chip e)) (Err (Chip e)) before after refl did.leads) tt
+            last.memory (Err (store.Chip e)) (Err (Chip e)) before after refl did.leads)
+            (λ h state keeps. refl)
             (λ h state keeps. let drawn = did.drawn in omega (arith, drawn))
             (λ h state keeps low. chip_rose e before after
             (did.complete _ keeps.steady.holds state (keeps.up runs.up).shows) cause)

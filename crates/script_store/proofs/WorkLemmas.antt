@@ -1,11 +1,12 @@
 -- Calls of the store are the work of their commands.
-use Rattle.std.proofs.Common.{ℕ, ◌≡◌, ◌≢◌, ◌⊎◌, inl, inr, ◌≤◌, ◌<◌, ◌+◌, arith, Bool, true, false, nat_lt, ◌∷◌, [], Option, None, Some, Result, Ok, Err, IfOk, if◌then◌else◌, refl, sym, ◌∙◌, ap, subst}
+use Rattle.std.proofs.Common.{ℕ, ◌≡◌, ◌≢◌, ◌⊎◌, inl, inr, ◌≤◌, ◌<◌, ◌+◌, arith, Bool, true, false, nat_lt, ◌∷◌, [], List, Option, None, Some, Result, Ok, Err, IfOk, if◌then◌else◌, refl, sym, ◌∙◌, ap, subst}
 use Rattle.std.proofs.lemmas.Bool.Decides.{nat_tests}
 use Rattle.chip_trait.specs.Told.{Told, Counts}
 use Rattle.chip_trait.proofs.CountsLemmas.{counts_none}
 use Rattle.ipl_base.specs.declared.fault.ChipFault.{ChipFault}
 use Rattle.ipl_base.specs.declared.fault.ChipFault.TheVariants.{ReadFault, Stopped, Damaged, Malformed}
 use Rattle.ipl_base.specs.declared.fault.Refusal.{Refusal}
+use Rattle.ipl_base.specs.declared.fault.Refusal.TheVariants.{PageFull}
 use Rattle.ipl_base.specs.declared.fault.StoreFault.{StoreFault}
 use Rattle.ipl_base.specs.declared.fault.StoreFault.TheVariants as store
 use Rattle.ipl_rules.specs.State.{State}
@@ -13,20 +14,20 @@ use Rattle.ipl_model.specs.declared.command.Command.{Command}
 use Rattle.ipl_model.specs.declared.command.Command.TheVariants as command
 use Rattle.ipl_model.specs.declared.reply.Reply.{Reply}
 use Rattle.ipl_model.specs.declared.reply.Reply.TheVariants as reply
-use Rattle.ipl_model.specs.Step.{Stepped, refusal_of, accepted, step}
-use Rattle.record_locks.specs.Standing.{state_of}
+use Rattle.ipl_model.specs.Step.{Stepped, accepted, step}
 use Rattle.unit_io.specs.Reads.{OfContents}
+use Rattle.pending_writes.specs.Fits.{AreSessionsOf}
 use Rattle.steps.specs.Steps.{Tidies}
 use Rattle.page_frames.specs.Pages.{tables_in, PageCause}
-use Rattle.store_trait.specs.declared.fault.Fault.{Fault}
 use Rattle.store_trait.specs.declared.fault.Fault.TheVariants.{Chip, Spent}
-use Rattle.store_trait.specs.Keeping.{LAST_NUMBER, WORK_DRAWS, ChipRose, IsFailedCall, LeavesTidy}
+use Rattle.store_trait.specs.Keeping.{LAST_NUMBER, WORK_DRAWS, ChipRose, IsFailedCall, Works, LeavesTidy}
 use Rattle.store_trait.proofs.TidyLemmas.{tidy_same}
-use Rattle.store_steps.specs.Advances.{TurnsMapOf, LeadsTo}
-use Rattle.store_steps.specs.Keeps.{View, limits_of, ShowsState, StoreCause}
+use Rattle.store_steps.specs.Advances.{TurnsMapOf}
+use Rattle.store_steps.specs.Keeps.{View, limits_of, ShowsState, StoreCause, store_keeping}
+use Rattle.store_steps.specs.Refusals.{finds_full, sessions_refuse}
 use Rattle.store_steps.proofs.AdvanceLemmas.{answers_advance}
-use Rattle.store_steps.proofs.LeadLemmas.{memory_leads, next_states_are_alike}
-use Rattle.store_steps.proofs.RefusalLemmas.{refusals_answer, accepted_are_done, refusals_lead, accepted_lead}
+use Rattle.store_steps.proofs.LeadLemmas.{answers_are_alike, memory_leads}
+use Rattle.store_steps.proofs.RefusalLemmas.{refusals_answer, accepted_are_done, refusals_lead}
 use Rattle.store_steps.proofs.KeepLemmas.{leads_are_work}
 use Rattle.store_steps.proofs.FaultLemmas.{idle_faults_are_work}
 use Rattle.ipl_store.specs.declared.store.Store.{Store}
@@ -113,6 +114,18 @@ never_down a refusal next most before result new after up calls is =
         early_up a (entry_fault a.store) refusal (up_entry a up) (early ∙ ap Some same)
     by_early None early = served_up before result new after (calls.serves early).ends is
 
+-- ---- a step by its parts
+
+-- one whose reply is told
+says_it : (x : Stepped) (replies : List Reply) → x.1 ≡ replies → x ≡ (x.0, replies)
+says_it x replies is = ap (λ (r : List Reply). (x.0, r)) is
+
+-- and one whose state is told too
+both_are : (x : Stepped) (state : State) (replies : List Reply) → x.0 ≡ state → x.1 ≡ replies
+    → x ≡ (state, replies)
+both_are x state replies state_is is =
+    says_it x replies is ∙ ap (λ (s : State). (s, replies)) state_is
+
 -- ---- the store as it was
 
 module _ (c : Command) (a : ScriptStore) (told : Told) (runs : IsRunning told.places a) where
@@ -128,16 +141,16 @@ module _ (c : Command) (a : ScriptStore) (told : Told) (runs : IsRunning told.pl
   }
 
   refused_does : (r : Refusal)
-      → refusal_of (limits_of a.store.units) (state_of a.store.transactions.sessions) c ≡ Some r
+      → sessions_refuse (limits_of a.store.units) a.store.transactions.sessions c ≡ Some r
       → Does c a told (Ok (reply.Refused r)) a told
   refused_does r is = record {
     works = works_so a a told told runs.up refl c (Ok (reply.Refused r))
-        (leads_are_work c (view_of a.store) (view_of a.store) (Ok (reply.Refused r)) told told
-        runs.sound.made.units refl runs.up
+        (leads_are_work c (λ state. (step (limits_of a.store.units) state c).0) (view_of a.store)
+        (view_of a.store) (Ok (reply.Refused r)) told told runs.sound.made.units refl runs.up
         (refusals_lead a.store.units c r (view_of a.store).memory told is)
-        (λ h state keeps. ap (λ (y : Stepped). y.1) (refusals_answer
-        (limits_of a.store.units) a.store.transactions.sessions state c r
-        (keeps.up runs.up).sessions is))
+        (λ h state keeps. says_it (step (limits_of a.store.units) state c) _
+        (ap (λ (y : Stepped). y.1) (refusals_answer (limits_of a.store.units)
+        a.store.transactions.sessions state c r (keeps.up runs.up).sessions is)))
         (λ h state keeps. omega arith) tt);
     tidy = tidy_same script_keeping a told told true refl;
     draws = draws_few WORK_DRAWS _ a a runs.up (omega arith) (λ spent. absurd (cc spent));
@@ -154,9 +167,9 @@ module _ (a : ScriptStore) (told : Told) (runs : IsRunning told.places a) where
   pub syntax_does : Does command.Syntax a told (Ok reply.Syntax) a told
   syntax_does = record {
     works = works_so a a told told runs.up refl command.Syntax (Ok reply.Syntax)
-        (leads_are_work command.Syntax same same (Ok reply.Syntax) told told
+        (leads_are_work command.Syntax (λ state. state) same same (Ok reply.Syntax) told told
         runs.sound.made.units refl runs.up
-        (answers_advance (TurnsMapOf (λ state. state)) (λ state. state) same.memory same.memory
+        (answers_are_alike (λ state. state) same.memory same.memory
         (Ok tt) (Ok reply.Syntax) told told refl
         (memory_leads (λ state. state) same.memory same.memory told
         (λ places c it state settled fits. fits) (λ places c it state fits. refl)
@@ -171,48 +184,34 @@ module _ (a : ScriptStore) (told : Told) (runs : IsRunning told.places a) where
 
 -- ---- a call that is let in
 
+-- Done, it is the work of its command; failed, it left the map of the model's step at least.
 module _ {T : Type 0} (say : T → Reply) (c : Command) (next : State → State) (most : ℕ)
     (a b : ScriptStore) (before after : Told) (runs : IsRunning before.places a)
-    (few : most ≤ WORK_DRAWS)
-    (free : refusal_of (limits_of a.store.units) (state_of a.store.transactions.sessions) c ≡ None)
-    (nexts : (state : State) → (accepted state c).0 ≡ next state)
-    (units : b.store.units ≡ a.store.units) where
+    (few : most ≤ WORK_DRAWS) (units : b.store.units ≡ a.store.units) where
   abbrev first : View
   first = view_of a.store
 
   abbrev last : View
   last = view_of b.store
 
-  leads_on : (answer : Result Reply Fault)
-      → LeadsTo next first.memory before answer last.memory after
-      → LeadsTo (λ state. (step (limits_of first.units) state c).0) first.memory before answer
-      last.memory after
-  leads_on answer leads = accepted_lead first.units c first.memory last.memory answer before after
-      free (next_states_are_alike next (λ state. (accepted state c).0) first.memory last.memory
-      answer before after (λ places y it state fits. sym (nexts state)) leads)
+  -- what the store found is the model's reply, and what it keeps then the next state
+  abbrev IsWork : T → Type 0
+  IsWork found = Works store_keeping c first before (Ok (say found)) last after
 
-  few_drawn : counter_of b.store ≤ counter_of a.store + most
+  -- the model's step leaves the next state's map
+  abbrev StepsToMap : Type 0
+  StepsToMap = (state : State) → AreSessionsOf a.store.transactions.sessions state
+      → (step (limits_of a.store.units) state c).0.map ≡ (next state).map
+
+  pub few_drawn : counter_of b.store ≤ counter_of a.store + most
       → counter_of b.store ≤ counter_of a.store + WORK_DRAWS
   few_drawn drawn = omega (arith, drawn, few)
 
-  -- what the store found is the model's reply
-  abbrev Replies : T → Type 0
-  Replies found = (state : State) → OfContents before (λ x. ShowsState first state x
-      → (accepted state c).1 ≡ say found ∷ [])
-
-  done_does : (found : T) (did : Serves next most a.store before (Ok found) b.store after)
-      → Replies found → IsRunning before.places b → LeavesTidy script_keeping a b before after true
+  pub done_does : (found : T) (did : Serves next most a.store before (Ok found) b.store after)
+      → IsWork found → IsRunning before.places b → LeavesTidy script_keeping a b before after true
       → (counts : Counts before after) → Does c a before (Ok (say found)) b after
-  done_does found did replies running tidy counts = record {
-    works = works_so a b before after runs.up units c (Ok (say found))
-        (leads_are_work c first last (Ok (say found)) before after runs.sound.made.units
-        units runs.up (leads_on (Ok (say found)) (answers_advance (TurnsMapOf next) next
-        first.memory last.memory (Ok found) (Ok (say found)) before after refl did.leads))
-        (λ h state keeps. ap (λ (y : Stepped). y.1) (accepted_are_done
-        (limits_of first.units) a.store.transactions.sessions state c
-        (keeps.up runs.up).sessions free)
-        ∙ replies state _ keeps.steady.holds (keeps.up runs.up).shows)
-        (λ h state keeps. few_drawn did.drawn) tt);
+  done_does found did works running tidy counts = record {
+    works = works_so a b before after runs.up units c (Ok (say found)) works;
     tidy = tidy;
     draws = draws_few WORK_DRAWS _ a b runs.up (few_drawn did.drawn) (λ spent. absurd (cc spent));
     running = running;
@@ -220,15 +219,16 @@ module _ {T : Type 0} (say : T → Reply) (c : Command) (next : State → State)
     cause = tt;
   }
 
-  failed_does : (e : ChipFault)
+  failed_does : StepsToMap → (e : ChipFault)
       (did : Serves {T = T} next most a.store before (Err (store.Chip e)) b.store after)
       → PageCause e before after → LeavesTidy script_keeping a b before after false
       → (counts : Counts before after) → Does c a before (Err (Chip e)) b after
-  failed_does e did cause tidy counts = record {
+  failed_does steps e did cause tidy counts = record {
     works = works_so a b before after runs.up units c (Err (Chip e))
-        (leads_are_work c first last (Err (Chip e)) before after runs.sound.made.units
-        units runs.up (leads_on (Err (Chip e)) (answers_advance (TurnsMapOf next) next first.memory
-        last.memory (Err (store.Chip e)) (Err (Chip e)) before after refl did.leads)) tt
+        (leads_are_work c next first last (Err (Chip e)) before after runs.sound.made.units
+        units runs.up (answers_advance (TurnsMapOf next) next first.memory
+        last.memory (Err (store.Chip e)) (Err (Chip e)) before after refl did.leads)
+        (λ h state keeps. steps state (keeps.up runs.up).sessions)
         (λ h state keeps. few_drawn did.drawn)
         (λ h state keeps low. chip_rose e before after
         (did.complete _ keeps.steady.holds state (keeps.up runs.up).shows) cause));
@@ -239,73 +239,137 @@ module _ {T : Type 0} (say : T → Reply) (c : Command) (next : State → State)
     cause = chip_cause e before after cause;
   }
 
-  served_does : (result : Result T StoreFault)
-      → Serves next most a.store before result b.store after → IfOk result Replies
+  pub served_does : StepsToMap → (result : Result T StoreFault)
+      → Serves next most a.store before result b.store after → IfOk result IsWork
       → IsSound before.places b.store
       → Tidies (tables_in a.store.transactions.pages) result (tables_in b.store.transactions.pages)
       before after → Counts before after → Does c a before (answer_of say result) b after
-  served_does (Ok found) did replies sound tidy counts =
-      done_does found did replies (record { sound = sound; up = did.ends })
+  served_does steps (Ok found) did works sound tidy counts =
+      done_does found did works (record { sound = sound; up = did.ends })
       (tidy_so a b before after (Ok found) (Ok (say found)) refl tidy) counts
-  served_does (Err fault) did replies sound tidy counts =
+  served_does steps (Err fault) did works sound tidy counts =
       let (e, is_chip, cause, stopped) = did.ends in
       subst (λ (f : StoreFault). Serves {T = T} next most a.store before (Err f) b.store after
       → Does c a before (ended f) b after) (sym is_chip)
-      (λ of_chip. failed_does e of_chip cause
+      (λ of_chip. failed_does steps e of_chip cause
       (tidy_so {T = T} {U = Reply} a b before after (Err fault) (Err (Chip e)) refl tidy) counts) did
+
+-- ---- the work of a command that asks no page for room
+
+module _ {T : Type 0} (say : T → Reply) (c : Command) (next : State → State) (most : ℕ)
+    (a b : ScriptStore) (before after : Told) (runs : IsRunning before.places a)
+    (few : most ≤ WORK_DRAWS) (units : b.store.units ≡ a.store.units)
+    (free : sessions_refuse (limits_of a.store.units) a.store.transactions.sessions c ≡ None)
+    (roomy : (state : State) → finds_full state c ≡ false)
+    (nexts : (state : State) → (accepted state c).0 ≡ next state) where
+  -- it is done
+  steps_on : (state : State) → AreSessionsOf a.store.transactions.sessions state
+      → step (limits_of a.store.units) state c ≡ accepted state c
+  steps_on state sessions =
+      accepted_are_done (limits_of a.store.units) a.store.transactions.sessions state c sessions free
+      ∙ ap (λ (full : Bool). if full then (state, reply.Refused PageFull ∷ []) else accepted state c)
+      (roomy state)
+
+  pub steps_to_map : StepsToMap say c next most a b before after runs few units
+  steps_to_map state sessions = ap (λ (x : Stepped). x.0.map) (steps_on state sessions)
+      ∙ ap (λ (s : State). s.map) (nexts state)
+
+  -- what the store found is the model's reply
+  abbrev Replies : T → Type 0
+  Replies found = (state : State) → OfContents before (λ x. ShowsState (view_of a.store) state x
+      → (accepted state c).1 ≡ say found ∷ [])
+
+  pub accepted_work : (result : Result T StoreFault)
+      → Serves next most a.store before result b.store after → IfOk result Replies
+      → IfOk result (IsWork say c next most a b before after runs few units)
+  accepted_work (Err fault) did replies = tt
+  accepted_work (Ok found) did replies =
+      leads_are_work c next (view_of a.store) (view_of b.store) (Ok (say found)) before after
+      runs.sound.made.units units runs.up (answers_advance (TurnsMapOf next) next
+      (view_of a.store).memory (view_of b.store).memory (Ok found) (Ok (say found)) before after
+      refl did.leads)
+      (λ h state keeps. steps_on state (keeps.up runs.up).sessions
+      ∙ both_are (accepted state c) (next state) (say found ∷ []) (nexts state)
+      (replies state _ keeps.steady.holds (keeps.up runs.up).shows))
+      (λ h state keeps. few_drawn say c next most a b before after runs few units did.drawn) tt
 
 -- ---- a call
 
 module _ {T : Type 0} (say : T → Reply) (c : Command) (refusal : Option Refusal)
     (next : State → State) (most : ℕ) (a b : ScriptStore) (before after : Told)
     (result : Result T StoreFault) (runs : IsRunning before.places a)
+    (refuses : refusal ≡ sessions_refuse (limits_of a.store.units) a.store.transactions.sessions c)
+  where
+    -- one that did nothing
+    idle_does : (fault : StoreFault) → Does c a before (ended fault) a before
+        → result ≡ Err fault → b.store ≡ a.store → after ≡ before
+        → Does c a before (answer_of say result) b after
+    idle_does fault base is same still =
+        subst (λ (r : Result T StoreFault). Does c a before (answer_of say r) b after) (sym is)
+        (subst (λ (t : Told). Does c a before (ended fault) b t) (sym still)
+        (subst (λ (s : Store). Does c a before (ended fault) (record { store = s }) before) (sym same)
+        base))
+
+    module _ (entry : Option StoreFault)
+        (calls : Calls (early_fault entry refusal) next most a.store before result b.store after)
+        -- where it is let in, it is the command's work, and else it failed
+        (works : early_fault entry refusal ≡ None
+        → sessions_refuse (limits_of a.store.units) a.store.transactions.sessions c ≡ None
+        → b.store.units ≡ a.store.units → Does c a before (answer_of say result) b after) where
+      early_is : (e : Option StoreFault) (r : Option Refusal) → entry ≡ e → refusal ≡ r
+          → early_fault entry refusal ≡ early_fault e r
+      early_is e r entry_is is = ap (λ (o : Option StoreFault). early_fault o refusal) entry_is
+          ∙ ap (early_fault e) is
+
+      by_refusal : (r : Option Refusal) → refusal ≡ r → entry ≡ None
+          → Does c a before (answer_of say result) b after
+      by_refusal (Some r) is none =
+          let (answer, same, still) = calls.refuses (store.Refused r) (early_is None (Some r) none is)
+          in
+          idle_does (store.Refused r) (refused_does c a before runs r (sym refuses ∙ is))
+          answer same still
+      by_refusal None is none = works (early_is None None none is) (sym refuses ∙ is)
+          (omega (arith, calls.sound.made.units, runs.sound.made.units))
+
+      pub by_entry : IsEntry a entry → Does c a before (answer_of say result) b after
+      by_entry (inl none) = by_refusal refusal refl none
+      by_entry (inr (is, late)) =
+          let (answer, same, still) = calls.refuses store.Spent
+          (ap (λ (o : Option StoreFault). early_fault o refusal) is) in
+          idle_does store.Spent (spent_does c a before runs late) answer same still
+
+-- ---- a call of a command that asks no page for room
+
+module _ {T : Type 0} (say : T → Reply) (c : Command) (refusal : Option Refusal)
+    (next : State → State) (most : ℕ) (a b : ScriptStore) (before after : Told)
+    (result : Result T StoreFault) (runs : IsRunning before.places a)
     (few : most ≤ WORK_DRAWS)
-    (refuses : refusal ≡ refusal_of (limits_of a.store.units)
-    (state_of a.store.transactions.sessions) c)
+    (refuses : refusal ≡ sessions_refuse (limits_of a.store.units) a.store.transactions.sessions c)
+    (roomy : (state : State) → finds_full state c ≡ false)
     (nexts : (state : State) → (accepted state c).0 ≡ next state)
     (replies : IfOk result (λ found. (state : State)
     → OfContents before (λ x. ShowsState (view_of a.store) state x
     → (accepted state c).1 ≡ say found ∷ []))) where
-  -- one that did nothing
-  idle_does : (fault : StoreFault) → Does c a before (ended fault) a before
-      → result ≡ Err fault → b.store ≡ a.store → after ≡ before
-      → Does c a before (answer_of say result) b after
-  idle_does fault base is same still =
-      subst (λ (r : Result T StoreFault). Does c a before (answer_of say r) b after) (sym is)
-      (subst (λ (t : Told). Does c a before (ended fault) b t) (sym still)
-      (subst (λ (s : Store). Does c a before (ended fault) (record { store = s }) before) (sym same)
-      base))
-
-  by_refusal : (r : Option Refusal) → refusal ≡ r
-      → Calls (early_fault None r) next most a.store before result b.store after
-      → Does c a before (answer_of say result) b after
-  by_refusal (Some r) is calls =
-      let (answer, same, still) = calls.refuses (store.Refused r) refl in
-      idle_does (store.Refused r) (refused_does c a before runs r (sym refuses ∙ is))
-      answer same still
-  by_refusal None is calls =
-      served_does say c next most a b before after runs few (sym refuses ∙ is) nexts
-      (omega (arith, calls.sound.made.units, runs.sound.made.units)) result (calls.serves refl)
-      replies calls.sound calls.tidy calls.counts
-
-  by_entry : (entry : Option StoreFault) → IsEntry a entry
+  by_call : (entry : Option StoreFault) → IsEntry a entry
       → Calls (early_fault entry refusal) next most a.store before result b.store after
       → Does c a before (answer_of say result) b after
-  by_entry entry (inl none) calls = by_refusal refusal refl
-      (subst (λ (o : Option StoreFault). Calls (early_fault o refusal) next most a.store before
-      result b.store after) none calls)
-  by_entry entry (inr (is, late)) calls =
-      let (answer, same, still) = calls.refuses store.Spent
-      (ap (λ (o : Option StoreFault). early_fault o refusal) is) in
-      idle_does store.Spent (spent_does c a before runs late) answer same still
+  by_call entry is calls =
+      by_entry say c refusal next most a b before after result runs refuses entry calls
+      (λ none free units.
+      served_does say c next most a b before after runs few units
+      (steps_to_map say c next most a b before after runs few units free roomy nexts) result
+      (calls.serves none)
+      (accepted_work say c next most a b before after runs few units free roomy nexts result
+      (calls.serves none) replies)
+      calls.sound calls.tidy calls.counts) is
 
   -- that the store refuses once its numbers are used up
   pub calls_do : Calls (early_fault (entry_fault a.store) refusal) next most a.store before result
       b.store after → Does c a before (answer_of say result) b after
-  calls_do calls = by_entry (entry_fault a.store) (up_entry a runs.up) calls
+  calls_do calls = by_call (entry_fault a.store) (up_entry a runs.up) calls
 
   -- and one that draws none
   pub ends_do : Calls (early_fault (down_fault a.store) refusal) next most a.store before result
       b.store after → Does c a before (answer_of say result) b after
-  ends_do calls = by_entry (down_fault a.store)
+  ends_do calls = by_call (down_fault a.store)
       (inl (ap (λ (down : Bool). if down then Some store.Down else None) runs.up)) calls

@@ -33,7 +33,7 @@ pub(crate) fn reply_of(done: Result<(), StoreFault>) -> Result<Reply, Fault>
     }
 }
 
-/// A record of at most 108 bytes, or none, for a reply.
+/// A record of at most 464 bytes, or none, for a reply.
 pub(crate) fn copied(found: Option<&[u8]>) -> Option<Value>
     requires short { IfSome found (λ b. length b.now ≤ VALUE_LEN) }
     ensures { result ≡ option_map (λ b. b.now) found.entry }

@@ -169,7 +169,7 @@ module _ (ss : List ℕ) (before : Memory) (opened : AreOpenSessions before.slot
     says_added : Says places c it state.map
         → Says places c (layout_added it tids) (after_batch state ss).map
     says_added = batches_say_writes places c it (logs_of before.frames) (number_of before.slots)
-        state ss committed fits.pending one_writer join_all
+        state ss committed fits.pending fits.filled one_writer join_all
 
     -- and those that showed the map show it
     shows_added : (y : Chart) → Added places c y it t tids (1 + t.next) (others_of t tids)
@@ -178,7 +178,7 @@ module _ (ss : List ℕ) (before : Memory) (opened : AreOpenSessions before.slot
       pages = λ u page low few shows.
           added.pages u page _ low few
           (batch_shows (places - 4) c it (logs_of before.frames) (number_of before.slots) state ss
-          committed fits.pending one_writer join_all u page low few shows);
+          committed fits.pending fits.filled one_writer join_all u page low few shows);
       nowhere_else = λ name high none.
           batches_keep state ss name (λ s there. fits.pending.nowhere_else s name high) ∙ none;
     }

@@ -1,20 +1,20 @@
 -- What calls of a store leave, as a run over a script asks for it.
 use Rattle.std.specs.FinMap.{get}
-use Rattle.std.proofs.Common.{◌≡◌, ℕ, ◌+◌, ◌<◌, ◌*◌, true, false, [], ◌∷◌, Option, List, Result, MatchResult, IfOk, Ok, Err, is_ok, sym, ap, subst}
+use Rattle.std.proofs.Common.{◌≡◌, ℕ, ◌⊎◌, ◌+◌, ◌<◌, ◌*◌, true, false, [], ◌∷◌, Option, List, Result, MatchResult, IfOk, Ok, Err, is_ok, sym, ap, subst}
 use Rattle.std.proofs.lemmas.Result.{IfErr-weaker}
 use Rattle.chip_trait.specs.Moment.{AtEachMoment, Leaves}
 use Rattle.chip_trait.specs.Chart.{says}
 use Rattle.chip_trait.specs.Story.{Story, Contents, held}
 use Rattle.chip_trait.specs.Told.{History, Told, Unrisen, adds_all}
-use Rattle.ipl_rules.specs.State.{State, Limits}
+use Rattle.ipl_rules.specs.State.{Map, State, Limits}
 use Rattle.ipl_model.specs.declared.command.Command.{Command}
 use Rattle.ipl_model.specs.declared.reply.Reply.{Reply}
-use Rattle.ipl_model.specs.Step.{step}
+use Rattle.ipl_model.specs.Step.{Stepped, step}
 use Rattle.ipl_format.specs.Sector.{sector_in}
 use Rattle.record_locks.specs.Held.{Slots}
 use Rattle.ipl_meaning.specs.Chart.{Chart, chart_of}
 use Rattle.ipl_meaning.specs.Layout.{Layout}
-use Rattle.ipl_meaning.specs.Stands.{Says}
+use Rattle.ipl_meaning.specs.Stands.{Says, Stands}
 use Rattle.ipl_meaning.specs.Rests.{now, StoryRests}
 use Rattle.unit_io.specs.Leads.{IsSteady}
 use Rattle.steps.specs.Steps.{Settled, EndsWith, Steps}
@@ -22,7 +22,7 @@ use Rattle.pending_writes.specs.Fits.{AreSessionsOf}
 use Rattle.store_trait.specs.declared.fault.Fault.{Fault}
 use Rattle.store_trait.specs.Keeping.{AllOf, WORK_DRAWS, LOOK_UP_DRAWS, Excuses, WorkLeaves, WorksFor, LooksUpFor}
 use Rattle.store_steps.specs.Advances.{memory_of, MemoryFits, MemoryFitsStory, ShowsNext, state_then, Advances, KeepsMapOf, TurnsMapOf}
-use Rattle.store_steps.specs.Keeps.{View, limits_of, ShowsState, KeepsStore, store_keeping, IsExcused, LeadsAreWork, KeepersLookUp}
+use Rattle.store_steps.specs.Keeps.{View, limits_of, ShowsState, KeepsStore, store_keeping, IsExcused, StepsAs, LeadsAreWork, KeepersLookUp}
 use Rattle.store_steps.proofs.AdvanceLemmas.{same_held}
 
 -- ---- small facts
@@ -148,22 +148,26 @@ pub at_limits : (limits : Limits) (store : View) (t : Told) (h : History) (state
 at_limits limits store t h state keeps =
     subst (λ (l : Limits). KeepsStore l store t h state) keeps.limits_are keeps
 
--- the model's next state
-abbrev stepped : View → Command → State → State
-stepped store c state = (step (limits_of store.units) state c).0
+-- the step's map is that of the next state, done or not
+step_map : (limits : Limits) (state : State) (c : Command) (next : State) (result : Result Reply Fault)
+    → StepsAs limits state c next result → next.map ≡ (step limits state c).0.map
+step_map limits state c next (Ok reply) is = sym (ap (λ (x : Stepped). x.0.map) is)
+step_map limits state c next (Err fault) is = sym is
 
 pub leads_are_work : LeadsAreWork
-leads_are_work c before after result old new suits units up leads replies drawn excused limits state
+leads_are_work c next before after result old new suits units up leads steps drawn excused limits state
     h keeps =
     subst (λ (l : Limits). WorksFor store_keeping l state c before h result after old new)
     (sym keeps.limits_are) (record {
-      leaves = work_leaves (TurnsMapOf (stepped before c) (before.units + 4) state)
-          (λ v k. StoryRests (before.units + 4) (stepped before c state).map k)
+      leaves = work_leaves (TurnsMapOf next (before.units + 4) state)
+          (λ v k. StoryRests (before.units + 4) (next state).map k)
           (λ k. StoryRests (before.units + 4) state.map k) before after h result old new _ way
-          way.each_moment;
-      ends = by_end result replies
-          (keeps_then (TurnsMapOf (stepped before c)) (stepped before c) before after result old new
-          state h here suits units
+          (subst (λ (m : Map). AtEachMoment (Leaves (says sector_in) (λ x.
+          Stands (before.units + 4) (chart_of x) state.map ⊎ Stands (before.units + 4) (chart_of x) m)
+          h) way.added) (step_map (limits_of before.units) state c (next state) result own_step)
+          way.each_moment);
+      ends = by_end result own_step
+          (keeps_then (TurnsMapOf next) next before after result old new state h here suits units
           leads);
       drawn = drawn h state own;
       excuse = IfErr-weaker result (IsExcused WORK_DRAWS before old new)
@@ -173,32 +177,34 @@ leads_are_work c before after result old new suits units up leads replies drawn 
     own : KeepsStore (limits_of before.units) before old h state
     own = at_limits limits before old h state keeps
 
+    own_step : StepsAs (limits_of before.units) state c (next state) result
+    own_step = steps h state own
+
     here : IsAt before old state h
     here = is_at before old h state up own
 
-    way : Steps (TurnsMapOf (stepped before c) (before.units + 4) state) before.memory.tables
-        after.memory.tables
-        (λ v k. StoryRests (before.units + 4) (stepped before c state).map k)
+    way : Steps (TurnsMapOf next (before.units + 4) state) before.memory.tables after.memory.tables
+        (λ v k. StoryRests (before.units + 4) (next state).map k)
         (λ k. StoryRests (before.units + 4) state.map k) h result old new
-    way = did (TurnsMapOf (stepped before c)) (stepped before c) before after result old new state h
-        here suits units leads
+    way = did (TurnsMapOf next) next before after result old new state h here suits units leads
 
     then : History
     then = adds_all way.added h
 
-    by_end : (r : Result Reply Fault)
-        → IfOk r (λ reply. (h : History) (state : State)
-        → KeepsStore (limits_of before.units) before old h state
-        → (step (limits_of before.units) state c).1 ≡ reply ∷ [])
+    by_end : (r : Result Reply Fault) → StepsAs (limits_of before.units) state c (next state) r
         → (Settled r old new → KeepsStore (limits_of before.units) after new then
-        (state_then r (λ state. (step (limits_of before.units) state c).0) state))
+        (state_then r next state))
         → MatchResult r
         (λ reply. KeepsStore (limits_of before.units) after new then
         (step (limits_of before.units) state c).0
         × ((step (limits_of before.units) state c).1 ≡ reply ∷ []))
         (λ fault. Unrisen old new → KeepsStore (limits_of before.units) after new then state)
-    by_end (Ok reply) answers kept = (kept tt, answers h state own)
-    by_end (Err fault) answers kept = kept
+    by_end (Ok reply) is kept = (
+      subst (λ (s : State). KeepsStore (limits_of before.units) after new then s)
+          (sym (ap (λ (x : Stepped). x.0) is)) (kept tt),
+      ap (λ (x : Stepped). x.1) is,
+    )
+    by_end (Err fault) is kept = kept
 
 pub keepers_look_up : KeepersLookUp
 keepers_look_up n before after result old new suits units up slots keeper finds drawn excused limits

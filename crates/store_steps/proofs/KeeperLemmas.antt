@@ -1,5 +1,5 @@
 -- Calls that keep each state.
-use Rattle.std.proofs.Common.{◌≡◌, ℕ, ◌-◌, ◌<◌, [], Result, Ok, Err, is_ok, Some, None, refl, sym, subst}
+use Rattle.std.proofs.Common.{◌≡◌, ℕ, ◌-◌, ◌<◌, [], Result, Ok, Err, is_ok, Some, None, refl, sym, subst, arith}
 use Rattle.chip_trait.specs.Told.{Told, Counts}
 use Rattle.ipl_base.specs.declared.fault.ChipFault.{ChipFault}
 use Rattle.ipl_rules.specs.State.{Map, State}
@@ -20,6 +20,7 @@ use Rattle.pending_writes.proofs.ChipFitLemmas.{log_sectors_fit}
 use Rattle.pending_writes.proofs.FitLemmas.{sessions_are_sound}
 use Rattle.pending_writes.proofs.FrameLemmas.{other_steps_keep_frames}
 use Rattle.pending_writes.proofs.RenewLemmas.{renewals_keep_pending}
+use Rattle.pending_writes.proofs.RoomLemmas.{room_kept}
 use Rattle.pending_writes.proofs.SameLemmas.{placed, frames_still}
 use Rattle.pending_writes.proofs.MemoryFitLemmas.{loads_fit, evictions_fit}
 use Rattle.store_steps.specs.Advances.{Memory, memory_of, MemoryFits, ShowsNext, KeepsTablesOn, state_then, KeepsMapOf, KeepsState}
@@ -164,6 +165,8 @@ turned_fits places c y it t after frames slots state fits on =
           state (is_active t) fits.pending (sessions_are_sound slots state fits.sessions).0
           fits.active on.alike on.kept
           (waits_for on.layout (number_of slots) after still on.mirrors.numbers.waits);
+      filled = room_kept (places - 4) c y it on.layout state state on.pages (λ n. omega arith)
+          fits.filled;
       active = still;
       framed = frames_still (places - 4) y on.layout t after frames on.active (record {
         within = fits.framed.within;

@@ -13,3 +13,4 @@ pub mod KeepLemmas
 pub mod FaultLemmas
 pub mod RefusalLemmas
 pub mod KeptLemmas
+pub mod PutLemmas

@@ -1,38 +1,66 @@
 -- What a store refuses, and what it knows of what it doesn't.
-use Rattle.std.proofs.Common.{◌≡◌, ℕ, ◌*◌, ◌<◌, ◌==◌, ◌||◌, Bool, true, false, cond, not, nat_le, nat_lt, [], ◌∷◌, List, length, Option, Some, None, is_some, Ok, inl, inr, refl, sym, ◌∙◌, ap, subst, arith}
-use Rattle.std.specs.Option.{option_map, option_map_or}
+use Rattle.std.proofs.Common.{◌≡◌, ℕ, ◌+◌, ◌*◌, ◌/◌, ◌<◌, ◌==◌, ◌||◌, Bool, true, false, cond, not, nat_le, nat_lt, [], ◌∷◌, List, length, Option, Some, None, is_some, Ok, inl, inr, refl, sym, ◌∙◌, ap, subst, arith, if◌then◌else◌}
+use Rattle.std.specs.Option.{option_map, option_map_or, option_or}
 use Rattle.std.specs.List.{list_any}
-use Rattle.std.proofs.lemmas.Bool.{not-false}
+use Rattle.std.proofs.lemmas.Bool.{cond-false, not-false}
 use Rattle.std.proofs.lemmas.Bool.Decides.{nat_tests}
 use Rattle.ipl_base.specs.declared.fault.Refusal.{Refusal}
-use Rattle.ipl_base.specs.declared.fault.Refusal.TheVariants.{BadSession, BadName, AlreadyOpen, NotOpen, BadUnit}
-use Rattle.ipl_rules.specs.Refusals.{Test, first_of, bad_session, bad_name, too_long, already_open, not_open, conflict, writes_full, shares_full, pending_full, is_twice, twice, least_twice}
+use Rattle.ipl_base.specs.declared.fault.Refusal.TheVariants.{BadSession, BadName, AlreadyOpen, NotOpen, PendingFull, BadUnit, PageFull}
+use Rattle.ipl_rules.specs.Refusals.{Test, first_of, bad_session, bad_name, too_long, already_open, not_open, conflict, writes_full, shares_full, page_full, is_twice, twice, least_twice, early_tests, refuses_begin, refuses_get, refuses_share, refuses_del, refuses_end, refuses_batch, refuses_list, refuses_merge}
 use Rattle.ipl_rules.proofs.BatchLemmas.{any_alike, batches_name_once}
+use Rattle.ipl_rules.proofs.RefusalLemmas.{first_of-append}
+use Rattle.ipl_rules.specs.Marks.{marks, overloads}
+use Rattle.ipl_base.specs.Sizes.{size_in_page}
+use Rattle.ipl_base.specs.declared.limits.TheConstants.{UNIT_NAMES, VALUE_LEN}
 use Rattle.ipl_rules.specs.State.{State, Limits, is_open, holder_for_share, holder_for_write}
 use Rattle.ipl_model.specs.declared.command.Command.TheVariants as command
 use Rattle.ipl_model.specs.declared.reply.Reply.TheVariants as reply
 use Rattle.ipl_model.specs.declared.command.Command.{Command}
-use Rattle.ipl_model.specs.Step.{Stepped, refusal_of, accepted, step}
-use Rattle.record_locks.specs.Held.{Held, Slots, held_at}
+use Rattle.ipl_model.specs.Step.{Stepped, accepted, step}
+use Rattle.record_locks.specs.Held.{Held, Slots, held_at, marks_in}
+use Rattle.record_locks.specs.Locks as locks
 use Rattle.record_locks.specs.Names.{TestsAlike}
 use Rattle.record_locks.specs.Standing.{state_of}
 use Rattle.record_locks.proofs.CallLemmas.{passed}
-use Rattle.record_locks.proofs.SameLemmas.{alike}
+use Rattle.record_locks.proofs.SameLemmas.{alike, marks_are}
 use Rattle.record_locks.proofs.StandingLemmas.{open_at}
 use Rattle.pending_writes.proofs.ElementLemmas.{contains_cons, contains_nil}
 use Rattle.store_steps.specs.Keeps.{limits_of}
-use Rattle.store_steps.specs.Refusals.{SessionsRefuse, RefusalsAnswer, AcceptedAreDone, RefusalsLead, AcceptedLead, IsOpenSession, AreOpenSessions, ReachesName, PassedBegins, PassedGets, PassedShares, PassedPuts, PassedDels, PassedEnds, PassedBatches, PassedLists, PassedMerges}
+use Rattle.store_steps.specs.Refusals.{early_refusal, finds_full, sessions_refuse, unrefused, RefusedInTwoParts, SessionsRefuse, RefusalsAnswer, AcceptedAreDone, RefusalsLead, AcceptedLead, IsOpenSession, AreOpenSessions, ReachesName, MayWriteName, PassedBegins, PassedGets, PassedShares, PassedPuts, PassedDels, PassedEnds, PassedBatches, PassedLists, PassedMerges}
 use Rattle.store_steps.proofs.LeadLemmas.{memory_leads, next_states_are_alike, answers_are_alike}
 
 -- ---- the sessions refuse as the state does
 
-pub sessions_refuse : SessionsRefuse
-sessions_refuse limits slots state c are = by_command c
+-- with nothing more
+none_more : (o : Option Refusal) → o ≡ option_or o None
+none_more None = refl
+none_more (Some r) = refl
+
+pub refused_in_two_parts : RefusedInTwoParts
+refused_in_two_parts limits state (command.Begin s) = none_more (refuses_begin limits state s)
+refused_in_two_parts limits state (command.Get s n) = none_more (refuses_get limits state s n)
+refused_in_two_parts limits state (command.Share s n) = none_more (refuses_share limits state s n)
+refused_in_two_parts limits state (command.Put s n bytes) =
+    first_of-append (early_tests limits state s n bytes) (page_full state n bytes ∷ [])
+refused_in_two_parts limits state (command.Del s n) = none_more (refuses_del limits state s n)
+refused_in_two_parts limits state (command.Commit s) = none_more (refuses_end limits state s)
+refused_in_two_parts limits state (command.Batch ss) = none_more (refuses_batch limits state ss)
+refused_in_two_parts limits state (command.Abort s) = none_more (refuses_end limits state s)
+refused_in_two_parts limits state (command.List a b) = none_more (refuses_list limits a b)
+refused_in_two_parts limits state (command.Merge u) = none_more (refuses_merge limits u)
+refused_in_two_parts limits state command.Restart = refl
+refused_in_two_parts limits state command.Syntax = refl
+
+pub slots_refuse : SessionsRefuse
+slots_refuse limits slots state c are = by_command c
   where
     tests : (s n : ℕ) → TestsAlike (state_of slots) state s n
     tests s n = alike (state_of slots) state are.names s n
 
-    by_command : (c : Command) → refusal_of limits (state_of slots) c ≡ refusal_of limits state c
+    marked : marks_in slots ≡ marks state
+    marked = λ i n. marks_are slots state are.marks n i
+
+    by_command : (c : Command) → sessions_refuse limits slots c ≡ early_refusal limits state c
     by_command (command.Begin s) =
         λ i. first_of (bad_session limits s ∷ ((tests s 0).opens i, AlreadyOpen) ∷ [])
     by_command (command.Get s n) = λ i. first_of (bad_session limits s ∷ bad_name limits n
@@ -42,10 +70,12 @@ sessions_refuse limits slots state c are = by_command c
         ∷ (tests s n).full_shares i ∷ [])
     by_command (command.Put s n bytes) = λ i. first_of (bad_session limits s ∷ bad_name limits n
         ∷ too_long bytes ∷ (not ((tests s n).opens i), NotOpen) ∷ conflict ((tests s n).writes i)
-        ∷ (tests s n).full_writes i ∷ (tests s n).full_unit i ∷ [])
+        ∷ (tests s n).full_writes i
+        ∷ (overloads (marked i) n (1 + size_in_page (Some bytes)), PendingFull (n / UNIT_NAMES)) ∷ [])
     by_command (command.Del s n) = λ i. first_of (bad_session limits s ∷ bad_name limits n
         ∷ (not ((tests s n).opens i), NotOpen) ∷ conflict ((tests s n).writes i)
-        ∷ (tests s n).full_writes i ∷ (tests s n).full_unit i ∷ [])
+        ∷ (tests s n).full_writes i
+        ∷ (overloads (marked i) n (1 + size_in_page None), PendingFull (n / UNIT_NAMES)) ∷ [])
     by_command (command.Commit s) =
         λ i. first_of (bad_session limits s ∷ (not ((tests s 0).opens i), NotOpen) ∷ [])
     by_command (command.Batch ss) =
@@ -68,21 +98,33 @@ sessions_refuse limits slots state c are = by_command c
 abbrev step_by : State → Command → Option Refusal → Stepped
 step_by state c o = option_map_or (λ r. (state, reply.Refused r ∷ [])) o (accepted state c)
 
-pub refused_steps : (limits : Limits) (state : State) (c : Command) (r : Refusal)
-    → refusal_of limits state c ≡ Some r → step limits state c ≡ (state, reply.Refused r ∷ [])
-refused_steps limits state c r is = ap (step_by state c) is
+-- by the refusal that comes early, or else since its page is full
+abbrev parts_by : State → Command → Option Refusal → Stepped
+parts_by state c o = step_by state c (option_or o (if finds_full state c then Some PageFull else None))
 
-pub accepted_steps : (limits : Limits) (state : State) (c : Command)
-    → refusal_of limits state c ≡ None → step limits state c ≡ accepted state c
-accepted_steps limits state c is = ap (step_by state c) is
+pub refused_steps : (limits : Limits) (state : State) (c : Command) (r : Refusal)
+    → early_refusal limits state c ≡ Some r → step limits state c ≡ (state, reply.Refused r ∷ [])
+refused_steps limits state c r is =
+    ap (step_by state c) (refused_in_two_parts limits state c) ∙ ap (parts_by state c) is
+
+pub unrefused_steps : (limits : Limits) (state : State) (c : Command)
+    → early_refusal limits state c ≡ None → step limits state c ≡ unrefused state c
+unrefused_steps limits state c is =
+    ap (step_by state c) (refused_in_two_parts limits state c) ∙ ap (parts_by state c) is
+    ∙ by_room (finds_full state c)
+  where
+    by_room : (full : Bool) → step_by state c (option_or None (if full then Some PageFull else None))
+        ≡ (if full then (state, reply.Refused PageFull ∷ []) else accepted state c)
+    by_room true = refl
+    by_room false = refl
 
 pub refusals_answer : RefusalsAnswer
 refusals_answer limits slots state c r are is =
-    refused_steps limits state c r (sym (sessions_refuse limits slots state c are) ∙ is)
+    refused_steps limits state c r (sym (slots_refuse limits slots state c are) ∙ is)
 
 pub accepted_are_done : AcceptedAreDone
 accepted_are_done limits slots state c are is =
-    accepted_steps limits state c (sym (sessions_refuse limits slots state c are) ∙ is)
+    unrefused_steps limits state c (sym (slots_refuse limits slots state c are) ∙ is)
 
 pub refusals_lead : RefusalsLead
 refusals_lead units c r before old is =
@@ -95,11 +137,13 @@ refusals_lead units c r before old is =
     (λ places y it state fits. refl) (λ p k counted. counted)))
 
 pub accepted_lead : AcceptedLead
-accepted_lead units c before after result old new is =
+accepted_lead units c before after result old new asks_none is =
     next_states_are_alike (λ state. (accepted state c).0)
     (λ state. (step (limits_of units) state c).0) before after result old new
     (λ places y it state fits. sym (ap (λ (x : Stepped). x.0)
-    (accepted_are_done (limits_of units) before.slots state c fits.sessions is)))
+    (accepted_are_done (limits_of units) before.slots state c fits.sessions is
+    ∙ cond-false (finds_full state c) (state, reply.Refused PageFull ∷ []) (accepted state c)
+    (asks_none state))))
 
 -- ---- what isn't refused
 
@@ -111,9 +155,9 @@ abbrev share_tests : Slots → ℕ → ℕ → List Test
 share_tests slots s n = conflict (holder_for_share (state_of slots) s n)
     ∷ shares_full (state_of slots) s n ∷ []
 
-abbrev write_tests : Slots → ℕ → ℕ → List Test
-write_tests slots s n = conflict (holder_for_write (state_of slots) s n)
-    ∷ writes_full (state_of slots) s n ∷ pending_full (state_of slots) s n ∷ []
+abbrev write_tests : Slots → ℕ → ℕ → ℕ → List Test
+write_tests slots s n size = conflict (holder_for_write (state_of slots) s n)
+    ∷ writes_full (state_of slots) s n ∷ locks.pending_full slots n size ∷ []
 
 -- a slot that isn't empty has a number
 numbered : (o : Option Held) → is_some o ≡ true
@@ -190,10 +234,10 @@ passed_name : (units : ℕ) (slots : Slots) (s n : ℕ) (rest : List Test)
 passed_name units slots s n rest none =
     let (low, named) = passed (bad_session (limits_of units) s)
     (bad_name (limits_of units) n ∷ open_tests slots s rest) none in
-    let (known, then) = passed (bad_name (limits_of units) n) (open_tests slots s rest) named in
+    let (known, later) = passed (bad_name (limits_of units) n) (open_tests slots s rest) named in
     let in_range : nat_le (960 * units) n ≡ false = known in (
-      record { session = is_open_session slots s rest low then; name = grind (arith, nat_tests) },
-      then,
+      record { session = is_open_session slots s rest low later; name = grind (arith, nat_tests) },
+      later,
     )
 
 pub passed_gets : PassedGets
@@ -202,27 +246,34 @@ passed_gets units slots s n none = (passed_name units slots s n [] none).0
 pub passed_shares : PassedShares
 passed_shares units slots s n none = passed_name units slots s n (share_tests slots s n) none
 
-pub passed_dels : PassedDels
-passed_dels units slots s n none =
-    let (reaches, may) = passed_name units slots s n (write_tests slots s n) none in
+-- a write of this size
+passed_writes : (units : ℕ) (slots : Slots) (s n size : ℕ)
+    → first_of (bad_session (limits_of units) s ∷ bad_name (limits_of units) n
+    ∷ open_tests slots s (write_tests slots s n size)) ≡ None
+    → MayWriteName units slots s n size
+passed_writes units slots s n size none =
+    let (reaches, may) = passed_name units slots s n (write_tests slots s n size) none in
     record { reaches = reaches; may = may }
+
+pub passed_dels : PassedDels
+passed_dels units slots s n none = passed_writes units slots s n 0 none
 
 -- the third test may be left out
 without_third : (a b d : Test) (rest : List Test) → first_of (a ∷ b ∷ d ∷ rest) ≡ None
     → (d.0 ≡ false) × (first_of (a ∷ b ∷ rest) ≡ None)
 without_third a b d rest none =
-    let (first, then) = passed a (b ∷ d ∷ rest) none in
-    let (second, last) = passed b (d ∷ rest) then in
+    let (first, later) = passed a (b ∷ d ∷ rest) none in
+    let (second, last) = passed b (d ∷ rest) later in
     let (third, more) = passed d rest last in
     (third, rw (first, second) more)
 
 pub passed_puts : PassedPuts
 passed_puts units slots s n bytes none =
     let (short, others) = without_third (bad_session (limits_of units) s)
-    (bad_name (limits_of units) n) (too_long bytes) (open_tests slots s (write_tests slots s n))
-    none in
-    let in_range : nat_lt 108 (length bytes) ≡ false = short in
-    (passed_dels units slots s n others, grind (arith, nat_tests))
+    (bad_name (limits_of units) n) (too_long bytes)
+    (open_tests slots s (write_tests slots s n (size_in_page (Some bytes)))) none in
+    let in_range : nat_lt VALUE_LEN (length bytes) ≡ false = short in
+    (passed_writes units slots s n (size_in_page (Some bytes)) others, grind (arith, nat_tests))
 
 -- neither of two tests holds
 neither : (a b : Bool) (r : Refusal) → first_of ((a || b, r) ∷ []) ≡ None

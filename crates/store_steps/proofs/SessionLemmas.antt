@@ -14,6 +14,7 @@ use Rattle.record_locks.proofs.StandingLemmas.{open_at}
 use Rattle.pending_writes.specs.Pending.{wrote, name_at}
 use Rattle.pending_writes.specs.Fits.{AreSessionsOf, with_active, without_active}
 use Rattle.pending_writes.specs.Frames.{with_frame_at}
+use Rattle.pending_writes.specs.StepLaws.{after_record}
 use Rattle.pending_writes.proofs.ElementLemmas.{contains_here, contains_nil, contains_there}
 use Rattle.pending_writes.proofs.EmptyLemmas.{empty_map}
 use Rattle.pending_writes.proofs.EndFitLemmas.{aborts_fit}
@@ -45,7 +46,7 @@ map_shared : (state : State) (s n : ℕ) → (rules.after_share state s n).map �
 map_shared state s n =
     map_if (is_new_share state s n) state _ (map_with state (get state.sessions s) _ (λ x. refl))
 
-map_written : (state : State) (s : ℕ) (w : Write)
+pub map_written : (state : State) (s : ℕ) (w : Write)
     → (rules.after_write state s w).map ≡ state.map
 map_written state s w = map_with state (get state.sessions s) _ (λ x. refl)
 
@@ -91,13 +92,13 @@ shares_lead s n before old within locked =
     (λ places c it state fits. map_shared state s n) (λ p k counted. counted)
 
 pub writes_lead : WritesLead
-writes_lead s u r f g before old within mine low valid there written locked =
+writes_lead s u r f g before old within mine low valid there written room locked =
     memory_leads (λ state. rules.after_write state s (name_at u r.page r.slot, r.change)) before
     (memory_of before.tables (with_frame_at before.frames u r.page (Some g))
-    (held.after_write before.slots s (name_at u r.page r.slot))) old
+    (after_record before.slots s u r)) old
     (λ places c it state same fits. writes_fit places c it before.tables before.frames before.slots
     state s u r f g fits within mine (subst (λ (n : ℕ). u < n - 4) same low) valid there written
-    locked)
+    room locked)
     (λ places c it state fits. map_written state s (name_at u r.page r.slot, r.change))
     (λ p k counted. counted)
 

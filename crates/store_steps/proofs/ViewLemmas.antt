@@ -1,5 +1,6 @@
 -- Frames of memory as the frames of pending writes.
 use Rattle.std.proofs.Common.{◌-◌, ◌≡◌, ℕ, refl, ap}
+use Rattle.ipl_base.specs.Places.{home_of}
 use Rattle.ipl_format.specs.Page.{Slots, value_in}
 use Rattle.record_locks.specs.Held.{number_of}
 use Rattle.page_ops.specs.Frames.{FrameView, values_in}
@@ -7,7 +8,8 @@ use Rattle.pending_writes.specs.Frames.{logs_of}
 use Rattle.pending_writes.specs.Fits.{is_active}
 use Rattle.pending_writes.proofs.FitLemmas.{sessions_are_sound}
 use Rattle.pending_writes.proofs.FrameLemmas.{frames_tell}
-use Rattle.store_steps.specs.Laws.{FramesTellState}
+use Rattle.pending_writes.proofs.FullLemmas.{marks_tell_full_pages}
+use Rattle.store_steps.specs.Laws.{FramesTellState, FramesTellFull}
 use Rattle.store_steps.specs.Views.{SettledFramesAreCommitted, DroppedFramesAreAborted, ChangedFramesAreWritten}
 
 pub settled_frames_are_committed : SettledFramesAreCommitted
@@ -42,3 +44,9 @@ frames_tell_state places c y it m memory state u page slot f on shows there less
     (is_active memory.tables) u page slot f.values f.pending fits.pending
     (sessions_are_sound memory.slots state fits.sessions).0 fits.active
     (on.shows.pages u page low few shows) low few less (fits.framed.each u page f there)
+
+pub frames_tell_full : FramesTellFull
+frames_tell_full places c y it m memory state n bytes f on shows there =
+    marks_tell_full_pages memory.slots state n bytes f.values on.fits.sessions (λ slot less.
+    (frames_tell_state places c y it m memory state (home_of n).unit (home_of n).page slot f on shows
+    there less).committed)

@@ -228,18 +228,21 @@ DrawsFew n before old after = (h : History) (state : State)
     → KeepsStore (limits_of before.units) before old h state
     → after.memory.tables.next ≤ before.memory.tables.next + n
 
--- What a call leaves that leads to the model's next state, and answers the model's reply where the
+-- the model's step is to this state, with this reply; where the call failed, to its map at least
+abbrev pub StepsAs : Limits → State → Command → State → Result Reply Fault → Type 0
+StepsAs limits state c next (Ok reply) = step limits state c ≡ (next, reply ∷ [])
+StepsAs limits state c next (Err fault) = (step limits state c).0.map ≡ next.map
+
+-- What a call leaves that leads to a next state, which is the model's, as is the answer, where the
 -- store keeps a state, is the work of the command, where few numbers were drawn and a fault has its
 -- excuse.
 abbrev pub LeadsAreWork : Type 0
-LeadsAreWork = (c : Command) (before after : View) (result : Result Reply Fault) (old new : Told)
+LeadsAreWork = (c : Command) (next : State → State) (before after : View)
+    (result : Result Reply Fault) (old new : Told)
     → before.units + RESERVED_PLACES ≡ old.places → after.units ≡ before.units
-    → before.down ≡ false
-    → LeadsTo (λ state. (step (limits_of before.units) state c).0) before.memory old result
-    after.memory new
-    → IfOk result (λ reply. (h : History) (state : State)
-    → KeepsStore (limits_of before.units) before old h state
-    → (step (limits_of before.units) state c).1 ≡ reply ∷ [])
+    → before.down ≡ false → LeadsTo next before.memory old result after.memory new
+    → ((h : History) (state : State) → KeepsStore (limits_of before.units) before old h state
+    → StepsAs (limits_of before.units) state c (next state) result)
     → DrawsFew WORK_DRAWS before old after
     → IfErr result (IsExcused WORK_DRAWS before old new)
     → Works store_keeping c before old result after new

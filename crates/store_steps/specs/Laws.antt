@@ -2,12 +2,14 @@
 use Rattle.std.specs.Prelude.{ℕ, ◌≡◌, ◌<◌, ◌-◌, [], List, Option, Some, None, Result, Ok, Err, All, is_ok}
 use Rattle.ipl_base.specs.declared.limits.TheConstants.{RESERVED_PLACES, PAGES, SLOTS}
 use Rattle.chip_trait.specs.Told.{History, Told, Counts}
+use Rattle.ipl_base.specs.Places.{home_of}
 use Rattle.ipl_base.specs.declared.fault.ChipFault.{ChipFault}
+use Rattle.ipl_rules.specs.Marks.{overfills}
 use Rattle.ipl_rules.specs.State.{Map, State, at_rest}
 use Rattle.ipl_rules.specs.Operations.{after_batch, after_restart}
 use Rattle.ipl_model.specs.declared.reply.Reply.{Reply}
 use Rattle.ipl_format.specs.Record.{Record}
-use Rattle.record_locks.specs.Held.{Slots, number_of, written_of, written_by, writer_numbers}
+use Rattle.record_locks.specs.Held.{Slots, marks_in, number_of, written_of, written_by, writer_numbers}
 use Rattle.record_locks.specs.Held.{after_batch as slots_after}
 use Rattle.ipl_meaning.specs.Chart.{Chart, chart_of}
 use Rattle.ipl_meaning.specs.Layout.{Entry, Layout, Laid}
@@ -26,6 +28,7 @@ use Rattle.steps.specs.Laws.{Preserves}
 use Rattle.pending_writes.specs.Pending.{IsWrittenOut}
 use Rattle.pending_writes.specs.Frames.{Frame, Frames, logs_of, with_frame_at, with_frame_log, IsFrameOf}
 use Rattle.pending_writes.specs.FrameLaws.{TellsSlot}
+use Rattle.pending_writes.specs.Room.{overfills_at}
 use Rattle.pending_writes.specs.Fits.{LocksHold, AreSessionsOf, is_active, Fits, FitsStory}
 use Rattle.store_trait.specs.declared.fault.Fault.{Fault}
 use Rattle.store_steps.specs.Advances.{FitsOn, TurnsTables, Memory, memory_of, MemoryFits, KeepsState, LeadsTo}
@@ -200,6 +203,15 @@ FramesTellState = (places : ℕ) (c y : Chart) (it : Layout) (m : Map) (memory :
     → Shows c it.committed u (it.units u) page (page_in m u page)
     → memory.frames u page ≡ Some f → slot < SLOTS
     → TellsSlot (number_of memory.slots) state u page slot f.values f.pending
+
+-- and whether a put there is refused since the page is full
+abbrev pub FramesTellFull : Type 0
+FramesTellFull = (places : ℕ) (c y : Chart) (it : Layout) (m : Map) (memory : Memory) (state : State)
+    (n : ℕ) (bytes : List ℕ) (f : Frame) → FitsOn places c it m y memory state
+    → Shows c it.committed (home_of n).unit (it.units (home_of n).unit) (home_of n).page
+    (page_in m (home_of n).unit (home_of n).page)
+    → memory.frames (home_of n).unit (home_of n).page ≡ Some f
+    → overfills state n bytes ≡ overfills_at (marks_in memory.slots) n bytes f.values
 
 -- ---- the end of a commit
 

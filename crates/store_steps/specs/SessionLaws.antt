@@ -5,13 +5,15 @@ use Rattle.chip_trait.specs.Told.{Told}
 use Rattle.ipl_base.specs.declared.fault.ChipFault.{ChipFault}
 use Rattle.ipl_rules.specs.Operations as rules
 use Rattle.ipl_format.specs.Record.{Record, IsRecord}
-use Rattle.record_locks.specs.Held.{Slots, number_of, numbers_in, written_of, written_by, after_begin, after_share, after_write, after_end}
+use Rattle.record_locks.specs.Held.{Slots, marks_in, number_of, numbers_in, written_of, written_by, after_begin, after_share, after_end}
 use Rattle.record_locks.specs.Held.{after_batch as slots_after}
 use Rattle.ipl_meaning.specs.Tables.{Tables}
 use Rattle.record_locks.specs.Locks.{refuses_end}
 use Rattle.pending_writes.specs.Pending.{name_at}
 use Rattle.pending_writes.specs.Frames.{Frame, Frames, with_frame_at, IsWrittenFrame, IsAbortedFrame}
 use Rattle.pending_writes.specs.Fits.{LocksHold}
+use Rattle.pending_writes.specs.Room.{PageHasRoomFor}
+use Rattle.pending_writes.specs.StepLaws.{after_record}
 use Rattle.store_steps.specs.Advances.{Memory, memory_of, LeadsTo}
 use Rattle.store_steps.specs.NamedFrames.{NamedFramesChange}
 use Rattle.store_steps.specs.Refusals.{AreOpenSessions}
@@ -36,17 +38,18 @@ SharesLead = (s n : ℕ) (before : Memory) (old : Told) → s < length before.sl
     → LeadsTo {T = Unit {0}} {E = ChipFault} (λ state. rules.after_share state s n) before old
     (Ok tt) (memory_of before.tables before.frames (after_share before.slots s n)) old
 
--- a session puts or deletes a name: the record stands behind those of its page
+-- a session puts or deletes a name: the record stands behind those of its page, which has room for it
 abbrev pub WritesLead : Type 0
 WritesLead = (s u : ℕ) (r : Record) (f g : Frame) (before : Memory) (old : Told)
     → s < length before.slots → number_of before.slots s ≡ Some r.tid
     → u < old.places - RESERVED_PLACES
     → IsRecord VERSION r → before.frames u r.page ≡ Some f → IsWrittenFrame r f g
-    → LocksHold (after_write before.slots s (name_at u r.page r.slot))
+    → PageHasRoomFor (marks_in before.slots) u r f.values
+    → LocksHold (after_record before.slots s u r)
     → LeadsTo {T = Unit {0}} {E = ChipFault}
     (λ state. rules.after_write state s (name_at u r.page r.slot, r.change)) before old (Ok tt)
     (memory_of before.tables (with_frame_at before.frames u r.page (Some g))
-    (after_write before.slots s (name_at u r.page r.slot))) old
+    (after_record before.slots s u r)) old
 
 -- a session is aborted: its changes are dropped from the frames of its names
 abbrev pub AbortsLead : Type 0

@@ -18,6 +18,7 @@ ghost use Rattle.store_steps.specs.Laws.{
   AnswersAreAlike,
   RestartsLead,
   FramesTellState,
+  FramesTellFull,
   NamesOutSuffice,
   NumbersLead,
   FailedNumbersLead,
@@ -46,9 +47,14 @@ ghost use Rattle.store_steps.specs.Keeps.{
   FaultsThatLeaveDown,
 };
 ghost use Rattle.store_steps.specs.Refusals.{
+  RefusedInTwoParts,
   SessionsRefuse,
   RefusalsAnswer,
   AcceptedAreDone,
+  PutsAnswer,
+  FullPutsAreWork,
+  WrittenPutsAreWork,
+  FailedPutsLeaveTheMap,
   RefusalsLead,
   AcceptedLead,
   PassedBegins,
@@ -105,14 +111,21 @@ pub fn session_laws()
     ensures may_end { OpenSessionsMayEnd }
 {}
 
-/// Sessions refuse what the state does that they are of. What is refused changes nothing, and what
-/// isn't is done.
+/// Sessions refuse what the state does that they are of, but for a put whose page is full, which
+/// the frame of its page tells. What is refused changes nothing, and what isn't is done.
 pub fn refusal_laws()
+    ensures parts { RefusedInTwoParts }
     ensures refuse { SessionsRefuse }
     ensures answer { RefusalsAnswer }
     ensures done { AcceptedAreDone }
     ensures refused_lead { RefusalsLead }
     ensures accepted_lead { AcceptedLead }
+
+    // puts that brought their page
+    ensures puts { PutsAnswer }
+    ensures full_puts { FullPutsAreWork }
+    ensures written_puts { WrittenPutsAreWork }
+    ensures failed_puts { FailedPutsLeaveTheMap }
 {}
 
 /// What is known of an operation that isn't refused: its session is open, or may be opened; its
@@ -135,6 +148,7 @@ pub fn frame_laws()
     ensures aborts { DroppedFramesAreAborted }
     ensures writes { ChangedFramesAreWritten }
     ensures tells { FramesTellState }
+    ensures full { FramesTellFull }
 
     // of the names that a session wrote
     ensures named_aborts { NamedAbortsSuffice }

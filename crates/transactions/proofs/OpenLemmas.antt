@@ -31,9 +31,9 @@ pub ends_numbered : (slots : Slots) (s : ℕ) → refuses_end slots s ≡ None �
 ends_numbered slots s none =
     open_numbered slots s (is_open_then (is_open (state_of slots) s) None none)
 
-pub writes_numbered : (slots : Slots) (s n : ℕ) → refuses_write slots s n ≡ None
+pub writes_numbered : (slots : Slots) (s n size : ℕ) → refuses_write slots s n size ≡ None
     → HasNumber slots s
-writes_numbered slots s n none =
+writes_numbered slots s n size none =
     open_numbered slots s (is_open_then (is_open (state_of slots) s) _ none)
 
 -- one that may be opened has none

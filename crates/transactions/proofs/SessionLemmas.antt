@@ -1,11 +1,11 @@
 -- What calls in memory make of the memory of a store.
-use Rattle.std.proofs.Common.{◌≡◌, ℕ, zero, suc, ◌<◌, ◌+◌, Bool, true, false, [], ◌∷◌, ◌++◌, List, map, length, Option, Some, None, refl, sym, ◌∙◌, ap, subst, arith, slice_set, if◌then◌else◌}
+use Rattle.std.proofs.Common.{◌≡◌, ℕ, zero, suc, ◌<◌, ◌+◌, Bool, true, false, [], ◌∷◌, ◌++◌, List, All, map, length, Option, Some, None, refl, sym, ◌∙◌, ap, subst, arith, slice_set, if◌then◌else◌}
 use Rattle.std.specs.Option.{option_map}
 use Rattle.std.proofs.lemmas.List.{length-set}
 use Rattle.ipl_base.specs.declared.name.Name.{Name}
 use Rattle.ipl_rules.specs.Operations as rules
-use Rattle.record_locks.specs.Held.{Held, Slots, held_at, number_of, numbers_in, written_of, is_among, with_written, with_shared, after_begin, after_share, after_write, after_end}
-use Rattle.record_locks.specs.Locks.{refuses_begin, OneWriter, FewPending}
+use Rattle.record_locks.specs.Held.{Held, Slots, held_at, number_of, numbers_in, written_of, is_among, raised, with_written, with_shared, after_begin, after_share, after_write, after_end}
+use Rattle.record_locks.specs.Locks.{refuses_begin, OneWriter, FewPending, IsSized}
 use Rattle.buffer_pool.specs.Holding.{KeepsPins}
 use Rattle.buffer_pool.specs.Pools.{PoolView}
 use Rattle.buffer_pool.proofs.HoldingLemmas.{nothing_keeps}
@@ -27,9 +27,10 @@ pub among_all : (slots : Slots) (s : ℕ) (o : Option Held) → LocksHold (slice
     → s < length slots
 among_all slots s o locks low = omega (arith, length-set slots s o, locks.all, low)
 
-pub locks_of : (slots : Slots) → length slots ≡ 32 → OneWriter slots → FewPending slots
-    → LocksHold slots
-locks_of slots all one few = record { all = all; one_writer = one; few = few }
+pub locks_of : (slots : Slots) → length slots ≡ 32 → OneWriter slots → All IsSized slots
+    → FewPending slots → LocksHold slots
+locks_of slots all one sized few =
+    record { all = all; one_writer = one; sized = sized; few = few }
 
 -- a session that shares a name, or writes one, has the number that it had
 numbers_stay : (change : Held → Held) → ((h : Held) → (change h).number ≡ h.number)
@@ -52,10 +53,11 @@ shared_number n h = by_tests (is_among n h.written) (is_among n h.shared)
     by_tests false true = refl
     by_tests false false = refl
 
-written_number : (n : ℕ) (h : Held) → (with_written n h).number ≡ h.number
-written_number n h = by_test (is_among n h.written)
+written_number : (n size : ℕ) (h : Held) → (with_written n size h).number ≡ h.number
+written_number n size h = by_test (is_among n h.written)
   where
-    by_test : (a : Bool) → (if a then h else record h { written = h.written ++ n ∷ [] }).number
+    by_test : (a : Bool) → (if a then record h { sizes = raised h.written h.sizes n size }
+        else record h { written = h.written ++ n ∷ []; sizes = h.sizes ++ size ∷ [] }).number
         ≡ h.number
     by_test true = refl
     by_test false = refl
@@ -64,9 +66,10 @@ shares_keep_numbers : (slots : Slots) (s n : ℕ)
     → numbers_in (after_share slots s n) ≡ numbers_in slots
 shares_keep_numbers slots s n = numbers_stay (with_shared n) (shared_number n) slots s
 
-pub writes_keep_numbers : (slots : Slots) (s n : ℕ)
-    → numbers_in (after_write slots s n) ≡ numbers_in slots
-writes_keep_numbers slots s n = numbers_stay (with_written n) (written_number n) slots s
+pub writes_keep_numbers : (slots : Slots) (s n size : ℕ)
+    → numbers_in (after_write slots s n size) ≡ numbers_in slots
+writes_keep_numbers slots s n size =
+    numbers_stay (with_written n size) (written_number n size) slots s
 
 -- ---- a session is opened
 

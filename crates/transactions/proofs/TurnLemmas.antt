@@ -6,12 +6,17 @@ use Rattle.ipl_rules.specs.State.{State}
 use Rattle.record_locks.specs.Held.{Slots, numbers_in}
 use Rattle.buffer_pool.proofs.HoldingLemmas.{both_keep}
 use Rattle.status_renewal.proofs.CauseLemmas.{accounts_then}
-use Rattle.steps.proofs.TablesLemmas.{tables_then}
+use Rattle.steps.proofs.TablesLemmas.{tables_none, tables_then}
+use Rattle.unit_io.proofs.ReadsAtLemmas.{at_none}
 use Rattle.store_steps.specs.Advances.{memory_of, LeadsTo}
+use Rattle.store_steps.proofs.KeeperLemmas.{Nowhere, keepers_are_joined, reads_keep_states}
 use Rattle.store_steps.proofs.LeadLemmas.{keepers_then_lead, failed_keepers_lead}
-use Rattle.page_frames.specs.Pages.{tables_in, frames_in, Upholds}
+use Rattle.page_frames.specs.declared.pages.Pages.{Pages}
+use Rattle.page_frames.specs.Complete.{Completes}
+use Rattle.page_frames.specs.Faulty.{TellsFaults}
+use Rattle.page_frames.specs.Pages.{tables_in, frames_in, PageCause, Upholds}
 use Rattle.transactions.specs.declared.transactions.Transactions.{Transactions}
-use Rattle.transactions.specs.Turns.{memory_in, IsInOrder, Turns}
+use Rattle.transactions.specs.Turns.{memory_in, CompletesFor, IsInOrder, TellsFaultsFor, Turns}
 
 -- with the same sessions memory is in order still
 upheld_order : (most : ℕ) (old new : Transactions) (result : Result (Unit {0}) ChipFault)
@@ -71,6 +76,42 @@ upheld_no_more next n old new e before after order did same = record {
   drawn = did.drawn;
   accounts = did.accounts;
 }
+
+-- one that was done, where the next one fails without doing anything
+pub upheld_refused : (next : State → State) (n : ℕ) (old new : Transactions) (e : ChipFault)
+    (before after : Told) → IsInOrder before.places old
+    → Upholds n old.pages before (Ok (tt {0})) new.pages after → new.sessions ≡ old.sessions
+    → PageCause e before after
+    → Turns {T = Unit {0}} next n old before (Err e) new after
+upheld_refused next n old new e before after order did same cause =
+    let t = tables_in new.pages in
+    let frames = frames_in new.pages in
+    upheld_no_more next n old new e before after order (record {
+      keeps = keepers_are_joined (tables_in old.pages) t t (frames_in old.pages) frames frames
+          (Err e) before after after did.accounts.counts did.keeps
+          (reads_keep_states Nowhere t frames (Err e) after after (at_none Nowhere after));
+      tidy = tables_then {U = Unit {0}} {F = ChipFault} (Unit {0}) ChipFault (tables_in old.pages) t
+          t tt (Err e) before after after did.accounts.counts did.tidy (tables_none {T = Unit {0}} {E = ChipFault} t (Err e) after);
+      ready = did.ready;
+      active = did.active;
+      pins = did.pins;
+      least = did.least;
+      drawn = did.drawn;
+      accounts = record { counts = did.accounts.counts; cause = cause };
+    }) same
+
+-- ---- faults over contents that the memory fits
+
+-- whatever sessions there are, so with those of the memory
+pub completes_for : (old : Transactions) (result : Result (Unit {0}) ChipFault) (told : Told)
+    → Completes old.pages result told → CompletesFor old result told
+completes_for old result told complete x there layout state fits says =
+    complete x there old.sessions layout state fits says
+
+pub tells_for : (old : Transactions) (result : Result (Unit {0}) ChipFault) (told : Told)
+    (new : Pages) → TellsFaults old.pages result told new → TellsFaultsFor old result told new
+tells_for old result told new faults x there layout state fits =
+    faults x there old.sessions layout state fits
 
 -- fewer numbers were drawn
 pub turns_weaker : (next : State → State) (n m : ℕ) (old new : Transactions)

@@ -1,17 +1,27 @@
 -- What sessions do to the memory of a store, and to its chip.
-use Rattle.std.specs.Prelude.{ℕ, ◌≡◌, ◌<◌, ◌≤◌, ◌+◌, List, All, Result, Ok}
+use Rattle.std.specs.Prelude.{ℕ, ◌≡◌, ◌<◌, ◌≤◌, ◌+◌, false, List, All, Some, IfSome, Result, Ok, IfErr}
 use Rattle.chip_trait.specs.Told.{Told}
 use Rattle.ipl_base.specs.declared.fault.ChipFault.{ChipFault}
+use Rattle.ipl_base.specs.Places.{home_of}
+use Rattle.ipl_format.specs.Record.{Change}
 use Rattle.ipl_rules.specs.State.{State}
-use Rattle.record_locks.specs.Held.{numbers_in, written_by}
+use Rattle.record_locks.specs.Held.{marks_in, numbers_in, written_by}
+use Rattle.ipl_meaning.specs.Chart.{chart_of}
+use Rattle.ipl_meaning.specs.Layout.{Layout}
+use Rattle.ipl_meaning.specs.Stands.{Says}
 use Rattle.ipl_meaning.specs.Tables.{IsCountedClean}
 use Rattle.unit_io.specs.Accounts.{Accounts}
+use Rattle.unit_io.specs.Reads.{OfContents}
 use Rattle.steps.specs.Steps.{Tidies}
 use Rattle.txn_status.specs.Status.{room_of}
+use Rattle.merge_rules.specs.Faults.{FailsByChipAlone}
 use Rattle.buffer_pool.specs.Holding.{KeepsPins}
-use Rattle.store_steps.specs.Advances.{Memory, memory_of, LeadsTo}
+use Rattle.pending_writes.specs.Frames.{Frame}
+use Rattle.pending_writes.specs.Room.{overfills_at}
+use Rattle.store_steps.specs.Advances.{Memory, memory_of, MemoryFits, LeadsTo}
 use Rattle.store_steps.specs.Numbers.{IsOut}
 use Rattle.page_frames.specs.declared.pages.Pages.{Pages}
+use Rattle.page_frames.specs.Faulty.{FailsByPage}
 use Rattle.page_frames.specs.Pages.{tables_in, frames_in, IsReady, PageCause}
 use Rattle.transactions.specs.declared.transactions.Transactions.{Transactions}
 
@@ -28,6 +38,28 @@ pub record IsInOrder (places : ℕ) (it : Transactions) : Type 0 where
 pub record MayAddNumbers (it : Transactions) (ss : List ℕ) : Type 0 where
   pub out : All (IsOut (frames_in it.pages)) (written_by it.sessions ss)
   pub room : 0 < room_of it.pages.parts.status
+
+-- A put of this change has room: the page of the name is in a frame, and isn't too full for it by what
+-- open sessions wrote. A delete always has.
+abbrev pub MayTake : Transactions → ℕ → Change → Type 0
+MayTake it n change = IfSome change (λ bytes. (f : Frame)
+    × (frames_in it.pages (home_of n).unit (home_of n).page ≡ Some f)
+    × (overfills_at (marks_in it.sessions) n bytes f.values ≡ false))
+
+-- Where the chip tells what it holds, and that with the memory stands for a state, the call fails only
+-- where a call of the chip failed. It is `Completes` with the memory's own sessions: a put has room by
+-- what these wrote.
+abbrev pub CompletesFor : {T : Type 0} → Transactions → Result T ChipFault → Told → Type 0
+CompletesFor it result told = OfContents told (λ x. (layout : Layout) (state : State)
+    → MemoryFits told.places (chart_of x) layout (memory_in it) state
+    → Says told.places (chart_of x) layout state.map → FailsByChipAlone result)
+
+-- Where nothing is asked of what the pages say, it fails by a page that didn't read well or had no room
+-- for its values, or where a call of the chip failed.
+abbrev pub TellsFaultsFor : {T : Type 0} → Transactions → Result T ChipFault → Told → Pages → Type 0
+TellsFaultsFor it result told new = OfContents told (λ x. (layout : Layout) (state : State)
+    → MemoryFits told.places (chart_of x) layout (memory_in it) state
+    → IfErr result (FailsByPage told.places x layout (tables_in new)))
 
 -- A call that leads from each state that memory and chip stand for to the next one. Whatever the chip
 -- tells: its events are lawful by the tables, the memory is in order, the same pages are held, at most

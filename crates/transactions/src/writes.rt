@@ -1,17 +1,18 @@
 //! A name is changed.
-ghost use Rattle.std.specs.Prelude.{◌≡◌, ◌<◌, ◌+◌, ◌-◌, ◌*◌, ◌^◌, ◌≤◌, length, None, OnOk};
+ghost use Rattle.std.specs.Prelude.{◌≡◌, ◌<◌, ◌+◌, ◌-◌, ◌*◌, ◌^◌, ◌≤◌, length, slice_index, None, OnOk, OnErr};
+ghost use Rattle.ipl_base.specs.declared.fault.ChipFault.TheVariants.{Malformed};
 ghost use Rattle.ipl_base.specs.declared.limits.TheConstants.{VALUE_LEN, VERSION, SESSIONS};
 ghost use Rattle.ipl_base.specs.Places.{home_of};
+ghost use Rattle.ipl_base.specs.Sizes.{size_in_page};
 ghost use Rattle.ipl_format.specs.Record.{IsRecord, value_of};
 ghost use Rattle.log_records.specs.View.{change_of, record_of};
 ghost use Rattle.ipl_rules.specs.Operations.{after_write};
 ghost use Rattle.record_locks.specs.Locks.{refuses_write};
 ghost use Rattle.buffer_pool.specs.Uses.{IsUsedLast};
-ghost use Rattle.page_frames.specs.Complete.{Completes};
-ghost use Rattle.page_frames.specs.Faulty.{FailsAsPage, TellsFaults};
+ghost use Rattle.page_frames.specs.Faulty.{FailsAsPage};
 ghost use Rattle.page_frames.specs.Pages.{tables_in, frames_in, HasFreeFrame, IsFramed, KeepsFramedFor};
-ghost use Rattle.transactions.specs.Costs.{AsksToWrite};
-ghost use Rattle.transactions.specs.Turns.{IsInOrder, Turns};
+ghost use Rattle.transactions.specs.Costs.{HasRoomFor, AsksToWrite};
+ghost use Rattle.transactions.specs.Turns.{CompletesFor, IsInOrder, MayTake, TellsFaultsFor, Turns};
 
 use crate::Transactions;
 use chip_trait::Chip;
@@ -20,9 +21,13 @@ use ipl_base::{ChipFault, Name, home};
 use log_records::{Change, Record};
 
 impl Transactions {
-    /// Puts or deletes a name of the chip for a session (0 to 31), which no lock keeps it from. The
-    /// page of the name is in a frame then, with the change pending and its record in memory, and is
-    /// the page used last.
+    /// Puts or deletes a name of the chip for a session (0 to 31), which no lock keeps it from; a
+    /// put only where the page of the name is in a frame, and has room by what open sessions wrote.
+    /// The page is in a frame then, with the change pending and its record in memory, and is the
+    /// page used last.
+    ///
+    /// The header of its unit is said to be malformed where the page has no room for what is pending
+    /// there, which is then more than the sessions wrote.
     pub fn write<C: Chip>(
         &mut self,
         chip: &mut C,
@@ -33,12 +38,14 @@ impl Transactions {
         requires order { IsInOrder (C.told chip.old).places self.old }
         requires session { s < SESSIONS }
         requires name { name.0 < 960 * ((C.told chip.old).places - 4) }
-        requires unrefused { refuses_write self.old.sessions s name.0 ≡ None }
+        requires unrefused { refuses_write self.old.sessions s name.0
+            (size_in_page (change_of change)) ≡ None }
+        requires room { MayTake self.old name.0 (change_of change) }
         requires left { self.old.pages.parts.counter + 14 < 2 ^ 64 }
         ensures turns { Turns (λ state. after_write state s (name.0, change_of change)) 14
             self.old (C.told chip.old) result self.new (C.told chip.new) }
-        ensures complete { Completes self.old.pages result (C.told chip.old) }
-        ensures faults { TellsFaults self.old.pages result (C.told chip.old) self.new.pages }
+        ensures complete { CompletesFor self.old result (C.told chip.old) }
+        ensures faults { TellsFaultsFor self.old result (C.told chip.old) self.new.pages }
         ensures exact { frames_in self.old.pages (home_of name.0).unit (home_of name.0).page ≡ None
             → HasFreeFrame self.old.pages → FailsAsPage (tables_in self.old.pages)
             (home_of name.0).unit (home_of name.0).page result (C.told chip.old) }
@@ -50,6 +57,11 @@ impl Transactions {
             self.old.pages self.new.pages }
         ensures asks { AsksToWrite name.0 (change_of change) self.old.pages
             (C.told chip.old) (C.told chip.new) }
+        // Failed, it changed no session.
+        ensures sessions { OnErr result (self.new.sessions ≡ self.old.sessions) }
+        // Where the page is in a frame and has room for the record, no number is drawn.
+        ensures idle { HasRoomFor self.old.pages name.0 (change_of change)
+            → self.new.pages.parts.counter ≡ self.old.pages.parts.counter }
     {
         let home = home(name);
         let Some(tid) = self.sessions.number(s) else {
@@ -63,10 +75,21 @@ impl Transactions {
         };
         has_spelling(&record);
         self.pages.prepare(chip, home.unit, &record)?;
-        put_record(&mut self.pages.pool, home.unit, &record);
-        let _ = self.sessions.write(s, name);
+        if !put_record(&mut self.pages.pool, home.unit, &record) {
+            return Err(self.no_room(home.unit));
+        }
+        let _ = self.sessions.write(s, name, size_in_page(&record.change));
         self.sessions.facts();
         Ok(())
+    }
+
+    // The fault of a page of a unit that has no room for what is pending there.
+    fn no_room(&self, unit: u32) -> ChipFault
+        requires { unit < length self.now.pages.parts.directory.current }
+        ensures { result ≡ Malformed (slice_index self.now.pages.parts.directory.current unit) 0 }
+    {
+        let place = self.pages.parts.directory.current(unit);
+        ChipFault::Malformed { place, sector: 0 }
     }
 }
 
@@ -80,7 +103,17 @@ fn has_spelling(rec: &Record)
     let _ = value_len(&rec.change);
 }
 
-// How many bytes the value of a change has, at most 108.
+// What the value of a change takes in the text of its page, at most 467 bytes.
+fn size_in_page(change: &Change) -> u32
+    ensures { result ≡ size_in_page (change_of change.now) }
+{
+    match change {
+        Change::Put(value) => 3 + value.bytes().len() as u32,
+        Change::Delete => 0,
+    }
+}
+
+// How many bytes the value of a change has, at most 464.
 fn value_len(change: &Change) -> usize
     ensures len { result ≡ length (value_of (change_of change.now)) }
     ensures short { result ≤ VALUE_LEN }

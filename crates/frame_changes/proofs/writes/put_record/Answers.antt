@@ -1,14 +1,33 @@
+use Rattle.std.proofs.Common.{true, false}
 use Rattle.log_records.specs.View.{record_of}
 use Rattle.buffer_pool.specs.Lending.{with_frame}
 use Rattle.pending_writes.specs.Frames.{IsWrittenFrame}
-use Rattle.frame_changes.proofs.PutLemmas.{not_absent, both_change, both_pins, both_uses, stored_then, written}
+use Rattle.frame_changes.proofs.PutLemmas.{not_absent, room_told, both_change, both_pins, both_uses, stored_then, written}
 use Rattle.frame_changes.proofs.writes.put_record.Goals as goal
 
 pub unreachable-requires : goal.unreachable-requires
 unreachable-requires c =
     let may = c.requires.fits in
     not_absent c.args.pool.now c.args.unit c.args.rec.now.page may.frame c.facts.ensures.once
-    may.there c.in-None.ensures.none
+    may.there c.in_default.ensures.none
+
+-- ---- with no room
+
+pub returns-then-not-note_change-clause-room : goal.returns-then-not-note_change-clause-room
+returns-then-not-note_change-clause-room c = λ f there.
+    let has = c.in-Some.ensures.found in
+    room_told c.args.pool.now c.args.unit c.args.rec.now.page c.in-Some.key c.facts.ensures.once has
+    (record_of c.args.rec.now) c.frame_under.result.now false f
+    (c.frame_under.ensures.value has.buffer has.stored) c.if-not-note_change.ensures.exact there
+
+-- ---- with room
+
+pub returns-clause-room : goal.returns-clause-room
+returns-clause-room c = λ f there.
+    let has = c.in-Some.ensures.found in
+    room_told c.args.pool.now c.args.unit c.args.rec.now.page c.in-Some.key c.facts.ensures.once has
+    (record_of c.args.rec.now) c.frame_under.result.now true f
+    (c.frame_under.ensures.value has.buffer has.stored) c.if-not-note_change.ensures.exact there
 
 pub returns-clause-put : goal.returns-clause-put
 returns-clause-put c =
@@ -17,8 +36,8 @@ returns-clause-put c =
     let page = c.args.rec.now.page in
     let once = c.facts.ensures.once in
     let has = c.in-Some.ensures.found in
-    let f = c.set_pending.new.self in
-    let set = c.set_pending.ensures in
+    let f = c.note_change.new.frame in
+    let set = c.if-not-note_change.ensures in
     let may = c.requires.fits in
     let log = c.log_under.ensures.value (with_frame f has.buffer)
     (stored_then p c.args.unit page key once has f) in
@@ -32,9 +51,9 @@ returns-clause-put c =
 pub returns-clause-pins : goal.returns-clause-pins
 returns-clause-pins c =
     both_pins c.args.pool.now c.args.unit c.args.rec.now.page c.in-Some.key c.facts.ensures.once
-    c.in-Some.ensures.found c.set_pending.new.self c.push.new.self
+    c.in-Some.ensures.found c.note_change.new.frame c.push.new.self
 
 pub returns-clause-uses : goal.returns-clause-uses
 returns-clause-uses c =
     both_uses c.args.pool.now c.args.unit c.args.rec.now.page c.in-Some.key c.facts.ensures.once
-    c.in-Some.ensures.found c.set_pending.new.self c.push.new.self
+    c.in-Some.ensures.found c.note_change.new.frame c.push.new.self

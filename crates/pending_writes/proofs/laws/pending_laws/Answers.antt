@@ -7,7 +7,7 @@ use Rattle.pending_writes.proofs.SayLemmas.{commits_say_writes}
 use Rattle.pending_writes.proofs.LogSectorLemmas.{log_sectors_keep_pending}
 use Rattle.pending_writes.proofs.MergeLemmas.{merges_keep_pending, same_logs_keep_pending}
 use Rattle.pending_writes.proofs.RenewLemmas.{renewals_keep_pending}
-use Rattle.pending_writes.proofs.FewLemmas.{few_are_pending}
+use Rattle.pending_writes.proofs.WeightLemmas.{records_weigh_no_more}
 use Rattle.pending_writes.proofs.BatchLemmas.{batches_keep_pending, batches_say_writes}
 use Rattle.pending_writes.proofs.laws.pending_laws.Goals as goal
 
@@ -29,5 +29,5 @@ returns c = record {
   in_memory = records_stay_pending;
   written = records_are_writes;
   changed = changed_pages_suffice;
-  few = few_are_pending;
+  weighed = records_weigh_no_more;
 }

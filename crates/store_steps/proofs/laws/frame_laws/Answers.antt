@@ -1,4 +1,4 @@
-use Rattle.store_steps.proofs.ViewLemmas.{frames_tell_state, settled_frames_are_committed, dropped_frames_are_aborted, changed_frames_are_written}
+use Rattle.store_steps.proofs.ViewLemmas.{frames_tell_state, frames_tell_full, settled_frames_are_committed, dropped_frames_are_aborted, changed_frames_are_written}
 use Rattle.store_steps.proofs.NamedLemmas.{named_aborts_suffice}
 use Rattle.store_steps.proofs.laws.frame_laws.Goals as goal
 
@@ -8,5 +8,6 @@ returns c = record {
   aborts = dropped_frames_are_aborted;
   writes = changed_frames_are_written;
   tells = frames_tell_state;
+  full = frames_tell_full;
   named_aborts = named_aborts_suffice;
 }

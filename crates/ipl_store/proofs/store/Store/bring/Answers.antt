@@ -4,8 +4,10 @@ use Rattle.ipl_base.specs.declared.spot.Home.{Home}
 use Rattle.buffer_pool.specs.Uses.{IsUsedLast}
 use Rattle.page_frames.specs.Pages.{IsFramed, KeepsFramedFor}
 use Rattle.ipl_store.specs.declared.store.Store.{Store}
+use Rattle.ipl_store.specs.Puts.{HasBrought}
 use Rattle.ipl_store.specs.Shown.{FramesName}
 use Rattle.ipl_store.proofs.CallLemmas.{pages_move, moved_calls, kept_holds, kept_for, done_ends, ended_used}
+use Rattle.ipl_store.proofs.BroughtLemmas.{has_brought}
 use Rattle.ipl_store.proofs.ShownLemmas.{names_told}
 use Rattle.ipl_store.proofs.store.Store.bring.Goals as goal
 
@@ -50,10 +52,22 @@ returns-clause-sessions g c = ap (λ (s : Store). s.transactions.sessions) c.end
 
 pub returns-clause-asks : goal.returns-clause-asks
 returns-clause-asks g c =
-    let pages = c.args.self.now.transactions.pages in record {
-      idle = λ framed. (c.bring-done.ensures.idle (subst (λ (h : Home). IsFramed pages h.unit
-          h.page)
+    let pages = c.args.self.now.transactions.pages in
+    let asks = c.bring-done.ensures.asks in record {
+      idle = λ framed. (asks.idle (subst (λ (h : Home). IsFramed pages h.unit h.page)
           (sym c.home-home.ensures.home) framed)).1;
-      free = c.bring-done.ensures.free;
-      costs = c.bring-done.ensures.costs;
+      free = asks.free;
+      costs = asks.costs;
     }
+
+pub returns-clause-brought : goal.returns-clause-brought
+returns-clause-brought g c =
+    let store = c.args.self.now in
+    let old = g.C.Chip.told c.args.chip.now in
+    let after = g.C.Chip.told c.bring-done.new.chip in
+    subst (λ (h : Home). OnOk c.end.result
+    (HasBrought h.unit h.page store old c.end.new.self after)) c.home-home.ensures.home
+    (has_brought c.home-home.result.unit c.home-home.result.page store c.bring-done.new.self old
+    after c.bring-done.result c.end.result c.end.new.self c.facts.ensures.once
+    c.bring-done.ensures.upholds c.bring-done.ensures.there c.bring-done.ensures.fresh
+    c.bring-done.ensures.asks c.end.ensures.rest c.end.ensures.ends)

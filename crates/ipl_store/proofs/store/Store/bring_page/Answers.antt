@@ -45,7 +45,7 @@ returns-clause-used g c =
 
 pub returns-clause-asks : goal.returns-clause-asks
 returns-clause-asks g c = record {
-  idle = λ framed. (c.bring-done.ensures.idle framed).1;
-  free = c.bring-done.ensures.free;
-  costs = c.bring-done.ensures.costs;
+  idle = λ framed. (c.bring-done.ensures.asks.idle framed).1;
+  free = c.bring-done.ensures.asks.free;
+  costs = c.bring-done.ensures.asks.costs;
 }

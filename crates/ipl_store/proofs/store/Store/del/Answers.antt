@@ -2,12 +2,11 @@ use Rattle.std.proofs.Common.{◌≡◌, ◌∙◌, None, sym, ap, Some, Err, re
 use Rattle.std.proofs.lemmas.Result.{err_from_is_err_and}
 use Rattle.ipl_base.specs.Places.{home_of}
 use Rattle.ipl_rules.specs.Operations.{after_write}
-use Rattle.ipl_rules.specs.Refusals.{refuses_del}
-use Rattle.record_locks.specs.Standing.{state_of}
 use Rattle.store_steps.specs.Keeps.{limits_of}
+use Rattle.store_steps.specs.Refusals.{sessions_refuse_del}
 use Rattle.page_frames.proofs.UseLemmas.{none_leaves}
 use Rattle.ipl_store.specs.Calls.{early_fault, entry_fault}
-use Rattle.ipl_store.proofs.CallLemmas.{calls_refused, let_in, turns_move, moved_calls, kept_holds, kept_for, ended_framed, ended_used}
+use Rattle.ipl_store.proofs.CallLemmas.{calls_refused, let_in, writes_move, moved_calls, kept_holds, kept_for, ended_framed, ended_used}
 use Rattle.ipl_store.proofs.ShownLemmas.{write_asks_nothing}
 use Rattle.ipl_store.proofs.store.Store.del.Goals as goal
 
@@ -16,7 +15,7 @@ returns-clause-calls g c =
     let store = c.args.self.now in
     let old = g.C.Chip.told c.args.chip.now in
     let after = g.C.Chip.told c.write-done.new.chip in
-    let refusal = refuses_del (limits_of store.units) (state_of store.transactions.sessions)
+    let refusal = sessions_refuse_del (limits_of store.units) store.transactions.sessions
     c.args.s c.args.n in
     let early = early_fault (entry_fault store) refusal in
     let none : early ≡ None =
@@ -25,7 +24,7 @@ returns-clause-calls g c =
     moved_calls (λ state. after_write state c.args.s (c.args.n, None)) 14 store
     c.write-done.new.self store.kept old after c.write-done.result c.end.result c.end.new.self up
     c.requires.sound
-    (turns_move (λ state. after_write state c.args.s (c.args.n, None)) 14 store.transactions
+    (writes_move (λ state. after_write state c.args.s (c.args.n, None)) 14 store.transactions
     c.write-done.new.self old after c.write-done.result c.write-done.ensures.turns
     c.write-done.ensures.complete
     c.write-done.ensures.faults)
@@ -57,7 +56,7 @@ returns-clause-used g c = ended_used (home_of c.args.n).unit (home_of c.args.n).
 pub returns-in_err-admit-clause-calls : goal.returns-in_err-admit-clause-calls
 returns-in_err-admit-clause-calls g c =
     let store = c.args.self.now in
-    let refusal = refuses_del (limits_of store.units) (state_of store.transactions.sessions)
+    let refusal = sessions_refuse_del (limits_of store.units) store.transactions.sessions
     c.args.s c.args.n in
     let early = early_fault (entry_fault store) refusal in
     let fault = c.in_err-admit.field-0.0 in

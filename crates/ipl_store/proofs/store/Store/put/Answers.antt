@@ -1,86 +1,193 @@
-use Rattle.std.proofs.Common.{◌≡◌, ◌∙◌, List, ℕ, Some, None, sym, ap, subst, Err, refl}
+use Rattle.std.proofs.Common.{◌≡◌, ◌∙◌, List, ℕ, Some, None, Ok, false, sym, ap, subst, Err}
 use Rattle.std.proofs.lemmas.Result.{err_from_is_err_and}
-use Rattle.ipl_base.specs.Places.{home_of}
-use Rattle.ipl_rules.specs.Operations.{after_write}
-use Rattle.ipl_rules.specs.Refusals.{refuses_put}
-use Rattle.record_locks.specs.Standing.{state_of}
+use Rattle.record_locks.specs.Held.{Slots, marks_in}
+use Rattle.pending_writes.specs.Room.{overfills_at}
 use Rattle.store_steps.specs.Keeps.{limits_of}
-use Rattle.page_frames.proofs.UseLemmas.{none_leaves}
-use Rattle.transactions.specs.Costs.{AsksToWrite}
-use Rattle.transactions.specs.Turns.{Turns}
+use Rattle.store_steps.specs.Refusals.{sessions_refuse_put}
 use Rattle.ipl_store.specs.Calls.{early_fault, entry_fault}
-use Rattle.ipl_store.proofs.CallLemmas.{calls_refused, let_in, turns_move, moved_calls, kept_holds, kept_for, ended_framed, ended_used}
-use Rattle.ipl_store.proofs.ShownLemmas.{write_asks_nothing}
+use Rattle.ipl_store.specs.Puts.{found_room, put_fault}
+use Rattle.ipl_store.proofs.CallLemmas.{let_in}
+use Rattle.ipl_store.proofs.PutLemmas.{Puts, HasWritten, refused_put, unbrought_put, full_put, written_put}
+use Rattle.ipl_store.proofs.store.Store.put.Given.{Over}
 use Rattle.ipl_store.proofs.store.Store.put.Goals as goal
 
-pub returns-clause-calls : goal.returns-clause-calls
-returns-clause-calls g c =
+-- ---- it is refused early
+
+refused : (g : Over) (c : goal.After-from_residual g)
+    → Puts c.args.s c.args.n c.args.value.now c.args.self.now (g.C.Chip.told c.args.chip.now)
+    (found_room c.from_residual.result) c.args.self.now (g.C.Chip.told c.args.chip.now)
+refused g c =
     let store = c.args.self.now in
-    let old = g.C.Chip.told c.args.chip.now in
-    let after = g.C.Chip.told c.write-done.new.chip in
-    let refusal = refuses_put (limits_of store.units) (state_of store.transactions.sessions)
-    c.args.s c.args.n c.args.value.now in
-    let early = early_fault (entry_fault store) refusal in
-    let none : early ≡ None =
-    ap (early_fault (entry_fault store)) (sym c.refuses_put.ensures) ∙ sym c.in_ok-admit.ensures in
-    let (up, few, free) = let_in store refusal none in
-    let turns = subst (λ (bytes : List ℕ).
-    Turns (λ state. after_write state c.args.s (c.args.n, Some bytes)) 14 store.transactions old
-    c.write-done.result c.write-done.new.self after) c.in-Some.ensures.some.0
-    c.write-done.ensures.turns in
-    moved_calls (λ state. after_write state c.args.s (c.args.n, Some c.args.value.now)) 14 store
-    c.write-done.new.self store.kept old after c.write-done.result c.end.result c.end.new.self up
-    c.requires.sound
-    (turns_move (λ state. after_write state c.args.s (c.args.n, Some c.args.value.now)) 14
-    store.transactions
-    c.write-done.new.self old after c.write-done.result turns c.write-done.ensures.complete
-    c.write-done.ensures.faults)
-    c.end.ensures.rest c.end.ensures.ends early none
-
-pub returns-clause-holds : goal.returns-clause-holds
-returns-clause-holds g c = kept_holds c.args.self.now c.end.new.self c.write-done.new.self
-    c.args.self.now.kept c.end.ensures.rest c.write-done.ensures.turns.pins
-
-pub returns-clause-framed : goal.returns-clause-framed
-returns-clause-framed g c = ended_framed (home_of c.args.n).unit (home_of c.args.n).page
-    c.args.self.now c.end.new.self c.write-done.new.self c.args.self.now.kept c.write-done.result
-    c.end.result c.end.ensures.rest c.end.ensures.ends c.write-done.ensures.framed
-
-pub returns-in_err-admit-clause-stays : goal.returns-in_err-admit-clause-stays
-returns-in_err-admit-clause-stays g c =
-    none_leaves (home_of c.args.n).unit (home_of c.args.n).page c.args.self.now.transactions.pages
-
-pub returns-clause-stays : goal.returns-clause-stays
-returns-clause-stays g c = kept_for (home_of c.args.n).unit (home_of c.args.n).page
-    c.args.self.now c.end.new.self c.write-done.new.self c.args.self.now.kept c.end.ensures.rest
-    c.write-done.ensures.stays
-
-pub returns-clause-used : goal.returns-clause-used
-returns-clause-used g c = ended_used (home_of c.args.n).unit (home_of c.args.n).page
-    c.args.self.now c.end.new.self c.write-done.new.self c.args.self.now.kept c.write-done.result
-    c.end.result c.end.ensures.rest c.end.ensures.ends c.write-done.ensures.used
-
-pub returns-in_err-admit-clause-calls : goal.returns-in_err-admit-clause-calls
-returns-in_err-admit-clause-calls g c =
-    let store = c.args.self.now in
-    let refusal = refuses_put (limits_of store.units) (state_of store.transactions.sessions)
-    c.args.s c.args.n c.args.value.now in
-    let early = early_fault (entry_fault store) refusal in
     let fault = c.in_err-admit.field-0.0 in
-    let is : early ≡ Some fault =
+    let is : put_fault store c.args.s c.args.n c.args.value.now ≡ Some fault =
     ap (early_fault (entry_fault store)) (sym c.refuses_put.ensures) ∙ sym c.in_err-admit.ensures in
     let e = err_from_is_err_and c.from_residual.result c.from_residual.ensures.1 in
-    rw (e.1 ∙ ap Err e.2) (calls_refused early (λ state. after_write state c.args.s (c.args.n, Some c.args.value.now)) 14 store
-    (g.C.Chip.told c.args.chip.now) (Err fault) fault is refl c.requires.sound)
+    rw (e.1 ∙ ap Err e.2) (refused_put c.args.s c.args.n c.args.value.now store
+    (g.C.Chip.told c.args.chip.now) fault is c.requires.sound)
+
+pub returns-in_err-admit-clause-calls : goal.returns-in_err-admit-clause-calls
+returns-in_err-admit-clause-calls g c = (refused g c).calls
+
+pub returns-in_err-admit-clause-steps : goal.returns-in_err-admit-clause-steps
+returns-in_err-admit-clause-steps g c = (refused g c).steps
+
+pub returns-in_err-admit-clause-full : goal.returns-in_err-admit-clause-full
+returns-in_err-admit-clause-full g c = (refused g c).full
+
+pub returns-in_err-admit-clause-holds : goal.returns-in_err-admit-clause-holds
+returns-in_err-admit-clause-holds g c = (refused g c).holds
+
+pub returns-in_err-admit-clause-framed : goal.returns-in_err-admit-clause-framed
+returns-in_err-admit-clause-framed g c = (refused g c).framed
+
+pub returns-in_err-admit-clause-used : goal.returns-in_err-admit-clause-used
+returns-in_err-admit-clause-used g c = (refused g c).used
+
+pub returns-in_err-admit-clause-stays : goal.returns-in_err-admit-clause-stays
+returns-in_err-admit-clause-stays g c = (refused g c).stays
 
 pub returns-in_err-admit-clause-asks : goal.returns-in_err-admit-clause-asks
-returns-in_err-admit-clause-asks g c = write_asks_nothing c.args.n (Some c.args.value.now)
-    c.args.self.now.transactions.pages (g.C.Chip.told c.args.chip.now)
+returns-in_err-admit-clause-asks g c = (refused g c).asks
+
+-- ---- its page isn't brought
+
+unbrought : (g : Over) (c : goal.After-from_residual-in_err-bring g)
+    → Puts c.args.s c.args.n c.args.value.now c.args.self.now (g.C.Chip.told c.args.chip.now)
+    (found_room c.from_residual-in_err-bring.result) c.bring.new.self
+    (g.C.Chip.told c.bring.new.chip)
+unbrought g c =
+    let store = c.args.self.now in
+    let none : put_fault store c.args.s c.args.n c.args.value.now ≡ None =
+    ap (early_fault (entry_fault store)) (sym c.refuses_put.ensures) ∙ sym c.in_ok-admit.ensures in
+    let e = err_from_is_err_and c.from_residual-in_err-bring.result
+    c.from_residual-in_err-bring.ensures.1 in
+    rw (e.1 ∙ ap Err e.2) (unbrought_put c.args.s c.args.n c.args.value.now store
+    (g.C.Chip.told c.args.chip.now) c.in_err-bring.field-0.0 c.bring.new.self
+    (g.C.Chip.told c.bring.new.chip) none c.in_err-bring.ensures.fetches
+    c.in_err-bring.ensures.asks)
+
+pub returns-in_err-bring-clause-calls : goal.returns-in_err-bring-clause-calls
+returns-in_err-bring-clause-calls g c = (unbrought g c).calls
+
+pub returns-in_err-bring-clause-steps : goal.returns-in_err-bring-clause-steps
+returns-in_err-bring-clause-steps g c = (unbrought g c).steps
+
+pub returns-in_err-bring-clause-full : goal.returns-in_err-bring-clause-full
+returns-in_err-bring-clause-full g c = (unbrought g c).full
+
+pub returns-in_err-bring-clause-holds : goal.returns-in_err-bring-clause-holds
+returns-in_err-bring-clause-holds g c = (unbrought g c).holds
+
+pub returns-in_err-bring-clause-framed : goal.returns-in_err-bring-clause-framed
+returns-in_err-bring-clause-framed g c = (unbrought g c).framed
+
+pub returns-in_err-bring-clause-used : goal.returns-in_err-bring-clause-used
+returns-in_err-bring-clause-used g c = (unbrought g c).used
+
+pub returns-in_err-bring-clause-stays : goal.returns-in_err-bring-clause-stays
+returns-in_err-bring-clause-stays g c = (unbrought g c).stays
+
+pub returns-in_err-bring-clause-asks : goal.returns-in_err-bring-clause-asks
+returns-in_err-bring-clause-asks g c = (unbrought g c).asks
+
+-- ---- its page is full
+
+full : (g : Over) (c : goal.Then-overfills g)
+    → Puts c.args.s c.args.n c.args.value.now c.args.self.now (g.C.Chip.told c.args.chip.now)
+    (Ok false) c.bring.new.self (g.C.Chip.told c.bring.new.chip)
+full g c =
+    let store = c.args.self.now in
+    let none : put_fault store c.args.s c.args.n c.args.value.now ≡ None =
+    ap (early_fault (entry_fault store)) (sym c.refuses_put.ensures) ∙ sym c.in_ok-admit.ensures in
+    let brought = c.in_ok-bring.ensures.brought in
+    full_put c.args.s c.args.n c.args.value.now store (g.C.Chip.told c.args.chip.now)
+    c.bring.new.self (g.C.Chip.told c.bring.new.chip) none c.requires.sound
+    c.in_ok-bring.ensures.fetches c.in_ok-bring.ensures.asks brought
+    (ap (λ (slots : Slots). overfills_at (marks_in slots) c.args.n c.args.value.now
+    brought.frame.values) (sym c.bring.ensures.sessions)
+    ∙ sym (c.overfills.ensures.exact brought.frame brought.there) ∙ c.if-overfills.true)
+
+pub returns-then-overfills-clause-calls : goal.returns-then-overfills-clause-calls
+returns-then-overfills-clause-calls g c = (full g c).calls
+
+pub returns-then-overfills-clause-steps : goal.returns-then-overfills-clause-steps
+returns-then-overfills-clause-steps g c = (full g c).steps
+
+pub returns-then-overfills-clause-full : goal.returns-then-overfills-clause-full
+returns-then-overfills-clause-full g c = (full g c).full
+
+pub returns-then-overfills-clause-holds : goal.returns-then-overfills-clause-holds
+returns-then-overfills-clause-holds g c = (full g c).holds
+
+pub returns-then-overfills-clause-framed : goal.returns-then-overfills-clause-framed
+returns-then-overfills-clause-framed g c = (full g c).framed
+
+pub returns-then-overfills-clause-used : goal.returns-then-overfills-clause-used
+returns-then-overfills-clause-used g c = (full g c).used
+
+pub returns-then-overfills-clause-stays : goal.returns-then-overfills-clause-stays
+returns-then-overfills-clause-stays g c = (full g c).stays
+
+pub returns-then-overfills-clause-asks : goal.returns-then-overfills-clause-asks
+returns-then-overfills-clause-asks g c = (full g c).asks
+
+-- ---- it is written
+
+written : (g : Over) (c : goal.After-end g)
+    → Puts c.args.s c.args.n c.args.value.now c.args.self.now (g.C.Chip.told c.args.chip.now)
+    (found_room c.end.result) c.end.new.self (g.C.Chip.told c.write-done.new.chip)
+written g c =
+    let store = c.args.self.now in
+    let slots = store.transactions.sessions in
+    let bytes = c.args.value.now in
+    let none : put_fault store c.args.s c.args.n bytes ≡ None =
+    ap (early_fault (entry_fault store)) (sym c.refuses_put.ensures) ∙ sym c.in_ok-admit.ensures in
+    let (up, few, free) = let_in store
+    (sessions_refuse_put (limits_of store.units) slots c.args.s c.args.n bytes) none in
+    let brought = c.in_ok-bring.ensures.brought in
+    let between = g.C.Chip.told c.bring.new.chip in
+    let after = g.C.Chip.told c.write-done.new.chip in
+    let wrote = c.write-done.ensures in
+    written_put c.args.s c.args.n bytes store (g.C.Chip.told c.args.chip.now) c.bring.new.self
+    between c.write-done.result c.write-done.new.self after c.end.result c.end.new.self none up
+    c.requires.sound c.in_ok-bring.ensures.fetches brought
+    (ap (λ (k : Slots). overfills_at (marks_in k) c.args.n bytes brought.frame.values)
+    (sym c.bring.ensures.sessions)
+    ∙ sym (c.overfills.ensures.exact brought.frame brought.there) ∙ c.if-overfills.false)
+    c.in-Some.ensures.some.1
+    (subst (λ (b : List ℕ). HasWritten c.args.s c.args.n b c.bring.new.self.transactions between
+    c.write-done.result c.write-done.new.self after) c.in-Some.ensures.some.0 (record {
+      turns = wrote.turns;
+      complete = wrote.complete;
+      faults = wrote.faults;
+      framed = wrote.framed;
+      used = wrote.used;
+      stays = wrote.stays;
+      asks = wrote.asks;
+      sessions = wrote.sessions;
+      idle = wrote.idle;
+    })) c.end.ensures.rest c.end.ensures.ends
+
+pub returns-clause-calls : goal.returns-clause-calls
+returns-clause-calls g c = (written g c).calls
+
+pub returns-clause-steps : goal.returns-clause-steps
+returns-clause-steps g c = (written g c).steps
+
+pub returns-clause-full : goal.returns-clause-full
+returns-clause-full g c = (written g c).full
+
+pub returns-clause-holds : goal.returns-clause-holds
+returns-clause-holds g c = (written g c).holds
+
+pub returns-clause-framed : goal.returns-clause-framed
+returns-clause-framed g c = (written g c).framed
+
+pub returns-clause-used : goal.returns-clause-used
+returns-clause-used g c = (written g c).used
+
+pub returns-clause-stays : goal.returns-clause-stays
+returns-clause-stays g c = (written g c).stays
 
 pub returns-clause-asks : goal.returns-clause-asks
-returns-clause-asks g c =
-    let pages = c.args.self.now.transactions.pages in
-    let old = g.C.Chip.told c.args.chip.now in
-    let after = g.C.Chip.told c.write-done.new.chip in
-    subst (λ (bytes : List ℕ). AsksToWrite c.args.n (Some bytes) pages old after)
-    c.in-Some.ensures.some.0 c.write-done.ensures.asks
+returns-clause-asks g c = (written g c).asks

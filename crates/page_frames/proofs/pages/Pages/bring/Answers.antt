@@ -1,6 +1,7 @@
-use Rattle.std.proofs.Common.{inl, inr, refl, sym, ◌∙◌, IsSome, subst}
+use Rattle.std.proofs.Common.{inl, inr, sym, ◌∙◌, IsSome, subst}
 use Rattle.std.proofs.lemmas.Bool.{false≢true}
 use Rattle.pending_writes.specs.Frames.{Frames}
+use Rattle.page_frames.proofs.AskLemmas.{used_asks, brought_asks}
 use Rattle.page_frames.proofs.UseLemmas.{used_upholds, used_framed, stays_for}
 use Rattle.page_frames.proofs.pages.Pages.bring.Goals as goal
 
@@ -24,13 +25,24 @@ returns-then-is_framed-clause-framed g c =
     stays_for c.args.unit c.args.page old (record old { pool = pool })
     (used_framed old pool c.use_page.ensures.frames) c.use_page.ensures.others
 
-pub returns-then-is_framed-clause-idle : goal.returns-then-is_framed-clause-idle
-returns-then-is_framed-clause-idle g c = λ there.
-    (record { parts = refl; pool = c.use_page.ensures.uses }, refl)
+pub returns-then-is_framed-clause-fresh : goal.returns-then-is_framed-clause-fresh
+returns-then-is_framed-clause-fresh g c = λ none.
+    absurd (false≢true (subst IsSome none (c.is_framed.ensures.0 c.if-is_framed.true)))
 
-pub returns-clause-idle : goal.returns-clause-idle
-returns-clause-idle g c = λ there.
-    absurd (false≢true (sym c.if-is_framed.false ∙ c.is_framed.ensures.1 there))
+pub returns-then-is_framed-clause-asks : goal.returns-then-is_framed-clause-asks
+returns-then-is_framed-clause-asks g c =
+    used_asks c.args.unit c.args.page c.args.self.now c.use_page.new.pool
+    (g.C.Chip.told c.args.chip.now) c.use_page.ensures.uses
+
+pub returns-clause-fresh : goal.returns-clause-fresh
+returns-clause-fresh g c = λ none. c.fetch.ensures.fresh
+
+pub returns-clause-asks : goal.returns-clause-asks
+returns-clause-asks g c =
+    brought_asks c.args.unit c.args.page c.args.self.now c.fetch.new.self
+    (g.C.Chip.told c.args.chip.now) (g.C.Chip.told c.fetch.new.chip)
+    (λ there. false≢true (sym c.if-is_framed.false ∙ c.is_framed.ensures.1 there))
+    c.fetch.ensures.idle c.fetch.ensures.costs
 
 pub returns-clause-exact : goal.returns-clause-exact
 returns-clause-exact g c = λ room. elim room [

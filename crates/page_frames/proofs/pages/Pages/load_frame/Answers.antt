@@ -1,7 +1,8 @@
 use Rattle.std.proofs.Common.{ℕ, List, Some, refl, ◌∙◌, ap, subst}
 use Rattle.ipl_meaning.specs.Chart.{chart_of}
 use Rattle.number_set.specs.Numbers.{among}
-use Rattle.page_rebuild.specs.Loaded.{IsLoaded}
+use Rattle.page_rebuild.specs.Loaded.{IsLoaded, OfTables, load_fault}
+use Rattle.unit_io.specs.Faults.{TellsChipFault}
 use Rattle.std.proofs.lemmas.Result.{on_ok_weaker}
 use Rattle.ipl_format.specs.Record.{Record}
 use Rattle.buffer_pool.specs.Lending.{with_frame}
@@ -67,13 +68,21 @@ returns-clause-pins g c =
 
 pub returns-clause-complete : goal.returns-clause-complete
 returns-clause-complete g c =
-    load_completes (tables_in c.args.self.now) c.args.unit c.args.page c.load.result
-    (g.C.Chip.told c.args.chip.now) c.load.ensures.fault
+    let told = g.C.Chip.told c.args.chip.now in
+    let t = tables_in c.args.self.now in
+    load_completes t c.args.unit c.args.page c.load.result told
+    (subst (λ (l : List ℕ). OfTables told t.places t.overflow t.status (λ x it.
+    TellsChipFault (load_fault x it (among l) c.args.unit c.args.page) c.load.result))
+    c.as_slice.ensures.numbers c.load.ensures.fault)
 
 pub returns-clause-exact : goal.returns-clause-exact
 returns-clause-exact g c =
-    load_exact (tables_in c.args.self.now) c.args.unit c.args.page c.load.result
-    (g.C.Chip.told c.args.chip.now) c.load.ensures.fault
+    let told = g.C.Chip.told c.args.chip.now in
+    let t = tables_in c.args.self.now in
+    load_exact t c.args.unit c.args.page c.load.result told
+    (subst (λ (l : List ℕ). OfTables told t.places t.overflow t.status (λ x it.
+    TellsChipFault (load_fault x it (among l) c.args.unit c.args.page) c.load.result))
+    c.as_slice.ensures.numbers c.load.ensures.fault)
 
 pub returns-clause-uses : goal.returns-clause-uses
 returns-clause-uses g c =

@@ -29,7 +29,8 @@ returns-clause-faults g c =
     let is = c.merge.ensures in
     merged_tells c.args.unit c.args.self.now
     (record { parts = c.merge.new.parts; pool = c.args.self.now.pool }) c.merge.result
-    (g.C.Chip.told c.args.chip.now) (g.C.Chip.told c.merge.new.chip) c.requires.unit is.fault is.tells
+    (g.C.Chip.told c.args.chip.now) (g.C.Chip.told c.merge.new.chip) c.requires.unit
+    is.holds.active is.fault is.tells
 
 pub returns-clause-exact : goal.returns-clause-exact
 returns-clause-exact g c =

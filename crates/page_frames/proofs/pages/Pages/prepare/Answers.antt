@@ -7,7 +7,7 @@ use Rattle.frame_changes.specs.Changes.{MayPut}
 use Rattle.page_frames.specs.declared.pages.Pages.{Pages}
 use Rattle.buffer_pool.proofs.UseLemmas.{same_counts}
 use Rattle.page_frames.proofs.AskLemmas.{fitting_asks, framed_asks, fetched_asks}
-use Rattle.page_frames.proofs.BringLemmas.{fits_fresh, out_fresh}
+use Rattle.page_frames.proofs.BringLemmas.{fits_fresh, out_fresh, same_values, out_values, no_values}
 use Rattle.page_frames.proofs.CompleteLemmas.{completes_then}
 use Rattle.page_frames.proofs.TellLemmas.{tells_then}
 use Rattle.page_frames.proofs.UpholdLemmas.{upholds_then}
@@ -24,10 +24,15 @@ returns-then-not-is_framed-clause-room g c =
 
 pub returns-then-not-is_framed-clause-asks : goal.returns-then-not-is_framed-clause-asks
 returns-then-not-is_framed-clause-asks g c =
-    fetched_asks c.args.unit (record_of c.args.logged.now) c.args.self.now
+    fetched_asks c.args.unit (record_of c.args.logged.now) c.args.self.now c.fetch.new.self
     (g.C.Chip.told c.args.chip.now) (g.C.Chip.told c.fetch.new.chip)
     (λ there. false≢true (c.if-not-is_framed.ensures.1 there)) c.fetch.ensures.idle
     c.fetch.ensures.costs
+
+pub returns-then-not-is_framed-clause-values : goal.returns-then-not-is_framed-clause-values
+returns-then-not-is_framed-clause-values g c =
+    no_values c.fetch.result c.args.unit c.args.logged.now.page c.args.self.now c.fetch.new.self
+    (λ there. false≢true (c.if-not-is_framed.ensures.1 there))
 
 -- ---- it is in one, with room for the record
 
@@ -48,8 +53,14 @@ returns-then-has_room-clause-framed g c =
 
 pub returns-then-has_room-clause-asks : goal.returns-then-has_room-clause-asks
 returns-then-has_room-clause-asks g c =
-    fitting_asks c.args.unit (record_of c.args.logged.now) c.args.self.now
-    (g.C.Chip.told c.args.chip.now)
+    fitting_asks c.args.unit (record_of c.args.logged.now) c.args.self.now c.use_page.new.pool
+    (g.C.Chip.told c.args.chip.now) c.use_page.ensures.uses
+
+pub returns-then-has_room-clause-values : goal.returns-then-has_room-clause-values
+returns-then-has_room-clause-values g c =
+    let old = c.args.self.now in
+    same_values c.args.unit c.args.logged.now.page old (record old { pool = c.use_page.new.pool })
+    c.use_page.ensures.frames
 
 -- ---- with none
 
@@ -83,7 +94,7 @@ returns-clause-faults g c =
     let told = g.C.Chip.told c.args.chip.now in
     let pool = c.use_page.new.pool in
     tells_then old (record old { pool = pool }) c.write_out.new.self c.write_out.result told told refl
-    (used_upholds 0 old pool told c.requires.ready c.use_page.ensures.frames
+    c.write_out.ensures.upholds.active (used_upholds 0 old pool told c.requires.ready c.use_page.ensures.frames
     c.use_page.ensures.pins).keeps c.write_out.ensures.faults
 
 pub returns-clause-exact : goal.returns-clause-exact
@@ -99,6 +110,13 @@ returns-clause-room g c =
     (out_fresh c.write_out.result c.args.unit page used c.write_out.new.self
     (used_framed c.args.self.now c.use_page.new.pool c.use_page.ensures.frames c.args.unit page
     (c.if-not-is_framed.ensures.0 refl)) c.write_out.ensures.frames)
+
+pub returns-clause-values : goal.returns-clause-values
+returns-clause-values g c =
+    let old = c.args.self.now in
+    out_values c.write_out.result c.args.unit c.args.logged.now.page old
+    (record old { pool = c.use_page.new.pool }) c.write_out.new.self c.use_page.ensures.frames
+    c.write_out.ensures.frames
 
 pub returns-clause-used : goal.returns-clause-used
 returns-clause-used g c =

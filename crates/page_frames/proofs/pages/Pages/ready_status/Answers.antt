@@ -30,4 +30,4 @@ returns-clause-framed g c = λ u page is. is
 pub returns-clause-faults : goal.returns-clause-faults
 returns-clause-faults g c =
     renew_tells c.args.self.now (record { parts = c.renew.new.parts; pool = c.args.self.now.pool })
-    c.renew.result (g.C.Chip.told c.args.chip.now) c.renew.ensures.stays
+    c.renew.result (g.C.Chip.told c.args.chip.now) c.renew.ensures.holds.active c.renew.ensures.stays

@@ -92,8 +92,8 @@ returns-in_err-write_out-clause-faults g c =
     let is = c.in_err-write_out.ensures in
     rw (e.1, e.2) (merge_tells {T = Unit {0}} c.args.unit c.args.self.now
     (record { parts = c.write_out.new.parts; pool = c.args.self.now.pool })
-    (Err c.in_err-write_out.field-0.0) (g.C.Chip.told c.args.chip.now) c.requires.unit is.fault
-    is.stays)
+    (Err c.in_err-write_out.field-0.0) (g.C.Chip.told c.args.chip.now) c.requires.unit
+    is.holds.active is.fault is.stays)
 
 pub returns-in_err-write_out-clause-exact : goal.returns-in_err-write_out-clause-exact
 returns-in_err-write_out-clause-exact g c =

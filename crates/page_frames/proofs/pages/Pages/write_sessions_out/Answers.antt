@@ -99,5 +99,5 @@ returns-in_err-write_out-clause-faults g c =
     let done = c.loop-i.invariant.upholds in
     rw (e.1, e.2) (tells_then {T = Unit {0}} c.args.self.now c.loop-i.self c.write_out.new.self
     (Err c.in_err-write_out.field-0.0) (g.C.Chip.told c.args.chip.now)
-    (g.C.Chip.told c.loop-i.chip) done.accounts.counts.places done.keeps
-    c.in_err-write_out.ensures.faults)
+    (g.C.Chip.told c.loop-i.chip) done.accounts.counts.places
+    c.in_err-write_out.ensures.upholds.active done.keeps c.in_err-write_out.ensures.faults)

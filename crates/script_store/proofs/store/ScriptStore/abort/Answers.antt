@@ -23,5 +23,6 @@ returns g c =
     (record { store = c.abort.new.self }) after) (sym c.reply_of.ensures)
     (ends_do (λ v. reply.Ok) (command.Abort c.args.s) refusal (λ state. after_abort state c.args.s)
     0 c.args.self.now
-    (record { store = c.abort.new.self }) before after c.abort.result c.requires.runs (omega arith) refl (λ state. refl)
+    (record { store = c.abort.new.self }) before after c.abort.result c.requires.runs
+    (omega arith) refl (λ state. refl) (λ state. refl)
     (on_ok c.abort.result (λ state x told shown. refl)) c.abort.ensures.calls)

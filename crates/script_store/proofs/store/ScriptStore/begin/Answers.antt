@@ -23,5 +23,6 @@ returns g c =
     (record { store = c.begin.new.self }) after) (sym c.reply_of.ensures)
     (calls_do (λ v. reply.Ok) (command.Begin c.args.s) refusal
     (λ state. after_begin state c.args.s) 1 c.args.self.now
-    (record { store = c.begin.new.self }) before after c.begin.result c.requires.runs (omega arith) refl (λ state. refl)
+    (record { store = c.begin.new.self }) before after c.begin.result c.requires.runs
+    (omega arith) refl (λ state. refl) (λ state. refl)
     (on_ok c.begin.result (λ state x told shown. refl)) c.begin.ensures.calls)

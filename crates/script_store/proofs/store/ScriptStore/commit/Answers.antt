@@ -23,5 +23,6 @@ returns g c =
     (record { store = c.commit.new.self }) after) (sym c.reply_of.ensures)
     (calls_do (λ v. reply.Ok) (command.Commit c.args.s) refusal
     (λ state. after_commit state c.args.s) (2 ^ 15) c.args.self.now
-    (record { store = c.commit.new.self }) before after c.commit.result c.requires.runs (omega arith) refl (λ state. refl)
+    (record { store = c.commit.new.self }) before after c.commit.result c.requires.runs
+    (omega arith) refl (λ state. refl) (λ state. refl)
     (on_ok c.commit.result (λ state x told shown. refl)) c.commit.ensures.calls)

@@ -38,5 +38,5 @@ returns g c =
     (calls_do (λ v. reply.Ok) (command.Batch numbers) refusal
     (λ state. after_batch state numbers) (2 ^ 15) c.args.self.now
     (record { store = c.commit_all.new.self }) before after c.commit_all.result c.requires.runs
-    (omega arith) refl (λ state. refl)
+    (omega arith) refl (λ state. refl) (λ state. refl)
     (on_ok c.commit_all.result (λ state x told shown. refl)) c.commit_all.ensures.calls))

@@ -2,11 +2,10 @@ use Rattle.std.proofs.Common.{Result, arith, refl, sym, subst, None}
 use Rattle.ipl_model.specs.declared.command.Command.TheVariants as command
 use Rattle.ipl_model.specs.declared.reply.Reply.{Reply}
 use Rattle.ipl_model.specs.declared.reply.Reply.TheVariants as reply
-use Rattle.ipl_rules.specs.Refusals.{refuses_del}
 use Rattle.ipl_rules.specs.Operations.{after_write}
-use Rattle.record_locks.specs.Standing.{state_of}
 use Rattle.store_trait.specs.declared.fault.Fault.{Fault}
 use Rattle.store_steps.specs.Keeps.{limits_of}
+use Rattle.store_steps.specs.Refusals.{sessions_refuse_del}
 use Rattle.ipl_store.proofs.CallLemmas.{on_ok}
 use Rattle.script_store.specs.Keeps.{Does}
 use Rattle.script_store.proofs.WorkLemmas.{calls_do}
@@ -15,7 +14,7 @@ use Rattle.script_store.proofs.store.ScriptStore.del.Goals as goal
 pub returns : goal.returns
 returns g c =
     let store = c.args.self.now.store in
-    let refusal = refuses_del (limits_of store.units) (state_of store.transactions.sessions)
+    let refusal = sessions_refuse_del (limits_of store.units) store.transactions.sessions
     c.args.s c.args.n in
     let before = g.C.Chip.told c.args.chip.now in
     let after = g.C.Chip.told c.del.new.chip in
@@ -23,5 +22,6 @@ returns g c =
     (record { store = c.del.new.self }) after) (sym c.reply_of.ensures)
     (calls_do (λ v. reply.Ok) (command.Del c.args.s c.args.n) refusal
     (λ state. after_write state c.args.s (c.args.n, None)) 14 c.args.self.now
-    (record { store = c.del.new.self }) before after c.del.result c.requires.runs (omega arith) refl (λ state. refl)
+    (record { store = c.del.new.self }) before after c.del.result c.requires.runs
+    (omega arith) refl (λ state. refl) (λ state. refl)
     (on_ok c.del.result (λ state x told shown. refl)) c.del.ensures.calls)

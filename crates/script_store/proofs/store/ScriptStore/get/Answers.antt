@@ -23,7 +23,8 @@ returns-clause-does g c =
     subst (λ (r : Result Reply Fault). Does (command.Get c.args.s c.args.n) c.args.self.now
     before r c.see.new.self after) (sym c.found_of.ensures)
     (calls_do found_reply (command.Get c.args.s c.args.n) refusal (λ state. state) 14
-    c.args.self.now c.see.new.self before after c.see.result c.requires.runs (omega arith) refl (λ state. refl)
+    c.args.self.now c.see.new.self before after c.see.result c.requires.runs
+    (omega arith) refl (λ state. refl) (λ state. refl)
     (seen_replies c.args.s c.args.n store before c.see.result c.see.ensures.seen)
     c.see.ensures.calls)
 

@@ -23,7 +23,8 @@ returns-clause-does g c =
     (record { store = c.merge.new.self }) after) (sym c.reply_of.ensures)
     (calls_do (λ v. reply.Ok) (command.Merge c.args.unit) refusal (λ state. state) (13)
     c.args.self.now
-    (record { store = c.merge.new.self }) before after c.merge.result c.requires.runs (omega arith) refl (λ state. refl)
+    (record { store = c.merge.new.self }) before after c.merge.result c.requires.runs
+    (omega arith) refl (λ state. refl) (λ state. refl)
     (on_ok c.merge.result (λ state x told shown. refl)) c.merge.ensures.calls)
 
 pub returns-clause-done : goal.returns-clause-done

@@ -25,7 +25,8 @@ returns-clause-does g c =
     before r c.see_shared.new.self after) (sym c.found_of.ensures)
     (calls_do found_reply (command.Share c.args.s c.args.n) refusal
     (λ state. after_share state c.args.s c.args.n) 14
-    c.args.self.now c.see_shared.new.self before after c.see_shared.result c.requires.runs (omega arith) refl (λ state. refl)
+    c.args.self.now c.see_shared.new.self before after c.see_shared.result c.requires.runs
+    (omega arith) refl (λ state. refl) (λ state. refl)
     (seen_replies c.args.s c.args.n store before c.see_shared.result c.see_shared.ensures.seen)
     c.see_shared.ensures.calls)
 

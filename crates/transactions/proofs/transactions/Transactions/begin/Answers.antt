@@ -22,7 +22,8 @@ returns-clause-turns c =
       sessions = c.begin.new.self;
     }) c.requires.session c.requires.closed
     (did ∙ ap (after_begin old.sessions s) c.draw-number.ensures.drawn)
-    (locks_of c.begin.new.self c.facts.ensures.all c.facts.ensures.one_writer c.facts.ensures.few)
+    (locks_of c.begin.new.self c.facts.ensures.all c.facts.ensures.one_writer c.facts.ensures.sized
+    c.facts.ensures.few)
     refl refl refl c.draw-number.ensures.next c.active_numbers-self.ensures refl
 
 pub returns-clause-framed : goal.returns-clause-framed

@@ -12,7 +12,8 @@ returns-clause-turns c =
     c.share.ensures.refusal c.requires.unrefused c.share.ensures.ok in
     shared c.args.s name old (record { pages = old.pages; sessions = c.share.new.self })
     c.requires.session did
-    (locks_of c.share.new.self c.facts.ensures.all c.facts.ensures.one_writer c.facts.ensures.few)
+    (locks_of c.share.new.self c.facts.ensures.all c.facts.ensures.one_writer c.facts.ensures.sized
+    c.facts.ensures.few)
     refl
 
 pub returns-clause-framed : goal.returns-clause-framed

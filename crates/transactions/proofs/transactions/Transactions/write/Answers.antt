@@ -1,32 +1,45 @@
-use Rattle.std.proofs.Common.{refl, sym, ◌∙◌, ap}
+use Rattle.std.proofs.Common.{ℕ, slice_index, Ok, refl, sym, ◌∙◌, ap}
+use Rattle.std.proofs.lemmas.Bool.{false≢true, OnTrue_at, OnFalse_at}
 use Rattle.std.proofs.lemmas.Option.{none-some}
 use Rattle.std.proofs.lemmas.Result.{err_from_is_err_and}
+use Rattle.ipl_base.specs.declared.fault.ChipFault.TheVariants.{Malformed}
 use Rattle.ipl_base.specs.Places.{home_of}
+use Rattle.ipl_base.specs.Sizes.{size_in_page}
 use Rattle.ipl_base.specs.declared.spot.Home.{Home}
+use Rattle.ipl_format.specs.Record.{Record}
 use Rattle.ipl_rules.specs.Operations.{after_write}
 use Rattle.log_records.specs.View.{change_of}
+use Rattle.log_records.specs.declared.record.Change.{Change}
 use Rattle.pending_writes.specs.Frames.{IsWrittenFrame}
+use Rattle.record_locks.specs.Held.{after_write as after_slots}
 use Rattle.record_locks.specs.Locks.{refuses_write}
 use Rattle.transactions.proofs.OpenLemmas.{writes_numbered, unrefused_done}
 use Rattle.transactions.proofs.SessionLemmas.{locks_of}
-use Rattle.transactions.proofs.TurnLemmas.{upheld_no_more}
-use Rattle.transactions.proofs.WriteLemmas.{put_framed, prepared_asks, was_written}
+use Rattle.transactions.proofs.TurnLemmas.{upheld_no_more, upheld_refused, completes_for, tells_for}
+use Rattle.transactions.proofs.WriteLemmas.{put_framed, prepared_asks, prepared_draws, page_has_room, IsRefused, refused_completes, refused_tells, unframed_put, was_written}
 use Rattle.std.proofs.Common.{subst}
-use Rattle.page_frames.specs.Pages.{KeepsFramedFor}
+use Rattle.page_frames.specs.Pages.{IsReady, KeepsFramedFor}
 use Rattle.page_frames.proofs.FramedLemmas.{set_framed}
-use Rattle.page_frames.proofs.UseLemmas.{framed_then}
+use Rattle.page_frames.proofs.UpholdLemmas.{upholds_then}
+use Rattle.page_frames.proofs.UseLemmas.{framed_then, used_framed, used_upholds}
 use Rattle.page_frames.specs.declared.pages.Pages.{Pages}
 use Rattle.buffer_pool.specs.Uses.{IsUsedLast}
 use Rattle.buffer_pool.proofs.UseLemmas.{kept_uses_are_last, same_counts}
 use Rattle.std.proofs.Common.{◌≡◌, None, Err}
 use Rattle.page_frames.specs.Pages.{tables_in, frames_in, HasFreeFrame}
 use Rattle.page_frames.specs.Faulty.{FailsAsPage}
+use Rattle.transactions.proofs.transactions.Transactions.write.Given.{Over}
 use Rattle.transactions.proofs.transactions.Transactions.write.Goals as goal
+
+-- the record that is put
+abbrev record_put : Change → Home → ℕ → Record
+record_put change at tid =
+    record { page = at.page; slot = at.slot; tid = tid; change = change_of change }
 
 pub unreachable-requires : goal.unreachable-requires
 unreachable-requires g c =
     let mine = writes_numbered c.args.self.now.sessions c.args.s c.args.name.0
-    c.requires.unrefused in
+    (size_in_page (change_of c.args.change)) c.requires.unrefused in
     none-some mine.0 (sym c.in_default.is ∙ c.number.ensures ∙ mine.1)
 
 pub returns-in_err-prepare-clause-turns : goal.returns-in_err-prepare-clause-turns
@@ -46,42 +59,41 @@ returns-clause-turns g c =
     let s = c.args.s in
     let name = c.args.name.0 in
     let at = c.home-home.result in
-    let did = unrefused_done c.write.result (refuses_write old.sessions s name)
-    c.write.ensures.refusal c.requires.unrefused c.write.ensures.ok in
+    let size = size_in_page (change_of c.args.change) in
+    let did = unrefused_done c.write.result (refuses_write old.sessions s name size)
+    (c.write.ensures.refusal ∙ ap (refuses_write old.sessions s name) c.size_in_page.ensures)
+    c.requires.unrefused c.write.ensures.ok in
+    let put = OnTrue_at c.if-not-put_record.false c.put_record.ensures.put in
     was_written s name at.unit
-    (record {
-      page = at.page;
-      slot = at.slot;
-      tid = c.in-Some.tid;
-      change = change_of c.args.change;
-    })
-    old
+    (record_put c.args.change at c.in-Some.tid) old
     (record {
       pages = record { parts = c.prepare.new.self.parts; pool = c.put_record.new.pool };
       sessions = c.write.new.self;
     }) c.prepare.new.self (g.C.Chip.told c.args.chip.now) (g.C.Chip.told c.prepare.new.chip)
     c.requires.order c.requires.session (sym c.number.ensures ∙ c.in-Some.is) c.requires.name
-    c.home-home.ensures.exact c.has_spelling.ensures c.in_ok-prepare.ensures.upholds did
-    (locks_of c.write.new.self c.facts.ensures.all c.facts.ensures.one_writer c.facts.ensures.few)
-    refl c.put_record.ensures.put c.put_record.ensures.pins
+    c.home-home.ensures.exact c.has_spelling.ensures c.in_ok-prepare.ensures.upholds
+    (did ∙ ap (after_slots old.sessions s name) c.size_in_page.ensures)
+    (locks_of c.write.new.self c.facts.ensures.all c.facts.ensures.one_writer c.facts.ensures.sized
+    c.facts.ensures.few) refl put
+    (page_has_room name at (record_put c.args.change at c.in-Some.tid) old c.prepare.new.self
+    put.was c.home-home.ensures.home refl refl c.requires.room c.in_ok-prepare.ensures.values put.there)
+    c.put_record.ensures.pins
 
 pub returns-in_err-prepare-clause-complete : goal.returns-in_err-prepare-clause-complete
 returns-in_err-prepare-clause-complete g c =
     let e = err_from_is_err_and c.from_residual.result c.from_residual.ensures.1 in
-    rw (e.1, e.2) c.in_err-prepare.ensures.complete
+    rw (e.1, e.2) (completes_for c.args.self.now (Err c.in_err-prepare.field-0.0)
+    (g.C.Chip.told c.args.chip.now) c.in_err-prepare.ensures.complete)
 
 pub returns-clause-framed : goal.returns-clause-framed
 returns-clause-framed g c =
     let at = home_of c.args.name.0 in
-    put_framed (IsWrittenFrame (record {
-      page = c.home-home.result.page;
-      slot = c.home-home.result.slot;
-      tid = c.in-Some.tid;
-      change = change_of c.args.change;
-    })) c.home-home.result.unit c.home-home.result.page at c.prepare.new.self
+    put_framed (IsWrittenFrame (record_put c.args.change c.home-home.result c.in-Some.tid))
+    c.home-home.result.unit c.home-home.result.page at c.prepare.new.self
     (record { parts = c.prepare.new.self.parts; pool = c.put_record.new.pool })
     (ap (λ (h : Home). h.unit) (sym c.home-home.ensures.home))
-    (ap (λ (h : Home). h.page) (sym c.home-home.ensures.home)) c.put_record.ensures.put
+    (ap (λ (h : Home). h.page) (sym c.home-home.ensures.home))
+    (OnTrue_at c.if-not-put_record.false c.put_record.ensures.put)
 
 pub returns-in_err-prepare-clause-stays : goal.returns-in_err-prepare-clause-stays
 returns-in_err-prepare-clause-stays g c =
@@ -92,7 +104,7 @@ pub returns-clause-stays : goal.returns-clause-stays
 returns-clause-stays g c =
     let at = c.home-home.result in
     let home = home_of c.args.name.0 in
-    let put = c.put_record.ensures.put in
+    let put = OnTrue_at c.if-not-put_record.false c.put_record.ensures.put in
     let old = c.args.self.now.pages in
     let mid = c.prepare.new.self in
     let new : Pages = record { parts = mid.parts; pool = c.put_record.new.pool } in
@@ -112,28 +124,23 @@ returns-clause-used g c =
 
 pub returns-in_err-prepare-clause-asks : goal.returns-in_err-prepare-clause-asks
 returns-in_err-prepare-clause-asks g c =
-    prepared_asks c.args.self.now.pages c.args.name.0 c.home-home.result (record {
-      page = c.home-home.result.page;
-      slot = c.home-home.result.slot;
-      tid = c.in-Some.tid;
-      change = change_of c.args.change;
-    }) (g.C.Chip.told c.args.chip.now) (g.C.Chip.told c.prepare.new.chip) c.home-home.ensures.home refl
+    prepared_asks c.args.self.now.pages c.prepare.new.self c.args.name.0 c.home-home.result
+    (record_put c.args.change c.home-home.result c.in-Some.tid) (g.C.Chip.told c.args.chip.now)
+    (g.C.Chip.told c.prepare.new.chip) c.home-home.ensures.home refl
     c.in_err-prepare.ensures.asks
 
 pub returns-clause-asks : goal.returns-clause-asks
 returns-clause-asks g c =
-    prepared_asks c.args.self.now.pages c.args.name.0 c.home-home.result (record {
-      page = c.home-home.result.page;
-      slot = c.home-home.result.slot;
-      tid = c.in-Some.tid;
-      change = change_of c.args.change;
-    }) (g.C.Chip.told c.args.chip.now) (g.C.Chip.told c.prepare.new.chip) c.home-home.ensures.home refl
+    prepared_asks c.args.self.now.pages c.prepare.new.self c.args.name.0 c.home-home.result
+    (record_put c.args.change c.home-home.result c.in-Some.tid) (g.C.Chip.told c.args.chip.now)
+    (g.C.Chip.told c.prepare.new.chip) c.home-home.ensures.home refl
     c.in_ok-prepare.ensures.asks
 
 pub returns-in_err-prepare-clause-faults : goal.returns-in_err-prepare-clause-faults
 returns-in_err-prepare-clause-faults g c =
     let e = err_from_is_err_and c.from_residual.result c.from_residual.ensures.1 in
-    rw (e.1, e.2) c.in_err-prepare.ensures.faults
+    rw (e.1, e.2) (tells_for c.args.self.now (Err c.in_err-prepare.field-0.0)
+    (g.C.Chip.told c.args.chip.now) c.prepare.new.self c.in_err-prepare.ensures.faults)
 
 pub returns-in_err-prepare-clause-exact : goal.returns-in_err-prepare-clause-exact
 returns-in_err-prepare-clause-exact g c =
@@ -142,3 +149,98 @@ returns-in_err-prepare-clause-exact g c =
     rw (e.1, e.2) (subst (λ (h : Home). frames_in old h.unit h.page ≡ None → HasFreeFrame old
     → FailsAsPage {T = Unit {0}} (tables_in old) h.unit h.page (Err c.in_err-prepare.field-0.0)
     (g.C.Chip.told c.args.chip.now)) c.home-home.ensures.home c.in_err-prepare.ensures.exact)
+
+pub returns-in_err-prepare-clause-idle : goal.returns-in_err-prepare-clause-idle
+returns-in_err-prepare-clause-idle g c =
+    prepared_draws c.args.self.now.pages c.prepare.new.self c.args.name.0 c.home-home.result
+    (record_put c.args.change c.home-home.result c.in-Some.tid) (g.C.Chip.told c.args.chip.now)
+    (g.C.Chip.told c.prepare.new.chip) c.home-home.ensures.home refl c.in_err-prepare.ensures.asks
+
+pub returns-clause-idle : goal.returns-clause-idle
+returns-clause-idle g c =
+    prepared_draws c.args.self.now.pages c.prepare.new.self c.args.name.0 c.home-home.result
+    (record_put c.args.change c.home-home.result c.in-Some.tid) (g.C.Chip.told c.args.chip.now)
+    (g.C.Chip.told c.prepare.new.chip) c.home-home.ensures.home refl c.in_ok-prepare.ensures.asks
+
+-- ---- its frame has no room
+
+refused : (g : Over) (c : goal.After-no_room g) → IsRefused c.home-home.result.unit
+    (record_put c.args.change c.home-home.result c.in-Some.tid) c.args.self.now c.prepare.new.self
+    (g.C.Chip.told c.args.chip.now) (g.C.Chip.told c.prepare.new.chip)
+refused g c =
+    let put = c.in_ok-prepare.ensures.room in
+    let at = c.home-home.result in record {
+      now = put.frame;
+      there = put.there;
+      keeps = c.in_ok-prepare.ensures.upholds.keeps;
+      room = page_has_room c.args.name.0 at (record_put c.args.change at c.in-Some.tid)
+          c.args.self.now c.prepare.new.self put.frame c.home-home.ensures.home refl refl
+          c.requires.room c.in_ok-prepare.ensures.values put.there;
+      some = λ none. false≢true (sym c.if-not-put_record.true ∙ c.put_record.ensures.deletes none);
+      full = λ fits. false≢true (sym c.if-not-put_record.true
+          ∙ (c.put_record.ensures.room put.frame put.there).1 fits);
+    }
+
+pub returns-then-not-put_record-clause-turns : goal.returns-then-not-put_record-clause-turns
+returns-then-not-put_record-clause-turns g c =
+    let old = c.args.self.now in
+    let mid = c.prepare.new.self in
+    let pool = c.put_record.new.pool in
+    let before = g.C.Chip.told c.args.chip.now in
+    let after = g.C.Chip.told c.prepare.new.chip in
+    let did = c.in_ok-prepare.ensures.upholds in
+    let pages : Pages = record { parts = mid.parts; pool = pool } in
+    rw c.no_room.ensures (upheld_refused
+    (λ state. after_write state c.args.s (c.args.name.0, change_of c.args.change)) 14 old
+    (record { pages = pages; sessions = old.sessions })
+    (Malformed (slice_index mid.parts.directory.current c.home-home.result.unit) 0) before after
+    c.requires.order
+    (upholds_then 14 0 old.pages mid pages (Ok tt) before after after did
+    (used_upholds 0 mid pool after (subst (λ (k : ℕ). IsReady k mid)
+    (sym did.accounts.counts.places) did.ready)
+    (OnFalse_at c.if-not-put_record.true c.put_record.ensures.kept) c.put_record.ensures.pins))
+    refl tt)
+
+pub returns-then-not-put_record-clause-complete : goal.returns-then-not-put_record-clause-complete
+returns-then-not-put_record-clause-complete g c =
+    refused_completes c.home-home.result.unit
+    (record_put c.args.change c.home-home.result c.in-Some.tid) c.args.self.now c.prepare.new.self
+    (g.C.Chip.told c.args.chip.now) (g.C.Chip.told c.prepare.new.chip) (refused g c)
+    c.no_room.result
+
+pub returns-then-not-put_record-clause-faults : goal.returns-then-not-put_record-clause-faults
+returns-then-not-put_record-clause-faults g c =
+    refused_tells c.home-home.result.unit
+    (record_put c.args.change c.home-home.result c.in-Some.tid) c.args.self.now c.prepare.new.self
+    (g.C.Chip.told c.args.chip.now) (g.C.Chip.told c.prepare.new.chip) (refused g c)
+    c.no_room.result
+    (record { parts = c.prepare.new.self.parts; pool = c.put_record.new.pool })
+
+pub returns-then-not-put_record-clause-exact : goal.returns-then-not-put_record-clause-exact
+returns-then-not-put_record-clause-exact g c = λ none free.
+    absurd (unframed_put c.args.name.0 c.args.self.now (change_of c.args.change) c.requires.room
+    (refused g c).some none)
+
+pub returns-then-not-put_record-clause-stays : goal.returns-then-not-put_record-clause-stays
+returns-then-not-put_record-clause-stays g c =
+    let home = home_of c.args.name.0 in
+    let old = c.args.self.now.pages in
+    let mid = c.prepare.new.self in
+    let pool = c.put_record.new.pool in
+    framed_then home.unit home.page old mid (record { parts = mid.parts; pool = pool })
+    (subst (λ (h : Home). KeepsFramedFor h.unit h.page old mid) c.home-home.ensures.home
+    c.in_ok-prepare.ensures.framed)
+    (used_framed mid pool (OnFalse_at c.if-not-put_record.true c.put_record.ensures.kept))
+    (same_counts home.unit home.page mid.pool pool c.put_record.ensures.uses)
+
+pub returns-then-not-put_record-clause-asks : goal.returns-then-not-put_record-clause-asks
+returns-then-not-put_record-clause-asks g c =
+    prepared_asks c.args.self.now.pages c.prepare.new.self c.args.name.0 c.home-home.result
+    (record_put c.args.change c.home-home.result c.in-Some.tid) (g.C.Chip.told c.args.chip.now)
+    (g.C.Chip.told c.prepare.new.chip) c.home-home.ensures.home refl c.in_ok-prepare.ensures.asks
+
+pub returns-then-not-put_record-clause-idle : goal.returns-then-not-put_record-clause-idle
+returns-then-not-put_record-clause-idle g c =
+    prepared_draws c.args.self.now.pages c.prepare.new.self c.args.name.0 c.home-home.result
+    (record_put c.args.change c.home-home.result c.in-Some.tid) (g.C.Chip.told c.args.chip.now)
+    (g.C.Chip.told c.prepare.new.chip) c.home-home.ensures.home refl c.in_ok-prepare.ensures.asks

@@ -75,5 +75,5 @@ returns-clause-faults g c =
     let did = c.in_ok-ready_status.ensures.upholds in
     tells_then c.args.self.now.pages c.ready_status.new.self c.write_sessions_out.new.self
     c.write_sessions_out.result (g.C.Chip.told c.args.chip.now)
-    (g.C.Chip.told c.ready_status.new.chip) did.accounts.counts.places did.keeps
-    c.write_sessions_out.ensures.faults
+    (g.C.Chip.told c.ready_status.new.chip) did.accounts.counts.places
+    c.write_sessions_out.ensures.upholds.active did.keeps c.write_sessions_out.ensures.faults

@@ -1,0 +1,7 @@
+use Rattle.std.proofs.Common.{map, take}
+use Rattle.frame_changes.proofs.WrittenLemmas.{AreNoted}
+use Rattle.frame_changes.proofs.written.note_names.Given as goal
+
+-- so far the names before this one are noted
+abbrev pub invariant-loop-name : goal.invariant-loop-name
+invariant-loop-name l = AreNoted l.initial.written (map (λ n. n.0) (take l.name-index l.names)) l.first l.written
