@@ -28,7 +28,7 @@ view_end stop.Output = Output
 abbrev pub ViewedCause : ImageFault → Told → Told → Type 0
 ViewedCause e old new = (e ≡ image.Geometry) × ¬ IsGeometry old.places
 
--- the lines of the serial view of a script, on so many places
+-- the lines of the serial view of a script, run from no records, on so many places
 abbrev pub view_on : ℕ → List ℕ → List (List ℕ)
 view_on places script = view_lines (limits_for (places - RESERVED_PLACES)) script
 

@@ -35,9 +35,10 @@
 //! no count rises, the script ends in time and the chip is such as the words ask for, the status is
 //! 0, or 5. At 0 a run or a trial was done by a store of as many frames as were asked (`framed`).
 //!
-//! Proved, by `top`: `views`, `untouched`: the serial view of a script: over every desk that tells
-//! its script, what is said is a beginning of its lines, one by one, and at 0 all of them, with
-//! nothing of the script left; over every desk that tells its history no sector is touched.
+//! Proved, by `top`: `views`, `untouched`: the serial view of a script, run from no records: over
+//! every desk that tells its script, what is said is a beginning of its lines, one by one, and at 0
+//! all of them, with nothing of the script left; over every desk that tells its history no sector is
+//! touched.
 //!
 //! Proved, by `MemDesk`, `RealDesk`: in memory: each call as the trait says, failing exactly where
 //! it is told to. Over the real streams: each call as the trait says, and one of the chip is the

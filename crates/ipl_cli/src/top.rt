@@ -248,7 +248,7 @@ fn view_end(stop: ViewStop) -> End
     }
 }
 
-/// Says the serial view of the script. Of the chip only its places are asked.
+/// Says the serial view of the script, run from no records. Of the chip only its places are asked.
 fn say_view<D: Desk>(alloc: Global, desk: &mut D) -> Result<(), End>
     ensures leaves { SerialLeaves result (D.told desk.old) (D.told desk.new) }
     ensures cause { EndCause (Some Serial) result (D.told desk.old) (D.told desk.new) }

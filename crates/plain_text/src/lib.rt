@@ -9,4 +9,4 @@ mod decimal;
 mod text_line;
 
 pub use decimal::number;
-pub use text_line::TextLine;
+pub use text_line::{LINE_LEN, TextLine};

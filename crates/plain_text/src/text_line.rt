@@ -1,15 +1,19 @@
 //! A line of text of bounded length.
 ghost use Rattle.std.specs.Prelude.{◌≡◌, ◌≤◌, ◌+◌, ◌++◌, [], ℕ, List, length};
 ghost use Rattle.std.specs.Fmt.{decimal};
+ghost use Rattle.plain_text.specs.declared.text_line.TheConstants.{LINE_LEN};
 
 use arrayvec::ArrayVec;
 use itoa::Buffer;
 use std::marker::Model;
 
-/// A line of text, at most 256 bytes. A contract sees it as a list.
+/// The bytes of a line, at most: a name, a space, a value of 464 bytes in hex digits and a line feed.
+pub const LINE_LEN: usize = 940;
+
+/// A line of text, at most 940 bytes. A contract sees it as a list.
 #[derive(Debug, Drop)]
 pub struct TextLine {
-    bytes: ArrayVec<u8, 256>,
+    bytes: ArrayVec<u8, LINE_LEN>,
 }
 
 impl Model for TextLine {
@@ -17,7 +21,7 @@ impl Model for TextLine {
 
     ghost view = { λ v. v.bytes.items };
 
-    ghost invariant = { λ v. length v.bytes.items ≤ 256 };
+    ghost invariant = { λ v. length v.bytes.items ≤ LINE_LEN };
 }
 
 impl TextLine {
@@ -33,7 +37,7 @@ impl TextLine {
     /// The bytes of the line.
     pub fn bytes(&self) -> &[u8]
         ensures value { result.now ≡ self.now }
-        ensures fits { length result.now ≤ 256 }
+        ensures fits { length result.now ≤ LINE_LEN }
     {
         self.bytes.as_slice()
     }
@@ -47,7 +51,7 @@ impl TextLine {
 
     /// Appends a text.
     pub fn push(&mut self, text: &[u8])
-        requires { length self.old + length text.now ≤ 256 }
+        requires { length self.old + length text.now ≤ LINE_LEN }
         ensures text { self.new ≡ self.old ++ text.now }
         ensures len { length self.new ≡ length self.old + length text.now }
     {
@@ -56,7 +60,7 @@ impl TextLine {
 
     /// Appends a number in decimal digits.
     pub fn push_number(&mut self, number: u32)
-        requires { length self.old + 10 ≤ 256 }
+        requires { length self.old + 10 ≤ LINE_LEN }
         ensures text { self.new ≡ self.old ++ decimal number }
         ensures len { length self.new ≤ length self.old + 10 }
     {

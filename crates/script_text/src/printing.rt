@@ -1,14 +1,16 @@
 //! The text of a reply.
-ghost use Rattle.std.specs.Prelude.{◌≡◌, ◌≤◌, ◌<◌, ◌+◌, ◌++◌, length};
+ghost use Rattle.std.specs.Prelude.{◌≡◌, ◌≤◌, ◌<◌, ◌+◌, ◌*◌, ◌++◌, length};
+ghost use Rattle.ipl_base.specs.declared.limits.TheConstants.{VALUE_LEN};
 ghost use Rattle.ipl_model.specs.Text.{refusal_text, reply_text, value_text};
+ghost use Rattle.plain_text.specs.declared.text_line.TheConstants.{LINE_LEN};
 
-use ipl_base::{Refusal, Value};
+use ipl_base::{Refusal, VALUE_LEN, Value};
 use ipl_model::Reply;
 use plain_text::TextLine;
 
 /// Appends the number and the word of a refusal.
 fn push_refusal(refusal: Refusal, out: &mut TextLine)
-    requires { length out.old + 32 ≤ 256 }
+    requires { length out.old + 32 ≤ LINE_LEN }
     ensures text { out.new ≡ out.old ++ refusal_text refusal }
     ensures len { length out.new ≤ length out.old + 32 }
 {
@@ -31,6 +33,7 @@ fn push_refusal(refusal: Refusal, out: &mut TextLine)
         Refusal::BadUnit => out.push(b"11 badunit"),
         Refusal::HoldsFull => out.push(b"12 holdsfull"),
         Refusal::NotHeld => out.push(b"13 notheld"),
+        Refusal::PageFull => out.push(b"14 pagefull"),
         Refusal::Twice(s) => {
             out.push(b"15 twice ");
             out.push_number(s);
@@ -40,16 +43,16 @@ fn push_refusal(refusal: Refusal, out: &mut TextLine)
 
 /// Appends a value in hex digits, or a dash where it is empty.
 fn push_value(value: &Value, out: &mut TextLine)
-    requires { length out.old + 216 ≤ 256 }
+    requires { length out.old + 2 * VALUE_LEN ≤ LINE_LEN }
     ensures text { out.new ≡ out.old ++ value_text value.now }
-    ensures len { length out.new ≤ length out.old + 216 }
+    ensures len { length out.new ≤ length out.old + 2 * VALUE_LEN }
 {
     let bytes = value.bytes();
     if bytes.is_empty() {
         out.push(b"-");
         return;
     }
-    let mut digits = [0u8; 216];
+    let mut digits = [0u8; 2 * VALUE_LEN];
     let room = &mut digits[..2 * bytes.len()];
     let _ = hex::encode_to_slice(bytes, room);
     out.push(&digits[..2 * bytes.len()]);
@@ -91,7 +94,7 @@ pub fn print(reply: &Reply, out: &mut TextLine) -> usize
     ensures text { out.new ≡ reply_text reply.now }
     ensures count { result ≡ length (reply_text reply.now) }
     ensures some { 0 < result }
-    ensures fits { result ≤ 256 }
+    ensures fits { result ≤ LINE_LEN }
 {
     print_line(reply, out);
     out.bytes().len()

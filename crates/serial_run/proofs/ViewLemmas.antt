@@ -1,7 +1,8 @@
 -- The view of a script, read and said.
 use Rattle.std.proofs.Common.{◌≡◌, ℕ, List, [], map, Result, Err, sym, ◌∙◌, ap, subst, false}
 use Rattle.std.specs.Prelude.{is_ok}
-use Rattle.ipl_rules.specs.State.{Limits}
+use Rattle.std.specs.FinMap.{empty}
+use Rattle.ipl_rules.specs.State.{State, Limits, at_rest}
 use Rattle.ipl_model.specs.declared.command.Command.{Command}
 use Rattle.chip_trait.specs.Told.{Told}
 use Rattle.serial_view.specs.Serial.{serial}
@@ -9,6 +10,10 @@ use Rattle.serial_view.specs.Laws.{IsSerialView}
 use Rattle.serial_run.specs.View.{position_line, view_lines, ReadsScript, HasReadAll, SaysOnly, OnlySays, SaysView}
 use Rattle.serial_run.specs.declared.stop.ViewStop.{ViewStop}
 use Rattle.serial_run.proofs.SayLemmas.{says_nothing, says_behind_reads, only_says}
+
+-- a model that has no record has no open session either
+pub starts_at_rest : (state : State) → state ≡ at_rest empty → state ≡ at_rest state.map
+starts_at_rest state is = is ∙ ap (λ (st : State). at_rest st.map) (sym is)
 
 -- it stopped before anything was said
 pub view_stopped : (limits : Limits) (script : List ℕ) (old new : Told) (stop : ViewStop) → ReadsScript old new
@@ -20,12 +25,12 @@ view_stopped limits script old new stop reads = record {
 
 pub view_said : (limits : Limits) (script : List ℕ) (commands seen : List Command) (positions shown : List ℕ)
     (old mid new : Told) (result : Result (Unit {0}) ViewStop) → ReadsScript old mid → HasReadAll script commands mid
-    → seen ≡ commands → IsSerialView limits seen positions → shown ≡ positions
+    → seen ≡ commands → IsSerialView limits empty seen positions → shown ≡ positions
     → SaysOnly (map position_line shown) mid new (is_ok result) → new.beside.left ≡ mid.beside.left
     → SaysView limits script old result new
 view_said limits script commands seen positions shown old mid new result reads all is view shows says left =
     let lines : map position_line shown ≡ view_lines limits script =
-    ap (map position_line) (shows ∙ view.order ∙ ap (serial limits) (is ∙ sym all.all)) in
+    ap (map position_line) (shows ∙ view.order ∙ ap (serial limits empty) (is ∙ sym all.all)) in
     record {
       says = says_behind_reads (view_lines limits script) old mid new (is_ok result) reads
           (subst (λ (l : List (List ℕ)). SaysOnly l mid new (is_ok result)) lines says);

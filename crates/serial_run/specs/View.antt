@@ -2,6 +2,7 @@
 use Rattle.std.specs.Prelude.{◌≡◌, ℕ, Bool, true, List, [], ◌++◌, map, reverse, codes, Some, Result, is_ok}
 use Rattle.std.specs.Option.{option_map}
 use Rattle.std.specs.Fmt.{decimal}
+use Rattle.std.specs.FinMap.{empty}
 use Rattle.ipl_rules.specs.State.{Limits}
 use Rattle.ipl_model.specs.declared.command.Command.{Command}
 use Rattle.ipl_model.specs.Grammar.{commands_of}
@@ -18,9 +19,9 @@ use Rattle.serial_run.specs.declared.stop.ViewStop.TheVariants as stop
 abbrev pub position_line : ℕ → List ℕ
 position_line k = decimal k ++ codes "\n"
 
--- the lines of the serial view of a script
+-- the lines of the serial view of a script, run from the empty map
 abbrev pub view_lines : Limits → List ℕ → List (List ℕ)
-view_lines limits script = map position_line (serial limits (commands_of script))
+view_lines limits script = map position_line (serial limits empty (commands_of script))
 
 -- as many bytes of the script were read as make it too long; where it is told it has as many
 pub record ReadsTooMany (old new : Told) : Type 0 where

@@ -1,18 +1,34 @@
 //! The serial view of a script, said line by line.
-ghost use Rattle.std.specs.Prelude.{◌≡◌, ◌-◌, ◌<◌, ◌≤◌, ℕ, List, length, map, Some, is_ok, IfErr, OnErr, IsErrOf, MatchResult};
+ghost use Rattle.std.specs.Prelude.{◌≡◌, ◌-◌, ◌<◌, ◌≤◌, ℕ, List, length, map, Some, is_ok, IfOk, IfErr, OnErr, IsErrOf, MatchResult};
+ghost use Rattle.std.specs.FinMap.{empty};
 ghost use Rattle.chip_trait.specs.declared.event.Event.TheVariants.{Said};
 ghost use Rattle.chip_trait.specs.Told.{Told, Appends, FailsToSay, SayCounts, Rose};
 ghost use Rattle.ipl_model.specs.Plain.{limits_for};
+ghost use Rattle.serial_view.specs.Laws.{IsSerialView};
 ghost use Rattle.serial_run.specs.View.{ReadsScript, OnlySays, SaysOnly, SaysView, ViewCause, position_line};
 
 use crate::ViewStop;
 use crate::read::read_commands;
 use chip_trait::{Desk, Failed};
-use ipl_base::Geometry;
+use ipl_base::{Geometry, OutOfMemory};
+use ipl_model::{Command, PlainModel};
 use itoa::Buffer;
 use plain_text::TextLine;
 use serial_view::serial_order;
 use std::alloc::Global;
+
+/// The serial view of commands that are run from the empty map.
+fn order_from_nothing(
+    alloc: Global,
+    geometry: Geometry,
+    commands: &[Command],
+) -> Result<Vec<usize>, OutOfMemory>
+    ensures { IfOk result (λ order.
+        IsSerialView (limits_for (geometry - 4)) empty commands.now order.items) }
+{
+    let start = PlainModel::new(alloc, geometry)?;
+    serial_order(alloc, geometry, &start, commands)
+}
 
 /// Says the line of a position.
 fn say_position<D: Desk>(desk: &mut D, position: usize) -> Result<(), Failed>
@@ -48,8 +64,8 @@ fn say_positions<D: Desk>(desk: &mut D, positions: &[usize]) -> Result<(), ViewS
     Ok(())
 }
 
-/// Reads the script to its end, and says a line for each position of its serial view: its decimal
-/// digits and a line feed. No sector is touched. Where it stops before, a part of the lines was said;
+/// Reads the script to its end, and says a line for each position of its serial view from the empty
+/// map: its decimal digits and a line feed. No sector is touched. Where it stops before, a part of the lines was said;
 /// where memory is wanting, nothing.
 pub fn say_serial_view<D: Desk>(
     alloc: Global,
@@ -67,7 +83,7 @@ pub fn say_serial_view<D: Desk>(
     ensures cause { IfErr result (λ stop. ViewCause (D.told desk.old) (D.told desk.new) stop) }
 {
     let commands = read_commands(alloc, desk)?;
-    let Ok(order) = serial_order(alloc, geometry, &commands) else {
+    let Ok(order) = order_from_nothing(alloc, geometry, &commands) else {
         return Err(ViewStop::OutOfMemory);
     };
     say_positions(desk, &order)

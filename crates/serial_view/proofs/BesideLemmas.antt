@@ -1,47 +1,59 @@
 -- A session beside others that hold none of its names: where its commands pass among the sessions of a whole run, they
 -- pass beside these too.
-use Rattle.std.proofs.Common.{◌≡◌, ◌≢◌, ◌⊎◌, inl, inr, ℕ, ◌/◌, ◌≤◌, ◌==◌, nat_le, Bool, true, false, cond, not, ◌&&◌, ◌||◌, List, [], ◌∷◌, Option, Some, None, refl, sym, ◌∙◌, ap, subst, arith}
-use Rattle.std.specs.Prelude.{find, is_some, length}
+use Rattle.std.proofs.Common.{◌≡◌, inl, inr, ℕ, ◌+◌, ◌-◌, ◌/◌, ◌≤◌, ◌==◌, nat_le, Bool, true, false, cond, not, ◌&&◌, ◌||◌, List, [], ◌∷◌, Option, Some, None, refl, sym, ◌∙◌, ap, subst, arith}
+use Rattle.std.specs.Prelude.{find, is_some, length, nat_lt}
 use Rattle.std.specs.List.{list_any}
 use Rattle.std.specs.Option.{option_map}
-use Rattle.std.specs.FinMap.{get, insert, entries}
-use Rattle.std.proofs.lemmas.Bool.{cases_eq, cases_Bool, eq-eqb, ne_eqb, and_left, and_right, or_parts, lt-leb}
+use Rattle.std.specs.FinMap.{get, entries}
+use Rattle.std.proofs.Math.Nat.{le-max_left, le-max_right, max-le}
+use Rattle.std.proofs.lemmas.Bool.{cases_eq, eq-eqb, ne_eqb, or_parts}
+use Rattle.std.proofs.lemmas.Bool.Decides.{nat_tests}
 use Rattle.ipl_base.specs.declared.fault.Refusal.{Refusal}
-use Rattle.ipl_rules.specs.State.{Write, Session, State, Limits, last_write, written_names, has_written, has_shared, least_other, pending}
-use Rattle.ipl_rules.specs.Refusals.{refuses_begin, refuses_get, refuses_share, refuses_put, refuses_del, is_new_write, bad_session, bad_name, too_long, already_open, not_open}
+use Rattle.ipl_base.specs.declared.limits.TheConstants.{PAGE_LEN, PENDING_WEIGHT, SLOTS, UNIT_NAMES}
+use Rattle.ipl_base.specs.Sizes.{size_in_page}
+use Rattle.ipl_rules.specs.State.{Map, Write, Session, State, Limits, last_write, written_names, has_written, has_shared, least_other}
+use Rattle.ipl_rules.specs.Marks.{Marks, with_mark, marks_of, marks, fill_with, overfills, overloads}
+use Rattle.ipl_rules.specs.FillLaws.{PageFits, UnitsFit}
+use Rattle.ipl_rules.specs.Refusals.{refuses_begin, refuses_get, refuses_share, refuses_put, refuses_del, Test, bad_session, bad_name, already_open, not_open, page_full}
 use Rattle.ipl_rules.specs.Operations.{new_session}
+use Rattle.ipl_rules.proofs.MarkLemmas.{le_trans, more_than}
+use Rattle.ipl_rules.proofs.FillLemmas.{fills_less}
+use Rattle.ipl_rules.proofs.WeightLemmas.{weights_less}
 use Rattle.ipl_model.specs.declared.command.Command.{Command}
 use Rattle.ipl_model.specs.declared.command.Command.TheVariants as command
 use Rattle.ipl_model.specs.Step.{Stepped, step, refusal_of}
 use Rattle.ipl_model.specs.declared.reply.Reply.TheVariants as reply
-use Rattle.ipl_model.specs.Plain.{refuses_write, writes_in}
-use Rattle.serial_view.proofs.CountLemmas.{counted}
-use Rattle.serial_view.proofs.MemberLemmas.{all_of, Unwritten, none_passes, fewer, one_new}
+use Rattle.ipl_model.specs.Plain.{writes_in}
+use Rattle.serial_view.proofs.MemberLemmas.{none_passes, inserted_less, with_write_less}
 use Rattle.serial_view.proofs.SessionLemmas.{Sessions, insert_twice, with_session, written, shared_too, shared_in, is_unheld, same_some, get_inserted, get_other}
-use Rattle.serial_view.proofs.AloneLemmas.{worker, all_fail, none_holds, range_then, share_tests, write_tests}
+use Rattle.serial_view.proofs.TestLemmas.{worker, Fail, all_fail, none_holds, share_tests, write_tests, put_tests, del_tests}
 use Rattle.serial_view.proofs.StepLemmas.{changed, said, Gives, does, step_accepted}
 
--- the names of a unit
-abbrev pub in_unit : ℕ → ℕ → Bool
-in_unit u n = n / 960 == u
+-- marks that are no greater, over the same records, take no more of a page
+marks_less : (few more : Marks) (m : Map) (page : ℕ) → ((n : ℕ) → few n ≤ more n)
+    → fill_with few m page ≤ fill_with more m page
+marks_less few more m page less = fills_less few more m m page (λ n. max-le (le-max_left _ _)
+    (omega (arith, less n, le-max_right (size_in_page (get m n)) (more n - 1))))
 
 -- the one holds no name that the other wrote, and wrote none that the other shares
 pub record Apart (x y : Session) : Type 0 where
   pub writes : (n : ℕ) → has_written x n ≡ true → (has_written y n || has_shared y n) ≡ false
   pub shares : (n : ℕ) → has_shared x n ≡ true → has_written y n ≡ false
 
+-- a put among these is on the page
+abbrev pub puts_on : List Write → ℕ → Bool
+puts_on [] page = false
+puts_on (w ∷ older) page = (is_some w.1 && (w.0 / SLOTS == page)) || puts_on older page
+
 -- The session may stand beside those of this state: its number is free, it holds no name together with one of them, and
--- with it at most 48 names of each unit are pending.
+-- with it the names of no unit are too heavy, and no page that it put on is too full.
 pub record Beside (B : State) (s : ℕ) (x : Session) : Type 0 where
   pub shut : get B.sessions s ≡ None
   pub apart : (t : ℕ) (y : Session) → get B.sessions t ≡ Some y → Apart x y
-  pub few : (u : ℕ) → counted (in_unit u) (all_of (insert B.sessions s x)) ≤ 48
+  pub few : UnitsFit (with_session B s x)
+  pub room : (page : ℕ) → puts_on x.writes page ≡ true → PageFits (with_session B s x) page
 
 -- ---- what a command adds
-
-is_true : (b : Bool) → (b ≡ true → ⊥) → b ≡ false
-is_true true never = absurd (never refl)
-is_true false never = refl
 
 -- a session goes on to hold what it holds
 written_on : (c : Command) (x : Session) (n : ℕ) → has_written x n ≡ true → has_written (changed c x) n ≡ true
@@ -74,32 +86,56 @@ shared_on (command.Share s k) x n e = go (is_unheld x k)
     go false = e
 shared_on other x n e = e
 
-unwritten_inserted : (f : Sessions) (s : ℕ) (x y : Session) (n : ℕ)
-    → (has_written y n ≡ false → has_written x n ≡ false)
-    → Unwritten (insert f s y) n → Unwritten (insert f s x) n
-unwritten_inserted f s x y n less none t z found = go (cases_eq t s)
+put_on : (c : Command) (x : Session) (page : ℕ) → puts_on x.writes page ≡ true
+    → puts_on (changed c x).writes page ≡ true
+put_on (command.Share s k) x page e = go (is_unheld x k)
   where
-    go : (t ≡ s) ⊎ (t ≡ s → ⊥) → has_written z n ≡ false
-    go (inl same) =
-        let is_x : x ≡ z = same_some x z (sym (ap (get (insert f s x)) same ∙ get_inserted f s x) ∙ found) in
-        subst (λ (w : Session). has_written w n ≡ false) is_x (less (none s y (get_inserted f s y)))
-    go (inr other) =
-        none t z (get_other f s t y other ∙ sym (get_other f s t x other) ∙ found)
+    go : (b : Bool) → puts_on (cond b (shared_too x k) x).writes page ≡ true
+    go true = e
+    go false = e
+put_on (command.Put s k bytes) x page e = ap (λ (b : Bool). (k / SLOTS == page) || b) e ∙ or_true (k / SLOTS == page)
+  where
+    or_true : (a : Bool) → (a || true) ≡ true
+    or_true true = refl
+    or_true false = refl
+put_on other x page e = e
+
+-- what its writes leave is no less after it
+marked_on : (c : Command) (x : Session) (n : ℕ) → marks_of x.writes n ≤ marks_of (changed c x).writes n
+marked_on (command.Share s k) x n = go (is_unheld x k)
+  where
+    go : (b : Bool) → marks_of x.writes n ≤ marks_of (cond b (shared_too x k) x).writes n
+    go true = omega arith
+    go false = omega arith
+marked_on (command.Put s k bytes) x n = more_than (k, Some bytes) x.writes n
+marked_on (command.Del s k) x n = more_than (k, None) x.writes n
+marked_on other x n = omega arith
+
+-- a state whose marks are no greater has the room that the other has, in its units and, over the same records, in pages
+pub fewer_fit : (state after : State) → ((n : ℕ) → marks after n ≤ marks state n) → UnitsFit state → UnitsFit after
+fewer_fit state after less fits unit = le_trans (weights_less (marks after) (marks state) unit less) (fits unit)
+
+pub page_fits : (state after : State) → after.map ≡ state.map → ((n : ℕ) → marks after n ≤ marks state n) → (page : ℕ)
+    → PageFits state page → PageFits after page
+page_fits state after same less page fits =
+    le_trans (subst (λ (m : Map). fill_with (marks after) m page ≤ fill_with (marks state) state.map page) (sym same)
+    (marks_less (marks after) (marks state) state.map page less)) fits
 
 -- so it could stand there before the command too
 pub beside_before : (B : State) (s : ℕ) (c : Command) (x : Session) → Beside B s (changed c x) → Beside B s x
-beside_before B s c x free = record {
-  shut = free.shut;
-  apart = λ t y found. record {
-    writes = λ n e. (free.apart t y found).writes n (written_on c x n e);
-    shares = λ n e. (free.apart t y found).shares n (shared_on c x n e);
-  };
-  few = λ u.
-      let less = fewer (in_unit u) (insert B.sessions s x) (insert B.sessions s (changed c x))
-      (λ n. unwritten_inserted B.sessions s x (changed c x) n (λ e. is_true (has_written x n) (λ w.
-      let on = written_on c x n w in absurd (cc)))) in
-      omega (arith, less, free.few u);
-}
+beside_before B s c x free =
+    let less : (n : ℕ) → marks (with_session B s x) n ≤ marks (with_session B s (changed c x)) n =
+    λ n. inserted_less B.sessions s x (changed c x) n (marked_on c x n) in
+    record {
+      shut = free.shut;
+      apart = λ t y found. record {
+        writes = λ n e. (free.apart t y found).writes n (written_on c x n e);
+        shares = λ n e. (free.apart t y found).shares n (shared_on c x n e);
+      };
+      few = fewer_fit (with_session B s (changed c x)) (with_session B s x) less free.few;
+      room = λ page put. page_fits (with_session B s (changed c x)) (with_session B s x) refl less page
+          (free.room page (put_on c x page put));
+    }
 
 -- ---- tests, beside the others
 
@@ -195,79 +231,67 @@ module _ (limits : Limits) (state B : State) (s : ℕ) (x : Session) (found : ge
         ),
       )
 
-  -- the session wrote the name, or with it one name more of the unit is pending
-  room_beside : (w : Write) → Beside B s (written x w)
-      → (is_new_write st s w.0 && nat_le 48 (pending st (w.0 / 960))) ≡ false
-  room_beside w free = elim (cases_Bool (has_written x w.0)) [
-    | inl old ↦
-        and_left _ _ (ap (is_new w.0) (get_inserted B.sessions s x) ∙ ap not old)
-    | inr new ↦
-        let p = in_unit (w.0 / 960) in
-        let none : Unwritten st.sessions w.0 = fresh new in
-        let more = one_new p (insert B.sessions s (written x w)) st.sessions w (eq-eqb (w.0 / 960) (w.0 / 960) refl)
-        none sub in
-        let most : counted p (all_of (insert B.sessions s (written x w))) ≤ 48 = free.few (w.0 / 960) in
-        and_right _ _ (lt-leb 48 (pending st (w.0 / 960)) (omega (arith, more, most)))
-  ]
+  module _ (w : Write) (free : Beside B s (written x w)) where
+    -- with the write the marks are no more than those of the session behind it
+    no_more : (n : ℕ) → with_mark (marks st) w.0 (1 + size_in_page w.1) n ≤ marks (with_session B s (written x w)) n
+    no_more n = with_write_less B.sessions s x w n
+
+    -- so the names of its unit aren't too heavy
+    light : overloads (marks st) w.0 (1 + size_in_page w.1) ≡ false
+    light = not_above _ (le_trans (weights_less _ _ (w.0 / UNIT_NAMES) no_more) (free.few (w.0 / UNIT_NAMES)))
+      where
+        not_above : (weight : ℕ) → weight ≤ PENDING_WEIGHT → nat_lt PENDING_WEIGHT weight ≡ false
+        not_above weight low = grind (arith, nat_tests)
+
+    its : has_written (written x w) w.0 ≡ true
+    its = ap (λ (b : Bool). is_some (cond b (Some w.1) (last_write x.writes w.0))) (eq-eqb w.0 w.0 refl)
+
+    abbrev holds_it : Session → Bool
+    holds_it session = has_written session w.0 || has_shared session w.0
+
+    -- the tests of a write
+    write_passes : (more fewer : List Test) → Fail (write_tests state s w more) → Fail fewer
+        → Fail (write_tests st s w fewer)
+    write_passes more fewer f rest = (
+      same_test closed f.0,
+      (
+        no_holder holds_it (λ t y there. (free.apart t y there).writes w.0 its),
+        (same_test (too_many_writes w.0) f.1.1.0, (light, rest)),
+      ),
+    )
+
+  -- and a put's page isn't too full
+  roomy : (n : ℕ) (bytes : List ℕ) → Beside B s (written x (n, Some bytes)) → overfills st n bytes ≡ false
+  roomy n bytes free =
+      let put : puts_on ((n, Some bytes) ∷ x.writes) (n / SLOTS) ≡ true =
+      ap (λ (b : Bool). b || puts_on x.writes (n / SLOTS)) (eq-eqb (n / SLOTS) (n / SLOTS) refl) in
+      let less = marks_less _ _ B.map (n / SLOTS) (no_more (n, Some bytes) free) in
+      not_above _ (le_trans less (free.room (n / SLOTS) put))
     where
-      its : has_written (written x w) w.0 ≡ true
-      its = ap (λ (b : Bool). is_some (cond b (Some w.1) (last_write x.writes w.0))) (eq-eqb w.0 w.0 refl)
-
-      fresh : has_written x w.0 ≡ false → Unwritten st.sessions w.0
-      fresh new t y there = elim (cases_eq t s) [
-        | inl same ↦
-            let is_x : x ≡ y = same_some x y
-            (sym (ap (get st.sessions) same ∙ get_inserted B.sessions s x) ∙ there) in
-            subst (λ (z : Session). has_written z w.0 ≡ false) is_x new
-        | inr other ↦
-            let at = sym (get_other B.sessions s t x other) ∙ there in
-            (or_parts _ _ ((free.apart t y at).writes w.0 its)).0
-      ]
-
-      sub : (n : ℕ) → Unwritten (insert B.sessions s (written x w)) n → (w.0 ≢ n) × (Unwritten st.sessions n)
-      sub n none =
-          let mine : has_written (written x w) n ≡ false = none s (written x w) (get_inserted B.sessions s (written x w)) in (
-            λ same. (let yes : has_written (written x w) n ≡ true = ap (has_written (written x w)) (sym same) ∙ its in
-                absurd (cc)),
-            unwritten_inserted B.sessions s x (written x w) n (λ e. is_true (has_written x n) (λ wr.
-                let on = written_on (command.Put s w.0 []) x n wr in old_stays n wr e)) none,
-          )
-        where
-          old_stays : (n : ℕ) → has_written x n ≡ true → has_written (written x w) n ≡ false → ⊥
-          old_stays n wr e = go (w.0 == n) e
-            where
-              go : (b : Bool) → is_some (cond b (Some w.1) (last_write x.writes n)) ≡ false → ⊥
-              go true e = absurd (cc)
-              go false e = absurd (cc)
-
-  writes_beside : (w : Write) → Beside B s (written x w) → refuses_write state s w.0 ≡ None
-      → refuses_write st s w.0 ≡ None
-  writes_beside w free passes =
-      let f = all_fail (write_tests state s w.0) passes in
-      none_holds (write_tests st s w.0) (
-        same_test closed f.0,
-        (
-          no_holder (λ session. has_written session w.0 || has_shared session w.0) (λ t y there.
-              (free.apart t y there).writes w.0 its),
-          (same_test (too_many_writes w.0) f.1.1.0, (room_beside w free, tt)),
-        ),
-      )
-    where
-      its : has_written (written x w) w.0 ≡ true
-      its = ap (λ (b : Bool). is_some (cond b (Some w.1) (last_write x.writes w.0))) (eq-eqb w.0 w.0 refl)
+      not_above : (size : ℕ) → size ≤ PAGE_LEN → nat_lt PAGE_LEN size ≡ false
+      not_above size low = grind (arith, nat_tests)
 
   puts_beside : (n : ℕ) (bytes : List ℕ) → Beside B s (written x (n, Some bytes))
       → refuses_put limits state s n bytes ≡ None → refuses_put limits st s n bytes ≡ None
   puts_beside n bytes free passes =
-      let range = bad_session limits s ∷ bad_name limits n ∷ too_long bytes ∷ [] in
-      range_then range (refuses_write state s n) (refuses_write st s n) passes
-      (writes_beside (n, Some bytes) free)
+      let f = all_fail (put_tests limits state s n bytes) passes in
+      none_holds (put_tests limits st s n bytes) (
+        f.0,
+        (
+          f.1.0,
+          (
+            f.1.1.0,
+            write_passes (n, Some bytes) free (page_full state n bytes ∷ []) (page_full st n bytes ∷ [])
+                f.1.1.1 (roomy n bytes free, tt),
+          ),
+        ),
+      )
 
   dels_beside : (n : ℕ) → Beside B s (written x (n, None)) → refuses_del limits state s n ≡ None
       → refuses_del limits st s n ≡ None
   dels_beside n free passes =
-      let range = bad_session limits s ∷ bad_name limits n ∷ [] in
-      range_then range (refuses_write state s n) (refuses_write st s n) passes (writes_beside (n, None) free)
+      let f = all_fail (del_tests limits state s n) passes in
+      none_holds (del_tests limits st s n) (f.0, (f.1.0, write_passes (n, None) free [] [] f.1.1 tt))
 
   -- what passes for the session passes for another number that is the same
   at_session : (refuses : State → ℕ → Option Refusal) (t : ℕ) → Some t ≡ Some s

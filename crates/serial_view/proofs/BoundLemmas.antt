@@ -1,21 +1,24 @@
--- What holds of the open sessions of every run: no two of them wrote one name, and of each unit at most 48 names are
--- pending. So each of them may stand beside any others of them.
-use Rattle.std.proofs.Common.{◌≡◌, ◌≢◌, ◌⊎◌, inl, inr, ℕ, ◌+◌, ◌/◌, ◌≤◌, ◌==◌, nat_le, Bool, true, false, not, ◌&&◌, ◌||◌, List, ◌∷◌, Option, Some, None, refl, sym, ◌∙◌, ap, subst, arith}
+-- What holds of the open sessions of every run: no two of them wrote one name, of no unit their names are too heavy,
+-- and each page that one of them put on has room. So each may stand beside any others of them, over the same records.
+use Rattle.std.proofs.Common.{◌≡◌, ◌⊎◌, inl, inr, ℕ, ◌/◌, ◌≤◌, ◌==◌, Bool, true, false, cond, ◌||◌, List, [], Some, None, refl, sym, ◌∙◌, ap, subst, arith}
 use Rattle.std.specs.Prelude.{is_some}
-use Rattle.std.specs.List.{flat_map}
 use Rattle.std.specs.FinMap.{get, insert, empty}
-use Rattle.std.proofs.lemmas.Bool.{cases_eq, ne_eqb, eqb-true, and_cases, or_parts, leb-false}
-use Rattle.ipl_rules.specs.State.{Write, Session, State, Limits, last_write, has_written, has_shared, least_other}
-use Rattle.ipl_rules.specs.Refusals.{is_new_write, bad_session, bad_name, too_long}
+use Rattle.std.proofs.lemmas.Bool.{cases_eq, eqb-true, or_cases, or_parts}
+use Rattle.ipl_base.specs.declared.limits.TheConstants.{SLOTS}
+use Rattle.ipl_rules.specs.State.{Map, Session, State, Limits, at_rest, has_written, has_shared, least_other}
+use Rattle.ipl_rules.specs.Marks.{marks, overfills}
+use Rattle.ipl_rules.specs.FillLaws.{PageFits, UnitsFit}
+use Rattle.ipl_rules.specs.Operations.{after_write}
+use Rattle.ipl_rules.proofs.MarkLemmas.{by_number}
+use Rattle.ipl_rules.proofs.FillLemmas.{pages_stay_fit, puts_make_pages_fit}
+use Rattle.ipl_rules.proofs.WeightLemmas.{weights_less, weights_none, units_stay_fit}
 use Rattle.ipl_model.specs.declared.command.Command.{Command}
 use Rattle.ipl_model.specs.declared.command.Command.TheVariants as command
 use Rattle.ipl_model.specs.Step.{refusal_of, accepted}
-use Rattle.ipl_model.specs.Plain.{writes_in}
-use Rattle.serial_view.proofs.CountLemmas.{counted, adds, is_in}
-use Rattle.serial_view.proofs.MemberLemmas.{all_of, Unwritten, unwritten, fewer, one_more}
-use Rattle.serial_view.proofs.SessionLemmas.{Sessions, entries-empty, same_some, none_open, get_inserted, get_other}
-use Rattle.serial_view.proofs.AloneLemmas.{worker, all_fail, write_tests}
-use Rattle.serial_view.proofs.BesideLemmas.{Beside, in_unit}
+use Rattle.serial_view.proofs.MemberLemmas.{PartOf, part_less}
+use Rattle.serial_view.proofs.SessionLemmas.{Sessions, with_session, shared_too, is_unheld, same_some, none_open, get_inserted, get_other}
+use Rattle.serial_view.proofs.TestLemmas.{worker, all_fail, put_tests, del_tests}
+use Rattle.serial_view.proofs.BesideLemmas.{Beside, puts_on, fewer_fit, page_fits}
 use Rattle.serial_view.proofs.StepLemmas.{changed}
 use Rattle.serial_view.proofs.SessionStepLemmas.{Worked, After, how}
 use Rattle.serial_view.proofs.LockLemmas.{Locked, no_other, writes, written_then}
@@ -25,21 +28,24 @@ abbrev pub Sole : Sessions → Type 0
 Sole f = (s u : ℕ) (x y : Session) → get f s ≡ Some x → get f u ≡ Some y → (s ≡ u → ⊥)
     → (n : ℕ) → has_written x n ≡ true → has_written y n ≡ false
 
--- of each unit at most 48 names are pending
-abbrev pub Bounded : Sessions → Type 0
-Bounded f = (u : ℕ) → counted (in_unit u) (all_of f) ≤ 48
+-- each page that an open session put on has room for whatever comes of the open sessions
+abbrev pub Filled : State → Type 0
+Filled state = (s : ℕ) (x : Session) (page : ℕ) → get state.sessions s ≡ Some x → puts_on x.writes page ≡ true
+    → PageFits state page
 
 pub none_sole : Sole empty
 none_sole s u x y here there other n is = absurd (none_open s x here)
 
-pub none_bounded : Bounded empty
-none_bounded u =
-    let less = fewer (in_unit u) empty empty (λ n e. e) in
-    let none : counted (in_unit u) (all_of empty) ≡ 0 =
-    ap (λ (l : List (ℕ × Session)). counted (in_unit u) (flat_map (λ e. e.1.writes) l)) entries-empty in
-    omega (arith, none)
+pub none_heavy : (m : Map) → UnitsFit (at_rest m)
+none_heavy m unit = omega (arith, weights_less (marks (at_rest m)) (λ n. 0) unit none, weights_none unit)
+  where
+    none : (n : ℕ) → marks (at_rest m) n ≤ 0
+    none n = by_number empty n 0 (λ s x found. absurd (none_open s x found))
 
--- ---- a command keeps both
+pub none_filled : (m : Map) → Filled (at_rest m)
+none_filled m s x page found put = absurd (none_open s x found)
+
+-- ---- a command keeps all three
 
 written_before : (c : Command) (x : Session) (k : ℕ) → has_written (changed c x) k ≡ true
     → (has_written x k ≡ true) ⊎ (writes c k ≡ true)
@@ -51,6 +57,23 @@ written_before c x k is = go (has_written x k) (writes c k) refl refl
     go false false old new =
         let none = written_then c x k old new in
         absurd (cc)
+
+-- a page that is put on after a command was before, or the command puts on it
+put_before : (c : Command) (x : Session) (page : ℕ) → puts_on (changed c x).writes page ≡ true
+    → (puts_on x.writes page ≡ true)
+    ⊎ ((t n : ℕ) × (bytes : List ℕ) × (c ≡ command.Put t n bytes) × (n / SLOTS ≡ page))
+put_before (command.Share s k) x page e = go (is_unheld x k) e
+  where
+    go : (b : Bool) → puts_on (cond b (shared_too x k) x).writes page ≡ true
+        → (puts_on x.writes page ≡ true)
+        ⊎ ((t n : ℕ) × (bytes : List ℕ) × (command.Share s k ≡ command.Put t n bytes) × (n / SLOTS ≡ page))
+    go true e = inl e
+    go false e = inl e
+put_before (command.Put s k bytes) x page e = elim (or_cases (k / SLOTS == page) (puts_on x.writes page) e) [
+  | inl here ↦ inr (s, k, bytes, refl, eqb-true (k / SLOTS) page here)
+  | inr old ↦ inl old
+]
+put_before other x page e = inl e
 
 module _ (limits : Limits) (state : State) where
   wrote_none : (n t s u : ℕ) (y : Session) (k : ℕ) → (n == k) ≡ true → Some t ≡ Some s
@@ -67,10 +90,10 @@ module _ (limits : Limits) (state : State) where
       → worker c ≡ Some s → writes c k ≡ true → get state.sessions u ≡ Some y → (s ≡ u → ⊥)
       → has_written y k ≡ false
   sole_write (command.Put t n bytes) s u y k passes e is found other =
-      let f = all_fail (bad_session limits t ∷ bad_name limits n ∷ too_long bytes ∷ write_tests state t n) passes in
+      let f = all_fail (put_tests limits state t n bytes) passes in
       wrote_none n t s u y k is e found other f.1.1.1.1.0
   sole_write (command.Del t n) s u y k passes e is found other =
-      let f = all_fail (bad_session limits t ∷ bad_name limits n ∷ write_tests state t n) passes in
+      let f = all_fail (del_tests limits state t n) passes in
       wrote_none n t s u y k is e found other f.1.1.1.0
   sole_write rest s u y k passes e is found other = absurd (cc)
 
@@ -101,86 +124,72 @@ module _ (limits : Limits) (state : State) where
           ∙ written_then c b.0 n (sole s u x b.0 a.0 b.1 other n is) (not_written b a.0 (writes c n) refl)
       go (inr (inr a)) (inr (inr b)) = absurd (other (same_some s u (sym a.2 ∙ b.2)))
 
-  -- what nobody wrote, and the command doesn't write, nobody wrote after it
-  unwritten_then : (c : Command) (n : ℕ) → writes c n ≡ false → Unwritten state.sessions n
-      → Unwritten (accepted state c).0.sessions n
-  unwritten_then c n not_now none s y found = go (how state c s y found)
+  -- no unit's names get too heavy
+  pub units_kept : (c : Command) → refusal_of limits state c ≡ None → UnitsFit state → UnitsFit (accepted state c).0
+  units_kept (command.Begin s) passes old = (units_stay_fit state s 0 (0, None) old).begins
+  units_kept (command.Get s n) passes old = old
+  units_kept (command.Share s n) passes old = (units_stay_fit state s n (0, None) old).shares
+  units_kept (command.Put t n bytes) passes old =
+      let f = all_fail (put_tests limits state t n bytes) passes in
+      (units_stay_fit state t n (n, Some bytes) old).writes f.1.1.1.1.1.1.0
+  units_kept (command.Del t n) passes old =
+      let f = all_fail (del_tests limits state t n) passes in
+      (units_stay_fit state t n (n, None) old).writes f.1.1.1.1.1.0
+  units_kept (command.Commit s) passes old = (units_stay_fit state s 0 (0, None) old).commits
+  units_kept (command.Batch ss) passes old = (units_stay_fit state 0 0 (0, None) old).batches ss
+  units_kept (command.Abort s) passes old = (units_stay_fit state s 0 (0, None) old).aborts
+  units_kept (command.List a b) passes old = old
+  units_kept (command.Merge u) passes old = old
+  units_kept command.Restart passes old = (units_stay_fit state 0 0 (0, None) old).restarts
+  units_kept command.Syntax passes old = old
+
+  has_room : (t n : ℕ) (bytes : List ℕ) → refusal_of limits state (command.Put t n bytes) ≡ None
+      → overfills state n bytes ≡ false
+  has_room t n bytes passes = (all_fail (put_tests limits state t n bytes) passes).1.1.1.1.1.1.1.0
+
+  -- a page that has room goes on to have it
+  page_kept : (c : Command) → refusal_of limits state c ≡ None → (page : ℕ) → PageFits state page
+      → PageFits (accepted state c).0 page
+  page_kept (command.Begin s) passes page old = (pages_stay_fit state s 0 [] page old).begins
+  page_kept (command.Get s n) passes page old = old
+  page_kept (command.Share s n) passes page old = (pages_stay_fit state s n [] page old).shares
+  page_kept (command.Put t n bytes) passes page old =
+      (pages_stay_fit state t n bytes page old).puts (has_room t n bytes passes)
+  page_kept (command.Del t n) passes page old = (pages_stay_fit state t n [] page old).dels
+  page_kept (command.Commit s) passes page old = (pages_stay_fit state s 0 [] page old).commits
+  page_kept (command.Batch ss) passes page old = (pages_stay_fit state 0 0 [] page old).batches ss
+  page_kept (command.Abort s) passes page old = (pages_stay_fit state s 0 [] page old).aborts
+  page_kept (command.List a b) passes page old = old
+  page_kept (command.Merge u) passes page old = old
+  page_kept command.Restart passes page old = (pages_stay_fit state 0 0 [] page old).restarts
+  page_kept command.Syntax passes page old = old
+
+  -- and one that a session puts on has it from then on
+  pub filled_kept : (c : Command) → refusal_of limits state c ≡ None → Filled state → Filled (accepted state c).0
+  filled_kept c passes filled s y page found put = go (how state c s y found)
     where
-      go : After state c s y → has_written y n ≡ false
-      go (inl a) = none s y a.0
-      go (inr (inl b)) = ap (λ (z : Session). has_written z n) b.1
-      go (inr (inr w)) =
-          ap (λ (z : Session). has_written z n) w.3 ∙ written_then c w.0 n (none s w.0 w.1) not_now
+      before : (x : Session) → get state.sessions s ≡ Some x → puts_on x.writes page ≡ true
+          → PageFits (accepted state c).0 page
+      before x there old = page_kept c passes page (filled s x page there old)
 
-  bounded_write : (c : Command) (s : ℕ) (w : Write) → ((n : ℕ) → w.0 ≢ n → writes c n ≡ false)
-      → (is_new_write state s w.0 && nat_le 48 (counted (in_unit (w.0 / 960)) (all_of state.sessions))) ≡ false
-      → Bounded state.sessions → Bounded (accepted state c).0.sessions
-  bounded_write c s w others room old u =
-      let more = one_more (in_unit u) (accepted state c).0.sessions state.sessions w
-      (λ n other none. unwritten_then c n (others n other) none) in
-      go (is_in (all_of state.sessions) w.0) (in_unit u w.0) refl refl more
-    where
-      fresh : is_in (all_of state.sessions) w.0 ≡ false → is_new_write state s w.0 ≡ true
-      fresh none = by_session (get state.sessions s) refl
-        where
-          by_session : (o : Option Session) → get state.sessions s ≡ o → is_new_write state s w.0 ≡ true
-          by_session None is =
-              ap (λ (o : Option Session). not (is_some (last_write (writes_in o) w.0))) is
-          by_session (Some y) is =
-              ap (λ (o : Option Session). not (is_some (last_write (writes_in o) w.0))) is
-              ∙ ap not (unwritten state.sessions w.0 none s y is)
-
-      go : (a b : Bool) → is_in (all_of state.sessions) w.0 ≡ a → in_unit u w.0 ≡ b
-          → counted (in_unit u) (all_of (accepted state c).0.sessions)
-          ≤ adds (is_in (all_of state.sessions) w.0) (in_unit u w.0) + counted (in_unit u) (all_of state.sessions)
-          → counted (in_unit u) (all_of (accepted state c).0.sessions) ≤ 48
-      go true b there passes more =
-          let none : adds (is_in (all_of state.sessions) w.0) (in_unit u w.0) ≡ 0 =
-          ap (λ (t : Bool). adds t (in_unit u w.0)) there in
-          omega (arith, more, none, old u)
-      go false false there passes more =
-          let none : adds (is_in (all_of state.sessions) w.0) (in_unit u w.0) ≡ 0 =
-          ap (λ (t : Bool). adds t (in_unit u w.0)) there ∙ ap (adds false) passes in
-          omega (arith, more, none, old u)
-      go false true there passes more =
-          let one : adds (is_in (all_of state.sessions) w.0) (in_unit u w.0) ≡ 1 =
-          ap (λ (t : Bool). adds t (in_unit u w.0)) there ∙ ap (adds false) passes in
-          let unit_is : w.0 / 960 ≡ u = eqb-true (w.0 / 960) u passes in
-          let full : nat_le 48 (counted (in_unit u) (all_of state.sessions)) ≡ false =
-          ap (λ (v : ℕ). nat_le 48 (counted (in_unit v) (all_of state.sessions))) (sym unit_is)
-          ∙ elim (and_cases (is_new_write state s w.0) (nat_le 48 (counted (in_unit (w.0 / 960)) (all_of state.sessions))) room) [
-            | inl no_new ↦ (let new = fresh there in absurd (cc))
-            | inr few ↦ few
-          ] in
-          let below = leb-false 48 (counted (in_unit u) (all_of state.sessions)) full in
-          omega (arith, more, one, below)
-
-  bounded_other : (c : Command) → ((n : ℕ) → writes c n ≡ false) → Bounded state.sessions
-      → Bounded (accepted state c).0.sessions
-  bounded_other c none old u =
-      let less = fewer (in_unit u) (accepted state c).0.sessions state.sessions
-      (λ n e. unwritten_then c n (none n) e) in
-      omega (arith, less, old u)
-
-  pub bounded_kept : (c : Command) → refusal_of limits state c ≡ None → Bounded state.sessions
-      → Bounded (accepted state c).0.sessions
-  bounded_kept (command.Put t n bytes) passes old =
-      let f = all_fail (bad_session limits t ∷ bad_name limits n ∷ too_long bytes ∷ write_tests state t n) passes in
-      bounded_write (command.Put t n bytes) t (n, Some bytes) (λ k other. ne_eqb n k other) f.1.1.1.1.1.1.0 old
-  bounded_kept (command.Del t n) passes old =
-      let f = all_fail (bad_session limits t ∷ bad_name limits n ∷ write_tests state t n) passes in
-      bounded_write (command.Del t n) t (n, None) (λ k other. ne_eqb n k other) f.1.1.1.1.1.0 old
-  bounded_kept other passes old = bounded_other other (λ n. refl) old
+      go : After state c s y → PageFits (accepted state c).0 page
+      go (inl a) = before y a.0 put
+      go (inr (inl b)) = absurd (let none = ap (λ (z : Session). puts_on z.writes page) b.1 in cc)
+      go (inr (inr w)) = elim (put_before c w.0 page (ap (λ (z : Session). puts_on z.writes page) (sym w.3) ∙ put)) [
+        | inl old ↦ before w.0 w.1 old
+        | inr new ↦
+            subst (λ (d : Command). PageFits (accepted state d).0 page) (sym new.3)
+            (subst (λ (p : ℕ). PageFits (after_write state new.0 (new.1, Some new.2)) p) new.4
+            (puts_make_pages_fit state new.0 new.1 new.2
+            (has_room new.0 new.1 new.2 (subst (λ (d : Command). refusal_of limits state d ≡ None) new.3 passes))))
+      ]
 
 -- ---- so each may stand beside others of the run
 
--- the sessions of this state are sessions of the run, as they stand there
-abbrev pub PartOf : Sessions → Sessions → Type 0
-PartOf f g = (t : ℕ) (y : Session) → get f t ≡ Some y → get g t ≡ Some y
-
-pub may_stand : (B : State) (f : Sessions) (s : ℕ) (x : Session) → Locked f → Sole f → Bounded f
-    → PartOf B.sessions f → get f s ≡ Some x → get B.sessions s ≡ None → Beside B s x
-may_stand B f s x locked sole bounded part found shut = record {
+pub may_stand : (B state : State) (s : ℕ) (x : Session) → Locked state.sessions → Sole state.sessions → UnitsFit state
+    → Filled state → B.map ≡ state.map → PartOf B.sessions state.sessions → get state.sessions s ≡ Some x
+    → get B.sessions s ≡ None → Beside B s x
+may_stand B state s x locked sole light filled maps part found shut = record {
   shut = shut;
   apart = λ t y there.
       let other : s ≡ t → ⊥ = λ same. (let none : get B.sessions t ≡ None = ap (get B.sessions) (sym same) ∙ shut in absurd (cc)) in
@@ -191,22 +200,25 @@ may_stand B f s x locked sole bounded part found shut = record {
             ap (λ (b : Bool). b || has_shared y n) none_wrote ∙ none_shares;
         shares = λ n is. locked s t x y found (part t y there) other n is;
       };
-  few = λ u.
-      let less = fewer (in_unit u) (insert B.sessions s x) f (λ n none t y there. go n none t y there (cases_eq t s)) in
-      omega (arith, less, bounded u);
+  few = fewer_fit state (with_session B s x) less light;
+  room = λ page put. page_fits state (with_session B s x) maps less page (filled s x page found put);
 }
   where
-    not_shared : (t : ℕ) (y : Session) → get f t ≡ Some y → (t ≡ s → ⊥) → (n : ℕ) → has_written x n ≡ true
+    not_shared : (t : ℕ) (y : Session) → get state.sessions t ≡ Some y → (t ≡ s → ⊥) → (n : ℕ) → has_written x n ≡ true
         → (b : Bool) → has_shared y n ≡ b → has_shared y n ≡ false
     not_shared t y there other n is true shares =
         let none = locked t s y x there found other n shares in
         absurd (cc)
     not_shared t y there other n is false shares = shares
 
-    go : (n : ℕ) → Unwritten f n → (t : ℕ) (y : Session) → get (insert B.sessions s x) t ≡ Some y
-        → (t ≡ s) ⊎ (t ≡ s → ⊥) → has_written y n ≡ false
-    go n none t y there (inl same) =
-        let is_x : x ≡ y = same_some x y (sym (ap (get (insert B.sessions s x)) same ∙ get_inserted B.sessions s x) ∙ there) in
-        subst (λ (z : Session). has_written z n ≡ false) is_x (none s x found)
-    go n none t y there (inr other) =
-        none t y (part t y (sym (get_other B.sessions s t x other) ∙ there))
+    with_it : PartOf (with_session B s x).sessions state.sessions
+    with_it t y there = go (cases_eq t s)
+      where
+        go : (t ≡ s) ⊎ (t ≡ s → ⊥) → get state.sessions t ≡ Some y
+        go (inl same) =
+            ap (get state.sessions) same ∙ found
+            ∙ sym (ap (get (insert B.sessions s x)) same ∙ get_inserted B.sessions s x) ∙ there
+        go (inr other) = part t y (sym (get_other B.sessions s t x other) ∙ there)
+
+    less : (n : ℕ) → marks (with_session B s x) n ≤ marks state n
+    less n = part_less (with_session B s x).sessions state.sessions n with_it

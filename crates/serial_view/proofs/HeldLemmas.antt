@@ -2,10 +2,10 @@
 use Rattle.std.proofs.Common.{◌≡◌, ◌⊎◌, inl, inr, ℕ, zero, suc, ◌==◌, Bool, true, false, cond, not, ◌&&◌, ◌||◌, List, [], ◌∷◌, Option, Some, None, refl, sym, ◌∙◌, ap, subst}
 use Rattle.std.specs.Prelude.{is_some}
 use Rattle.std.specs.List.{list_any}
-use Rattle.std.specs.FinMap.{get, empty}
+use Rattle.std.specs.FinMap.{get}
 use Rattle.std.proofs.lemmas.Bool.{cases_Bool, and_left, eqb-true}
 use Rattle.std.proofs.lemmas.List.Folds.{list_any-append}
-use Rattle.ipl_rules.specs.State.{Session, State, Limits, last_write, has_written, has_shared}
+use Rattle.ipl_rules.specs.State.{Map, Session, State, Limits, last_write, has_written, has_shared}
 use Rattle.ipl_rules.specs.Refusals.{bad_session, bad_name, not_open}
 use Rattle.ipl_model.specs.declared.command.Command.{Command}
 use Rattle.ipl_model.specs.declared.command.Command.TheVariants as command
@@ -13,7 +13,7 @@ use Rattle.ipl_model.specs.Step.{refusal_of, accepted}
 use Rattle.serial_view.specs.Serial.{command_at, met_at, is_accepted, turns}
 use Rattle.serial_view.specs.Laws.{holds_name, reads_unlocked, is_unlocked}
 use Rattle.serial_view.proofs.SessionLemmas.{shared_too, is_unheld_in, none_open}
-use Rattle.serial_view.proofs.AloneLemmas.{worker, all_fail}
+use Rattle.serial_view.proofs.TestLemmas.{worker, all_fail}
 use Rattle.serial_view.proofs.StepLemmas.{changed}
 use Rattle.serial_view.proofs.SessionStepLemmas.{After, how, worker_commits}
 use Rattle.serial_view.proofs.TurnLemmas.{turn_is, begins_is, turns_begun, turns_on, turns_same}
@@ -81,12 +81,12 @@ held_then other x s n e = absurd (cc)
 
 -- ---- over the turns of a session
 
-module _ (limits : Limits) (commands : List Command) (n : ℕ) where
+module _ (limits : Limits) (m : Map) (commands : List Command) (n : ℕ) where
   abbrev c : ℕ → Command
   c k = command_at commands k
 
   abbrev met : ℕ → State
-  met k = met_at limits empty commands k
+  met k = met_at limits m commands k
 
   -- one of these writes or shares the name
   abbrev any_held : List ℕ → Bool
@@ -94,36 +94,36 @@ module _ (limits : Limits) (commands : List Command) (n : ℕ) where
 
   -- what the turns of the sessions hold at a position is what the sessions hold
   abbrev HoldsAt : ℕ → ℕ → Type 0
-  HoldsAt s k = (x : Session) → get (met k).sessions s ≡ Some x → any_held (turns limits commands s k) ≡ held x n
+  HoldsAt s k = (x : Session) → get (met k).sessions s ≡ Some x → any_held (turns limits m commands s k) ≡ held x n
 
-  holds_on : (k s : ℕ) → is_accepted limits commands k ≡ true → HoldsAt s k → HoldsAt s (suc k)
+  holds_on : (k s : ℕ) → is_accepted limits m commands k ≡ true → HoldsAt s k → HoldsAt s (suc k)
   holds_on k s ok earlier x found = go (how (met k) (c k) s x found_now)
     where
       found_now : get (accepted (met k) (c k)).0.sessions s ≡ Some x
-      found_now = ap (λ (state : State). get state.sessions s) (sym (met_accepted limits empty commands k ok)) ∙ found
+      found_now = ap (λ (state : State). get state.sessions s) (sym (met_accepted limits m commands k ok)) ∙ found
 
-      go : After (met k) (c k) s x → any_held (turns limits commands s (suc k)) ≡ held x n
+      go : After (met k) (c k) s x → any_held (turns limits m commands s (suc k)) ≡ held x n
       go (inl a) =
-          ap any_held (turns_same limits commands s k (turn_is limits commands s k false ok a.1)) ∙ earlier x a.0
+          ap any_held (turns_same limits m commands s k (turn_is limits m commands s k false ok a.1)) ∙ earlier x a.0
       go (inr (inl b)) =
-          ap any_held (turns_begun limits commands s k (begins_is limits commands s k ok b.0))
+          ap any_held (turns_begun limits m commands s k (begins_is limits m commands s k ok b.0))
           ∙ ap (λ (d : Command). holds_name n d || false) b.0 ∙ ap (λ (y : Session). held y n) (sym b.1)
       go (inr (inr w)) =
           let facts = worker_commits (c k) s w.2 in
-          ap any_held (turns_on limits commands s k facts.1 (turn_is limits commands s k true ok facts.2))
-          ∙ list_any-append (λ j. holds_name n (c j)) (turns limits commands s k) (k ∷ [])
+          ap any_held (turns_on limits m commands s k facts.1 (turn_is limits m commands s k true ok facts.2))
+          ∙ list_any-append (λ j. holds_name n (c j)) (turns limits m commands s k) (k ∷ [])
           ∙ ap (λ (b : Bool). b || (holds_name n (c k) || false)) (earlier w.0 w.1)
           ∙ sym (held_then (c k) w.0 s n w.2) ∙ ap (λ (y : Session). held y n) (sym w.3)
 
   held_by_turns : (k s : ℕ) → HoldsAt s k
   held_by_turns zero s x found = absurd (none_open s x found)
-  held_by_turns (suc k) s x found = go (cases_Bool (is_accepted limits commands k)) (held_by_turns k s)
+  held_by_turns (suc k) s x found = go (cases_Bool (is_accepted limits m commands k)) (held_by_turns k s)
     where
-      go : (is_accepted limits commands k ≡ true) ⊎ (is_accepted limits commands k ≡ false) → HoldsAt s k
-          → any_held (turns limits commands s (suc k)) ≡ held x n
+      go : (is_accepted limits m commands k ≡ true) ⊎ (is_accepted limits m commands k ≡ false) → HoldsAt s k
+          → any_held (turns limits m commands s (suc k)) ≡ held x n
       go (inr not_ok) earlier =
-          let same = met_refused limits empty commands k not_ok in
-          ap any_held (turns_same limits commands s k (and_left _ _ not_ok))
+          let same = met_refused limits m commands k not_ok in
+          ap any_held (turns_same limits m commands s k (and_left _ _ not_ok))
           ∙ earlier x (ap (λ (state : State). get state.sessions s) (sym same) ∙ found)
       go (inl ok) earlier = holds_on k s ok earlier x found
 
@@ -131,17 +131,17 @@ module _ (limits : Limits) (commands : List Command) (n : ℕ) where
   de_morgan true b = refl
   de_morgan false b = refl
 
-  pub unlocked_gets : (k s : ℕ) → is_accepted limits commands k ≡ true → c k ≡ command.Get s n
-      → is_unlocked limits commands k ≡ not (any_held (turns limits commands s k))
+  pub unlocked_gets : (k s : ℕ) → is_accepted limits m commands k ≡ true → c k ≡ command.Get s n
+      → is_unlocked limits m commands k ≡ not (any_held (turns limits m commands s k))
   unlocked_gets k s ok is = go (get (met k).sessions s) refl
     where
       is_open : not (is_some (get (met k).sessions s)) ≡ false
       is_open =
           (all_fail (bad_session limits s ∷ bad_name limits n ∷ not_open (met k) s ∷ [])
-          (subst (λ (d : Command). refusal_of limits (met k) d ≡ None) is (passes limits empty commands k ok))).1.1.0
+          (subst (λ (d : Command). refusal_of limits (met k) d ≡ None) is (passes limits m commands k ok))).1.1.0
 
       go : (o : Option Session) → get (met k).sessions s ≡ o
-          → is_unlocked limits commands k ≡ not (any_held (turns limits commands s k))
+          → is_unlocked limits m commands k ≡ not (any_held (turns limits m commands s k))
       go None none =
           let shut : not (is_some (get (met k).sessions s)) ≡ true =
           ap (λ (o : Option Session). not (is_some o)) none in

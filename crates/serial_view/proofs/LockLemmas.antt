@@ -8,7 +8,6 @@ use Rattle.std.specs.FinMap.Entries as es
 use Rattle.std.proofs.lemmas.Bool.{cases_eq, eq-eqb, ne_eqb, eqb-true, both_ways, or_cases, or_parts}
 use Rattle.std.proofs.lemmas.Bool.Decides.{nat_tests}
 use Rattle.ipl_rules.specs.State.{Map, Write, Session, State, Limits, writes_of, last_write, has_written, has_shared, least_other, with_writes}
-use Rattle.ipl_rules.specs.Refusals.{bad_session, bad_name, too_long}
 use Rattle.ipl_rules.proofs.SeenLemmas.{get-with_writes}
 use Rattle.ipl_model.specs.declared.command.Command.{Command}
 use Rattle.ipl_model.specs.declared.command.Command.TheVariants as command
@@ -19,7 +18,7 @@ use Rattle.ipl_rules.specs.Operations.{after_batch, after_commit}
 use Rattle.ipl_rules.proofs.BatchLemmas.{first_or_later, batches_keep}
 use Rattle.std.specs.List.{Contains}
 use Rattle.serial_view.proofs.SessionLemmas.{Sessions, with_session, shared_too, is_unheld, is_unheld_in, write_by, same_some, none_open}
-use Rattle.serial_view.proofs.AloneLemmas.{worker, all_fail, share_tests, write_tests}
+use Rattle.serial_view.proofs.TestLemmas.{worker, all_fail, share_tests, put_tests, del_tests}
 use Rattle.serial_view.proofs.StepLemmas.{changed}
 use Rattle.serial_view.proofs.SessionStepLemmas.{own, Worked, After, how, still_open, closed}
 
@@ -124,10 +123,10 @@ module _ (limits : Limits) (state : State) where
       → worker c ≡ Some s → writes c k ≡ true → get state.sessions u ≡ Some y → (s ≡ u → ⊥)
       → has_shared y k ≡ false
   write_free (command.Put t n bytes) s u y k passes e is found other =
-      let f = all_fail (bad_session limits t ∷ bad_name limits n ∷ too_long bytes ∷ write_tests state t n) passes in
+      let f = all_fail (put_tests limits state t n bytes) passes in
       holds_none n t s u y k is e found other f.1.1.1.1.0
   write_free (command.Del t n) s u y k passes e is found other =
-      let f = all_fail (bad_session limits t ∷ bad_name limits n ∷ write_tests state t n) passes in
+      let f = all_fail (del_tests limits state t n) passes in
       holds_none n t s u y k is e found other f.1.1.1.0
   write_free rest s u y k passes e is found other = absurd (cc)
 

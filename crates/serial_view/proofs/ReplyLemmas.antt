@@ -12,7 +12,7 @@ use Rattle.ipl_model.specs.Step.{step, found_reply}
 use Rattle.ipl_model.specs.Run.{after_all}
 use Rattle.serial_view.specs.Laws.{replies, reads_unlocked}
 use Rattle.serial_view.proofs.SessionLemmas.{shared_too, is_unheld, is_unheld_in, same_some}
-use Rattle.serial_view.proofs.AloneLemmas.{worker}
+use Rattle.serial_view.proofs.TestLemmas.{worker}
 use Rattle.serial_view.proofs.StepLemmas.{changed, said}
 use Rattle.serial_view.proofs.LockLemmas.{Agree}
 

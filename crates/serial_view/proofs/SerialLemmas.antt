@@ -23,14 +23,15 @@ use Rattle.std.specs.Cmp.{nat_cmp_total}
 use Rattle.std.specs.List.{flat_map, list_any, Contains}
 use Rattle.serial_view.specs.Laws.{reply_at, reads_unlocked, is_unlocked}
 use Rattle.serial_view.proofs.SessionLemmas.{Sessions, alone, with_session, none_open, get_inserted, get_other}
-use Rattle.serial_view.proofs.AloneLemmas.{worker}
+use Rattle.serial_view.proofs.TestLemmas.{worker}
 use Rattle.serial_view.proofs.StepLemmas.{changed, Gives, does, step_accepted, step_commit}
 use Rattle.serial_view.proofs.BesideLemmas.{Beside, beside_before, step_begin_beside, step_beside}
-use Rattle.serial_view.proofs.BoundLemmas.{PartOf, may_stand, sole_kept, bounded_kept}
+use Rattle.serial_view.proofs.BoundLemmas.{may_stand, sole_kept, units_kept, filled_kept}
+use Rattle.serial_view.proofs.MemberLemmas.{PartOf}
 use Rattle.serial_view.proofs.SessionStepLemmas.{own, Worked, After, how, worker_commits, committer_open}
 use Rattle.serial_view.proofs.LockLemmas.{locks_kept, Agree, records_kept, shared_kept}
 use Rattle.serial_view.proofs.TurnLemmas.{turn_is, begins_is, turns_begun, turns_on, turns_same, serial_more, serial_same, commits_turns, batch_turns}
-use Rattle.serial_view.proofs.MetLemmas.{met_last, met_accepted, passes, unlocked_met}
+use Rattle.serial_view.proofs.MetLemmas.{met_last, met_accepted, passes}
 use Rattle.serial_view.proofs.ReplyLemmas.{shares_on, said_alike}
 use Rattle.serial_view.proofs.ServeLemmas as serve
 use Rattle.serial_view.proofs.ServeLemmas.{run-append, locked_parts, joined, start, same, refused}
@@ -48,34 +49,34 @@ at_rest_is a m maps none =
     ∙ ap (λ (f : Sessions). record { map = m; sessions = f })
     (same_map nat_cmp_total nat_cmp-IsAntisymmetric a.sessions empty (λ q. none q ∙ sym (get-empty nat_cmp q)))
 
-module _ (limits : Limits) (commands : List Command) (m : Map) where
+module _ (limits : Limits) (m : Map) (commands : List Command) where
   abbrev mine : ℕ → ℕ → List ℕ
-  mine = serve.mine limits commands m
+  mine = serve.mine limits m commands
 
   abbrev view : ℕ → List ℕ
-  view = serve.view limits commands m
+  view = serve.view limits m commands
 
   abbrev any_unlocked : List ℕ → Bool
-  any_unlocked = serve.any_unlocked limits commands m
+  any_unlocked = serve.any_unlocked limits m commands
 
   abbrev run : State → List ℕ → State
-  run = serve.run limits commands m
+  run = serve.run limits m commands
 
   abbrev heard : State → List ℕ → List (List Reply)
-  heard = serve.heard limits commands m
+  heard = serve.heard limits m commands
 
   abbrev told : List ℕ → List (List Reply)
-  told = serve.told limits commands m
+  told = serve.told limits m commands
 
   abbrev Serves : State → (ℕ → List ℕ) → List ℕ → Type 0
-  Serves = serve.Serves limits commands m
+  Serves = serve.Serves limits m commands
 
   abbrev at : ℕ → Type 0
-  at = serve.at limits commands m
+  at = serve.at limits m commands
 
   -- ---- a command that passes
 
-  module _ (k : ℕ) (ok : is_accepted limits commands k ≡ true) where
+  module _ (k : ℕ) (ok : is_accepted limits m commands k ≡ true) where
     abbrev st : State
     st = met_at limits m commands k
 
@@ -98,13 +99,13 @@ module _ (limits : Limits) (commands : List Command) (m : Map) where
     longer : (s : ℕ) → worker c ≡ Some s → mine s (suc k) ≡ mine s k ++ k ∷ []
     longer s e =
         let facts = worker_commits c s e in
-        turns_on limits commands s k facts.1 (turn_is limits commands s k true ok facts.2)
+        turns_on limits m commands s k facts.1 (turn_is limits m commands s k true ok facts.2)
 
     waiting : (s : ℕ) → own s c ≡ false → mine s (suc k) ≡ mine s k
-    waiting s e = turns_same limits commands s k (turn_is limits commands s k false ok e)
+    waiting s e = turns_same limits m commands s k (turn_is limits m commands s k false ok e)
 
     fresh : (s : ℕ) → c ≡ command.Begin s → mine s (suc k) ≡ k ∷ []
-    fresh s e = turns_begun limits commands s k (begins_is limits commands s k ok e)
+    fresh s e = turns_begun limits m commands s k (begins_is limits m commands s k ok e)
 
     begun_step : (B : State) (s : ℕ) → c ≡ command.Begin s → get B.sessions s ≡ None
         → Gives (step limits B c) (with_session B s new_session) (reply.Ok ∷ [])
@@ -128,18 +129,18 @@ module _ (limits : Limits) (commands : List Command) (m : Map) where
         go (inr (inr w)) =
             let now = earlier B s y w free in
             ap (run B) (longer s w.2)
-            ∙ run-append limits commands m B (mine s k) (k ∷ [])
+            ∙ run-append limits m commands B (mine s k) (k ∷ [])
             ∙ ap (λ (state : State). (step limits state c).0)
             (old.runs s w.0 w.1 B (beside_before B s c w.0 now))
             ∙ ap (λ (p : Stepped). p.0) (step_beside limits st B s w.0 w.1 c w.2 now none)
             ∙ ap (with_session B s) (sym w.3)
 
     -- the reply to a command of an open session, run beside others behind its turns
-    works_alike : Before → (s : ℕ) (y : Session) (w : Worked st c s y) → is_unlocked limits commands k ≡ false
+    works_alike : Before → (s : ℕ) (y : Session) (w : Worked st c s y) → is_unlocked limits m commands k ≡ false
         → (B : State) → Beside B s y → Agree y B.map next.map → heard (run B (mine s k)) (k ∷ []) ≡ told (k ∷ [])
     works_alike old s y w held B free agree =
         let now = earlier B s y w free in
-        let locked : reads_unlocked st c ≡ false = unlocked_met limits m commands k ∙ held in
+        let locked : reads_unlocked st c ≡ false = held in
         let kept = records_kept st c (worker_commits c s w.2).0 in
         let wide : Agree (changed c w.0) B.map st.map = λ j is.
         agree j (ap (λ (z : Session). has_shared z j) w.3 ∙ is) ∙ ap (λ (q : Map). get q j) kept in
@@ -167,7 +168,8 @@ module _ (limits : Limits) (commands : List Command) (m : Map) where
         go : After st c s y → heard B (mine s (suc k)) ≡ told (mine s (suc k))
         go (inl a) =
             let e = waiting s a.1 in
-            let before : Agree y B.map st.map = λ j is. agree j is ∙ shared_kept st c s y old.locked a.0 a.1 found j is in
+            let before : Agree y B.map st.map =
+            λ j is. agree j is ∙ shared_kept st c s y old.locked a.0 a.1 found j is in
             alike (mine s k) e (old.says s y a.0 (ap any_unlocked (sym e) ∙ locks) B free before)
         go (inr (inl b)) =
             alike (k ∷ []) (fresh s b.0) (
@@ -176,19 +178,20 @@ module _ (limits : Limits) (commands : List Command) (m : Map) where
             ∙ ap (λ (r : List Reply). r ∷ []) (sym reply_is))
         go (inr (inr w)) =
             let e = longer s w.2 in
-            let parts = locked_parts limits commands m (mine s k) (k ∷ []) (ap any_unlocked (sym e) ∙ locks) in
-            alike (mine s k ++ k ∷ []) e (joined limits commands m B (mine s k) (k ∷ [])
+            let parts = locked_parts limits m commands (mine s k) (k ∷ []) (ap any_unlocked (sym e) ∙ locks) in
+            alike (mine s k ++ k ∷ []) e (joined limits m commands B (mine s k) (k ∷ [])
             (old.says s w.0 w.1 parts.0 B (beside_before B s c w.0 (earlier B s y w free)) (agreed s y w B.map agree))
             (works_alike old s y w (or_parts _ _ parts.1).0 B free agree))
 
     -- an open session may stand beside others of the run, and by itself
-    stands : Before → (B : State) (s : ℕ) (x : Session) → PartOf B.sessions st.sessions → get st.sessions s ≡ Some x
-        → get B.sessions s ≡ None → Beside B s x
-    stands old B s x part found shut = may_stand B st.sessions s x old.locked old.sole old.bounded part found shut
+    stands : Before → (B : State) (s : ℕ) (x : Session) → B.map ≡ st.map → PartOf B.sessions st.sessions
+        → get st.sessions s ≡ Some x → get B.sessions s ≡ None → Beside B s x
+    stands old B s x maps part found shut =
+        may_stand B st s x old.locked old.sole old.light old.filled maps part found shut
 
     stands_alone : Before → (s : ℕ) (x : Session) → get st.sessions s ≡ Some x → Beside (at_rest st.map) s x
     stands_alone old s x found =
-        stands old (at_rest st.map) s x (λ t y there. absurd (none_open t y there)) found (get-empty nat_cmp s)
+        stands old (at_rest st.map) s x refl (λ t y there. absurd (none_open t y there)) found (get-empty nat_cmp s)
 
     -- ---- a commit
 
@@ -204,8 +207,8 @@ module _ (limits : Limits) (commands : List Command) (m : Map) where
 
       view_then : view (suc k) ≡ view k ++ (mine s k ++ k ∷ [])
       view_then =
-          serial_more limits commands k
-          ∙ ap (λ (l : List ℕ). view k ++ l) (commits_turns limits commands k s ok is)
+          serial_more limits m commands k
+          ∙ ap (λ (l : List ℕ). view k ++ l) (commits_turns limits m commands k s ok is)
 
       commit_step : (x : Session) → get st.sessions s ≡ Some x
           → Gives (step limits (alone st.map s x) c) (at_rest next.map) (reply.Ok ∷ [])
@@ -224,8 +227,8 @@ module _ (limits : Limits) (commands : List Command) (m : Map) where
           → run (at_rest m) (view (suc k)) ≡ at_rest next.map
       runs_commit old x found =
           ap (run (at_rest m)) view_then
-          ∙ run-append limits commands m (at_rest m) (view k) (mine s k ++ k ∷ [])
-          ∙ run-append limits commands m (run (at_rest m) (view k)) (mine s k) (k ∷ [])
+          ∙ run-append limits m commands (at_rest m) (view k) (mine s k ++ k ∷ [])
+          ∙ run-append limits m commands (run (at_rest m) (view k)) (mine s k) (k ∷ [])
           ∙ ap (λ (state : State). (step limits state c).0) (reaches old x found)
           ∙ ap (λ (p : Stepped). p.0) (commit_step x found)
 
@@ -233,9 +236,9 @@ module _ (limits : Limits) (commands : List Command) (m : Map) where
           → heard (at_rest m) (view (suc k)) ≡ told (view (suc k))
       says_commit old x found locks =
           let so_far = run (at_rest m) (view k) in
-          let parts = locked_parts limits commands m (view k) (mine s k ++ k ∷ [])
+          let parts = locked_parts limits m commands (view k) (mine s k ++ k ∷ [])
           (ap any_unlocked (sym view_then) ∙ locks) in
-          let own_parts = locked_parts limits commands m (mine s k) (k ∷ []) parts.1 in
+          let own_parts = locked_parts limits m commands (mine s k) (k ∷ []) parts.1 in
           let turns_say : heard so_far (mine s k) ≡ told (mine s k) =
           ap (λ (state : State). heard state (mine s k)) old.all_runs
           ∙ old.says s x found own_parts.0 (at_rest st.map) (stands_alone old s x found) (λ j shared. refl) in
@@ -245,8 +248,8 @@ module _ (limits : Limits) (commands : List Command) (m : Map) where
           ∙ ap (λ (d : Command). (accepted st d).1 ∷ []) (sym is)
           ∙ ap (λ (r : List Reply). r ∷ []) (sym reply_is) in
           ap (heard (at_rest m)) view_then
-          ∙ joined limits commands m (at_rest m) (view k) (mine s k ++ k ∷ []) (old.all_says parts.0)
-          (joined limits commands m so_far (mine s k) (k ∷ []) turns_say commit_says)
+          ∙ joined limits m commands (at_rest m) (view k) (mine s k ++ k ∷ []) (old.all_says parts.0)
+          (joined limits m commands so_far (mine s k) (k ∷ []) turns_say commit_says)
           ∙ ap told (sym view_then)
 
     -- ---- a batch
@@ -295,7 +298,7 @@ module _ (limits : Limits) (commands : List Command) (m : Map) where
         let opened_is = opened_at s (opens s (first_in s ss)) in
         let x : Session = opened_is.0 in
         let found : get st.sessions s ≡ Some x = opened_is.1 in
-        let free : Beside B s x = stands old B s x part found (shut s (first_in s ss)) in
+        let free : Beside B s x = stands old B s x maps part found (shut s (first_in s ss)) in
         let first : run B (mine s k) ≡ with_session B s x = old.runs s x found B free in
         let rest : Together ss (with_session B s x) =
         together old ss each.1 (λ t at. opens t (later_in s ss t at)) (with_session B s x) maps
@@ -305,11 +308,11 @@ module _ (limits : Limits) (commands : List Command) (m : Map) where
         record {
           after = rest.after;
           runs =
-              run-append limits commands m B (mine s k) (turns_of ss)
+              run-append limits m commands B (mine s k) (turns_of ss)
               ∙ ap (λ (state : State). run state (turns_of ss)) first ∙ rest.runs;
           says = λ locks.
-              let parts = locked_parts limits commands m (mine s k) (turns_of ss) locks in
-              joined limits commands m B (mine s k) (turns_of ss)
+              let parts = locked_parts limits m commands (mine s k) (turns_of ss) locks in
+              joined limits m commands B (mine s k) (turns_of ss)
               (old.says s x found parts.0 B free (λ j shared. ap (λ (q : Map). get q j) maps))
               (ap (λ (state : State). heard state (turns_of ss)) first ∙ rest.says parts.1);
           maps = rest.maps;
@@ -344,8 +347,8 @@ module _ (limits : Limits) (commands : List Command) (m : Map) where
 
       view_batch : view (suc k) ≡ view k ++ (turns_of ss ++ k ∷ [])
       view_batch =
-          serial_more limits commands k
-          ∙ ap (λ (l : List ℕ). view k ++ l) (batch_turns limits commands k ss ok is)
+          serial_more limits m commands k
+          ∙ ap (λ (l : List ℕ). view k ++ l) (batch_turns limits m commands k ss ok is)
 
       batch_step : (a : Together ss (at_rest st.map)) → Gives (step limits a.after c) (at_rest next.map) (reply.Ok ∷ [])
       batch_step a =
@@ -366,8 +369,8 @@ module _ (limits : Limits) (commands : List Command) (m : Map) where
       runs_batch old =
           let a = all_together old in
           ap (run (at_rest m)) view_batch
-          ∙ run-append limits commands m (at_rest m) (view k) (turns_of ss ++ k ∷ [])
-          ∙ run-append limits commands m (run (at_rest m) (view k)) (turns_of ss) (k ∷ [])
+          ∙ run-append limits m commands (at_rest m) (view k) (turns_of ss ++ k ∷ [])
+          ∙ run-append limits m commands (run (at_rest m) (view k)) (turns_of ss) (k ∷ [])
           ∙ ap (λ (state : State). (step limits state c).0)
           (ap (λ (state : State). run state (turns_of ss)) old.all_runs ∙ a.runs)
           ∙ ap (λ (p : Stepped). p.0) (batch_step a)
@@ -377,9 +380,9 @@ module _ (limits : Limits) (commands : List Command) (m : Map) where
       says_batch old locks =
           let a = all_together old in
           let so_far = run (at_rest m) (view k) in
-          let parts = locked_parts limits commands m (view k) (turns_of ss ++ k ∷ [])
+          let parts = locked_parts limits m commands (view k) (turns_of ss ++ k ∷ [])
           (ap any_unlocked (sym view_batch) ∙ locks) in
-          let own_parts = locked_parts limits commands m (turns_of ss) (k ∷ []) parts.1 in
+          let own_parts = locked_parts limits m commands (turns_of ss) (k ∷ []) parts.1 in
           let turns_say : heard so_far (turns_of ss) ≡ told (turns_of ss) =
           ap (λ (state : State). heard state (turns_of ss)) old.all_runs ∙ a.says own_parts.0 in
           let batch_says : heard (run so_far (turns_of ss)) (k ∷ []) ≡ told (k ∷ []) =
@@ -389,8 +392,8 @@ module _ (limits : Limits) (commands : List Command) (m : Map) where
           ∙ ap (λ (d : Command). (accepted st d).1 ∷ []) (sym is)
           ∙ ap (λ (r : List Reply). r ∷ []) (sym reply_is) in
           ap (heard (at_rest m)) view_batch
-          ∙ joined limits commands m (at_rest m) (view k) (turns_of ss ++ k ∷ []) (old.all_says parts.0)
-          (joined limits commands m so_far (turns_of ss) (k ∷ []) turns_say batch_says)
+          ∙ joined limits m commands (at_rest m) (view k) (turns_of ss ++ k ∷ []) (old.all_says parts.0)
+          (joined limits m commands so_far (turns_of ss) (k ∷ []) turns_say batch_says)
           ∙ ap told (sym view_batch)
 
     abbrev ViewServes : Type 0
@@ -403,7 +406,7 @@ module _ (limits : Limits) (commands : List Command) (m : Map) where
         go : (is_commit c ≡ false) ⊎ (((s : ℕ) × (c ≡ command.Commit s)) ⊎ ((ss : List ℕ) × (c ≡ command.Batch ss)))
             → ViewServes
         go (inl e) =
-            let quiet = serial_same limits commands k (inr e) in (
+            let quiet = serial_same limits m commands k (inr e) in (
               ap (run (at_rest m)) quiet ∙ old.all_runs ∙ ap at_rest (sym (records_kept st c e)),
               λ locks. ap (heard (at_rest m)) quiet ∙ old.all_says (ap any_unlocked (sym quiet) ∙ locks)
                   ∙ ap told (sym quiet),
@@ -417,7 +420,8 @@ module _ (limits : Limits) (commands : List Command) (m : Map) where
     passed old = record {
       locked = locks_kept limits st c none old.locked;
       sole = sole_kept limits st c none old.sole;
-      bounded = bounded_kept limits st c none old.bounded;
+      light = units_kept limits st c none old.light;
+      filled = filled_kept limits st c none old.filled;
       runs = runs_on old;
       says = says_on old;
       all_runs = (all_on old).0;
@@ -426,24 +430,24 @@ module _ (limits : Limits) (commands : List Command) (m : Map) where
 
     passes_on : at k → at (suc k)
     passes_on old =
-        same limits commands m _ _ _ _ _ _ (met_accepted limits m commands k ok) (λ s. refl) refl (passed old)
+        same limits m commands _ _ _ _ _ _ (met_accepted limits m commands k ok) (λ s. refl) refl (passed old)
 
   -- ---- the laws
 
   always : (k : ℕ) → at k
-  always zero = start limits commands m
-  always (suc k) = elim (cases_Bool (is_accepted limits commands k)) [
+  always zero = start limits m commands
+  always (suc k) = elim (cases_Bool (is_accepted limits m commands k)) [
     | inl ok ↦ passes_on k ok (always k)
-    | inr not_ok ↦ refused limits commands m k not_ok (always k)
+    | inr not_ok ↦ refused limits m commands k not_ok (always k)
   ]
 
-  pub leaves_the_same : run (at_rest m) (serial limits commands) ≡ at_rest (after_all limits (at_rest m) commands).map
+  pub leaves_the_same : run (at_rest m) (serial limits m commands) ≡ at_rest (after_all limits (at_rest m) commands).map
   leaves_the_same =
       let old : at (length commands) = always (length commands) in
       old.all_runs ∙ ap (λ (state : State). at_rest state.map) (met_last limits m commands)
 
-  pub replies_the_same : any_unlocked (serial limits commands) ≡ false
-      → heard (at_rest m) (serial limits commands) ≡ told (serial limits commands)
+  pub replies_the_same : any_unlocked (serial limits m commands) ≡ false
+      → heard (at_rest m) (serial limits m commands) ≡ told (serial limits m commands)
   replies_the_same locks =
       let old : at (length commands) = always (length commands) in
       old.all_says locks

@@ -5,11 +5,9 @@ use Rattle.std.specs.Cmp.{nat_cmp_total}
 use Rattle.std.specs.List.{list_any}
 use Rattle.std.specs.Option.{option_map_or}
 use Rattle.std.specs.Ordering.{nat_cmp, eq_by_cmp}
-use Rattle.std.specs.FinMap.{FinMap, get, insert, remove, empty, entries, entries-insert, len-entries, len-empty, get-empty, get-insert, get-remove, same_map, nat_cmp-IsAntisymmetric}
-use Rattle.std.specs.FinMap.Entries.{put}
+use Rattle.std.specs.FinMap.{FinMap, get, insert, remove, empty, get-empty, get-insert, get-remove, same_map, nat_cmp-IsAntisymmetric}
 use Rattle.std.proofs.lemmas.Bool.{cases_eq}
 use Rattle.std.proofs.lemmas.Bool.Decides.{nat_tests}
-use Rattle.std.proofs.lemmas.List.{nil_from_length}
 use Rattle.ipl_rules.specs.State.{Map, Write, Session, State, last_write, has_written, has_shared}
 use Rattle.ipl_model.specs.Plain.{writes_in}
 
@@ -105,9 +103,3 @@ remove_inserted s x = same_map nat_cmp_total nat_cmp-IsAntisymmetric _ _ (λ q.
     none : (t : Bool) → cond t None (cond t (Some x) None) ≡ None
     none true = refl
     none false = refl
-
-pub entries-empty : entries (empty {X = Session} {R = nat_cmp}) ≡ []
-entries-empty = nil_from_length _ (sym (len-entries empty) ∙ len-empty nat_cmp Session)
-
-pub entries-alone : (s : ℕ) (x : Session) → entries (insert (empty {R = nat_cmp}) s x) ≡ (s, x) ∷ []
-entries-alone s x = entries-insert nat_cmp_total empty s x ∙ ap (put nat_cmp s x) entries-empty

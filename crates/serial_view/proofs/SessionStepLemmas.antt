@@ -8,7 +8,7 @@ use Rattle.std.specs.FinMap.{get, insert, remove, get-remove}
 use Rattle.std.proofs.lemmas.Bool.{cases_eq, eq-eqb, ne_eqb, leb-false}
 use Rattle.std.proofs.lemmas.Bool.Decides.{nat_tests}
 use Rattle.ipl_rules.specs.State.{Session, State, Limits}
-use Rattle.ipl_rules.specs.Refusals.{bad_session, bad_name, too_long, already_open, not_open}
+use Rattle.ipl_rules.specs.Refusals.{bad_session, bad_name, already_open, not_open}
 use Rattle.ipl_rules.proofs.BatchLemmas.{batches_name_once}
 use Rattle.ipl_rules.specs.Operations.{new_session, after_commit, after_batch}
 use Rattle.ipl_model.specs.declared.command.Command.{Command}
@@ -18,7 +18,7 @@ use Rattle.serial_view.specs.Turns.{HasSlot}
 use Rattle.serial_view.specs.Serial.{session_of, is_begin}
 use Rattle.ipl_model.specs.Laws.{is_commit}
 use Rattle.serial_view.proofs.SessionLemmas.{share_by, write_by, same_some, none_open, get_inserted, get_other}
-use Rattle.serial_view.proofs.AloneLemmas.{worker, all_fail, share_tests, write_tests}
+use Rattle.serial_view.proofs.TestLemmas.{worker, all_fail, share_tests, put_tests, del_tests}
 use Rattle.serial_view.proofs.StepLemmas.{changed, does}
 
 -- a command of session s
@@ -179,10 +179,9 @@ module _ (limits : Limits) (whole : limits.sessions ≡ 32) where
       in_range s (all_fail (bad_session limits s ∷ bad_name limits n ∷ not_open state s ∷ []) passes).0
   has_slot state (command.Share s n) passes = in_range s (all_fail (share_tests limits state s n) passes).0
   has_slot state (command.Put s n bytes) passes =
-      let tests = bad_session limits s ∷ bad_name limits n ∷ too_long bytes ∷ write_tests state s n in
-      in_range s (all_fail tests passes).0
+      in_range s (all_fail (put_tests limits state s n bytes) passes).0
   has_slot state (command.Del s n) passes =
-      in_range s (all_fail (bad_session limits s ∷ bad_name limits n ∷ write_tests state s n) passes).0
+      in_range s (all_fail (del_tests limits state s n) passes).0
   has_slot state (command.Commit s) passes =
       in_range s (all_fail (bad_session limits s ∷ not_open state s ∷ []) passes).0
   has_slot state (command.Batch ss) passes =

@@ -5,15 +5,15 @@ use Rattle.std.specs.Option.{option_map_or}
 use Rattle.std.specs.FinMap.{get, insert, remove, empty}
 use Rattle.ipl_base.specs.declared.fault.Refusal.{Refusal}
 use Rattle.ipl_rules.specs.State.{Map, Write, Session, State, Limits, at_rest, seen_through, with_writes}
-use Rattle.ipl_rules.specs.Operations.{new_session, after_write}
+use Rattle.ipl_rules.specs.Operations.{after_write}
 use Rattle.ipl_model.specs.declared.command.Command.{Command}
 use Rattle.ipl_model.specs.declared.command.Command.TheVariants as command
 use Rattle.ipl_model.specs.declared.reply.Reply.{Reply}
 use Rattle.ipl_model.specs.declared.reply.Reply.TheVariants as reply
 use Rattle.ipl_model.specs.Step.{Stepped, step, refusal_of, accepted, found_reply}
 use Rattle.ipl_model.specs.Plain.{writes_in}
-use Rattle.serial_view.proofs.SessionLemmas.{Sessions, alone, with_session, written, shared_too, is_unheld, share_by, write_by, same_some, get_inserted, insert_twice, insert_same, remove_inserted}
-use Rattle.serial_view.proofs.AloneLemmas.{worker, begins_alone, passes_alone, ends_alone}
+use Rattle.serial_view.proofs.SessionLemmas.{Sessions, alone, with_session, written, shared_too, is_unheld, share_by, write_by, same_some, get_inserted, insert_same, remove_inserted}
+use Rattle.serial_view.proofs.TestLemmas.{worker, ends_alone}
 
 -- what such a command leaves of its session
 abbrev pub changed : Command → Session → Session
@@ -101,23 +101,6 @@ module _ (limits : Limits) (state : State) (c : Command) where
   pub step_accepted : refusal_of limits state c ≡ None → step limits state c ≡ accepted state c
   unfolding refused_or
   step_accepted e = ap refused_or e
-
--- a begin, alone
-pub step_begin : (limits : Limits) (state : State) (m : Map) (s : ℕ)
-    → refusal_of limits state (command.Begin s) ≡ None
-    → Gives (step limits (at_rest m) (command.Begin s)) (alone m s new_session) (reply.Ok ∷ [])
-step_begin limits state m s passes =
-    step_accepted limits (at_rest m) (command.Begin s) (begins_alone limits state m s passes)
-
--- a command of the session, alone
-pub step_alone : (limits : Limits) (state : State) (m : Map) (s : ℕ) (x : Session)
-    → get state.sessions s ≡ Some x → (c : Command) → worker c ≡ Some s → refusal_of limits state c ≡ None
-    → Gives (step limits (alone m s x) c) (alone m s (changed c x)) (said c x m)
-step_alone limits state m s x found c own passes =
-    step_accepted limits (alone m s x) c (passes_alone limits state m s x found c own passes)
-    ∙ does (alone m s x) s x (get_inserted empty s x) c own
-    ∙ ap {B = Stepped} (λ (f : Sessions). (record { map = m; sessions = f }, said c x m))
-    (insert_twice empty s x (changed c x))
 
 -- a commit, alone
 pub step_commit : (limits : Limits) (state : State) (m : Map) (s : ℕ) (x : Session)

@@ -1,7 +1,6 @@
 -- The laws of the serial view.
 use Rattle.std.specs.Prelude.{◌≡◌, ℕ, ◌+◌, ◌-◌, ◌<◌, ◌==◌, Bool, true, false, not, ◌&&◌, List, [], ◌∷◌, ◌++◌, map, filter, Contains}
 use Rattle.std.specs.List.{list_any, flat_map, range_with_len}
-use Rattle.std.specs.FinMap.{empty}
 use Rattle.ipl_rules.specs.State.{Map, State, Limits, at_rest}
 use Rattle.ipl_rules.specs.Refusals.{is_new_share}
 use Rattle.ipl_model.specs.declared.command.Command.{Command}
@@ -29,19 +28,19 @@ abbrev pub reads_unlocked : State → Command → Bool
 reads_unlocked state (command.Get s n) = is_new_share state s n
 reads_unlocked state other = false
 
--- such a get stands at a position; whether it does depends on no records
-abbrev pub is_unlocked : Limits → List Command → ℕ → Bool
-is_unlocked limits commands k = reads_unlocked (met_at limits empty commands k) (command_at commands k)
+-- such a get stands at a position, in the run from these records
+abbrev pub is_unlocked : Limits → Map → List Command → ℕ → Bool
+is_unlocked limits m commands k = reads_unlocked (met_at limits m commands k) (command_at commands k)
 
--- the serial view of a list of commands
-pub record IsSerialView (limits : Limits) (commands : List Command) (positions : List ℕ) : Type 0 where
+-- the serial view of a list of commands, run from these records
+pub record IsSerialView (limits : Limits) (m : Map) (commands : List Command) (positions : List ℕ) : Type 0 where
   -- it is that of the definition
-  pub order : positions ≡ serial limits commands
-  -- run by themselves, its commands leave the records of the whole run, and no session open
-  pub leaves : (m : Map) → after_all limits (at_rest m) (picked commands positions)
+  pub order : positions ≡ serial limits m commands
+  -- run by themselves from these records, its commands leave those of the whole run, and no session open
+  pub leaves : after_all limits (at_rest m) (picked commands positions)
       ≡ at_rest (after_all limits (at_rest m) commands).map
   -- and where none of them gets a name that its transaction hadn't then written or shared, each has its reply
-  pub says : (m : Map) → list_any (is_unlocked limits commands) positions ≡ false
+  pub says : list_any (is_unlocked limits m commands) positions ≡ false
       → replies limits (at_rest m) (picked commands positions) ≡ map (reply_at limits m commands) positions
 
 -- ---- what a transaction is
@@ -61,29 +60,29 @@ commits s (command.Batch ss) = list_any (λ t. t == s) ss
 commits s other = false
 
 -- a transaction of session s: it begins at one position and is committed at another, and nothing ended it between
-pub record IsTransaction (limits : Limits) (commands : List Command) (s first last : ℕ) : Type 0 where
+pub record IsTransaction (limits : Limits) (m : Map) (commands : List Command) (s first last : ℕ) : Type 0 where
   pub before : first < last
-  pub begun : begins limits commands s first ≡ true
-  pub committed : (is_accepted limits commands last ≡ true) × (commits s (command_at commands last) ≡ true)
+  pub begun : begins limits m commands s first ≡ true
+  pub committed : (is_accepted limits m commands last ≡ true) × (commits s (command_at commands last) ≡ true)
   pub unended : (j : ℕ) → first < j → j < last
-      → (is_accepted limits commands j && ends s (command_at commands j)) ≡ false
+      → (is_accepted limits m commands j && ends s (command_at commands j)) ≡ false
 
 -- an accepted commit commits a transaction, and the view has its accepted commands, from its begin to the commit
 abbrev pub CommitsTransactions : Type 0
-CommitsTransactions = (limits : Limits) (commands : List Command) (s last : ℕ)
-    → is_accepted limits commands last ≡ true → command_at commands last ≡ command.Commit s
-    → (first : ℕ) × IsTransaction limits commands s first last
-    × (committed_at limits commands last
-    ≡ filter (is_turn limits commands s) (range_with_len first (last + 1 - first)))
+CommitsTransactions = (limits : Limits) (m : Map) (commands : List Command) (s last : ℕ)
+    → is_accepted limits m commands last ≡ true → command_at commands last ≡ command.Commit s
+    → (first : ℕ) × IsTransaction limits m commands s first last
+    × (committed_at limits m commands last
+    ≡ filter (is_turn limits m commands s) (range_with_len first (last + 1 - first)))
 
 -- so does an accepted batch that of each session that it names: the view has their accepted commands, one session after
 -- the other in the order named, and then the batch
 abbrev pub BatchesCommitTransactions : Type 0
-BatchesCommitTransactions = (limits : Limits) (commands : List Command) (ss : List ℕ) (last : ℕ)
-    → is_accepted limits commands last ≡ true → command_at commands last ≡ command.Batch ss
-    → (committed_at limits commands last ≡ flat_map (λ s. turns limits commands s last) ss ++ last ∷ [])
-    × ((s : ℕ) → Contains ss s → (first : ℕ) × IsTransaction limits commands s first last
-    × (turns limits commands s last ≡ filter (is_turn limits commands s) (range_with_len first (last - first))))
+BatchesCommitTransactions = (limits : Limits) (m : Map) (commands : List Command) (ss : List ℕ) (last : ℕ)
+    → is_accepted limits m commands last ≡ true → command_at commands last ≡ command.Batch ss
+    → (committed_at limits m commands last ≡ flat_map (λ s. turns limits m commands s last) ss ++ last ∷ [])
+    × ((s : ℕ) → Contains ss s → (first : ℕ) × IsTransaction limits m commands s first last
+    × (turns limits m commands s last ≡ filter (is_turn limits m commands s) (range_with_len first (last - first))))
 
 -- ---- which gets are unlocked
 
@@ -96,7 +95,7 @@ holds_name n other = false
 
 -- an accepted get is unlocked exactly where no command of its session since that began has written or shared the name
 abbrev pub UnlockedGets : Type 0
-UnlockedGets = (limits : Limits) (commands : List Command) (k s n : ℕ)
-    → is_accepted limits commands k ≡ true → command_at commands k ≡ command.Get s n
-    → is_unlocked limits commands k
-    ≡ not (list_any (λ j. holds_name n (command_at commands j)) (turns limits commands s k))
+UnlockedGets = (limits : Limits) (m : Map) (commands : List Command) (k s n : ℕ)
+    → is_accepted limits m commands k ≡ true → command_at commands k ≡ command.Get s n
+    → is_unlocked limits m commands k
+    ≡ not (list_any (λ j. holds_name n (command_at commands j)) (turns limits m commands s k))

@@ -1,4 +1,4 @@
 pub mod Serial
 pub mod Laws
-pub mod Locks
 pub mod Turns
+pub mod Running

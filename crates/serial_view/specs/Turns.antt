@@ -3,12 +3,12 @@ use Rattle.std.specs.Prelude.{◌≡◌, ℕ, ◌-◌, ◌<◌, ◌==◌, Bool, 
 use Rattle.std.specs.List.{range_with_len, flat_map, Contains}
 use Rattle.std.specs.Option.{option_map_or, IfSome}
 use Rattle.ipl_base.specs.declared.limits.TheConstants.{SESSIONS}
+use Rattle.ipl_rules.specs.State.{State, Limits}
 use Rattle.ipl_model.specs.declared.command.Command.{Command}
 use Rattle.ipl_model.specs.declared.command.Command.TheVariants as command
-use Rattle.serial_view.specs.declared.locks.Locks.{Locks}
+use Rattle.ipl_model.specs.Step.{step}
 use Rattle.serial_view.specs.declared.turn_table.TurnTable.{TurnTable}
-use Rattle.serial_view.specs.Serial.{session_of}
-use Rattle.serial_view.specs.Locks.{limits_of, accepts, TakesCommand}
+use Rattle.serial_view.specs.Serial.{accepts, session_of}
 
 -- the turn is that of session s
 abbrev pub is_turn_of : ℕ → Option ℕ → Bool
@@ -58,7 +58,8 @@ HasSlot other = IfSome (session_of other) (λ s. s < SESSIONS)
 abbrev pub kept_of : TurnTable → KeptTurns
 kept_of t = record { turns = t.turns.items; begun = t.begun; order = t.order.items }
 
--- one command's run, and its turn; a session that it begins has its position as its number
-pub record RunsCommand (old : Locks) (before : KeptTurns) (c : Command) (new : Locks) (after : KeptTurns) : Type 0 where
-  pub locks : TakesCommand old (length before.turns) c new (accepts (limits_of old) old.sessions c)
-  pub table : after ≡ (if accepts (limits_of old) old.sessions c then after_accepted before c else after_refused before)
+-- one command's run, and its turn
+pub record RunsCommand (limits : Limits) (old : State) (before : KeptTurns) (c : Command) (new : State)
+    (after : KeptTurns) : Type 0 where
+  pub steps : new ≡ (step limits old c).0
+  pub table : after ≡ (if accepts limits old c then after_accepted before c else after_refused before)

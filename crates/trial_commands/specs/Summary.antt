@@ -67,6 +67,7 @@ is_conflict_refusal (refusal.PendingFull unit) = false
 is_conflict_refusal refusal.BadUnit = false
 is_conflict_refusal refusal.HoldsFull = false
 is_conflict_refusal refusal.NotHeld = false
+is_conflict_refusal refusal.PageFull = false
 is_conflict_refusal (refusal.Twice s) = false
 
 -- the reply `err 7`

@@ -5,7 +5,7 @@ ghost use Rattle.rand_xoshiro.specs.SplitMix64.{mix_u64};
 ghost use Rattle.trial_commands.specs.Source.{Source};
 ghost use Rattle.trial_commands.specs.Words.{IsOfTrial, command_of_word, commands_from, name_of, operation_of, put_bytes, session_of};
 
-use ipl_base::VALUE_LEN;
+use ipl_base::SHORT_LEN;
 use ipl_model::{Command, PutBytes};
 use rand_core::SeedableRng;
 use rand_core::utils::NextWord;
@@ -47,7 +47,7 @@ fn bytes(word: u64) -> PutBytes
 {
     let len = (word / 65536 % 109) as usize;
     let first = word / 4_294_967_296;
-    let mut bytes = [0u8; VALUE_LEN];
+    let mut bytes = [0u8; SHORT_LEN];
     for i in 0..len {
         bytes[i] = ((first + i as u64) % 256) as u8;
     }

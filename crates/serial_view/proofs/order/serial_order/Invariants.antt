@@ -1,12 +1,11 @@
-use Rattle.std.proofs.Common.{◌≡◌, ◌-◌}
-use Rattle.ipl_model.specs.Plain.{limits_for}
-use Rattle.serial_view.specs.Locks.{limits_of}
-use Rattle.serial_view.proofs.OrderLemmas.{AreAt}
+use Rattle.std.proofs.Common.{◌-◌}
+use Rattle.ipl_model.specs.Plain.{state_of, limits_for}
+use Rattle.serial_view.specs.Turns.{kept_of}
+use Rattle.serial_view.specs.Running.{run_of}
+use Rattle.serial_view.proofs.RunLemmas.{SoFar}
 use Rattle.serial_view.proofs.order.serial_order.Given as goal
 
--- the locks and the table hold the commands so far
+-- the run is tracked so far, and the table holds the commands
 abbrev pub invariant-loop-command : goal.invariant-loop-command
-invariant-loop-command l = record {
-  holds : AreAt (limits_for (l.fn.geometry - 4)) l.commands l.command-index l.locks l.table;
-  limits : limits_of l.locks ≡ limits_for (l.fn.geometry - 4);
-}
+invariant-loop-command l = SoFar (limits_for (l.fn.geometry - 4)) (state_of l.start).map l.commands l.command-index
+    (run_of l.running) (kept_of l.table)
