@@ -30,7 +30,7 @@ def a_long_page_stands_in_pieces():
 
 @case
 def texts_that_are_no_page_are_malformed():
-    texts = ["03 00 00 00 00 00", "03 00 00 03 00 00", "40 00 00", "00 00 6d" + 109 * " 00",
+    texts = ["03 00 00 00 00 00", "03 00 00 03 00 00", "40 00 00", "00 01 d1" + 465 * " 00",
              "00 00 02 68", "00 00 02 68 69 03"]
     for text in texts:
         image = first_record().put(2, 1, base(4, 0, bytes.fromhex(text)))
@@ -45,6 +45,22 @@ def texts_that_are_no_page_are_malformed():
     image = formatted().put(2, 0, data_header(4, counts={3: 2}))
     image.put(2, 49, base(4, 3, whole[:480])).put(2, 50, base(4, 3, whole[480:-1], piece=1))
     wants_fault("two pieces, of which the first is named", image, "malformed place 2 sector 49")
+
+
+@case
+def a_page_without_room_for_its_values_is_told_by_its_header():
+    text = text_of({slot: b"x" * 464 for slot in range(16)})
+    for length in (205, 206):
+        image = formatted().put(0, 0, data_header(1, counts={0: 16})).put(1, 1, commit(2, 9, 3))
+        for piece in range(16):
+            image.put(0, 1 + piece, base(1, 0, text[480 * piece:480 * piece + 480], piece))
+        image.put(0, 241, log(1, 5, record(0, 16, 3, b"y" * length)))
+        image.put(0, 242, log(1, 6, record(0, 17, 4, b"z" * 464)))
+        if length == 205:
+            values = [f"{slot} {(b'x' * 464).hex()}" for slot in range(16)]
+            wants_records("7,680 bytes", image, values + [f"16 {(b'y' * 205).hex()}"])
+        else:
+            wants_fault("7,681 bytes", image, "malformed place 0 sector 0")
 
 
 @case
@@ -63,7 +79,7 @@ def log_payloads_out_of_the_grammar_are_malformed():
     # Of kind 3, a delete with a value, too short, of page 15, of kind 0, and others.
     payloads = [b"\x00\xc5" + PUT_RECORD[2:], b"\x00\x85\x00\x01" + bytes(8) + b"a",
                 PUT_RECORD[:11], b"\x0f" + PUT_RECORD[1:], b"\x00\x05" + PUT_RECORD[2:],
-                PUT_RECORD[:-1], PUT_RECORD + b"\x00", record(0, 0, 4, b"x" * 109)]
+                PUT_RECORD[:-1], PUT_RECORD + b"\x00", record(0, 0, 4, b"x" * 465)]
     # The same of version 1, and of slot 64.
     put = FIRST_PUT_RECORD
     firsts = [b"\x00\x03" + put[2:], b"\x00\x02\x05\x01" + bytes(8) + b"a", put[:11],

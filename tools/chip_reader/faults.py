@@ -5,7 +5,7 @@ from typing import Callable, Dict, Iterator, List, Set, Tuple
 
 from .layout import Layout, Spot
 from .sectors import Kind, PAGES, Sector, log_records, transaction_numbers, units_of
-from .values import Fault, base_page, malformed
+from .values import Fault, malformed, page_values
 
 MOST_SPOTS_ELSEWHERE = 16
 MOST_OVERFLOW_PLACES = 2
@@ -96,7 +96,7 @@ def overflow_faults(layout: Layout) -> Iterator[Fault]:
 def page_faults(layout: Layout) -> Iterator[Fault]:
     for unit in sorted(layout.homes):
         for page in range(PAGES):
-            read = base_page(layout, unit, page)
+            read = page_values(layout, unit, page)
             if isinstance(read, Fault):
                 yield read
 

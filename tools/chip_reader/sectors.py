@@ -19,7 +19,6 @@ SLOTS = 64
 MOST_PIECES = 16
 PIECE_BYTES = 480
 MOST_TEXT_BYTES = MOST_PIECES * PIECE_BYTES
-MOST_VALUE_BYTES = 108
 MOST_CARRIED = 12
 MOST_COMMITTED = 60
 # The sectors of a data place from this one on are its unit's log sectors.
@@ -30,6 +29,7 @@ RECORD_HEAD = struct.Struct(">BBBBQ")
 MARKER = b"IPL1"
 # In the first version a length has one byte, and from then on two.
 FIRST_VERSION, LAST_VERSION = 1, 2
+FIRST_MOST_VALUE_BYTES, MOST_VALUE_BYTES = 108, 464
 SUM_AT = 28
 PUT, DELETE = 1, 2
 BLANK = b"\xff" * SECTOR_BYTES
@@ -162,6 +162,15 @@ def data_header(payload: bytes) -> Optional[DataHeader]:
     return header
 
 
+def most_value_bytes(version: int) -> int:
+    return FIRST_MOST_VALUE_BYTES if version == FIRST_VERSION else MOST_VALUE_BYTES
+
+
+def text_size(slots: Dict[int, bytes]) -> int:
+    """How many bytes the text of a page takes with these values, as it is written now."""
+    return sum(3 + len(value) for value in slots.values())
+
+
 def page_slots(text: bytes, version: int) -> Optional[Dict[int, bytes]]:
     """The records of a page's text by slot, or none where it is no page's text."""
     slots: Dict[int, bytes] = {}
@@ -174,7 +183,9 @@ def page_slots(text: bytes, version: int) -> Optional[Dict[int, bytes]]:
             return None
         slot, length = text[at], int.from_bytes(text[at + 1:at + head], "big")
         value = text[at + head:at + head + length]
-        if not least <= slot < SLOTS or length > MOST_VALUE_BYTES or len(value) < length:
+        if not least <= slot < SLOTS or not length <= most_value_bytes(version):
+            return None
+        if len(value) < length:
             return None
         slots[slot] = value
         at, least = at + head + length, slot + 1
@@ -200,7 +211,9 @@ def log_record_at(payload: bytes, at: int, version: int) -> Optional[Tuple[LogRe
         kind, slot, length = kind // SLOTS, kind % SLOTS, slot << 8 | length
     start = at + RECORD_HEAD.size
     value = payload[start:start + length]
-    if page >= PAGES or slot >= SLOTS or length > MOST_VALUE_BYTES or len(value) < length:
+    if page >= PAGES or slot >= SLOTS:
+        return None
+    if length > most_value_bytes(version) or len(value) < length:
         return None
     if kind not in (PUT, DELETE) or (kind == DELETE and length > 0):
         return None

@@ -5,8 +5,8 @@ from dataclasses import dataclass
 from typing import Dict, List, Optional, Tuple, Union
 
 from .layout import Layout, Spot
-from .sectors import (Bad, Kind, LogRecord, PAGES, PIECE_BYTES, SLOTS, Sector, log_records,
-                      page_slots)
+from .sectors import (Bad, Kind, LogRecord, MOST_TEXT_BYTES, PAGES, PIECE_BYTES, SLOTS, Sector,
+                      log_records, page_slots, text_size)
 
 Slots = Dict[int, bytes]
 
@@ -72,18 +72,28 @@ def unit_log(layout: Layout, unit: int) -> List[LogRecord]:
     return [record for sector in sectors for record in log_records(sector) or []]
 
 
+def page_values(layout: Layout, unit: int, page: int) -> Union[Slots, Fault]:
+    """The values of a page, its log applied, or its fault: that of its base sectors, or that of its
+    unit's header where a page has no room for the values."""
+    slots = base_page(layout, unit, page)
+    if isinstance(slots, Fault):
+        return slots
+    for record in unit_log(layout, unit):
+        if record.page == page and record.transaction in layout.committed:
+            slots.pop(record.slot, None)
+            if record.value is not None:
+                slots[record.slot] = record.value
+    is_full = text_size(slots) > MOST_TEXT_BYTES
+    return malformed(Spot(layout.homes[unit], 0)) if is_full else slots
+
+
 def unit_records(layout: Layout, unit: int) -> Dict[Tuple[int, int], bytes]:
     """The values of a unit by page and slot, its log applied; its pages have no fault."""
     values: Dict[Tuple[int, int], bytes] = {}
     for page in range(PAGES):
-        slots = base_page(layout, unit, page)
+        slots = page_values(layout, unit, page)
         assert not isinstance(slots, Fault)
         values.update({(page, slot): value for slot, value in slots.items()})
-    for record in unit_log(layout, unit):
-        if record.transaction in layout.committed:
-            values.pop((record.page, record.slot), None)
-            if record.value is not None:
-                values[record.page, record.slot] = record.value
     return values
 
 

@@ -128,8 +128,8 @@ fn check(rt: &impl Abort, alloc: Global, spelled: Spelled<'_>, fault: &str) -> R
 
 #[test]
 fn refused_spellings_are_malformed(rt: HostRuntime) -> Result<(), Fail> {
-    let cases: [(Spelled<'_>, &str); 21] = [
-        // A page text with slots 3 and 0, with slot 3 twice, and with values of 109 and of 256 bytes.
+    let cases: [(Spelled<'_>, &str); 20] = [
+        // A page text with slots 3 and 0, with slot 3 twice, and with a value of 465 bytes.
         (
             ((0, 1), BASE, &[3, 0, 0, 0, 0, 0], SAME),
             "malformed place 0 sector 1",
@@ -139,11 +139,7 @@ fn refused_spellings_are_malformed(rt: HostRuntime) -> Result<(), Fail> {
             "malformed place 0 sector 1",
         ),
         (
-            ((0, 1), BASE, &[0; 112], (34, 109)),
-            "malformed place 0 sector 1",
-        ),
-        (
-            ((0, 1), BASE, &[0; 259], (33, 1)),
+            ((0, 1), BASE, &[1; 468], (34, 0xd1)),
             "malformed place 0 sector 1",
         ),
         // A log record of kind 3, a delete with length 1, and 11 bytes.
@@ -169,7 +165,7 @@ fn refused_spellings_are_malformed(rt: HostRuntime) -> Result<(), Fail> {
             ((0, 241), LOG, &[0, 0x85, 0, 0, 0, 0, 0, 0, 0, 0, 0], SAME),
             "malformed place 0 sector 241",
         ),
-        // The same of version 1, but for the value of 256 bytes; and what is none in the other version.
+        // The same of version 1, with a value of 109 bytes; and what is none in the other version.
         (
             ((0, 1), FIRST_BASE, &[3, 0, 0, 0], SAME),
             "malformed place 0 sector 1",

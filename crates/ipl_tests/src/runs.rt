@@ -141,7 +141,9 @@ fn lines_of_every_kind(rt: HostRuntime) -> Result<(), Fail> {
 fn long_lines(rt: HostRuntime) -> Result<(), Fail> {
     let alloc = rt.alloc();
     for (digits, reply) in [
-        (1016, b"err 4 toolong\n".as_slice()),
+        (928, b"err 6 notopen\n".as_slice()),
+        (930, b"err 4 toolong\n"),
+        (1016, b"err 4 toolong\n"),
         (1018, b"err 1 syntax\n"),
     ] {
         let mut desk = desk_with(alloc, &long_put(alloc, digits)?, &[], ROOM)?;

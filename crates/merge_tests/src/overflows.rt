@@ -2,7 +2,7 @@
 ghost use Rattle.merge_rules.specs.Known.{KnowsPlaces};
 ghost use Rattle.selective_merge.specs.Moving.{tables_of};
 
-use crate::payloads::LONGEST;
+use crate::payloads::QUARTER;
 use crate::tables::{formatted, home, opened, page};
 use crate::walking::{Step, take, walk};
 use chip_mem::MemChip;
@@ -36,7 +36,7 @@ fn is_programmed_last(events: &[Event], place: u32, sector: u32) -> bool {
 /// Whether each slot of a page has the longest value.
 fn is_full(values: &PageMap) -> bool {
     for slot in 0..64 {
-        if values.get(slot) != Some(LONGEST) {
+        if values.get(slot) != Some(QUARTER) {
             return false;
         }
     }

@@ -1,6 +1,7 @@
 //! What power cuts leave where one sector is open: it is as it was, whole or torn.
 use crate::calls::{Answer, Call, DONE, NONE, call_left, formatted, found, left_of};
-use crate::scripts::{add, committing, seven_commits_beside, sixteen_commits};
+use crate::long_values::sixteen_longest;
+use crate::scripts::{LONGEST, add, committing, seven_commits_beside, sixteen_commits};
 use chip_mem::{Choice, MemChip, Pick};
 use chip_trait::Event;
 use std::alloc::Global;
@@ -79,6 +80,17 @@ fn cut_each(
     Ok(())
 }
 
+/// The place whose first sector was programmed last: the last that was merged to.
+fn merged_to(rt: &impl Abort, chip: &MemChip) -> u32 {
+    let mut last = None;
+    for event in chip.events() {
+        if let Event::Program(place, 0, _) = event {
+            last = Some(*place);
+        }
+    }
+    last.expect(rt, "a header is programmed")
+}
+
 /// The chip that a cut leaves right before the last header of place 0 is programmed.
 fn before_header(alloc: Global, chip: &MemChip) -> Result<MemChip, Fail> {
     let Some(header) = last_program(chip, 0, 0) else {
@@ -136,6 +148,34 @@ fn a_merge_that_is_cut_keeps_the_records(rt: HostRuntime) -> Result<(), Fail> {
         (0, 0),
         &[(Call::Committed(5), found(&[15]))],
     )
+}
+
+/// A page of sixteen long values and one that is pending, merged: a cut in its header, in its first
+/// base sector, in the one of its last piece and in the log sector that is carried.
+#[test]
+fn a_merge_of_long_values_that_is_cut_keeps_the_records(rt: HostRuntime) -> Result<(), Fail> {
+    let alloc = rt.alloc();
+    let mut calls = sixteen_longest(alloc)?;
+    for call in [
+        Call::Begin(2),
+        Call::Put(2, 64, LONGEST),
+        Call::Put(2, 65, LONGEST),
+        Call::Merge(0),
+    ] {
+        add(&mut calls, call, DONE)?;
+    }
+    let chip = call_left(&rt, alloc, formatted(alloc, 5, 3000)?, &calls)?;
+    let place = merged_to(&rt, &chip);
+    let records = [
+        (Call::Committed(0), found(LONGEST)),
+        (Call::Committed(15), found(LONGEST)),
+        (Call::Committed(16), NONE),
+        (Call::Committed(64), NONE),
+    ];
+    for sector in [0, 1, 16, 241] {
+        cut_each(&rt, alloc, &chip, (place, sector), &records)?;
+    }
+    Ok(())
 }
 
 #[test]

@@ -17,6 +17,8 @@ mod faults;
 #[cfg(test)]
 mod frames;
 #[cfg(test)]
+mod long_values;
+#[cfg(test)]
 mod reads;
 #[cfg(test)]
 mod refusals;

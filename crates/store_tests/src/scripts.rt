@@ -12,8 +12,11 @@ pub(crate) const FIFTEEN: &[u8] = &[1, 2, 3, 4, 5, 6, 7, 8, 9, 10, 11, 12, 13, 1
 
 const SIXTEEN: &[u8] = &[1, 2, 3, 4, 5, 6, 7, 8, 9, 10, 11, 12, 13, 14, 15, 16];
 
-/// The longest value. The record of a put of it takes a quarter of a log sector.
-pub(crate) const LONGEST: &[u8] = &[0x61; 108];
+/// A value of 108 bytes. The record of a put of it takes a quarter of a log sector.
+pub(crate) const QUARTER: &[u8] = &[0x61; 108];
+
+/// The longest value. The record of a put of it takes a log sector but for four bytes.
+pub(crate) const LONGEST: &[u8] = &[0x61; 464];
 
 /// Adds a call with its answer.
 pub(crate) fn add<'a>(
@@ -69,25 +72,25 @@ pub(crate) fn sixteen_commits(
     Ok(calls)
 }
 
-/// Session 0 begins, puts long values at so many names, and stays open.
-pub(crate) fn long_puts(
+/// Session 0 begins, puts values at so many names, four to a log sector, and stays open.
+pub(crate) fn quarter_puts(
     alloc: Global,
     count: u32,
 ) -> Result<Vec<(Call<'static>, Answer<'static>)>, Fail> {
     let mut calls = Vec::new(alloc);
     add(&mut calls, Call::Begin(0), DONE)?;
     for name in 0..count {
-        add(&mut calls, Call::Put(0, name, LONGEST), DONE)?;
+        add(&mut calls, Call::Put(0, name, QUARTER), DONE)?;
     }
     Ok(calls)
 }
 
-/// Session 0 puts long values at forty names, which take nine log sectors, and stays open.
+/// Session 0 puts values at forty names, four to a log sector, and stays open.
 /// Session 1 commits name 64 seven times.
 pub(crate) fn seven_commits_beside(
     alloc: Global,
 ) -> Result<Vec<(Call<'static>, Answer<'static>)>, Fail> {
-    let mut calls = long_puts(alloc, 40)?;
+    let mut calls = quarter_puts(alloc, 40)?;
     commits(&mut calls, 1, 64, SEVEN)?;
     Ok(calls)
 }

@@ -5,7 +5,7 @@ use crate::calls::{
 };
 use crate::events::{Write, committed_numbers, erased, header, sector, written};
 use crate::scripts::{
-    FIFTEEN, LONGEST, SIX, add, add_all, commits, committing, long_puts, seven_commits_beside,
+    FIFTEEN, QUARTER, SIX, add, add_all, commits, committing, quarter_puts, seven_commits_beside,
     status_filled,
 };
 use chip_mem::MemChip;
@@ -135,11 +135,11 @@ fn numbers_are_drawn_in_turn(rt: HostRuntime) -> Result<(), Fail> {
 /// A record takes twelve bytes and its value's, and a log sector in memory is written to the chip
 /// when the next record doesn't fit its 480. No barrier follows before a commit.
 #[test]
-fn five_long_puts_fill_a_log_sector(rt: HostRuntime) -> Result<(), Fail> {
+fn five_quarters_fill_a_log_sector(rt: HostRuntime) -> Result<(), Fail> {
     let alloc = rt.alloc();
-    let four = long_puts(alloc, 4)?;
+    let four = quarter_puts(alloc, 4)?;
     write_after(&rt, alloc, 5, &[], &four, &[])?;
-    let fifth = [(Call::Put(0, 4, LONGEST), DONE)];
+    let fifth = [(Call::Put(0, 4, QUARTER), DONE)];
     // The opening drew 3, and the session 4.
     let writes = [
         Write::Erase(1),
@@ -157,7 +157,7 @@ fn five_long_puts_fill_a_log_sector(rt: HostRuntime) -> Result<(), Fail> {
 #[test]
 fn what_an_open_session_wrote_is_lost_in_a_cut(rt: HostRuntime) -> Result<(), Fail> {
     let alloc = rt.alloc();
-    let five = long_puts(alloc, 5)?;
+    let five = quarter_puts(alloc, 5)?;
     let cut = call_left(&rt, alloc, formatted(alloc, 5, 1000)?, &five)?;
     let records = [
         (Call::Committed(0), NONE),
@@ -217,7 +217,7 @@ fn the_sixteenth_commit_merges(rt: HostRuntime) -> Result<(), Fail> {
 #[test]
 fn a_full_log_is_carried_on_in_an_overflow_place(rt: HostRuntime) -> Result<(), Fail> {
     let alloc = rt.alloc();
-    let mut full = long_puts(alloc, 40)?;
+    let mut full = quarter_puts(alloc, 40)?;
     commits(&mut full, 1, 64, SIX)?;
     let seventh = commit_before(alloc, 1, 64, b"g", &[])?;
     // The opening drew 3, and session 0 has 4. The merge drew 5, nine log sectors 6 to 14, and the

@@ -1,7 +1,12 @@
 //! Log records, in a version: `records BYTES`, each record, and whether they are put again as the same
 //! bytes.
+ghost use Rattle.std.specs.Prelude.{◌≡◌, length};
+ghost use Rattle.ipl_format.specs.Record.{value_of};
+ghost use Rattle.log_records.specs.View.{change_of};
+
 use crate::words::{bytes_of, hex_of, join, text_of, versioned};
 use anyhow::{Result, ensure};
+use ipl_base::SHORT_LEN;
 use log_records::{Change, Payload, Record, is_list, put, records};
 use std::alloc::Global;
 
@@ -43,9 +48,28 @@ fn record_text(alloc: Global, record: &Record) -> Result<String> {
 fn put_again(payload: &Payload) -> Payload {
     let mut again = Payload::of(&[], payload.version());
     for record in records(payload) {
-        if record.page < 15 && record.slot < 64 {
-            let _ = put(&mut again, &record);
-        }
+        put_one(&mut again, &record);
     }
     again
+}
+
+/// Puts a record that has a spelling in the payload's version.
+fn put_one(payload: &mut Payload, record: &Record) {
+    if record.page >= 15 || record.slot >= 64 {
+        return;
+    }
+    if payload.version() == 1 && value_len(&record.change) > SHORT_LEN {
+        return;
+    }
+    let _ = put(payload, record);
+}
+
+/// How many bytes the value of a change has.
+fn value_len(change: &Change) -> usize
+    ensures { result ≡ length (value_of (change_of change.now)) }
+{
+    match change {
+        Change::Put(value) => value.bytes().len(),
+        Change::Delete => 0,
+    }
 }

@@ -1,7 +1,8 @@
-//! Serial views: `view PLACES LINES`, the positions of the commands in the view, over so many places.
+//! Serial views: `view PLACES LINES`, the positions of the commands in the view from
+//! the empty map, over so many places.
 use crate::words::{geometry_of, parted, text_of};
 use anyhow::Result;
-use ipl_model::{Command, Line};
+use ipl_model::{Command, Line, PlainModel};
 use script_text::parse;
 use serial_view::serial_order;
 use std::alloc::Global;
@@ -10,7 +11,9 @@ use std::fmt::Write;
 pub fn view_row(alloc: Global, rest: &str) -> Result<String> {
     let (places, lines) = parted(rest);
     let commands = commands_of(alloc, lines)?;
-    let order = serial_order(alloc, geometry_of(places)?, &commands)?;
+    let geometry = geometry_of(places)?;
+    let start = PlainModel::new(alloc, geometry)?;
+    let order = serial_order(alloc, geometry, &start, &commands)?;
     let mut text = text_of(alloc, "view")?;
     for position in &order {
         write!(text, " {position}")?;
