@@ -17,7 +17,10 @@ def random_script(draw: random.Random, units: int) -> List[str]:
     """Commands of six sessions over some names, of which the sessions from 2 on may stay open long."""
     names = 960 * units
     often = draw.sample(range(names), 40) + draw.sample(range(300), 40)
-    ends, longs = draw.choice([1, 0.3, 0.02]), draw.random()
+    if draw.random() < 0.4:
+        # Names of one page, which is full in time.
+        often += draw.sample(range(64), 24)
+    ends, lengths = draw.choice([1, 0.3, 0.02]), draw.choice([[0, 108], [108], [0, 464], [0, 200]])
     kinds = ["begin"] * 20 + ["put"] * 55 + ["del"] * 3 + ["get"] * 4 + ["share"] * 4
     kinds += ["commit"] * 10 + ["abort"] * 2 + ["merge", "list"]
     lines = []
@@ -28,7 +31,7 @@ def random_script(draw: random.Random, units: int) -> List[str]:
         if kind in ("begin", "commit", "abort"):
             lines.append(f"{kind} {session}")
         elif kind == "put":
-            length = 108 if draw.random() < longs else draw.randrange(20)
+            length = draw.choice(lengths) or draw.randrange(20)
             lines.append(f"put {session} {name} {'61' * length or '-'}")
         elif kind == "merge":
             lines.append(draw.choice([f"merge {draw.randrange(units)}", "restart"]))
@@ -39,10 +42,19 @@ def random_script(draw: random.Random, units: int) -> List[str]:
     return lines
 
 
+def asked_of(rules: Rules, line: str, reply: Reply) -> Asked:
+    """What a line asks by the rules: nothing, where it was refused, but that a put whose page is full
+    brings the page."""
+    if line != "open" and reply.line.startswith("err 14"):
+        return rules.asked_by(" ".join(["get", *line.split(" ")[1:3]]))
+    if line != "open" and reply.line.startswith("err"):
+        return Asked()
+    return rules.asked_by(line)
+
+
 def agrees_with_rules(rules: Rules, line: str, reply: Reply) -> bool:
-    """Whether a line asked what the rules say: nothing, where it was refused."""
-    is_refused = reply.line.startswith("err") and line != "open"
-    return compare(line, reply.asked, Asked() if is_refused else rules.asked_by(line))
+    """Whether a line asked what the rules say."""
+    return compare(line, reply.asked, asked_of(rules, line, reply))
 
 
 def try_script(program: str, folder: str, seed: int) -> bool:

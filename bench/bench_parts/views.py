@@ -5,9 +5,12 @@ from __future__ import annotations
 from collections import Counter
 from typing import Callable, Dict, Iterator, List, Set
 
-from .workloads import MOST_PENDING, UNIT_NAMES, value_of
+from .workloads import MOST_PENDING, SLOTS, UNIT_NAMES, value_of
 
-SESSIONS, MOST_NAMES, LONGEST = 32, 256, 108
+SESSIONS, MOST_NAMES, LONGEST = 32, 256, 464
+# What a record takes in its page besides its value, what a page has room for, and what a name weighs
+# on which a value of more than 108 bytes is pending.
+RECORD_HEAD, PAGE_BYTES, SHORT, LONG_WEIGHT = 3, 7680, 108, 8
 
 # Units enough for 256 names of each session with 48 of a unit.
 PLACES = 4 + -(-SESSIONS * MOST_NAMES // MOST_PENDING)
@@ -84,11 +87,22 @@ def long_transactions(count: int) -> Script:
 
 
 def long_values(count: int) -> Script:
-    """Puts of 108 bytes to 48 names, and as many of 109, which are refused."""
+    """Puts of 464 bytes to six names, and as many of 465, which are refused."""
     yield "begin 0"
     for turn in range(count - 2):
-        yield f"put 0 {name_at(turn % MOST_PENDING)} {value_of(turn, LONGEST + turn % 2)}"
+        yield f"put 0 {name_at(turn // 2 % 6)} {value_of(turn, LONGEST + turn % 2)}"
     yield "commit 0"
+
+
+def full_pages(count: int) -> Script:
+    """Transactions of six puts of 464 bytes, over a page and another unit's, which fill both; from then
+    on the puts at names without a record are refused."""
+    for turn in range(count // 8):
+        names = [turn * 6 % SLOTS + i for i in range(6)]
+        unit = UNIT_NAMES * (turn % 2)
+        yield "begin 0"
+        yield from (f"put 0 {unit + name % SLOTS} {value_of(turn, LONGEST)}" for name in names)
+        yield "commit 0"
 
 
 def aborted(count: int) -> Script:
@@ -105,7 +119,8 @@ SCRIPTS: Dict[str, Callable[[int], Script]] = {
     "31 such sessions, and puts to a full unit": full_unit,
     "transactions of one put": short_transactions,
     "32 transactions of all lines": long_transactions,
-    "puts of 108 bytes, and of 109": long_values,
+    "puts of 464 bytes, and of 465": long_values,
+    "transactions of puts of 464 bytes to full pages": full_pages,
     "transactions that are aborted": aborted,
 }
 
@@ -113,8 +128,18 @@ SCRIPTS: Dict[str, Callable[[int], Script]] = {
 class Session:
     def __init__(self, position: int) -> None:
         self.turns = [position]
-        self.written: Set[int] = set()
+        # Of each name written the sizes of the last value and of the longest, in a page.
+        self.last: Dict[int, int] = {}
+        self.longest: Dict[int, int] = {}
         self.shared: Set[int] = set()
+
+
+def weight_of(size: int) -> int:
+    """What a name weighs whose longest value takes so much in its page, less than nothing where none
+    is pending."""
+    if size < 0:
+        return 0
+    return LONG_WEIGHT if size > RECORD_HEAD + SHORT else 1
 
 
 class View:
@@ -123,17 +148,20 @@ class View:
     def __init__(self, places: int) -> None:
         self.names = UNIT_NAMES * (places - 4)
         self.open: Dict[int, Session] = {}
-        # Who wrote each name and who shares it, and how many names of each unit are pending.
+        # Who wrote each name and who shares it, and what the pending names of each unit weigh.
         self.writers: Dict[int, int] = {}
         self.sharers: Dict[int, Set[int]] = {}
         self.pending: Counter[int] = Counter()
+        # What each record takes in its page, and what each page may come to take.
+        self.sizes: Dict[int, int] = {}
+        self.fills: Counter[int] = Counter()
         self.positions: List[int] = []
 
     def share(self, s: int, name: int) -> bool:
         shared = self.open[s].shared
         if self.writers.get(name, s) != s:
             return False
-        if name in shared or name in self.open[s].written:
+        if name in shared or name in self.open[s].longest:
             return True
         if len(shared) >= MOST_NAMES:
             return False
@@ -141,27 +169,43 @@ class View:
         self.sharers.setdefault(name, set()).add(s)
         return True
 
-    def put(self, s: int, name: int) -> bool:
-        written, unit = self.open[s].written, name // UNIT_NAMES
+    def room_of(self, name: int) -> int:
+        """What a name may come to take in its page."""
+        writer = self.writers.get(name)
+        written = 0 if writer is None else self.open[writer].longest[name]
+        return max(self.sizes.get(name, 0), written)
+
+    def put(self, s: int, name: int, length: int) -> bool:
+        session, unit, size = self.open[s], name // UNIT_NAMES, RECORD_HEAD + length
         if self.writers.get(name, s) != s or self.sharers.get(name, set()) - {s}:
             return False
-        if name in written:
-            return True
-        if len(written) >= MOST_NAMES or self.pending[unit] >= MOST_PENDING:
+        if name not in session.longest and len(session.longest) >= MOST_NAMES:
             return False
-        written.add(name)
+        before = session.longest.get(name, -1)
+        added = weight_of(max(before, size)) - weight_of(before)
+        room = self.room_of(name)
+        more = max(room, size) - room
+        if self.pending[unit] + added > MOST_PENDING or self.fills[name // SLOTS] + more > PAGE_BYTES:
+            return False
+        session.last[name], session.longest[name] = size, max(before, size)
+        self.fills[name // SLOTS] += more
         self.writers[name] = s
-        self.pending[unit] += 1
+        self.pending[unit] += added
         return True
 
-    def close(self, s: int) -> List[int]:
+    def close(self, s: int, is_commit: bool) -> List[int]:
         """Closes a session, and answers its turns."""
-        session = self.open.pop(s)
-        for name in session.written:
+        session = self.open[s]
+        for name, size in session.longest.items():
+            room = self.room_of(name)
             del self.writers[name]
-            self.pending[name // UNIT_NAMES] -= 1
+            if is_commit:
+                self.sizes[name] = session.last[name]
+            self.pending[name // UNIT_NAMES] -= weight_of(size)
+            self.fills[name // SLOTS] += self.room_of(name) - room
         for name in session.shared:
             self.sharers[name].remove(s)
+        del self.open[s]
         return session.turns
 
     def is_done(self, word: str, s: int, words: List[str]) -> bool:
@@ -171,7 +215,8 @@ class View:
             return False
         if word == "share":
             return self.share(s, name)
-        return word != "put" or (len(words[1]) <= 2 * LONGEST and self.put(s, name))
+        length = len(words[1]) // 2 if word == "put" else 0
+        return word != "put" or (length <= LONGEST and self.put(s, name, length))
 
     def take(self, position: int, line: str) -> None:
         """The next line, at a position."""
@@ -179,15 +224,15 @@ class View:
         s = int(words[0]) if words else SESSIONS
         if word == "restart":
             for each in list(self.open):
-                self.close(each)
+                self.close(each, False)
         elif word == "begin" and s < SESSIONS and s not in self.open:
             self.open[s] = Session(position)
         elif word == "abort" and s in self.open:
-            self.close(s)
+            self.close(s, False)
         elif word != "begin" and s in self.open and self.is_done(word, s, words[1:]):
             self.open[s].turns.append(position)
             if word == "commit":
-                self.positions += self.close(s)
+                self.positions += self.close(s, True)
 
 
 def view_of(script: Script, places: int) -> List[int]:

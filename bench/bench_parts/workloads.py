@@ -6,6 +6,8 @@ from typing import Callable, Dict, Iterator, List, NamedTuple, TextIO
 
 UNIT_NAMES = 960
 SHORT_VALUE, LONG_VALUE = 40, 108
+# Values that take most of a log sector, and of which a page has room for sixteen.
+MOST_VALUES, SLOTS = 16, 64
 # So many names of a unit may be pending.
 MOST_PENDING = 48
 # So many sessions are open at most.
@@ -69,6 +71,24 @@ def full_chip(places: int, count: int) -> Iterator[Transaction]:
         yield [Put(turn % names_of(places), value_of(turn, LONG_VALUE))]
 
 
+def sixteen_a_page(places: int, turn: int) -> int:
+    """The first sixteen names of each page in turn."""
+    names = turn % (names_of(places) // SLOTS * MOST_VALUES)
+    return names // MOST_VALUES * SLOTS + names % MOST_VALUES
+
+
+def one_long_put(places: int, count: int) -> Iterator[Transaction]:
+    """A put of 400 bytes, over sixteen names of each page in turn."""
+    for turn in range(count):
+        yield [Put(sixteen_a_page(places, turn), value_of(turn, 400))]
+
+
+def long_puts(places: int, count: int) -> Iterator[Transaction]:
+    """A put of 200 or of 464 bytes, over sixteen names of each page in turn."""
+    for turn in range(count):
+        yield [Put(sixteen_a_page(places, turn), value_of(turn, 464 if turn % 2 else 200))]
+
+
 Workload = Callable[[int, int], Iterator[Transaction]]
 
 WORKLOADS: Dict[str, Workload] = {
@@ -76,6 +96,7 @@ WORKLOADS: Dict[str, Workload] = {
     "four puts at random": four_random_puts,
     "one put, nine in ten to a tenth of the names": mostly_to_a_tenth,
     "a full chip of 108 bytes a name, one put in turn": full_chip,
+    "one put of 200 or of 464 bytes, over sixteen names of each page": long_puts,
 }
 
 
