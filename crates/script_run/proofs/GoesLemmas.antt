@@ -1,11 +1,13 @@
 -- How a run goes on, in one part of its script after another.
-use Rattle.std.proofs.Common.{◌≡◌, ℕ, ◌+◌, ◌<◌, ◌≤◌, ◌==◌, false, length, get_or, take, drop, arith, List, [], ◌∷◌, ◌++◌, Some, Result, Ok, Err, MatchResult, refl, sym, ◌∙◌, ap, subst, append_assoc}
+use Rattle.std.proofs.Common.{◌≡◌, ℕ, ◌+◌, ◌-◌, ◌<◌, ◌≤◌, false, length, get_or, take, drop, arith, List, [], ◌∷◌, ◌++◌, Some, Result, Ok, Err, MatchResult, refl, sym, ◌∙◌, ap, subst, append_assoc}
+use Rattle.std.specs.List.{fold, position}
 use Rattle.std.specs.Option.{option_map}
-use Rattle.std.proofs.lemmas.List.{take_more, take-append-drop, drop_all}
+use Rattle.std.proofs.lemmas.List.{take_more, take_rest, take-append-drop, drop_all}
+use Rattle.std.proofs.Math.Seq.{take-add}
 use Rattle.ipl_rules.specs.State.{State, Limits}
 use Rattle.ipl_model.specs.declared.command.Command.{Command}
 use Rattle.ipl_model.specs.Run.{after_all}
-use Rattle.ipl_model.specs.Grammar.{line_of, commands_in, commands_of}
+use Rattle.ipl_model.specs.Grammar.{line_of, commands_in, commands_of, is_line_feed}
 use Rattle.chip_trait.specs.Told.{History, Told, Beside, IsBeside, IsNext, adds_all}
 use Rattle.chip_trait.proofs.HistoryLemmas.{same_history}
 use Rattle.script_run.specs.declared.fault.Stop.{Stop}
@@ -15,7 +17,8 @@ use Rattle.store_trait.specs.Keeping.{Keeping, Stays}
 use Rattle.script_run.specs.Lines.{commands_from, kept}
 use Rattle.script_run.specs.Run.{RunLeaves}
 use Rattle.script_run.specs.Goes.{Answers, Goes, TakesBytes, Took, Stopped, Ended}
-use Rattle.script_run.proofs.LineLemmas.{keeping, from_start}
+use Rattle.script_run.proofs.LineLemmas.{keeping_all, from_start}
+use Rattle.script_run.proofs.FeedLemmas.{feed_in, plain_before, plain_all}
 use Rattle.store_trait.proofs.OnwardLemmas.{unrisen_later}
 use Rattle.script_run.proofs.ReadLemmas.{left_then}
 use Rattle.script_run.proofs.EndLemmas.{between_none}
@@ -37,11 +40,12 @@ module _ {S : Type 0} (k : Keeping S) (limits : Limits) where
       → k.holds limits then new (adds_all leaves.added h) (after_all limits state (commands_in (line_of line))) → Goes k limits state line (10 ∷ []) before h then [] old new
   goes_line state line before then h old new leaves holds = record { done = commands_in (line_of line); goes_on = λ tail. refl; leaves = leaves; holds = holds }
 
-  -- a byte that is kept
-  pub goes_byte : (state : State) (line : List ℕ) (b : ℕ) (store : S) (h : History) (t : Told) → (b == 10) ≡ false → k.holds limits store t h state → Goes k limits state line (b ∷ []) store h store (kept line b) t t
-  goes_byte state line b store h t no_end holds =
+  -- bytes that are kept
+  goes_kept : (state : State) (line bytes : List ℕ) (store : S) (h : History) (t : Told) → ((i : ℕ) → i < length bytes → is_line_feed (get_or bytes i 0) ≡ false) → k.holds limits store t h state
+      → Goes k limits state line bytes store h store (fold kept line bytes) t t
+  goes_kept state line bytes store h t plain holds =
       let leaves = run_none k limits state store h (k.holds limits store t) t (Ok tt) holds holds holds in
-      record { done = []; goes_on = λ tail. keeping line b tail no_end; leaves = leaves; holds = leaves.ends }
+      record { done = []; goes_on = λ tail. keeping_all line bytes tail plain; leaves = leaves; holds = leaves.ends }
 
   -- the line that a byte ends was answered, or it stopped in it
   pub line_takes : (line : List ℕ) (before then : S) (old new : Told) (result : Result (Unit {0}) Stop) (state : State) (h : History)
@@ -68,6 +72,25 @@ module _ {S : Type 0} (k : Keeping S) (limits : Limits) where
         leaves = leaves;
         holds = leaves.ends;
       }
+
+  -- the bytes before the next line feed of a piece
+  pub goes_before : (state : State) (line piece : List ℕ) (at n : ℕ) (before store : S) (h : History) (mid later : List ℕ) (old t : Told) → Some n ≡ position is_line_feed (take (length piece - at) (drop at piece))
+      → later ≡ fold kept mid (take ((at + n) - at) (drop at piece)) → Goes k limits state line (take at piece) before h store mid old t → Goes k limits state line (take (at + n) piece) before h store later old t
+  goes_before state line piece at n before store h mid later old t found is g =
+      let bytes = take n (drop at piece) in
+      let kept_is : later ≡ fold kept mid bytes = is ∙ ap (λ (m : ℕ). fold kept mid (take m (drop at piece))) (omega arith) in
+      rw kept_is (subst (λ (l : List ℕ). Goes k limits state line l before h store (fold kept mid bytes) old t) (sym (take-add at n piece))
+      (goes_then state line (take at piece) bytes before store store h mid (fold kept mid bytes) old t t g
+      (λ s g' now. goes_kept s mid bytes store g' t (plain_before (drop at piece) n (feed_in piece at n found)) now)))
+
+  -- the bytes behind its last line feed
+  pub goes_behind : (state : State) (line piece : List ℕ) (at : ℕ) (before store : S) (h : History) (mid later : List ℕ) (old t : Told) → ((n : ℕ) → position is_line_feed (take (length piece - at) (drop at piece)) ≡ Some n → ⊥)
+      → later ≡ fold kept mid (take (length piece - at) (drop at piece)) → Goes k limits state line (take at piece) before h store mid old t → Goes k limits state line piece before h store later old t
+  goes_behind state line piece at before store h mid later old t none is g =
+      let bytes = take (length piece - at) (drop at piece) in
+      rw is (subst (λ (l : List ℕ). Goes k limits state line l before h store (fold kept mid bytes) old t) (ap (λ (l : List ℕ). take at piece ++ l) (take_rest piece at) ∙ take-append-drop at piece)
+      (goes_then state line (take at piece) bytes before store store h mid (fold kept mid bytes) old t t g
+      (λ s g' now. goes_kept s mid bytes store g' t (plain_all bytes none) now)))
 
   -- it stopped in what came after
   pub stops_then : (state : State) (line a rest : List ℕ) (before mid_store then : S) (h : History) (R : History → State → Type 0) (mid : List ℕ) (old between new : Told) (e : Stop) (g : Goes k limits state line a before h mid_store mid old between)
@@ -246,10 +269,9 @@ module _ {S : Type 0} (k : Keeping S) (limits : Limits) where
   ends_later state source before then h (Ok u) old mid new le ended = ended
   ends_later state source before then h (Err e) old mid new le s = stops_weaker state (commands_of source) source before then h (Stays k limits then mid new) (Stays k limits then old new) old new e (λ g n. stays_later then old mid new g n le) s
 
--- the line that a byte ends was answered, or it stopped in it
-pub takes_line : {S : Type 0} (k : Keeping S) (line bytes later : List ℕ) (b : ℕ) (before then : S) (old new : Told) (result : Result (Unit {0}) Stop) → bytes ≡ line → b ≡ 10 → later ≡ []
-    → Answers k (commands_in (line_of bytes)) before old result then new → TakesBytes k (b ∷ []) before line old result then later new
-takes_line k line bytes later b before then old new result same end clear answers =
-    subst (λ (n : ℕ). TakesBytes k (n ∷ []) before line old result then later new) (sym end)
-    (subst (λ (l : List ℕ). TakesBytes k (10 ∷ []) before line old result then l new) (sym clear) (λ limits state h holds.
-    line_takes k limits line before then old new result state h (subst (λ (l : List ℕ). Answers k (commands_in (line_of l)) before old result then new) same answers limits state h holds)))
+-- the line that a line feed ends was answered, or it stopped in it
+pub takes_line : {S : Type 0} (k : Keeping S) (line bytes later : List ℕ) (before then : S) (old new : Told) (result : Result (Unit {0}) Stop) → bytes ≡ line → later ≡ []
+    → Answers k (commands_in (line_of bytes)) before old result then new → TakesBytes k (10 ∷ []) before line old result then later new
+takes_line k line bytes later before then old new result same clear answers =
+    subst (λ (l : List ℕ). TakesBytes k (10 ∷ []) before line old result then l new) (sym clear) (λ limits state h holds.
+    line_takes k limits line before then old new result state h (subst (λ (l : List ℕ). Answers k (commands_in (line_of l)) before old result then new) same answers limits state h holds))

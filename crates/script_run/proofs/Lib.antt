@@ -1,5 +1,6 @@
 pub mod ReadLemmas
 pub mod LineLemmas
+mod FeedLemmas
 pub mod RunLemmas
 mod AnswerLemmas
 mod GoesLemmas

@@ -1,9 +1,10 @@
 -- The commands of a script, as its bytes come.
-use Rattle.std.proofs.Common.{◌≡◌, inl, inr, ℕ, ◌≤◌, ◌==◌, nat_lt, Bool, true, false, cond, length, arith, List, [], ◌∷◌, ◌++◌, refl, sym, ◌∙◌, ap, append_assoc}
-use Rattle.std.specs.List.{slice_split, flat_map, onto_first}
+use Rattle.std.proofs.Common.{◌≡◌, inl, inr, ℕ, zero, suc, ◌+◌, ◌<◌, ◌≤◌, ◌==◌, nat_lt, Bool, true, false, cond, length, get_or, take, arith, List, [], ◌∷◌, ◌++◌, refl, sym, ◌∙◌, ap, append_assoc}
+use Rattle.std.specs.List.{fold, slice_split, flat_map, onto_first}
 use Rattle.std.proofs.lemmas.Bool.{cases_lt}
 use Rattle.std.proofs.lemmas.Bool.Decides.{nat_tests}
 use Rattle.std.proofs.lemmas.List.{append-nil, length-append}
+use Rattle.std.proofs.Math.Seq.{take-nil}
 use Rattle.ipl_model.specs.declared.command.Command.{Command}
 use Rattle.ipl_model.specs.declared.command.Command.TheVariants.{Syntax}
 use Rattle.ipl_model.specs.declared.line.Line.TheVariants.{Skip, Do}
@@ -54,6 +55,22 @@ keeping held b bytes no_end =
           let test : nat_lt (length held) 1025 ≡ false = grind (arith, nat_tests) in
           alike_on (held ++ b ∷ []) held bytes (long_alike held b long) ∙ sym (ap (λ (t : Bool). commands_from (cond t (held ++ b ∷ []) held) bytes) test)
     ]
+
+-- of bytes with no line feed among them, all are kept, as far as there is room
+pub keeping_all : (held bytes tail : List ℕ) → ((i : ℕ) → i < length bytes → is_line_feed (get_or bytes i 0) ≡ false) → commands_from held (bytes ++ tail) ≡ commands_from (fold kept held bytes) tail
+keeping_all held [] tail plain = refl
+keeping_all held (b ∷ bytes) tail plain = keeping held b (bytes ++ tail) (plain 0 (omega arith)) ∙ keeping_all (kept held b) bytes tail (λ i lt. plain (suc i) (omega (arith, lt)))
+
+-- bytes that are kept one by one are those that there is room for
+pub kept_all : (room : ℕ) (held bytes : List ℕ) → length held + room ≡ 1025 → held ++ take room bytes ≡ fold kept held bytes
+kept_all room held [] is = ap (λ (l : List ℕ). held ++ l) (take-nil room) ∙ append-nil held
+kept_all zero held (b ∷ bytes) is =
+    let test : nat_lt (length held) 1025 ≡ false = grind (arith, nat_tests) in
+    kept_all zero held bytes is ∙ ap (λ (t : Bool). fold kept (cond t (held ++ b ∷ []) held) bytes) (sym test)
+kept_all (suc room) held (b ∷ bytes) is =
+    let test : nat_lt (length held) 1025 ≡ true = grind (arith, nat_tests) in
+    sym (append_assoc held (b ∷ []) (take room bytes)) ∙ kept_all room (held ++ b ∷ []) bytes (omega (arith, is, length-append held (b ∷ [])))
+    ∙ ap (λ (t : Bool). fold kept (cond t (held ++ b ∷ []) held) bytes) (sym test)
 
 -- ---- the commands of a script, as its bytes come
 

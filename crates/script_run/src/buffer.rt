@@ -1,5 +1,6 @@
 //! What is kept of a line while its bytes come.
 ghost use Rattle.std.specs.Prelude.{◌≡◌, ◌≤◌, [], ℕ, List, length};
+ghost use Rattle.std.specs.List.{fold};
 ghost use Rattle.script_run.specs.Lines.{kept};
 
 use arrayvec::ArrayVec;
@@ -50,5 +51,13 @@ impl LineBuffer {
         if !self.bytes.is_full() {
             self.bytes.push(byte);
         }
+    }
+
+    /// Keeps more bytes, as many as there is room for.
+    pub fn extend(&mut self, bytes: &[u8])
+        ensures { self.new ≡ fold kept self.old bytes.now }
+    {
+        let count = self.bytes.remaining_capacity().min(bytes.len());
+        let _ = self.bytes.try_extend_from_slice(&bytes[..count]);
     }
 }

@@ -1,6 +1,8 @@
 //! A script to its end, in whatever pieces its bytes come.
 ghost use Rattle.std.specs.Prelude.{◌≡◌, ◌≤◌, ◌+◌, ◌-◌, ◌*◌, ◌^◌, ◌∷◌, ◌<◌, max, [], ℕ, List, length, IfOk, OnOk, IfErr, IsErrOf, is_ok};
+ghost use Rattle.std.specs.List.{position};
 ghost use Rattle.chip_trait.specs.Told.{Told, Grew};
+ghost use Rattle.ipl_model.specs.Grammar.{is_line_feed};
 ghost use Rattle.store_trait.specs.Onward.{Onward, Further};
 ghost use Rattle.store_trait.specs.Keeping.{Draws, LeavesTidy, FOUND_NUMBER, COMMAND_DRAWS, SCRIPT_DRAWS};
 ghost use Rattle.script_run.specs.Goes.{Along, CompletesOver, HasRead, ReadsAll, StopCause, TakesBytes, TakesNext, RunsScript};
@@ -17,31 +19,34 @@ const PIECE: usize = 4096;
 /// A script of this many bytes is too long.
 const TOO_MANY: u64 = 4_294_967_295;
 
-/// Takes a byte of the script: answers the line that it ends, or keeps it.
-fn take_byte<S: Store, D: Desk>(
+/// Where the first line feed is, if there is one.
+fn line_feed(bytes: &[u8]) -> Option<usize>
+    ensures { result ≡ position is_line_feed bytes.now }
+{
+    bytes.iter().position(|b| *b == b'\n')
+}
+
+/// Takes a line feed of the script: answers the line that it ends.
+fn end_line<S: Store, D: Desk>(
     store: &mut S,
     desk: &mut D,
     line: &mut LineBuffer,
-    byte: u8,
 ) -> Result<(), Stop>
     requires { S.keeping.suits store.old (D.told desk.old).places }
-    ensures takes { TakesBytes S.keeping (byte ∷ []) store.old line.old (D.told desk.old) result store.new line.new
+    ensures takes { TakesBytes S.keeping (10 ∷ []) store.old line.old (D.told desk.old) result store.new line.new
         (D.told desk.new) }
     ensures along { Along S.keeping Onward COMMAND_DRAWS store.old (D.told desk.old) result store.new
         (D.told desk.new) }
     ensures completes { CompletesOver S.keeping COMMAND_DRAWS store.old (D.told desk.old) result store.new
         (D.told desk.new) }
 {
-    if byte == b'\n' {
-        let answered = answer_line(store, desk, line.bytes());
-        line.clear();
-        return answered;
-    }
-    line.push(byte);
-    Ok(())
+    let answered = answer_line(store, desk, line.bytes());
+    line.clear();
+    answered
 }
 
-/// Takes a piece of the script: answers each line that ends in it, and keeps the rest.
+/// Takes a piece of the script: answers each line that ends in it, and keeps the rest. The bytes before a line feed are
+/// kept at once: a line with a value is long.
 fn take_piece<S: Store, D: Desk>(
     store: &mut S,
     desk: &mut D,
@@ -56,9 +61,13 @@ fn take_piece<S: Store, D: Desk>(
     ensures completes { CompletesOver S.keeping (COMMAND_DRAWS * length piece.now) store.old
         (D.told desk.old) result store.new (D.told desk.new) }
 {
-    for byte in piece {
-        take_byte(store, desk, line, *byte)?;
+    let mut at = 0;
+    while let Some(count) = line_feed(&piece[at..]) {
+        line.extend(&piece[at..at + count]);
+        end_line(store, desk, line)?;
+        at += count + 1;
     }
+    line.extend(&piece[at..]);
     Ok(())
 }
 

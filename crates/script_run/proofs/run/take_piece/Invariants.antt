@@ -1,4 +1,4 @@
-use Rattle.std.proofs.Common.{◌*◌, take}
+use Rattle.std.proofs.Common.{◌*◌, ◌-◌, ◌≤◌, length, take}
 use Rattle.ipl_rules.specs.State.{State, Limits}
 use Rattle.chip_trait.specs.Told.{History}
 use Rattle.store_trait.specs.Keeping.{COMMAND_DRAWS}
@@ -7,13 +7,17 @@ use Rattle.script_run.proofs.AlongLemmas.{SoFar}
 use Rattle.script_run.proofs.CompleteLemmas.{CompletesSoFar}
 use Rattle.script_run.proofs.run.take_piece.Given as goal
 
-abbrev pub invariant-loop-byte : goal.invariant-loop-byte
-invariant-loop-byte g l =
+abbrev pub invariant-loop-count : goal.invariant-loop-count
+invariant-loop-count g l =
     let told = g.D.Chip.told in
     let k = g.S.Store.keeping in
     record {
       goes : (limits : Limits) (state : State) (h : History) → k.holds limits l.fn.store (told l.fn.desk) h state
-          → Goes k limits state l.fn.line (take l.byte-index l.piece) l.fn.store h l.store l.line (told l.fn.desk) (told l.desk);
-      along : SoFar k (COMMAND_DRAWS * l.byte-index) l.fn.store (told l.fn.desk) l.store (told l.desk);
-      completes : (limits : Limits) → KeepsSome k limits l.fn.store (told l.fn.desk) → CompletesSoFar k limits (COMMAND_DRAWS * l.byte-index) l.fn.store (told l.fn.desk) l.store (told l.desk);
+          → Goes k limits state l.fn.line (take l.at l.piece) l.fn.store h l.store l.line (told l.fn.desk) (told l.desk);
+      along : SoFar k (COMMAND_DRAWS * l.at) l.fn.store (told l.fn.desk) l.store (told l.desk);
+      completes : (limits : Limits) → KeepsSome k limits l.fn.store (told l.fn.desk) → CompletesSoFar k limits (COMMAND_DRAWS * l.at) l.fn.store (told l.fn.desk) l.store (told l.desk);
+      inside : l.at ≤ length l.piece;
     }
+
+abbrev pub decreases-loop-count : goal.decreases-loop-count
+decreases-loop-count g l = length l.piece - l.at
