@@ -2,7 +2,7 @@
 use Rattle.std.proofs.Common.{◌≡◌, ℕ, ◌+◌, ◌*◌, ◌/◌, ◌<◌, ◌==◌, ◌||◌, Bool, true, false, cond, not, nat_le, nat_lt, [], ◌∷◌, List, length, Option, Some, None, is_some, Ok, inl, inr, refl, sym, ◌∙◌, ap, subst, arith, if◌then◌else◌}
 use Rattle.std.specs.Option.{option_map, option_map_or, option_or}
 use Rattle.std.specs.List.{list_any}
-use Rattle.std.proofs.lemmas.Bool.{cond-false, not-false}
+use Rattle.std.proofs.lemmas.Bool.{not-false}
 use Rattle.std.proofs.lemmas.Bool.Decides.{nat_tests}
 use Rattle.ipl_base.specs.declared.fault.Refusal.{Refusal}
 use Rattle.ipl_base.specs.declared.fault.Refusal.TheVariants.{BadSession, BadName, AlreadyOpen, NotOpen, PendingFull, BadUnit, PageFull}
@@ -26,7 +26,7 @@ use Rattle.record_locks.proofs.SameLemmas.{alike, marks_are}
 use Rattle.record_locks.proofs.StandingLemmas.{open_at}
 use Rattle.pending_writes.proofs.ElementLemmas.{contains_cons, contains_nil}
 use Rattle.store_steps.specs.Keeps.{limits_of}
-use Rattle.store_steps.specs.Refusals.{early_refusal, finds_full, sessions_refuse, unrefused, RefusedInTwoParts, SessionsRefuse, RefusalsAnswer, AcceptedAreDone, RefusalsLead, AcceptedLead, IsOpenSession, AreOpenSessions, ReachesName, MayWriteName, PassedBegins, PassedGets, PassedShares, PassedPuts, PassedDels, PassedEnds, PassedBatches, PassedLists, PassedMerges}
+use Rattle.store_steps.specs.Refusals.{early_refusal, finds_full, sessions_refuse, unrefused, RefusedInTwoParts, SessionsRefuse, RefusalsAnswer, AcceptedAreDone, RefusalsLead, IsOpenSession, AreOpenSessions, ReachesName, MayWriteName, PassedBegins, PassedGets, PassedShares, PassedPuts, PassedDels, PassedEnds, PassedBatches, PassedLists, PassedMerges}
 use Rattle.store_steps.proofs.LeadLemmas.{memory_leads, next_states_are_alike, answers_are_alike}
 
 -- ---- the sessions refuse as the state does
@@ -135,15 +135,6 @@ refusals_lead units c r before old is =
     (answers_are_alike (λ state. state) before before (Ok tt) (Ok (reply.Refused r)) old old refl
     (memory_leads (λ state. state) before before old (λ places y it state same fits. fits)
     (λ places y it state fits. refl) (λ p k counted. counted)))
-
-pub accepted_lead : AcceptedLead
-accepted_lead units c before after result old new asks_none is =
-    next_states_are_alike (λ state. (accepted state c).0)
-    (λ state. (step (limits_of units) state c).0) before after result old new
-    (λ places y it state fits. sym (ap (λ (x : Stepped). x.0)
-    (accepted_are_done (limits_of units) before.slots state c fits.sessions is
-    ∙ cond-false (finds_full state c) (state, reply.Refused PageFull ∷ []) (accepted state c)
-    (asks_none state))))
 
 -- ---- what isn't refused
 

@@ -1,5 +1,5 @@
 -- What a store refuses: its sessions tell it, as the model's state does.
-use Rattle.std.specs.Prelude.{ℕ, ◌≡◌, ◌<◌, ◌≤◌, ◌+◌, ◌*◌, [], ◌∷◌, List, Contains, Bool, true, false, length, Option, Some, None, Result, Ok, Err, if◌then◌else◌}
+use Rattle.std.specs.Prelude.{ℕ, ◌≡◌, ◌<◌, ◌≤◌, ◌+◌, ◌*◌, [], ◌∷◌, List, Contains, Bool, true, false, length, Option, Some, None, Ok, Err, if◌then◌else◌}
 use Rattle.std.specs.Option.{option_or}
 use Rattle.ipl_base.specs.declared.limits.TheConstants.{RESERVED_PLACES, SESSIONS, UNIT_NAMES, VALUE_LEN}
 use Rattle.chip_trait.specs.Told.{Told, Counts}
@@ -170,14 +170,6 @@ RefusalsLead = (units : ℕ) (c : Command) (r : Refusal) (before : Memory) (old 
     → sessions_refuse (limits_of units) before.slots c ≡ Some r
     → LeadsTo {E = Fault} (λ state. (step (limits_of units) state c).0) before old
     (Ok (reply.Refused r)) before old
-
--- One that does what the command does is the work of one that isn't, where no page is asked for room.
-abbrev pub AcceptedLead : Type 0
-AcceptedLead = (units : ℕ) (c : Command) (before after : Memory) (result : Result Reply Fault)
-    (old new : Told) → ((state : State) → finds_full state c ≡ false)
-    → sessions_refuse (limits_of units) before.slots c ≡ None
-    → LeadsTo (λ state. (accepted state c).0) before old result after new
-    → LeadsTo (λ state. (step (limits_of units) state c).0) before old result after new
 
 -- ---- what isn't refused
 

@@ -56,7 +56,6 @@ ghost use Rattle.store_steps.specs.Refusals.{
   WrittenPutsAreWork,
   FailedPutsLeaveTheMap,
   RefusalsLead,
-  AcceptedLead,
   PassedBegins,
   PassedGets,
   PassedShares,
@@ -119,7 +118,6 @@ pub fn refusal_laws()
     ensures answer { RefusalsAnswer }
     ensures done { AcceptedAreDone }
     ensures refused_lead { RefusalsLead }
-    ensures accepted_lead { AcceptedLead }
 
     // puts that brought their page
     ensures puts { PutsAnswer }

@@ -1,5 +1,5 @@
 use Rattle.store_steps.proofs.PutLemmas.{puts_answer, full_puts_are_work, written_puts_are_work, failed_puts_leave_the_map}
-use Rattle.store_steps.proofs.RefusalLemmas.{refused_in_two_parts, slots_refuse, refusals_answer, accepted_are_done, refusals_lead, accepted_lead}
+use Rattle.store_steps.proofs.RefusalLemmas.{refused_in_two_parts, slots_refuse, refusals_answer, accepted_are_done, refusals_lead}
 use Rattle.store_steps.proofs.laws.refusal_laws.Goals as goal
 
 pub returns : goal.returns
@@ -9,7 +9,6 @@ returns c = record {
   answer = refusals_answer;
   done = accepted_are_done;
   refused_lead = refusals_lead;
-  accepted_lead = accepted_lead;
   puts = puts_answer;
   full_puts = full_puts_are_work;
   written_puts = written_puts_are_work;
