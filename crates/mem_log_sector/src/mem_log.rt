@@ -132,7 +132,7 @@ fn others(payload: &Payload, tid: u64) -> Payload
     kept
 }
 
-/// How many bytes the value of a change has, at most 108.
+/// How many bytes the value of a change has, at most 464.
 fn value_len(change: &Change) -> usize
     ensures len { result ≡ length (value_of (change_of change.now)) }
     ensures short { result ≤ VALUE_LEN }

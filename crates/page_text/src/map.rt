@@ -9,7 +9,7 @@ use crate::PageBytes;
 use ipl_base::PAGE_LEN;
 use std::marker::Model;
 
-/// What each of the 64 slots of a page holds: nothing, or at most 108 bytes. It is kept as the page's
+/// What each of the 64 slots of a page holds: nothing, or at most 464 bytes. It is kept as the page's
 /// text, in the version of all that is written. A contract sees the list of the slots.
 #[derive(Drop)]
 pub struct PageMap {
@@ -67,7 +67,7 @@ impl PageMap {
         self.text.get(slot)
     }
 
-    /// Whether the text has room for a value of at most 108 bytes in a slot (0 to 63).
+    /// Whether the text has room for a value of at most 464 bytes in a slot (0 to 63).
     pub fn has_room(&self, slot: u32, value: &[u8]) -> bool
         requires slot { slot < 64 }
         requires short { length value.now ≤ VALUE_LEN }
@@ -77,7 +77,7 @@ impl PageMap {
         self.text.len_with(slot, value) <= PAGE_LEN
     }
 
-    /// Puts at most 108 bytes into a slot (0 to 63), for which the text has room (see `has_room`);
+    /// Puts at most 464 bytes into a slot (0 to 63), for which the text has room (see `has_room`);
     /// the others stay.
     pub fn set(&mut self, slot: u32, value: &[u8])
         requires slot { slot < 64 }

@@ -103,7 +103,7 @@ impl PageBytes {
         value_between(&self.bytes, start, end)
     }
 
-    /// How many bytes the text has with a value of at most 108 bytes in a slot (0 to 63).
+    /// How many bytes the text has with a value of at most 464 bytes in a slot (0 to 63).
     pub(crate) fn len_with(&self, slot: u32, value: &[u8]) -> usize
         requires slot { slot < 64 }
         requires short { length value.now ≤ VALUE_LEN }
@@ -115,7 +115,7 @@ impl PageBytes {
         usize::from(self.bounds[64]) + start + HEAD + value.len() - end
     }
 
-    /// Puts at most 108 bytes into a slot (0 to 63), for which the text has room; the others stay.
+    /// Puts at most 464 bytes into a slot (0 to 63), for which the text has room; the others stay.
     pub(crate) fn set(&mut self, slot: u32, value: &[u8])
         requires slot { slot < 64 }
         requires short { length value.now ≤ VALUE_LEN }
