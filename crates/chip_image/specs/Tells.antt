@@ -26,6 +26,7 @@ telling_faults places faults = record {
   contents = None;
   read_faults = faults.reads;
   write_faults = faults.writes;
+  worn_erases = 0;
   beside = apart;
 }
 

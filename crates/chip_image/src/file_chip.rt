@@ -4,7 +4,7 @@ ghost use Rattle.std.specs.Prelude.{◌≡◌, IfOk};
 use crate::chip_file::open_or_make;
 use crate::faults::Faults;
 use crate::file_place::{PLACE, blank_bytes, read_sector, write_sectors};
-use chip_trait::{Chip, Failed};
+use chip_trait::{Chip, Failed, Wear};
 use std::alloc::{AllocError, Global};
 use std::fs::File;
 use std::io;
@@ -87,6 +87,7 @@ impl FileChip {
 
 impl Chip for FileChip {
     ghost use Rattle.std.specs.Prelude.{◌<◌};
+    ghost use Rattle.chip_trait.specs.declared.wear.Wear.TheVariants.{Done};
     ghost use Rattle.chip_image.specs.Tells.{file_told_of, faults_consistently, AfterRead, AfterWrite};
 
     ghost told = { file_told_of };
@@ -121,15 +122,17 @@ impl Chip for FileChip {
         Ok(())
     }
 
-    fn erase(&mut self, p: u32) -> Result<(), Failed>
+    /// It finds no place worn.
+    fn erase(&mut self, p: u32) -> Result<Wear, Failed>
         requires { p < (file_told_of self.old).places }
-        ensures { AfterWrite result (file_told_of self.old) (file_told_of self.new) }
+        ensures changes { AfterWrite result (file_told_of self.old) (file_told_of self.new) }
+        ensures done { IfOk result (λ wear. wear ≡ Done) }
     {
         if write_sectors(&mut self.file, p, 0, &self.blank).is_err() {
             self.faults.count_write();
             return Err(Failed);
         }
-        Ok(())
+        Ok(Wear::Done)
     }
 
     fn barrier(&mut self) -> Result<(), Failed>

@@ -3,8 +3,8 @@
 //! counts of what failed; of what they hold they tell nothing.
 //!
 //! Proved, by `FileChip`, `NoChip`: a chip in a file, and one that isn't there: each call as the
-//! trait says, with exact counts of what failed; the file's number is none of the standard
-//! streams'. They tell nothing of what they hold.
+//! trait says, with exact counts of what failed, and none of their places is ever found worn; the
+//! file's number is none of the standard streams'. They tell nothing of what they hold.
 #![tactic(auto)]
 
 mod chip_file;

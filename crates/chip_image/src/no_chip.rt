@@ -2,7 +2,7 @@
 ghost use Rattle.std.specs.Prelude.{◌≡◌};
 
 use crate::faults::Faults;
-use chip_trait::{Chip, Failed};
+use chip_trait::{Chip, Failed, Wear};
 
 /// A chip of which no call succeeds: each one is counted as failed.
 #[derive(Drop)]
@@ -60,7 +60,7 @@ impl Chip for NoChip {
     }
 
     /// It always fails.
-    fn erase(&mut self, p: u32) -> Result<(), Failed>
+    fn erase(&mut self, p: u32) -> Result<Wear, Failed>
         requires { p < (absent_told_of self.old).places }
         ensures changes { AfterWrite result (absent_told_of self.old) (absent_told_of self.new) }
         ensures never { IsErr result }

@@ -3,9 +3,9 @@ use Rattle.std.proofs.Common.{◌≡◌, inl, inr, ℕ, suc, ◌+◌, ◌-◌, �
 use Rattle.std.proofs.lemmas.Bool.{cases_Bool, cases_lt, and_parts, eqb-true, leb-true}
 use Rattle.std.proofs.lemmas.Option.{same_Some}
 use Rattle.chip_trait.specs.declared.event.Event.{Event}
-use Rattle.chip_trait.specs.declared.event.Event.TheVariants.{Read, Program, Erase, Barrier, Said}
+use Rattle.chip_trait.specs.declared.event.Event.TheVariants.{Read, Program, Erase, Worn, Barrier, Said}
 use Rattle.chip_trait.specs.Story.{Story, Contents, held}
-use Rattle.chip_trait.specs.Image.{is_open, IsNamedValue, NoChance}
+use Rattle.chip_trait.specs.Image.{may_tear, IsNamedValue, NoChance}
 use Rattle.chip_trait.proofs.ImageLemmas.{held_is_named}
 use Rattle.chip_mem.specs.Picked.{first, settled_count, chosen, given, with_pick, image_of, checks_by_chance, NoneByChance}
 use Rattle.chip_mem.specs.declared.pick.Choice.{Choice}
@@ -36,6 +36,7 @@ first_is_named start [] p s n since = ap (λ (st : Story). held start st p s) (f
 first_is_named start (Read q t ∷ story) p s n since = last_or_earlier start (Read q t) story p s n (λ fewer. first_is_named start story p s n since)
 first_is_named start (Program q t bytes ∷ story) p s n since = last_or_earlier start (Program q t bytes) story p s n (λ fewer. inr (first_is_named start story p s n since))
 first_is_named start (Erase q ∷ story) p s n since = last_or_earlier start (Erase q) story p s n (λ fewer. inr (first_is_named start story p s n since))
+first_is_named start (Worn q ∷ story) p s n since = last_or_earlier start (Worn q) story p s n (λ fewer. first_is_named start story p s n since)
 first_is_named start (Barrier ∷ story) p s n since = last_or_earlier start Barrier story p s n (λ fewer. absurd (omega arith))
 first_is_named start (Said piece ∷ story) p s n since = last_or_earlier start (Said piece) story p s n (λ fewer. first_is_named start story p s n since)
 
@@ -55,7 +56,7 @@ chosen_named checks start story p s (Bytes own) bytes none is checked = absurd (
 -- what a pick gives has one too
 given_named : (checks : List ℕ → Bool) (start : Contents) (story : Story) (pick : Pick) (bytes : List ℕ)
     → checks_by_chance checks pick.choice ≡ false → given start story pick ≡ Some bytes → checks bytes ≡ true → IsNamedValue start story pick.place pick.sector bytes
-given_named checks start story pick bytes none is checked = elim (cases_Bool (nat_lt pick.sector 256 && is_open story pick.place pick.sector)) [
+given_named checks start story pick bytes none is checked = elim (cases_Bool (nat_lt pick.sector 256 && may_tear story pick.place pick.sector)) [
   | inl open_there ↦ chosen_named checks start story pick.place pick.sector pick.choice bytes none (rw open_there at is) checked
   | inr closed ↦ absurd (let nothing = rw closed at is in cc)
 ]

@@ -12,11 +12,11 @@ erased_contents xs n is = ap contents_of is ∙ contents_of-replicate n
 
 -- a chip with no events tells its start
 pub starts : (places : ℕ) (start sectors : List (List ℕ)) (events : List Event) (x : Contents) → contents_of start ≡ x → contents_of sectors ≡ x → events ≡ []
-    → telling_all places true (record { start = contents_of start; story = reverse events }) (contents_of sectors) 0 0 ≡ starting places x
+    → telling_all places true (record { start = contents_of start; story = reverse events }) (contents_of sectors) 0 0 0 ≡ starting places x
 starts places start sectors events x begins holds none =
-    ap (λ (y : Contents). telling_all places true (record { start = y; story = reverse events }) (contents_of sectors) 0 0) begins
-    ∙ ap (λ (y : Contents). telling_all places true (record { start = x; story = reverse events }) y 0 0) holds
-    ∙ ap (λ (es : List Event). telling_all places true (record { start = x; story = reverse es }) x 0 0) none
+    ap (λ (y : Contents). telling_all places true (record { start = y; story = reverse events }) (contents_of sectors) 0 0 0) begins
+    ∙ ap (λ (y : Contents). telling_all places true (record { start = x; story = reverse events }) y 0 0 0) holds
+    ∙ ap (λ (es : List Event). telling_all places true (record { start = x; story = reverse es }) x 0 0 0) none
 
 pub plain_starts_erased : (places n : ℕ) (sectors : List (List ℕ)) → sectors ≡ replicate n BLANK → telling_contents places (contents_of sectors) ≡ telling_contents places erased
 plain_starts_erased places n sectors is = ap (λ (x : Contents). telling_contents places x) (erased_contents sectors n is)

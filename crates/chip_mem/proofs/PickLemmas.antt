@@ -7,9 +7,9 @@ use Rattle.std.proofs.lemmas.Bool.{cases_Bool, and_parts, eqb-true, ltb-true, lt
 use Rattle.std.proofs.lemmas.List.{reverse-append, length-reverse, take-append-drop, length-drop}
 use Rattle.std.proofs.lemmas.List.Elements.{All-append}
 use Rattle.chip_trait.specs.declared.event.Event.{Event}
-use Rattle.chip_trait.specs.declared.event.Event.TheVariants.{Read, Program, Erase, Barrier, Said}
+use Rattle.chip_trait.specs.declared.event.Event.TheVariants.{Read, Program, Erase, Worn, Barrier, Said}
 use Rattle.chip_trait.specs.Story.{Story, Contents, after, held}
-use Rattle.chip_trait.specs.Image.{is_open, IsImage}
+use Rattle.chip_trait.specs.Image.{is_open, is_worn, may_tear, IsImage}
 use Rattle.chip_mem.specs.Story.{is_inside}
 use Rattle.chip_mem.specs.Picked.{first, settled_count, chosen, given, with_pick}
 use Rattle.chip_mem.specs.declared.pick.Choice.TheVariants.{Old, After}
@@ -28,7 +28,7 @@ first-reverse n events =
     ap (λ (k : ℕ). drop k (reverse events)) count ∙ ap (λ (l : List Event). drop (length (reverse later)) l) parts ∙ drop-append_seam (reverse later) (reverse (take n events))
 
 -- an image stays one where an open sector gets any 512 bytes
-pub pick_keeps_image : (start : Contents) (story : Story) (x : Contents) (p s : ℕ) (bytes : List ℕ) → is_open story p s ≡ true → length bytes ≡ 512
+pub pick_keeps_image : (start : Contents) (story : Story) (x : Contents) (p s : ℕ) (bytes : List ℕ) → may_tear story p s ≡ true → length bytes ≡ 512
     → IsImage start story x → IsImage start story (after (Program p s bytes) x)
 pick_keeps_image start story x p s bytes touched fits image q t = elim (cases_Bool (eqb p q && eqb s t)) [
   | inl here ↦
@@ -46,26 +46,48 @@ pick_gives start story x pick bytes is =
     fun_ext (λ p. fun_ext (λ s. ap (λ (o : Option (List ℕ)). cond (eqb pick.place p && eqb pick.sector s) (unwrap_or o (x p s)) (x p s)) (sym is)))
 
 -- a pick of an open sector gives what it chooses
-pub given_if_open : (start : Contents) (story : Story) (pick : Pick) → pick.sector < 256 → is_open story pick.place pick.sector ≡ true
+pub given_if_open : (start : Contents) (story : Story) (pick : Pick) → pick.sector < 256 → may_tear story pick.place pick.sector ≡ true
     → given start story pick ≡ chosen start story pick.place pick.sector pick.choice
 given_if_open start story pick small touched = rw (lt-ltb pick.sector 256 small, touched) refl
 
--- an open sector is one of the chip
+-- an open sector is one of the chip, and so is a worn place
+within_later : (places : ℕ) (e : Event) (story : Story) → AllPass (is_inside places) (e ∷ story) → AllPass (is_inside places) story
+within_later places e story inside k d within = inside (suc k) d (omega (arith, within))
+
 open_in_story : (places : ℕ) (story : Story) (p s : ℕ) → AllPass (is_inside places) story → is_open story p s ≡ true → p < places
 open_in_story places [] p s inside touched = absurd (cc)
-open_in_story places (Read q t ∷ story) p s inside touched = open_in_story places story p s (λ k d within. inside (suc k) d (omega arith)) touched
+open_in_story places (Read q t ∷ story) p s inside touched = open_in_story places story p s (within_later places (Read q t) story inside) touched
 open_in_story places (Program q t bytes ∷ story) p s inside touched = elim (cases_Bool (eqb q p && eqb t s)) [
   | inl here ↦
       let there : is_inside places (Program q t bytes) ≡ true = inside 0 (Program q t bytes) (omega arith) in
       rw (← eqb-true q p (and_parts _ _ here).0) (ltb-true q places (and_parts _ _ there).0)
-  | inr elsewhere ↦ open_in_story places story p s (λ k d within. inside (suc k) d (omega arith)) (rw elsewhere at touched)
+  | inr elsewhere ↦ open_in_story places story p s (within_later places (Program q t bytes) story inside) (rw elsewhere at touched)
 ]
 open_in_story places (Erase q ∷ story) p s inside touched = elim (cases_Bool (eqb q p)) [
   | inl here ↦ let there : is_inside places (Erase q) ≡ true = inside 0 (Erase q) (omega arith) in rw (← eqb-true q p here) (ltb-true q places there)
-  | inr elsewhere ↦ open_in_story places story p s (λ k d within. inside (suc k) d (omega arith)) (rw elsewhere at touched)
+  | inr elsewhere ↦ open_in_story places story p s (within_later places (Erase q) story inside) (rw elsewhere at touched)
 ]
+open_in_story places (Worn q ∷ story) p s inside touched = open_in_story places story p s (within_later places (Worn q) story inside) touched
 open_in_story places (Barrier ∷ story) p s inside touched = absurd (cc)
-open_in_story places (Said piece ∷ story) p s inside touched = open_in_story places story p s (λ k d within. inside (suc k) d (omega arith)) touched
+open_in_story places (Said piece ∷ story) p s inside touched = open_in_story places story p s (within_later places (Said piece) story inside) touched
+
+worn_in_story : (places : ℕ) (story : Story) (p : ℕ) → AllPass (is_inside places) story → is_worn story p ≡ true → p < places
+worn_in_story places [] p inside worn = absurd (cc)
+worn_in_story places (Read q t ∷ story) p inside worn = worn_in_story places story p (within_later places (Read q t) story inside) worn
+worn_in_story places (Program q t bytes ∷ story) p inside worn = worn_in_story places story p (within_later places (Program q t bytes) story inside) worn
+worn_in_story places (Erase q ∷ story) p inside worn = worn_in_story places story p (within_later places (Erase q) story inside) worn
+worn_in_story places (Worn q ∷ story) p inside worn = elim (cases_Bool (eqb q p)) [
+  | inl here ↦ let there : is_inside places (Worn q) ≡ true = inside 0 (Worn q) (omega arith) in rw (← eqb-true q p here) (ltb-true q places there)
+  | inr elsewhere ↦ worn_in_story places story p (within_later places (Worn q) story inside) (rw elsewhere at worn)
+]
+worn_in_story places (Barrier ∷ story) p inside worn = worn_in_story places story p (within_later places Barrier story inside) (and_parts _ _ worn).0
+worn_in_story places (Said piece ∷ story) p inside worn = worn_in_story places story p (within_later places (Said piece) story inside) worn
+
+torn_in_story : (places : ℕ) (story : Story) (p s : ℕ) → AllPass (is_inside places) story → may_tear story p s ≡ true → p < places
+torn_in_story places story p s inside torn = elim (cases_Bool (is_open story p s)) [
+  | inl touched ↦ open_in_story places story p s inside touched
+  | inr closed ↦ worn_in_story places story p inside (rw closed at torn)
+]
 
 all_reversed : (P : Event → Type 0) (events : List Event) → All P events → All P (reverse events)
 all_reversed P [] all = all
@@ -76,10 +98,10 @@ all_reversed P (e ∷ events) all =
     alone there zero d within = there
     alone there (suc k) d within = absurd (omega arith)
 
-pub open_is_inside : (places : ℕ) (events : List Event) (p s : ℕ) → AllPass (is_inside places) events → is_open (reverse events) p s ≡ true → p < places
-open_is_inside places events p s inside touched =
+pub torn_is_inside : (places : ℕ) (events : List Event) (p s : ℕ) → AllPass (is_inside places) events → may_tear (reverse events) p s ≡ true → p < places
+torn_is_inside places events p s inside touched =
     let P : Event → Type 0 = λ e. is_inside places e ≡ true in
-    open_in_story places (reverse events) p s (all_reversed P events inside) touched
+    torn_in_story places (reverse events) p s (all_reversed P events inside) touched
 
 -- the choice of what stood at the last barrier
 pub chosen_old : (start : Contents) (events : List Event) (p s n : ℕ) → n ≡ settled_count (reverse events)

@@ -6,7 +6,7 @@ use Rattle.std.proofs.lemmas.Bool.{lt-ltb}
 use Rattle.std.proofs.lemmas.List.{reverse-append, take_more}
 use Rattle.std.proofs.lemmas.List.Elements.{All-append}
 use Rattle.chip_trait.specs.declared.event.Event.{Event}
-use Rattle.chip_trait.specs.declared.event.Event.TheVariants.{Program, Erase}
+use Rattle.chip_trait.specs.declared.event.Event.TheVariants.{Program, Erase, Worn}
 use Rattle.chip_trait.specs.Story.{Contents, after, held}
 use Rattle.chip_mem.specs.Sectors.{contents_of}
 use Rattle.chip_mem.specs.Story.{IsReplayed, is_inside}
@@ -44,6 +44,9 @@ program_is_inside places p s bytes place sector = rw (lt-ltb p places place, lt-
 
 pub erase_is_inside : (places p : ℕ) → p < places → is_inside places (Erase p) ≡ true
 erase_is_inside places p place = lt-ltb p places place
+
+pub worn_is_inside : (places p : ℕ) → p < places → is_inside places (Worn p) ≡ true
+worn_is_inside places p place = lt-ltb p places place
 
 -- a story of one event more
 pub reverse-take_more : (events : List Event) (i : ℕ) (d : Event) → i < length events → reverse (take (i + 1) events) ≡ get_or events i d ∷ reverse (take i events)

@@ -1,9 +1,9 @@
 -- The image of a power cut that picks make. A pick names a sector and what it is left with.
 use Rattle.std.specs.Prelude.{◌≡◌, ℕ, ◌+◌, ◌-◌, ◌==◌, ◌&&◌, nat_lt, nat_le, Bool, false, List, [], ◌∷◌, length, drop, fold, Option, Some, None, unwrap_or, All, if◌then◌else◌}
 use Rattle.ipl_base.specs.declared.limits.TheConstants.{SECTORS}
-use Rattle.chip_trait.specs.declared.event.Event.TheVariants.{Read, Program, Erase, Barrier, Said}
+use Rattle.chip_trait.specs.declared.event.Event.TheVariants.{Read, Program, Erase, Worn, Barrier, Said}
 use Rattle.chip_trait.specs.Story.{Story, Contents, held}
-use Rattle.chip_trait.specs.Image.{is_open}
+use Rattle.chip_trait.specs.Image.{may_tear}
 use Rattle.chip_trait.specs.Told.{History}
 use Rattle.chip_mem.specs.declared.pick.Choice.{Choice}
 use Rattle.chip_mem.specs.declared.pick.Choice.TheVariants.{Old, After, Bytes}
@@ -19,6 +19,7 @@ settled_count [] = 0
 settled_count (Read q t ∷ story) = settled_count story
 settled_count (Program q t bytes ∷ story) = settled_count story
 settled_count (Erase q ∷ story) = settled_count story
+settled_count (Worn q ∷ story) = settled_count story
 settled_count (Barrier ∷ story) = length story + 1
 settled_count (Said piece ∷ story) = settled_count story
 
@@ -30,10 +31,10 @@ chosen start story p s (After n) =
     then Some (held start (first (n + 1) story) p s) else None
 chosen start story p s (Bytes bytes) = Some bytes
 
--- what a pick gives its sector; none where that isn't an open sector
+-- what a pick gives its sector; none where that isn't a sector of which a power cut may leave anything
 abbrev pub given : Contents → Story → Pick → Option (List ℕ)
 given start story pick =
-    if nat_lt pick.sector SECTORS && is_open story pick.place pick.sector
+    if nat_lt pick.sector SECTORS && may_tear story pick.place pick.sector
     then chosen start story pick.place pick.sector pick.choice else None
 
 -- the contents with a pick done, where it gives its sector anything

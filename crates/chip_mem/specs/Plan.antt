@@ -12,6 +12,8 @@ pub record Plan : Type 0 where
   pub failing : List ℕ
   -- the number of writes after which each one fails
   pub stop : Option ℕ
+  -- the places whose erases find them worn
+  pub worn_out : List ℕ
   -- how many events the chip keeps at most
   pub room : ℕ
   -- how many it keeps
@@ -29,6 +31,10 @@ is_listed plan = list_any (λ n. n == plan.calls) plan.failing
 abbrev pub is_past : Option ℕ → ℕ → Bool
 is_past None writes = false
 is_past (Some k) writes = nat_le k writes
+
+-- the place is one of those
+abbrev pub is_worn_out : Plan → ℕ → Bool
+is_worn_out plan p = list_any (λ q. q == p) plan.worn_out
 
 -- there is no room for one event more
 abbrev pub is_full : Plan → Bool
@@ -64,4 +70,4 @@ after_write plan = if fails_write plan then with_write plan else with_event (wit
 
 -- that of a new chip with so much room
 abbrev pub new_plan : ℕ → Plan
-new_plan room = record { calls = 0; writes = 0; failing = []; stop = None; room = room; kept = 0 }
+new_plan room = record { calls = 0; writes = 0; failing = []; stop = None; worn_out = []; room = room; kept = 0 }

@@ -5,23 +5,25 @@ use Rattle.std.proofs.Common.{ap, subst}
 use Rattle.std.proofs.Math.Path.{fun_ext}
 use Rattle.std.proofs.lemmas.Option.{same_Some}
 use Rattle.chip_trait.specs.declared.event.Event.{Event}
+use Rattle.chip_trait.specs.declared.event.Event.TheVariants.{Erase, Worn}
 use Rattle.chip_trait.specs.Story.{Contents, after, held}
 use Rattle.chip_trait.specs.Told.{History, Told, Beside, IsConsistent, adds}
-use Rattle.chip_mem.specs.Plan.{Plan, counted, fails_read, fails_write}
+use Rattle.chip_mem.specs.Plan.{Plan, counted, is_worn_out, fails_read, fails_write}
 
 -- nothing stands beside the chip
 abbrev pub apart : Beside
 apart = record { left = None; script_bytes = 0; script_faults = 0; say_faults = 0; noted = None }
 
 -- what a chip tells that keeps its story and holds these contents
-abbrev pub telling_all : ℕ → Bool → History → Contents → ℕ → ℕ → Told
-telling_all places settled history x read_faults write_faults = record {
+abbrev pub telling_all : ℕ → Bool → History → Contents → ℕ → ℕ → ℕ → Told
+telling_all places settled history x read_faults write_faults worn_erases = record {
   places = places;
   settled = settled;
   history = Some history;
   contents = if settled then Some x else None;
   read_faults = read_faults;
   write_faults = write_faults;
+  worn_erases = worn_erases;
   beside = apart;
 }
 
@@ -34,6 +36,7 @@ telling_contents places x = record {
   contents = Some x;
   read_faults = 0;
   write_faults = 0;
+  worn_erases = 0;
   beside = apart;
 }
 
@@ -43,7 +46,7 @@ beginning x = record { start = x; story = [] }
 
 -- what a chip tells that was asked nothing yet
 abbrev pub starting : ℕ → Contents → Told
-starting places x = telling_all places true (beginning x) x 0 0
+starting places x = telling_all places true (beginning x) x 0 0 0
 
 -- the event is appended, and done
 abbrev pub appended : Event → Told → Told
@@ -57,6 +60,10 @@ missed t = record t { read_faults = counted t.read_faults }
 abbrev pub broken : Told → Told
 broken t = record t { settled = false; contents = None; write_faults = counted t.write_faults }
 
+-- the place was found worn
+abbrev pub found_worn : ℕ → Told → Told
+found_worn p t = appended (Worn p) (record t { worn_erases = counted t.worn_erases })
+
 -- a new start with these contents, which settles the chip
 abbrev pub restarted : Contents → Told → Told
 restarted x t = record t { settled = true; history = Some (beginning x); contents = Some x }
@@ -69,6 +76,10 @@ told_after_read e plan t = if fails_read plan then missed t else appended e t
 abbrev pub told_after_write : Event → Plan → Told → Told
 told_after_write e plan t = if fails_write plan then broken t else appended e t
 
+-- after an erase
+abbrev pub told_after_erase : ℕ → Plan → Told → Told
+told_after_erase p plan t = if fails_write plan then broken t else (if is_worn_out plan p then found_worn p t else appended (Erase p) t)
+
 -- The law of the trait, of a chip that holds what its story leaves.
 settled_only : (settled : Bool) (x y : Contents) → (if settled then Some x else None) ≡ Some y → settled ≡ true
 settled_only true x y e = refl
@@ -78,9 +89,9 @@ told_there : (settled : Bool) (x y : Contents) → x ≡ y → settled ≡ true 
 told_there true x y same e = ap Some same
 told_there false x y same e = cc
 
-pub all_consistently : (places : ℕ) (settled : Bool) (history : History) (x : Contents) (read_faults write_faults : ℕ)
-    → ((p s : ℕ) → x p s ≡ held history.start history.story p s) → IsConsistent (telling_all places settled history x read_faults write_faults)
-all_consistently places settled history x read_faults write_faults replayed = record {
+pub all_consistently : (places : ℕ) (settled : Bool) (history : History) (x : Contents) (read_faults write_faults worn_erases : ℕ)
+    → ((p s : ℕ) → x p s ≡ held history.start history.story p s) → IsConsistent (telling_all places settled history x read_faults write_faults worn_erases)
+all_consistently places settled history x read_faults write_faults worn_erases replayed = record {
   settled = λ y e. settled_only settled x y e;
   replayed = λ h e now. told_there settled x (held h.start h.story)
       (subst (λ (k : History). x ≡ held k.start k.story) (same_Some _ h e) (fun_ext (λ p. fun_ext (λ s. replayed p s)))) now;

@@ -18,13 +18,14 @@ plan_of chip = record {
   writes = chip.schedule.writes;
   failing = chip.schedule.failing.items;
   stop = chip.schedule.stop;
+  worn_out = chip.schedule.worn_out.items;
   room = chip.room;
   kept = length chip.events.items;
 }
 
 -- all that a chip with a story tells
 abbrev pub told_of : MemChip → Told
-told_of chip = telling_all chip.places chip.settled (history_of chip) (contents_of chip.sectors.items) chip.read_faults chip.write_faults
+told_of chip = telling_all chip.places chip.settled (history_of chip) (contents_of chip.sectors.items) chip.read_faults chip.write_faults chip.worn_erases
 
 -- all that a chip without one tells
 abbrev pub plain_told_of : PlainChip → Told

@@ -7,7 +7,7 @@ ghost use Rattle.chip_mem.specs.Story.{is_inside};
 ghost use Rattle.chip_mem.specs.Picked.{chosen, with_pick, image_of};
 
 use crate::pick::{Choice, Pick};
-use crate::replay::{held_at, is_open, replay, settled_count};
+use crate::replay::{held_at, may_tear, replay, settled_count};
 use crate::sectors::{copy_sectors, program_sector};
 use chip_trait::Event;
 use ipl_base::{OutOfMemory, SECTORS};
@@ -46,7 +46,7 @@ fn put_picks(sectors: &mut [[u8; 512]], start: &[[u8; 512]], events: &[Event], p
     }
 }
 
-// Does the pick, where its sector is an open one.
+// Does the pick, where a power cut may leave anything of its sector.
 fn put_pick(sectors: &mut [[u8; 512]], start: &[[u8; 512]], events: &[Event], pick: &Pick)
     requires sized { length sectors.old ≡ length start.now }
     requires inside { AllPass (is_inside (length start.now / 256)) events.now }
@@ -55,7 +55,7 @@ fn put_pick(sectors: &mut [[u8; 512]], start: &[[u8; 512]], events: &[Event], pi
     ensures image { let x = contents_of start.now in let story = reverse events.now in
         IsImage x story (contents_of sectors.old) → IsImage x story (contents_of sectors.new) }
 {
-    if pick.sector >= SECTORS || !is_open(events, pick.place, pick.sector) {
+    if pick.sector >= SECTORS || !may_tear(events, pick.place, pick.sector) {
         return;
     }
     if let Some(bytes) = chosen_bytes(start, events, pick) {

@@ -1,4 +1,4 @@
-//! A chip in memory that keeps its story, and fails where it is told to.
+//! A chip in memory that keeps its story, and fails and is worn where it is told to.
 ghost use Rattle.std.specs.Prelude.{◌≡◌, ◌<◌, ◌≤◌, ◌*◌, length, vec_len, IfOk};
 ghost use Rattle.std.specs.Bool.{OnTrue, OnFalse};
 ghost use Rattle.std.specs.List.{AllPass};
@@ -10,7 +10,7 @@ use crate::image::image_sectors;
 use crate::pick::Pick;
 use crate::schedule::Schedule;
 use crate::sectors::{copy_sectors, erase_place, erased_sectors, program_sector, read_sector};
-use chip_trait::{Chip, Event, Failed, Piece};
+use chip_trait::{Chip, Event, Failed, Piece, Wear};
 use ipl_base::{OutOfMemory, SECTORS};
 use std::alloc::Global;
 
@@ -26,6 +26,7 @@ pub struct MemChip {
     settled: bool,
     read_faults: u64,
     write_faults: u64,
+    worn_erases: u64,
     ghost start_sized: { length start.items ≡ places * 256 },
     ghost sized: { length sectors.items ≡ places * 256 },
     ghost fits: { vec_len events ≤ room },
@@ -55,9 +56,10 @@ impl MemChip {
     }
 
     /// What a power cut leaves after the first `at` events, or after all where there are fewer, as a new chip with as much
-    /// room. Of the open sectors, which were programmed or erased since the last barrier among these events, it leaves what
-    /// the picks say, and of all others what is held. A pick of another sector is passed over, and so is one that names an
-    /// event that isn't one of those since the barrier. Of two picks of a sector the last counts.
+    /// room and no place worn. Of the sectors that may be torn it leaves what the picks say, and of all others what is held.
+    /// These sectors are the ones that were programmed or erased since the last barrier among these events, and those of
+    /// worn places. A pick of another sector is passed over, and so is one that names an event that isn't one of those since
+    /// the barrier. Of two picks of a sector the last counts.
     pub fn image(&self, alloc: Global, at: u64, picks: &[Pick]) -> Result<MemChip, OutOfMemory>
         ensures told { let x = image_at (history_of self.now) at picks.now in
             IfOk result (λ chip. told_of chip ≡ starting (told_of self.now).places x) }
@@ -106,6 +108,15 @@ impl MemChip {
         ensures plan { plan_of self.new ≡ record (plan_of self.old) { stop = Some k } }
     {
         self.schedule.stop = Some(k);
+    }
+
+    /// From now on erases of these places find them worn, and of no others, in place of those that were named before. Their
+    /// sectors hold what they held.
+    pub fn wear_out(&mut self, places: Vec<u32>)
+        ensures told { told_of self.new ≡ told_of self.old }
+        ensures plan { plan_of self.new ≡ record (plan_of self.old) { worn_out = places.items } }
+    {
+        self.schedule.worn_out = places;
     }
 
     /// The story, the oldest event first.
@@ -163,6 +174,7 @@ impl MemChip {
             settled: true,
             read_faults: 0,
             write_faults: 0,
+            worn_erases: 0,
         })
     }
 
@@ -209,17 +221,18 @@ impl MemChip {
 
 impl Chip for MemChip {
     ghost use Rattle.std.specs.Prelude.{OnOk, OnErr, IfSome, is_err};
+    ghost use Rattle.chip_trait.specs.Wears.{Wears};
     ghost use Rattle.chip_trait.specs.declared.event.Event.TheVariants.{Read, Program, Erase, Barrier};
     ghost use Rattle.chip_trait.specs.Told.{Appends, Misses, Breaks, Halts, Counts, Rose};
     ghost use Rattle.chip_mem.specs.Sectors.{contents_of};
     ghost use Rattle.chip_mem.specs.Plan.{fails_read, fails_write, after_read, after_write};
-    ghost use Rattle.chip_mem.specs.Tells.{all_consistently, told_after_read, told_after_write};
+    ghost use Rattle.chip_mem.specs.Tells.{all_consistently, told_after_read, told_after_write, told_after_erase};
     ghost use Rattle.chip_mem.specs.Views.{history_of, plan_of, told_of};
 
     ghost told = { told_of };
 
     ghost consistent = { λ chip. all_consistently chip.places chip.settled (history_of chip) (contents_of chip.sectors.items)
-        chip.read_faults chip.write_faults chip.replayed };
+        chip.read_faults chip.write_faults chip.worn_erases chip.replayed };
 
     fn units(&self) -> u32 {
         self.places
@@ -270,25 +283,31 @@ impl Chip for MemChip {
         Ok(())
     }
 
-    /// It fails exactly where it is told to or has no room for the event, and then nothing is erased.
-    fn erase(&mut self, p: u32) -> Result<(), Failed>
+    /// It fails exactly where it is told to or has no room for the event, and then nothing is erased; and it finds exactly the
+    /// places worn that were named.
+    fn erase(&mut self, p: u32) -> Result<Wear, Failed>
         requires { p < (told_of self.old).places }
-        ensures ok { OnOk result (Appends (Erase p) (told_of self.old) (told_of self.new)) }
+        ensures ok { IfOk result (λ wear. Wears wear p (told_of self.old) (told_of self.new)) }
         ensures err { OnErr result (Breaks (Erase p) (told_of self.old) (told_of self.new)) }
         ensures counts { Counts (told_of self.old) (told_of self.new) }
         ensures cause { OnErr result (Rose (told_of self.old).write_faults (told_of self.new).write_faults) }
 
         // exactly
         ensures fails { is_err result ≡ fails_write (plan_of self.old) }
-        ensures tells { told_of self.new ≡ told_after_write (Erase p) (plan_of self.old) (told_of self.old) }
+        ensures tells { told_of self.new ≡ told_after_erase p (plan_of self.old) (told_of self.old) }
         ensures plan { plan_of self.new ≡ after_write (plan_of self.old) }
     {
         if self.breaks() {
             return Err(Failed);
         }
+        if self.schedule.is_worn_out(p) {
+            self.events.push_reserved(Event::Worn(p));
+            self.worn_erases = self.worn_erases.saturating_add(1);
+            return Ok(Wear::Worn);
+        }
         self.events.push_reserved(Event::Erase(p));
         erase_place(&mut self.sectors, p as usize);
-        Ok(())
+        Ok(Wear::Done)
     }
 
     /// It fails exactly where it is told to or has no room for the event.

@@ -1,6 +1,6 @@
 //! What a power cut is made to leave of a sector.
 
-/// What a power cut leaves of an open sector.
+/// What a power cut leaves of a sector that may be torn.
 #[derive(Clone, Copy, Debug, PartialEq, Eq)]
 pub enum Choice {
     /// What it held at the last barrier, or at the start.
@@ -11,7 +11,7 @@ pub enum Choice {
     Bytes([u8; 512]),
 }
 
-/// An open sector, and what a power cut leaves of it.
+/// A sector that may be torn, and what a power cut leaves of it.
 #[derive(Clone, Copy, Debug, PartialEq, Eq)]
 pub struct Pick {
     pub place: u32,

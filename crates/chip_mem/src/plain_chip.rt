@@ -2,7 +2,7 @@
 ghost use Rattle.std.specs.Prelude.{◌≡◌, ◌*◌, length, IfOk};
 
 use crate::sectors::{erase_place, erased_sectors, program_sector, read_sector};
-use chip_trait::{Chip, Failed};
+use chip_trait::{Chip, Failed, Wear};
 use ipl_base::{OutOfMemory, SECTORS};
 use std::alloc::Global;
 
@@ -31,7 +31,9 @@ impl PlainChip {
 }
 
 impl Chip for PlainChip {
-    ghost use Rattle.std.specs.Prelude.{◌<◌, OnOk, IsOk, IfSome};
+    ghost use Rattle.std.specs.Prelude.{◌<◌, Ok, OnOk, IsOk, IfSome};
+    ghost use Rattle.chip_trait.specs.declared.wear.Wear.TheVariants.{Done};
+    ghost use Rattle.chip_trait.specs.Wears.{Wears};
     ghost use Rattle.chip_trait.specs.declared.event.Event.TheVariants.{Read, Program, Erase, Barrier};
     ghost use Rattle.chip_trait.specs.Told.{Appends, Counts};
     ghost use Rattle.chip_mem.specs.Tells.{appended, contents_consistently};
@@ -71,15 +73,15 @@ impl Chip for PlainChip {
         Ok(())
     }
 
-    /// It never fails.
-    fn erase(&mut self, p: u32) -> Result<(), Failed>
+    /// It never fails, and finds no place worn.
+    fn erase(&mut self, p: u32) -> Result<Wear, Failed>
         requires { p < (plain_told_of self.old).places }
-        ensures ok { OnOk result (Appends (Erase p) (plain_told_of self.old) (plain_told_of self.new)) }
+        ensures ok { IfOk result (λ wear. Wears wear p (plain_told_of self.old) (plain_told_of self.new)) }
+        ensures done { result ≡ Ok Done }
         ensures counts { Counts (plain_told_of self.old) (plain_told_of self.new) }
-        ensures never { IsOk result }
     {
         erase_place(&mut self.sectors, p as usize);
-        Ok(())
+        Ok(Wear::Done)
     }
 
     /// It never fails.

@@ -2,9 +2,9 @@
 ghost use Rattle.std.specs.Prelude.{◌≡◌, ◌<◌, ◌≤◌, ◌+◌, ◌*◌, ◌/◌, ◌∷◌, true, length, reverse};
 ghost use Rattle.std.specs.List.{AllPass};
 ghost use Rattle.chip_trait.specs.Story.{Story, Contents, after, held};
-ghost use Rattle.chip_trait.specs.Image.{is_open};
+ghost use Rattle.chip_trait.specs.Image.{may_tear};
 ghost use Rattle.chip_mem.specs.Sectors.{contents_of};
-ghost use Rattle.chip_mem.specs.Story.{is_inside};
+ghost use Rattle.chip_mem.specs.Story.{is_inside, IsLasting};
 ghost use Rattle.chip_mem.specs.Picked.{settled_count};
 
 use crate::sectors::{BLANK, erase_place, program_sector};
@@ -28,7 +28,7 @@ fn put_event(sectors: &mut [[u8; 512]], event: &Event)
     match event {
         Event::Program(p, s, bytes) => program_sector(sectors, *p as usize, *s as usize, bytes),
         Event::Erase(p) => erase_place(sectors, *p as usize),
-        Event::Read(_, _) | Event::Barrier | Event::Said(_) => {}
+        Event::Read(_, _) | Event::Worn(_) | Event::Barrier | Event::Said(_) => {}
     }
 }
 
@@ -56,24 +56,54 @@ fn put_bytes(event: &Event, p: u32, s: u32, bytes: &mut [u8; 512])
     }
 }
 
-/// Whether a sector was programmed or erased since the last barrier.
-pub fn is_open(events: &[Event], p: u32, s: u32) -> bool
-    ensures { result ≡ is_open (reverse events.now) p s }
+/// Whether a power cut may leave any bytes of a sector.
+pub fn may_tear(events: &[Event], p: u32, s: u32) -> bool
+    ensures { result ≡ may_tear (reverse events.now) p s }
 {
-    let mut so_far = false;
+    let mut state = Lasting {
+        open: false,
+        sound: true,
+        worn: false,
+    };
     for event in events {
-        so_far = is_open_after(event, p, s, so_far);
+        state = lasting_after(event, p, s, state);
     }
-    so_far
+    state.open || state.worn
 }
 
-fn is_open_after(event: &Event, p: u32, s: u32, before: bool) -> bool
-    ensures { (story : Story) → is_open story p s ≡ before → result ≡ is_open (event.now ∷ story) p s }
+/// Whether a sector was programmed or erased since the last barrier; whether of its place's erases the last was done; and
+/// whether the place is worn.
+#[derive(Clone, Copy)]
+struct Lasting {
+    open: bool,
+    sound: bool,
+    worn: bool,
+}
+
+fn lasting_after(event: &Event, p: u32, s: u32, before: Lasting) -> Lasting
+    ensures { (story : Story) → IsLasting before.open before.sound before.worn story p s
+        → IsLasting result.open result.sound result.worn (event.now ∷ story) p s }
 {
     match event {
-        Event::Program(q, t, _) => (*q == p && *t == s) || before,
-        Event::Erase(q) => *q == p || before,
-        Event::Barrier => false,
+        Event::Program(q, t, _) => Lasting {
+            open: (*q == p && *t == s) || before.open,
+            ..before
+        },
+        Event::Erase(q) => Lasting {
+            open: *q == p || before.open,
+            sound: *q == p || before.sound,
+            ..before
+        },
+        Event::Worn(q) => Lasting {
+            sound: *q != p && before.sound,
+            worn: *q == p || before.worn,
+            ..before
+        },
+        Event::Barrier => Lasting {
+            open: false,
+            worn: before.worn && !before.sound,
+            ..before
+        },
         Event::Read(_, _) | Event::Said(_) => before,
     }
 }

@@ -1,17 +1,19 @@
-//! Which calls of a chip fail, by their numbers.
+//! Which calls of a chip fail, by their numbers, and which places are worn.
 ghost use Rattle.std.specs.Prelude.{◌≡◌, ◌==◌, []};
 ghost use Rattle.std.specs.List.{list_any};
 ghost use Rattle.chip_mem.specs.Plan.{counted, is_past};
 
 use std::alloc::Global;
 
-/// How many calls and writes were asked for, the calls that fail, and the number of writes after which each one fails.
+/// How many calls and writes were asked for, the calls that fail, the number of writes after which each one fails, and the
+/// places that are worn.
 #[derive(Drop)]
 pub struct Schedule {
     pub calls: u64,
     pub writes: u64,
     pub failing: Vec<u64>,
     pub stop: Option<u64>,
+    pub worn_out: Vec<u32>,
 }
 
 impl Schedule {
@@ -21,12 +23,14 @@ impl Schedule {
         ensures writes { result.writes ≡ 0 }
         ensures failing { result.failing.items ≡ [] }
         ensures stop { result.stop ≡ None }
+        ensures worn_out { result.worn_out.items ≡ [] }
     {
         Schedule {
             calls: 0,
             writes: 0,
             failing: Vec::new(alloc),
             stop: None,
+            worn_out: Vec::new(alloc),
         }
     }
 
@@ -35,6 +39,13 @@ impl Schedule {
         ensures { result ≡ list_any (λ n. n == self.now.calls) self.now.failing.items }
     {
         self.failing.contains(&self.calls)
+    }
+
+    /// The place is one of those that are worn.
+    pub fn is_worn_out(&self, p: u32) -> bool
+        ensures { result ≡ list_any (λ q. q == p) self.now.worn_out.items }
+    {
+        self.worn_out.contains(&p)
     }
 
     /// All writes that may succeed were asked for.

@@ -4,7 +4,7 @@ use Rattle.chip_trait.specs.Told.{Told, Counts}
 
 -- with no call
 pub counts_none : (t : Told) → Counts t t
-counts_none t = record { places = refl; reads = omega arith; writes = omega arith; beside = refl }
+counts_none t = record { places = refl; reads = omega arith; writes = omega arith; worn = omega arith; beside = refl }
 
 -- after two calls
 pub counts_then : (old mid new : Told) → Counts old mid → Counts mid new → Counts old new
@@ -12,5 +12,6 @@ counts_then old mid new first second = record {
   places = second.places ∙ first.places;
   reads = omega (arith, first.reads, second.reads);
   writes = omega (arith, first.writes, second.writes);
+  worn = omega (arith, first.worn, second.worn);
   beside = second.beside ∙ first.beside;
 }

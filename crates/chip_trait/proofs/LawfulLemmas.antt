@@ -1,6 +1,6 @@
 -- Lawful events, one part after another.
 use Rattle.std.proofs.Common.{◌≡◌, ℕ, Bool, true, false, cond, [], ◌∷◌, ◌++◌, ◌==◌, ◌&&◌, refl, sym, ap, subst, append_assoc}
-use Rattle.chip_trait.specs.declared.event.Event.TheVariants.{Read, Program, Erase, Barrier, Said}
+use Rattle.chip_trait.specs.declared.event.Event.TheVariants.{Read, Program, Erase, Worn, Barrier, Said}
 use Rattle.chip_trait.specs.Story.{Story}
 use Rattle.chip_trait.specs.Lawful.{Age, Unknown, Erased, Clean, Used, settled, age, IsLawful, AreClean, IsLawfulAfter, LeavesClean}
 
@@ -27,6 +27,12 @@ age-append (Erase q ∷ later) earlier p s = by_test (q == p) (age-append later 
         → (cond b Erased (age later p s) ≡ Clean → cond b Erased (age (later ++ earlier) p s) ≡ Clean) × (cond b Erased (age later p s) ≡ Erased → cond b Erased (age (later ++ earlier) p s) ≡ Erased)
     by_test true rest = (λ clean. cc clean, λ erased. refl)
     by_test false rest = rest
+age-append (Worn q ∷ later) earlier p s = by_test (q == p) (age-append later earlier p s)
+  where
+    by_test : (b : Bool) → (age later p s ≡ Clean → age (later ++ earlier) p s ≡ Clean) × (age later p s ≡ Erased → age (later ++ earlier) p s ≡ Erased)
+        → (cond b Used (age later p s) ≡ Clean → cond b Used (age (later ++ earlier) p s) ≡ Clean) × (cond b Used (age later p s) ≡ Erased → cond b Used (age (later ++ earlier) p s) ≡ Erased)
+    by_test true rest = (λ clean. cc clean, λ erased. cc erased)
+    by_test false rest = rest
 age-append (Barrier ∷ later) earlier p s = by_age (age later p s) (age (later ++ earlier) p s) (age-append later earlier p s)
   where
     by_age : (a b : Age) → (a ≡ Clean → b ≡ Clean) × (a ≡ Erased → b ≡ Erased) → (settled a ≡ Clean → settled b ≡ Clean) × (settled a ≡ Erased → settled b ≡ Erased)
@@ -44,6 +50,7 @@ lawful-append [] earlier f e = e
 lawful-append (Read q t ∷ later) earlier f e = lawful-append later earlier f e
 lawful-append (Program q t bytes ∷ later) earlier f e = (clean-append later earlier q t f.0, lawful-append later earlier f.1 e)
 lawful-append (Erase q ∷ later) earlier f e = lawful-append later earlier f e
+lawful-append (Worn q ∷ later) earlier f e = lawful-append later earlier f e
 lawful-append (Barrier ∷ later) earlier f e = lawful-append later earlier f e
 lawful-append (Said piece ∷ later) earlier f e = lawful-append later earlier f e
 
@@ -52,6 +59,7 @@ lawful-part [] earlier f = f
 lawful-part (Read q t ∷ later) earlier f = lawful-part later earlier f
 lawful-part (Program q t bytes ∷ later) earlier f = lawful-part later earlier f.1
 lawful-part (Erase q ∷ later) earlier f = lawful-part later earlier f
+lawful-part (Worn q ∷ later) earlier f = lawful-part later earlier f
 lawful-part (Barrier ∷ later) earlier f = lawful-part later earlier f
 lawful-part (Said piece ∷ later) earlier f = lawful-part later earlier f
 

@@ -4,7 +4,7 @@ pub mod LawfulLemmas
 pub mod MomentLemmas
 pub mod SaidLemmas
 pub mod ProgramLemmas
-pub mod EraseLemmas
+pub mod LossLemmas
 pub mod ClosedLemmas
 pub mod CountsLemmas
 pub mod HistoryLemmas

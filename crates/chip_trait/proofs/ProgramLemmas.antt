@@ -4,7 +4,7 @@ use Rattle.std.proofs.lemmas.Bool.{cases_Bool, and_parts, and_from, eqb-true, eq
 use Rattle.std.proofs.Math.Path.{fun_ext}
 use Rattle.chip_trait.specs.declared.event.Event.TheVariants.{Program}
 use Rattle.chip_trait.specs.Story.{Story, Contents, blank, held}
-use Rattle.chip_trait.specs.Image.{is_open, IsNamedValue, IsNoChanceImage, IsQuiet}
+use Rattle.chip_trait.specs.Image.{is_open, is_worn, IsNamedValue, IsNoChanceImage, IsQuiet, IsWhole}
 use Rattle.chip_trait.specs.Chart.{says, decoded, EachMeans, with_sector, IsPartOf}
 use Rattle.chip_trait.proofs.ImageLemmas.{held_is_named, named_if_closed, named_in_quiet, headers_in_quiet}
 
@@ -21,10 +21,17 @@ part_in_quiet decode silent start story x quiet is q t other told = elim (named_
   | inr lost ↦ absurd (let none : decode (x q t) ≡ None = ap decode lost.1 ∙ silent in cc (none, told))
 ]
 
--- with the headers that are held
+-- with the headers that are held, where it has lost nothing at worn places
 pub headers_there : {S : Type 0} (decode : List ℕ → Option S) (start : Contents) (story : Story) (x : Contents) → IsQuiet start story
-    → IsNoChanceImage (says decode) start story x → (q : ℕ) → decode (x q 0) ≡ decode (held start story q 0)
-headers_there decode start story x quiet is q = ap decode (headers_in_quiet start story x quiet is.image q)
+    → IsNoChanceImage (says decode) start story x → IsWhole start story x → (q : ℕ) → decode (x q 0) ≡ decode (held start story q 0)
+headers_there decode start story x quiet is whole q = elim (cases_Bool (is_worn story q)) [
+  | inl worn ↦ ap decode (whole q 0 worn)
+  | inr lasting ↦ ap decode (headers_in_quiet start story x quiet is.image q lasting)
+]
+
+-- whatever a power cut leaves, but by chance, that has lost nothing at worn places, has this meaning
+abbrev pub EachWholeMeans : {S : Type 0} (decode : List ℕ → Option S) → ((ℕ → ℕ → Option S) → Type 0) → Contents → Story → Type 0
+EachWholeMeans decode Means start story = (x : Contents) → IsNoChanceImage (says decode) start story x → IsWhole start story x → Means (decoded decode x)
 
 module _ {S : Type 0} (decode : List ℕ → Option S) (silent : decode blank ≡ None) (start : Contents) (story : Story) (quiet : IsQuiet start story) (p s : ℕ) (bytes : List ℕ) (sector : S)
     (closed : is_open story p s ≡ false) (was_blank : held start story p s ≡ blank) (spelled : decode bytes ≡ Some sector) where
@@ -59,6 +66,16 @@ module _ {S : Type 0} (decode : List ℕ → Option S) (silent : decode blank �
     ];
   }
 
+  pub without_is_whole : (x : Contents) → IsWhole start (Program p s bytes ∷ story) x → IsWhole start story (without x)
+  without_is_whole x whole q t worn = elim (cases_Bool (eqb p q && eqb s t)) [
+    | inl here ↦
+        let both = and_parts _ _ here in
+        let same_place : p ≡ q = eqb-true _ _ both.0 in
+        let same_number : s ≡ t = eqb-true _ _ both.1 in
+        rw here (sym (rw (← same_place, ← same_number) was_blank))
+    | inr elsewhere ↦ rw elsewhere (let there = whole q t worn in rw elsewhere at there)
+  ]
+
   -- at the sector there is what was programmed, or nothing that says something
   pub there : (x : Contents) → IsNoChanceImage (says decode) start (Program p s bytes ∷ story) x → (found : Option S) → decode (x p s) ≡ found → (decode (x p s) ≡ Some sector) ⊎ (decode (x p s) ≡ None)
   there x is None none = inr none
@@ -89,12 +106,13 @@ module _ {S : Type 0} (decode : List ℕ → Option S) (silent : decode blank �
 
   module _ (Means : (ℕ → ℕ → Option S) → Type 0)
       (step : (c : ℕ → ℕ → Option S) → IsPartOf c (decoded decode (held start story)) → ((q : ℕ) → c q 0 ≡ decode (held start story q 0)) → Means c → Means (with_sector c p s sector)) where
-    -- where the sector may join each part of what is held that has the meaning, the program keeps the meaning
-    pub program_keeps : EachMeans decode Means start story → EachMeans decode Means start (Program p s bytes ∷ story)
-    program_keeps all x is =
+    -- where the sector may join each part of what is held that has the meaning, the program keeps the meaning, as long as
+    -- nothing is lost at worn places
+    pub program_keeps : EachMeans decode Means start story → EachWholeMeans decode Means start (Program p s bytes ∷ story)
+    program_keeps all x is whole =
         let earlier = without_is_image x is in
         let before = all (without x) earlier in
         elim (there x is (decode (x p s)) refl) [
-          | inl some ↦ rw (as_with x some) (step _ (part_in_quiet decode silent start story (without x) quiet earlier) (headers_there decode start story (without x) quiet earlier) before)
+          | inl some ↦ rw (as_with x some) (step _ (part_in_quiet decode silent start story (without x) quiet earlier) (headers_there decode start story (without x) quiet earlier (without_is_whole x whole)) before)
           | inr none ↦ rw (as_without x none) before
         ]

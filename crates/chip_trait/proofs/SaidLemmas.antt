@@ -1,7 +1,7 @@
 -- What was said, in one part after another.
 use Rattle.std.proofs.Common.{◌≡◌, ℕ, List, [], ◌∷◌, ◌++◌, refl, sym, ◌∙◌, ap, append_assoc}
 use Rattle.std.proofs.lemmas.List.{append-nil}
-use Rattle.chip_trait.specs.declared.event.Event.TheVariants.{Read, Program, Erase, Barrier, Said}
+use Rattle.chip_trait.specs.declared.event.Event.TheVariants.{Read, Program, Erase, Worn, Barrier, Said}
 use Rattle.chip_trait.specs.Story.{Story, pieces, joined, said}
 
 pub joined-append : (a b : List (List ℕ)) → joined (a ++ b) ≡ joined a ++ joined b
@@ -13,6 +13,7 @@ pieces-append [] earlier = sym (append-nil (pieces earlier))
 pieces-append (Read q t ∷ later) earlier = pieces-append later earlier
 pieces-append (Program q t bytes ∷ later) earlier = pieces-append later earlier
 pieces-append (Erase q ∷ later) earlier = pieces-append later earlier
+pieces-append (Worn q ∷ later) earlier = pieces-append later earlier
 pieces-append (Barrier ∷ later) earlier = pieces-append later earlier
 pieces-append (Said piece ∷ later) earlier = ap (λ (l : List (List ℕ)). l ++ piece ∷ []) (pieces-append later earlier) ∙ append_assoc (pieces earlier) (pieces later) (piece ∷ [])
 

@@ -4,4 +4,5 @@ pub mod Moment
 pub mod Lawful
 pub mod Chart
 pub mod Told
+pub mod Wears
 pub mod Laws

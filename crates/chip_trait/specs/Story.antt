@@ -3,7 +3,7 @@
 use Rattle.std.specs.Prelude.{ℕ, List, [], ◌∷◌, ◌++◌, replicate, if◌then◌else◌, ◌==◌, ◌&&◌}
 use Rattle.std.specs.List.{flat_map}
 use Rattle.chip_trait.specs.declared.event.Event.{Event}
-use Rattle.chip_trait.specs.declared.event.Event.TheVariants.{Read, Program, Erase, Barrier, Said}
+use Rattle.chip_trait.specs.declared.event.Event.TheVariants.{Read, Program, Erase, Worn, Barrier, Said}
 
 -- the newest event first
 abbrev pub Story : Type 0
@@ -22,6 +22,7 @@ abbrev pub after : Event → Contents → Contents
 after (Read q t) x = x
 after (Program q t bytes) x = λ p s. if q == p && t == s then bytes else x p s
 after (Erase q) x = λ p s. if q == p then blank else x p s
+after (Worn q) x = x
 after Barrier x = x
 after (Said piece) x = x
 
@@ -36,6 +37,7 @@ pieces [] = []
 pieces (Read q t ∷ story) = pieces story
 pieces (Program q t bytes ∷ story) = pieces story
 pieces (Erase q ∷ story) = pieces story
+pieces (Worn q ∷ story) = pieces story
 pieces (Barrier ∷ story) = pieces story
 pieces (Said piece ∷ story) = pieces story ++ piece ∷ []
 

@@ -34,6 +34,8 @@ pub record Told : Type 0 where
   pub read_faults : ℕ
   -- of programs, erases and barriers
   pub write_faults : ℕ
+  -- of erases that found their place worn
+  pub worn_erases : ℕ
   pub beside : Beside
 
 -- The held contents are told only while the chip is settled. Where the history is told too, they are what it leaves.
@@ -90,6 +92,7 @@ pub record Counts (old new : Told) : Type 0 where
   pub places : new.places ≡ old.places
   pub reads : old.read_faults ≤ new.read_faults
   pub writes : old.write_faults ≤ new.write_faults
+  pub worn : old.worn_erases ≤ new.worn_erases
   pub beside : new.beside ≡ old.beside
 
 -- the first is a beginning of the second
@@ -108,6 +111,7 @@ pub record FailsToSay (piece : List ℕ) (old new : Told) : Type 0 where
 pub record SayCounts (old new : Told) : Type 0 where
   pub reads : old.read_faults ≤ new.read_faults
   pub writes : old.write_faults ≤ new.write_faults
+  pub worn : old.worn_erases ≤ new.worn_erases
   pub says : old.beside.say_faults ≤ new.beside.say_faults
   pub beside : new.beside ≡ record old.beside { say_faults = new.beside.say_faults }
 
@@ -119,6 +123,7 @@ pub record IsBeside (old new : Told) : Type 0 where
   pub contents : new.contents ≡ old.contents
   pub reads : old.read_faults ≤ new.read_faults
   pub writes : old.write_faults ≤ new.write_faults
+  pub worn : old.worn_erases ≤ new.worn_erases
   pub script : old.beside.script_faults ≤ new.beside.script_faults
 
 -- a count went up by n, or it stands at its last value

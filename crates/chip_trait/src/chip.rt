@@ -1,7 +1,10 @@
 //! A raw NAND chip as code sees it.
-ghost use Rattle.std.specs.Prelude.{◌≡◌, ◌<◌, OnOk, OnErr, IfSome};
+ghost use Rattle.std.specs.Prelude.{◌≡◌, ◌<◌, OnOk, OnErr, IfOk, IfSome};
 ghost use Rattle.chip_trait.specs.declared.event.Event.TheVariants.{Read, Program, Erase, Barrier};
 ghost use Rattle.chip_trait.specs.Told.{Told, IsConsistent, Appends, Misses, Breaks, Halts, Counts, Rose};
+ghost use Rattle.chip_trait.specs.Wears.{Wears, erase_event};
+
+use crate::Wear;
 
 /// A call of a chip or a desk didn't succeed.
 #[derive(Clone, Copy, Debug, PartialEq, Eq)]
@@ -38,10 +41,11 @@ pub trait Chip {
         ensures counts { Counts (told self.old) (told self.new) }
         ensures cause { OnErr result (Rose (told self.old).write_faults (told self.new).write_faults) };
 
-    /// Erases a place: each of its sectors holds 512 bytes FF.
-    fn erase(&mut self, p: u32) -> Result<(), Failed>
+    /// Erases a place: each of its sectors holds 512 bytes FF. Or the place is worn: it holds what it held, and from then on
+    /// none of that is sure to last, until the place is erased and a barrier comes after.
+    fn erase(&mut self, p: u32) -> Result<Wear, Failed>
         requires { p < (told self.old).places }
-        ensures ok { OnOk result (Appends (Erase p) (told self.old) (told self.new)) }
+        ensures ok { IfOk result (λ wear. Wears wear p (told self.old) (told self.new)) }
         ensures err { OnErr result (Breaks (Erase p) (told self.old) (told self.new)) }
         ensures counts { Counts (told self.old) (told self.new) }
         ensures cause { OnErr result (Rose (told self.old).write_faults (told self.new).write_faults) };

@@ -40,13 +40,14 @@ impl Piece {
     }
 }
 
-/// One thing that happened: a sector of a place was read or programmed with these bytes, a place was erased, a barrier was
-/// passed, or a piece was said.
+/// One thing that happened: a sector of a place was read or programmed with these bytes, a place was erased, or was to be
+/// and is worn, a barrier was passed, or a piece was said.
 #[derive(Debug, Drop)]
 pub enum Event {
     Read(u32, u32),
     Program(u32, u32, [u8; 512]),
     Erase(u32),
+    Worn(u32),
     Barrier,
     Said(Piece),
 }

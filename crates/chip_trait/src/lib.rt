@@ -11,8 +11,10 @@ mod chip;
 mod desk;
 mod event;
 mod laws;
+mod wear;
 
 pub use chip::{Chip, Failed};
 pub use desk::Desk;
 pub use event::{Event, Piece};
 pub use laws::{image_laws, lawful_laws, said_laws};
+pub use wear::Wear;

@@ -62,7 +62,7 @@ fn add_picks(picks: &mut Vec<Pick>, number: usize, event: &Event, left: Left) ->
                 pick(picks, *place, sector, choice(left, number, &[0x5a; 512]))?;
             }
         }
-        Event::Read(_, _) | Event::Said(_) => {}
+        Event::Read(_, _) | Event::Worn(_) | Event::Said(_) => {}
     }
     Ok(())
 }

@@ -59,6 +59,9 @@ pub enum ChipFault {
         place: u32,
         sector: u32,
     },
+    /// So many places were found worn, and no other one may be taken.
+    #[error("worn out {0}")]
+    WornOut(u32),
 }
 
 /// Why an image can't be opened, in the order in which the causes are tried.
@@ -107,6 +110,9 @@ pub enum FormatFault {
     Geometry,
     #[error("chip write failed")]
     Stopped,
+    /// This place is worn.
+    #[error("worn place {0}")]
+    Worn(u32),
 }
 
 impl From<AllocError> for OutOfMemory {

@@ -9,7 +9,7 @@ use Rattle.chip_trait.specs.Chart.{says}
 use Rattle.chip_trait.specs.Image.{IsNoChanceImage}
 use Rattle.chip_trait.specs.Moment.{AtEachMoment, Leaves}
 use Rattle.chip_trait.specs.Lawful.{IsLawful, AreClean}
-use Rattle.chip_trait.specs.Told.{History, Told, Beside, Counts, SayCounts, Appends, FailsToSay, IsPrefix, adds_all, Unrisen, Rose}
+use Rattle.chip_trait.specs.Told.{History, Told, Beside, Counts, SayCounts, Appends, FailsToSay, IsPrefix, adds_all, Unrisen}
 use Rattle.chip_trait.proofs.HistoryLemmas.{same_history, history_then}
 use Rattle.chip_trait.proofs.MomentLemmas.{at_start, at_both, at_weaker}
 use Rattle.chip_trait.proofs.SaidLemmas.{pieces-append, said-append, silent-part}
@@ -44,7 +44,7 @@ use Rattle.script_store.specs.declared.store.ScriptStore.{ScriptStore}
 use Rattle.script_store.specs.Keeps.{KeepsScript, script_keeping}
 use Rattle.program_end.specs.declared.end.End.{End}
 use Rattle.program_end.specs.declared.end.End.TheVariants.{Words, Chip, OutOfMemory, Script, Output, TooLong}
-use Rattle.ipl_cli.specs.Ending.{Ending, IsStopped, IsUntouched}
+use Rattle.ipl_cli.specs.Ending.{Ending, IsStopped, StopRose, IsUntouched, format_end}
 use Rattle.ipl_cli.specs.Top.{Runs, RunsOpened, RunsFormatted, IsLaidOut, LaysOut, IsAbout, StandsAbout, IsBetween, EndsBy, answers, ok_line}
 use Rattle.ipl_cli.specs.Runs.{StartsOpened, IsNotOpened, WasFormatted, ending_of}
 
@@ -55,12 +55,13 @@ left_counts old new counts = ap (λ (b : Beside). b.left) counts.beside
 -- ---- a format
 
 pub stopped_early : (fault : FormatFault) (old new : Told) → Counts old new
-    → Rose old.write_faults new.write_faults
+    → StopRose fault old new
     → ((h : History) → Formats {A = Unit {0}} old.places h old (Err fault) new)
-    → IsStopped old new
+    → IsStopped old new (Err (format_end fault))
 stopped_early fault old new counts rose formats = λ h. record {
   stopped = new;
   fault = fault;
+  ending_is = refl;
   formats = formats h;
   counts = counts;
   rose = rose;
@@ -70,7 +71,7 @@ stopped_early fault old new counts rose formats = λ h. record {
 -- what was said of the line of a format is all of it or a part
 module _ (old mid new : Told) (counts : Counts old mid) (same : mid.settled ≡ old.settled)
     (said_counts : SayCounts mid new) (formats : (h : History)
-    → Formats {A = Unit {0}} {E = FormatFault} old.places h old (Ok tt) mid) where
+    → Formats {A = Unit {0}} old.places h old (Ok tt) mid) where
   left_said : new.beside.left ≡ old.beside.left
   left_said = ap (λ (b : Beside). b.left) said_counts.beside ∙ left_counts old mid counts
 
@@ -94,7 +95,7 @@ module _ (old mid new : Told) (counts : Counts old mid) (same : mid.settled ≡ 
             ∙ ap (λ (s : Story). option_map (adds_all s) old.history) events);
         settled = settled ∙ same;
         steady = λ held. steady (adds_all (format_events old.places) h)
-            (subst (λ (s : Story). IsSteady (adds_all s h) mid) events (did.steady held));
+            (subst (λ (s : Story). IsSteady (adds_all s h) mid) events (did.steady (λ is. cc) held));
         rests = elim part [
           | inl none ↦ subst (λ (s : Story). StoryRests old.places empty
               (adds_all s (adds_all (format_events old.places) h))) (sym none) rested
@@ -482,7 +483,7 @@ module _ (old mid new : Told) (f : WasFormatted old mid) where
       × StoryRests old.places empty (adds_all (format_events old.places) h)
   fresh_story h steady =
       let did = f.formats h in (
-        subst (λ (s : Story). IsSteady (adds_all s h) mid) did.done.exact (did.steady steady),
+        subst (λ (s : Story). IsSteady (adds_all s h) mid) did.done.exact (did.steady (λ is. cc) steady),
         subst (λ (s : Story). StoryRests old.places empty (adds_all s h)) did.done.exact
             did.done.rests,
       )

@@ -87,7 +87,7 @@ adds_noted old mid new did only =
 abbrev some_history : History
 some_history = record { start = λ p s. []; story = [] }
 
-pub adds_format : {T E : Type 0} (places : ℕ) (old : Told) (result : Result T E) (new : Told)
+pub adds_format : {T : Type 0} (places : ℕ) (old : Told) (result : Result T FormatFault) (new : Told)
     → ((h : History) → Formats places h old result new) → AddsLawful old new
 adds_format places old result new formats =
     let did = formats some_history in record {
@@ -122,7 +122,7 @@ unstarted_adds end old new (inr (inl did)) =
     }) stops.noted
 unstarted_adds end old new (inr (inr (formatted, formats, did))) =
     adds_then old formatted new
-    (adds_format {T = Unit {0}} {E = FormatFault} old.places old (Ok tt) formatted formats.formats)
+    (adds_format {T = Unit {0}} old.places old (Ok tt) formatted formats.formats)
     (unopened_adds end formatted new did)
 
 -- ---- a run
@@ -147,6 +147,6 @@ pub formatted_adds : (old mid new : Told) (before then : ScriptStore) (done : Bo
     → AddsLawful old new
 formatted_adds old mid new before then done started run =
     adds_then old started.formatted new
-    (adds_format {T = Unit {0}} {E = FormatFault} old.places old (Ok tt) started.formatted
+    (adds_format {T = Unit {0}} old.places old (Ok tt) started.formatted
     started.formats.formats)
     (opened_adds started.formatted mid new before then done started.opened run)

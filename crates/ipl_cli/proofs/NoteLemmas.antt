@@ -1,7 +1,7 @@
 -- A note says nothing, and leaves the chip: what held before it holds after it.
 use Rattle.std.proofs.Common.{◌≡◌, ℕ, Bool, true, false, List, ◌++◌, Option, Some, None, Ok, Err, inl, inr, sym, ◌∙◌, ap, subst}
 use Rattle.chip_trait.specs.Told.{History, Told}
-use Rattle.ipl_base.specs.declared.fault.ChipFault.TheVariants.{ReadFault, Stopped, Damaged, Malformed}
+use Rattle.ipl_base.specs.declared.fault.ChipFault.TheVariants.{ReadFault, Stopped, Damaged, Malformed, WornOut}
 use Rattle.ipl_base.specs.declared.fault.ImageFault.{ImageFault}
 use Rattle.ipl_base.specs.declared.fault.ImageFault.TheVariants as image
 use Rattle.ipl_rules.specs.State.{Map}
@@ -29,6 +29,7 @@ module _ (old mid : Told) (noted : Option (List ℕ)) where
   format_cause (image.Chip Stopped) c = c
   format_cause (image.Chip (Damaged p s stored computed)) c = c
   format_cause (image.Chip (Malformed p s)) c = c
+  format_cause (image.Chip (WornOut n)) c = c
   format_cause image.Spent c = c
   format_cause (image.NoSpare n) c = c
 
@@ -40,6 +41,7 @@ module _ (old mid : Told) (noted : Option (List ℕ)) where
   formatted_cause (image.Chip Stopped) c = c
   formatted_cause (image.Chip (Damaged p s stored computed)) c = c
   formatted_cause (image.Chip (Malformed p s)) c = c
+  formatted_cause (image.Chip (WornOut n)) c = c
   formatted_cause image.Spent c = c
   formatted_cause (image.NoSpare n) c = c
 
@@ -51,6 +53,7 @@ module _ (old mid : Told) (noted : Option (List ℕ)) where
   opened_cause (image.Chip Stopped) c = c
   opened_cause (image.Chip (Damaged p s stored computed)) c = c
   opened_cause (image.Chip (Malformed p s)) c = c
+  opened_cause (image.Chip (WornOut n)) c = c
   opened_cause image.Spent c = c
   opened_cause (image.NoSpare n) c = c
 
@@ -103,11 +106,12 @@ module _ (old mid : Told) (noted : Option (List ℕ)) where
     all = r.all;
   }
 
-  stops_noted : {places : ℕ} {h : History} → StopsEarly places h old mid
-      → StopsEarly places h old then
+  stops_noted : {places : ℕ} {h : History} {ending : Ending} → StopsEarly places h old mid ending
+      → StopsEarly places h old then ending
   stops_noted s = record {
     stopped = s.stopped;
     fault = s.fault;
+    ending_is = s.ending_is;
     formats = s.formats;
     counts = s.counts;
     rose = s.rose;
@@ -161,7 +165,7 @@ module _ (old mid : Told) (noted : Option (List ℕ)) where
   opened_noted : {ending : Ending} → RunsOpened old mid ending → RunsOpened old then ending
   opened_noted runs = λ h script steady left m rests. runs_noted (runs h script steady left m rests)
 
-  stopped_noted : IsStopped old mid → IsStopped old then
+  stopped_noted : {ending : Ending} → IsStopped old mid ending → IsStopped old then ending
   stopped_noted stops = λ h. stops_noted (stops h)
 
   either_noted : {ending : Ending} → RunsOrStops old mid ending → RunsOrStops old then ending
@@ -283,6 +287,7 @@ none_falls old mid new f only = subst (NoneFalls old) (sym only) (record {
   places = f.places;
   reads = f.reads;
   writes = f.writes;
+  worn = f.worn;
   says = f.says;
   script = f.script;
   bytes = f.bytes;

@@ -1,14 +1,15 @@
 -- How the program starts a run, and why it doesn't.
-use Rattle.std.proofs.Common.{◌≡◌, ◌≢◌, ◌≤◌, ◌<◌, ◌-◌, ◌+◌, ◌^◌, ℕ, true, false, Some, None, Result, Ok, Err, inl, inr, refl, sym, ◌∙◌, ap, subst, arith}
+use Rattle.std.proofs.Common.{◌≡◌, ◌≤◌, ◌<◌, ◌-◌, ◌+◌, ◌^◌, ℕ, true, false, Some, None, Result, Ok, Err, inl, inr, refl, sym, ◌∙◌, ap, subst, arith}
 use Rattle.std.specs.Prelude.{◌&&◌, nat_le, OnOk, IfErr, IsErrOf, is_ok}
 use Rattle.std.proofs.lemmas.Bool.{cases_Bool, cases_eq, and_parts}
 use Rattle.std.proofs.lemmas.Bool.Decides.{nat_tests}
 use Rattle.std.specs.FinMap.{empty}
 use Rattle.chip_trait.specs.Story.{Story, Contents, held}
 use Rattle.chip_trait.specs.Told.{History, Told, Beside, Counts, Grew, Rose, adds_all}
+use Rattle.ipl_base.specs.Calls.{IsFailedCall}
 use Rattle.ipl_base.specs.Places.{IsGeometry}
 use Rattle.ipl_base.specs.declared.fault.ChipFault.{ChipFault}
-use Rattle.ipl_base.specs.declared.fault.ChipFault.TheVariants.{ReadFault, Stopped, Damaged, Malformed}
+use Rattle.ipl_base.specs.declared.fault.ChipFault.TheVariants.{ReadFault, Stopped, Damaged, Malformed, WornOut}
 use Rattle.ipl_base.specs.declared.fault.FormatFault.{FormatFault}
 use Rattle.ipl_base.specs.declared.fault.FormatFault.TheVariants as format
 use Rattle.ipl_base.specs.declared.fault.ImageFault.{ImageFault}
@@ -33,12 +34,12 @@ use Rattle.opening_rules.proofs.NumberLemmas.{greatest_is_found}
 use Rattle.restart.specs.Events.{format_events}
 use Rattle.restart.specs.Fresh.{IsFresh, Formats}
 use Rattle.restart.proofs.LookLemmas.{reads_none}
-use Rattle.store_trait.specs.Keeping.{ChipRose, IsFailedCall, SaysFailedCall, Draws, LeavesTidy, SCRIPT_DRAWS, FOUND_NUMBER}
+use Rattle.store_trait.specs.Keeping.{ChipRose, SaysFailedCall, Draws, LeavesTidy, SCRIPT_DRAWS, FOUND_NUMBER}
 use Rattle.store_trait.specs.Onward.{Further}
 use Rattle.store_trait.proofs.DrawLemmas.{numbers_last}
 use Rattle.store_trait.specs.declared.fault.Fault.{Fault}
 use Rattle.store_trait.specs.declared.fault.Fault.TheVariants as fault
-use Rattle.status_renewal.specs.Recovers.{IsOpeningFault, OpeningCause}
+use Rattle.status_renewal.specs.Recovers.{FailsByCallAlone, OpeningCause}
 use Rattle.status_renewal.proofs.ReadyLemmas.{layouts_say}
 use Rattle.store_steps.specs.Keeps.{limits_of}
 use Rattle.script_run.specs.declared.fault.Stop.{Stop}
@@ -53,8 +54,8 @@ use Rattle.script_store.specs.Keeps.{IsRunning, script_keeping, next_number}
 use Rattle.program_end.specs.declared.end.End.{End}
 use Rattle.program_end.specs.declared.end.End.TheVariants.{Words, Chip, OutOfMemory, Script, Output, TooLong}
 use Rattle.command_line.specs.declared.asked.Request.TheVariants.{Run}
-use Rattle.ipl_cli.specs.Ending.{Ending}
-use Rattle.ipl_cli.specs.Top.{IsLaidWell, RestsWithNumbersLeft, IsMetLater, LaidCause, StrayCause, OpenedCause, AnewCause, FormattedCause, IsTooLong, RequestCause, EndCause, RunsOpened, EndsAtFault, IsRefused, OpenedRuns, format_end, FormattedLeaves, OpenedLeaves}
+use Rattle.ipl_cli.specs.Ending.{Ending, StopsEarly, StopRose, format_end}
+use Rattle.ipl_cli.specs.Top.{IsLaidWell, RestsWithNumbersLeft, IsMetLater, LaidCause, StrayCause, OpenedCause, AnewCause, FormattedCause, IsTooLong, RequestCause, EndCause, RunsOpened, IsRefused, OpenedRuns, FormattedLeaves, OpenedLeaves}
 use Rattle.ipl_cli.specs.Runs.{ClosesFor, StartsOpened, IsNotOpened, WasFormatted, IsNotFormatted, StartsFormatted, IsNotStarted, RunsOver, end_of, ending_of}
 use Rattle.ipl_cli.proofs.EndLemmas.{left_counts, stopped_early, opened_keeps, opened_runs, unopened_runs, untouched_stops, formatted_runs, fresh_story}
 
@@ -72,9 +73,13 @@ module _ (old mid new : Told) (counts : Counts old mid) where
   writes_earlier rose = rose_earlier old.write_faults mid.write_faults new.write_faults
       counts.writes rose
 
+  worn_earlier : Rose mid.worn_erases new.worn_erases → Rose old.worn_erases new.worn_erases
+  worn_earlier rose = rose_earlier old.worn_erases mid.worn_erases new.worn_erases counts.worn rose
+
   chip_earlier : ChipRose mid new → ChipRose old new
   chip_earlier (inl rose) = inl (reads_earlier rose)
-  chip_earlier (inr rose) = inr (writes_earlier rose)
+  chip_earlier (inr (inl rose)) = inr (inl (writes_earlier rose))
+  chip_earlier (inr (inr rose)) = inr (inr (worn_earlier rose))
 
   script_earlier : Rose mid.beside.script_faults new.beside.script_faults
       → Rose old.beside.script_faults new.beside.script_faults
@@ -153,43 +158,20 @@ module _ (t : Told) (sound : RestsWithNumbersLeft t) where
   opened_excused image.NotFormatted new c = absurd (laid_never image.NotFormatted c)
   opened_excused (image.Missing u) new c = absurd (laid_never (image.Missing u) c)
   opened_excused (image.Chip ReadFault) new c = inl c
-  opened_excused (image.Chip Stopped) new c = inr c
+  opened_excused (image.Chip Stopped) new c = inr (inl c)
   opened_excused (image.Chip (Damaged p s stored computed)) new c = absurd (sector_never c.1)
   opened_excused (image.Chip (Malformed p s)) new c = absurd (sector_never c)
+  opened_excused (image.Chip (WornOut n)) new c = inr (inr c.1)
   opened_excused image.Spent new c = absurd (laid_never image.Spent c)
   opened_excused (image.NoSpare n) new c = absurd (laid_never (image.NoSpare n) c)
 
 -- ---- a chip that isn't opened
 
 module _ (old new : Told) (end : End) (n : IsNotOpened end old new) where
-  -- over contents that are told, the opening ends with their first fault, or a call failed
-  first_told : (x : Contents) → old.contents ≡ Some x → (e : ImageFault)
-      → first_fault (chart_of x) old.places ≡ Some e → EndsAtFault e n.fault
-  first_told x told e fault = by n.fault (n.tries.tells x told)
-    where
-      same : (f : ImageFault) → IsOpeningFault old.places x f → EndsAtFault e f
-      same f (inl is) = inl (some_one (sym is ∙ fault))
-      same f (inr none) = absurd (none_is_some (sym none.0 ∙ fault))
-
-      by : (f : ImageFault) → (f ≢ image.Chip ReadFault → f ≢ image.Chip Stopped → IsOpeningFault
-          old.places x f) → EndsAtFault e f
-      by image.Geometry tells = same image.Geometry (tells (λ is. cc) (λ is. cc))
-      by image.NotFormatted tells = same image.NotFormatted (tells (λ is. cc) (λ is. cc))
-      by (image.Missing u) tells = same (image.Missing u) (tells (λ is. cc) (λ is. cc))
-      by (image.Chip ReadFault) tells = inr (inl refl)
-      by (image.Chip Stopped) tells = inr (inr refl)
-      by (image.Chip (Damaged p s stored computed)) tells = same
-          (image.Chip (Damaged p s stored computed)) (tells (λ is. cc) (λ is. cc))
-      by (image.Chip (Malformed p s)) tells = same (image.Chip (Malformed p s)) (tells (λ is. cc)
-          (λ is. cc))
-      by image.Spent tells = same image.Spent (tells (λ is. cc) (λ is. cc))
-      by (image.NoSpare k) tells = same (image.NoSpare k) (tells (λ is. cc) (λ is. cc))
-
   refused : IsRefused n.fault old new
-  refused e has = (
-    record { read = new; reads = n.tries.looks has.contents has.told e has.fault; noted = refl },
-    first_told has.contents has.told e has.fault,
-  )
+  refused e has =
+      let looked = n.tries.looks has.contents has.told e has.fault in
+      (record { read = new; reads = looked.0; noted = refl }, looked.1)
 
   pub unopened_left : OpenedLeaves (Err end) old new
   unopened_left = subst (λ (e : End). OpenedLeaves (Err e) old new) (sym n.end_is)
@@ -203,40 +185,39 @@ module _ (old new : Told) (end : End) (n : IsNotOpened end old new) where
   -- a fault of how the chip is laid out is its first fault
   laid_cause : (f : ImageFault) → ((c : ChipFault) → f ≡ image.Chip c → ⊥) → n.fault ≡ f
       → LaidCause f old
-  laid_cause f apart is = inl (λ x told. elim (n.tries.tells x told (λ failed. apart ReadFault
-      (sym is ∙ failed)) (λ failed. apart Stopped (sym is ∙ failed))) [
+  laid_cause f apart is = inl (λ x told.
+      elim (n.tries.tells x told (λ (c, failed, call). apart c (sym is ∙ failed))) [
         | inl first ↦ first ∙ ap Some is
         | inr none ↦ absurd (apart none.1.fault (sym is ∙ none.1.is))
       ])
 
   -- contents with a fault of a sector stand for no map
-  sector_cause : (c : ChipFault) → c ≢ ReadFault → c ≢ Stopped → n.fault ≡ image.Chip c
-      → StrayCause old
-  sector_cause c read stopped is = inl (λ x told m stands. elim (n.tries.tells x told
-      (λ failed. read (chip_one (sym is ∙ failed))) (λ failed. stopped
-      (chip_one (sym is ∙ failed)))) [
-        | inl first ↦ chip_unspent (sym is ∙ stands_well old.places (chart_of x) m stands n.fault first)
-        | inr none ↦ elim (n.tries.complete x told m none.0 (says x told m none.0 stands)) [
-          | inl failed ↦ read (chip_one (sym is ∙ failed))
-          | inr failed ↦ stopped (chip_one (sym is ∙ failed))
-        ]
-      ])
-    where
-      chip_one : {a b : ChipFault} → image.Chip a ≡ image.Chip b → a ≡ b
-      chip_one e = cc
+  module _ (c : ChipFault) (other : ¬ IsFailedCall c) (is : n.fault ≡ image.Chip c) where
+    chip_one : {a b : ChipFault} → image.Chip a ≡ image.Chip b → a ≡ b
+    chip_one e = cc
 
-      chip_unspent : {a : ChipFault} → image.Chip a ≡ image.Spent → ⊥
-      chip_unspent e = cc
+    chip_unspent : {a : ChipFault} → image.Chip a ≡ image.Spent → ⊥
+    chip_unspent e = cc
 
-      -- what stands for a map says it as the opening finds it laid out
-      says : (x : Contents) → old.contents ≡ Some x → (m : Map)
-          → first_fault (chart_of x) old.places ≡ None → Stands old.places (chart_of x) m
-          → Says old.places (chart_of x) (layout_in (chart_of x) old.places) m
-      says x told m none stands =
-          let bytes = n.tries.bytes x told (λ failed. read (chip_one (sym is ∙ failed)))
-          (λ failed. stopped (chip_one (sym is ∙ failed))) (inr none) in
-          layouts_say old.places (chart_of x) (layout_in (chart_of x) old.places) m
-          (no_fault_is_laid (chart_of x) old.places bytes none) stands
+    -- no call of the chip failed
+    unfailed : ¬ FailsByCallAlone n.fault
+    unfailed (d, failed, call) = other (subst IsFailedCall (chip_one (sym failed ∙ is)) call)
+
+    -- what stands for a map says it as the opening finds it laid out
+    says : (x : Contents) → old.contents ≡ Some x → (m : Map)
+        → first_fault (chart_of x) old.places ≡ None → Stands old.places (chart_of x) m
+        → Says old.places (chart_of x) (layout_in (chart_of x) old.places) m
+    says x told m none stands =
+        let bytes = n.tries.bytes x told (λ failed. unfailed (ReadFault, failed, tt))
+        (λ failed. unfailed (Stopped, failed, tt)) (inr none) in
+        layouts_say old.places (chart_of x) (layout_in (chart_of x) old.places) m
+        (no_fault_is_laid (chart_of x) old.places bytes none) stands
+
+    sector_cause : StrayCause old
+    sector_cause = inl (λ x told m stands. elim (n.tries.tells x told unfailed) [
+      | inl first ↦ chip_unspent (sym is ∙ stands_well old.places (chart_of x) m stands n.fault first)
+      | inr none ↦ unfailed (n.tries.complete x told m none.0 (says x told m none.0 stands))
+    ])
 
   unopened_by : (f : ImageFault) → n.fault ≡ f → OpeningCause f old new → OpenedCause f old new
   unopened_by image.Geometry is cause = laid_cause image.Geometry (λ c same. cc) is
@@ -245,12 +226,11 @@ module _ (old new : Told) (end : End) (n : IsNotOpened end old new) where
   unopened_by (image.Chip ReadFault) is cause = cause.read refl
   unopened_by (image.Chip Stopped) is cause = cause.stopped refl
   unopened_by (image.Chip (Damaged p s stored computed)) is cause = (
-    cause.damaged p s stored
-        computed refl,
-    sector_cause (Damaged p s stored computed) (λ same. cc) (λ same. cc) is,
+    cause.damaged p s stored computed refl,
+    sector_cause (Damaged p s stored computed) (λ none. none) is,
   )
-  unopened_by (image.Chip (Malformed p s)) is cause = sector_cause (Malformed p s) (λ same. cc)
-      (λ same. cc) is
+  unopened_by (image.Chip (Malformed p s)) is cause = sector_cause (Malformed p s) (λ none. none) is
+  unopened_by (image.Chip (WornOut k)) is cause = cause.worn k refl
   unopened_by image.Spent is cause = laid_cause image.Spent (λ c same. cc) is
   unopened_by (image.NoSpare k) is cause = laid_cause (image.NoSpare k) (λ c same. cc) is
 
@@ -308,6 +288,7 @@ module _ (old mid : Told) (store : ScriptStore) (s : StartsOpened old store mid)
     chip_met Stopped met cause = writes_earlier old mid new s.tries.accounts.counts cause
     chip_met (Damaged p q stored computed) met cause = (cause, inr (met (λ none. none)))
     chip_met (Malformed p q) met cause = inr (met (λ none. none))
+    chip_met (WornOut n) met cause = (cause.0, worn_earlier old mid new s.tries.accounts.counts cause.1)
 
     image_met : (e : ImageFault) → (¬ SaysFailedCall (fault.Image e) → IsMetLater old)
         → script_keeping.cause (fault.Image e) mid new → OpenedCause e old new
@@ -489,6 +470,7 @@ module _ (old mid : Told) (f : WasFormatted old mid) where
     anew_by (image.Chip (Damaged p s stored computed)) c =
         (c.0, sector_anew c.1)
     anew_by (image.Chip (Malformed p s)) c = sector_anew c
+    anew_by (image.Chip (WornOut n)) c = (c.0, worn_earlier old mid new f.counts c.1)
     anew_by image.Spent c = laid_anew image.Spent c
     anew_by (image.NoSpare k) c = laid_anew (image.NoSpare k) c
 
@@ -572,13 +554,26 @@ module _ (old mid : Told) (store : ScriptStore) (s : StartsFormatted old store m
 -- ---- a format that is stopped
 
 module _ (old new : Told) (end : End) (n : IsNotFormatted end old new) where
+  -- its end is of a fault of the chip
+  stopped_at : (fault : FormatFault) → end ≡ format_end fault → StopRose fault old new
+      → (e : ImageFault) × (end ≡ Chip e) × FormattedCause e old new
+  stopped_at format.Geometry is rose = absurd rose
+  stopped_at format.Stopped is rose = (image.Chip Stopped, is, rose)
+  stopped_at (format.Worn p) is rose = (image.Chip (WornOut 1), is, (refl, rose))
+
+  pub stopped_end : (e : ImageFault) × (end ≡ Chip e) × FormattedCause e old new
+  stopped_end = stopped_at n.fault n.end_is n.rose
+
   pub stopped_left : FormattedLeaves (Err end) old new
-  stopped_left = subst (λ (e : End). FormattedLeaves (Err e) old new) (sym n.end_is)
-      (inr (n.fits, λ h script steady left. inr (n.stops h)))
+  stopped_left =
+      let (e, is, cause) = stopped_end in
+      subst (λ (last : End). FormattedLeaves (Err last) old new) (sym is)
+      (inr (n.fits, λ h script steady left. inr (subst (λ (last : End). StopsEarly old.places h old new (Err last)) is (n.stops h))))
 
   pub stopped_cause : (frames : ℕ) → RequestCause (Run frames true) end old new
-  stopped_cause frames = subst (λ (e : End). RequestCause (Run frames true) e old new)
-      (sym n.end_is) n.rose
+  stopped_cause frames =
+      let (e, is, cause) = stopped_end in
+      subst (λ (last : End). RequestCause (Run frames true) last old new) (sym is) cause
 
 -- ---- a run that isn't started
 
@@ -605,21 +600,31 @@ failed fault = Err fault
 module _ (old new : Told) (fits : IsGeometry old.places) (counts : Counts old new) where
   -- a format of a chip that fits is done
   pub was_formatted : ((h : History)
-      → Formats {A = Unit {0}} {E = FormatFault} old.places h old (Ok tt) new) → WasFormatted old new
+      → Formats {A = Unit {0}} old.places h old (Ok tt) new) → WasFormatted old new
   was_formatted formats = record { fits = fits; counts = counts; formats = formats }
 
-  -- or a write failed
+  -- or a write failed, or a place is worn
   pub not_formatted : (f : FormatFault) → (failed f ≡ failed format.Geometry → ¬ IsGeometry
       old.places) → (failed f ≡ failed format.Stopped → Rose old.write_faults new.write_faults)
+      → ((p : ℕ) → failed f ≡ failed (format.Worn p) → Rose old.worn_erases new.worn_erases)
       → ((h : History) → Formats {A = Unit {0}} old.places h old (Err f) new)
       → IsNotFormatted (format_end f) old new
-  not_formatted format.Geometry other rose formats = absurd (other refl fits)
-  not_formatted format.Stopped other rose formats = record {
+  not_formatted format.Geometry other rose worn formats = absurd (other refl fits)
+  not_formatted format.Stopped other rose worn formats = record {
+    fault = format.Stopped;
     end_is = refl;
     fits = fits;
     counts = counts;
     rose = rose refl;
     stops = stopped_early format.Stopped old new counts (rose refl) formats;
+  }
+  not_formatted (format.Worn p) other rose worn formats = record {
+    fault = format.Worn p;
+    end_is = refl;
+    fits = fits;
+    counts = counts;
+    rose = worn p refl;
+    stops = stopped_early (format.Worn p) old new counts (worn p refl) formats;
   }
 
 -- a chip of which a store was opened

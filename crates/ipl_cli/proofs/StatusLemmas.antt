@@ -1,6 +1,6 @@
 -- The statuses of the ends.
 use Rattle.std.proofs.Common.{◌≡◌, ◌⊎◌, ◌<◌, ◌==◌, ℕ, false, Ok, Err, inl, inr, refl, arith}
-use Rattle.ipl_base.specs.declared.fault.ChipFault.TheVariants.{ReadFault, Stopped, Damaged, Malformed}
+use Rattle.ipl_base.specs.declared.fault.ChipFault.TheVariants.{ReadFault, Stopped, Damaged, Malformed, WornOut}
 use Rattle.ipl_base.specs.declared.fault.ImageFault.{ImageFault}
 use Rattle.ipl_base.specs.declared.fault.ImageFault.TheVariants as image
 use Rattle.program_end.specs.Ends.{status_of, fault_status}
@@ -8,9 +8,9 @@ use Rattle.program_end.specs.declared.end.End.{End}
 use Rattle.program_end.specs.declared.end.End.TheVariants.{Words, Chip, OutOfMemory, Script, Output, TooLong}
 use Rattle.ipl_cli.specs.Ending.{Ending, status_at}
 
--- a fault of the chip has the status 3, 4 or 9
-pub chip_status : (e : ImageFault) → (fault_status e ≡ 3) ⊎ (fault_status e ≡ 4) ⊎ (fault_status e ≡
-    9)
+-- a fault of the chip has the status 3, 4, 9 or 10
+pub chip_status : (e : ImageFault) → (fault_status e ≡ 3) ⊎ (fault_status e ≡ 4)
+    ⊎ (fault_status e ≡ 9) ⊎ (fault_status e ≡ 10)
 chip_status image.Geometry = inr (inl refl)
 chip_status image.NotFormatted = inr (inl refl)
 chip_status (image.Missing u) = inr (inl refl)
@@ -18,7 +18,8 @@ chip_status (image.Chip ReadFault) = inl refl
 chip_status (image.Chip Stopped) = inl refl
 chip_status (image.Chip (Damaged p s stored computed)) = inr (inl refl)
 chip_status (image.Chip (Malformed p s)) = inr (inl refl)
-chip_status image.Spent = inr (inr refl)
+chip_status (image.Chip (WornOut n)) = inr (inr (inr refl))
+chip_status image.Spent = inr (inr (inl refl))
 chip_status (image.NoSpare n) = inr (inl refl)
 
 -- no end has the status 0

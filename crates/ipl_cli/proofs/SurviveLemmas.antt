@@ -1,28 +1,33 @@
 -- What a power cut leaves of a run, where the chip tells what it holds.
-use Rattle.std.proofs.Common.{◌≡◌, ℕ, [], ◌++◌, List, Some, Ok, Err, inl, inr, sym, ◌∙◌, ap, subst, refl, arith, append_assoc, ◌≤◌, ◌-◌, length}
+use Rattle.std.proofs.Common.{◌≡◌, ◌<◌, ℕ, zero, suc, [], ◌++◌, List, Some, Ok, Err, inl, inr, sym, ◌∙◌, ap, subst, refl, arith, append_assoc, ◌≤◌, ◌-◌, length}
 use Rattle.std.proofs.lemmas.List.{append-nil, append_cancel_right, length-append, nil_from_length}
 use Rattle.std.specs.Option.{option_map}
 use Rattle.std.specs.FinMap.{empty}
 use Rattle.chip_trait.specs.Chart.{says}
 use Rattle.chip_trait.specs.Story.{Story, Contents, held, said}
 use Rattle.chip_trait.specs.Image.{IsNoChanceImage}
-use Rattle.chip_trait.specs.Told.{Told, IsConsistent, Unrisen, adds_all}
+use Rattle.chip_trait.specs.declared.event.Event.{Event}
+use Rattle.chip_trait.specs.declared.event.Event.TheVariants.{Erase}
+use Rattle.chip_trait.specs.Told.{Told, IsConsistent, Rose, Unrisen, adds_all}
 use Rattle.chip_trait.proofs.HistoryLemmas.{same_history, history_then}
 use Rattle.ipl_base.specs.Places.{IsGeometry}
+use Rattle.ipl_base.specs.declared.fault.FormatFault.{FormatFault}
+use Rattle.ipl_base.specs.declared.fault.FormatFault.TheVariants as format
 use Rattle.ipl_base.specs.declared.limits.TheConstants.{RESERVED_PLACES}
 use Rattle.ipl_rules.specs.State.{State, at_rest}
 use Rattle.ipl_model.specs.Grammar.{commands_of}
 use Rattle.ipl_format.specs.Sector.{sector_in}
 use Rattle.ipl_meaning.specs.Chart.{chart_of}
 use Rattle.ipl_meaning.specs.Stands.{Stands}
-use Rattle.ipl_meaning.proofs.StoryLemmas.{closed_rests}
-use Rattle.restart.specs.Events.{format_events}
-use Rattle.restart.proofs.FreshLemmas.{fresh_contents}
+use Rattle.restart.specs.Events.{each_below, heading_events, clearing_events, worn_events, format_events}
+use Rattle.restart.specs.Fresh.{Formats}
+use Rattle.restart.proofs.FreshLemmas.{format_rests}
+use Rattle.unit_io.specs.Leads.{IsSteady}
 use Rattle.status_renewal.specs.Chains.{starts_at}
 use Rattle.status_renewal.proofs.ChainLemmas.{images_rest}
 use Rattle.store_steps.specs.Keeps.{limits_of}
 use Rattle.program_end.specs.declared.end.End.TheVariants.{Words, Chip, OutOfMemory, Script, Output, TooLong}
-use Rattle.ipl_cli.specs.Ending.{AskedFor, Ending, AsksFormatted, AtStatus, StopsEarly, IsUntouched}
+use Rattle.ipl_cli.specs.Ending.{AskedFor, Ending, AsksFormatted, AtStatus, StopsEarly, StopRose, IsUntouched, but_noted}
 use Rattle.ipl_cli.specs.Top.{Runs, RunsOpened, FormattedLeaves, EndLeaves, Ends}
 use Rattle.ipl_cli.specs.Survives.{StandsAfterAnswered, Survives, SurvivesFormat, SurvivesAnew}
 use Rattle.ipl_cli.proofs.EndLemmas.{near_silent}
@@ -33,6 +38,19 @@ cut_by : (x y : Contents) (e f : Story) → f ≡ e → IsNoChanceImage (says se
     → IsNoChanceImage (says sector_in) x f y
 cut_by x y e f same image =
     subst (λ (s : Story). IsNoChanceImage (says sector_in) x s y) (sym same) image
+
+-- the events up to a worn place are fewer than those of a format
+each_counted : (event : ℕ → Event) (n : ℕ) → length (each_below event n) ≡ n
+each_counted event zero = refl
+each_counted event (suc k) = ap suc (each_counted event k)
+
+worn_are_few : (places p : ℕ) → 5 ≤ places → p < places
+    → length (worn_events p) ≤ length (format_events places)
+worn_are_few places p least low =
+    let all = each_counted Erase places in
+    let some = each_counted Erase p in
+    let joined_up = length-append (heading_events places) (clearing_events places) in
+    omega (arith, all, some, joined_up, low)
 
 module _ (old new : Told) where
   -- a chip that tells what it holds may be taken as the start of a history
@@ -83,9 +101,7 @@ module _ (old new : Told) where
           let inner = length-append e (format_events old.places) in
           let none = nil_from_length e (omega (arith, counted, parts, inner, few)) in
           let whole = fits (omega (arith, counted, parts, inner, few)) in
-          let rests = closed_rests old.places empty
-          (record { start = x; story = format_events old.places }) (λ p s. refl)
-          (fresh_contents old.places x whole).stands in
+          let rests = format_rests old.places x whole in
           let stands = rests.each y (subst
           (λ (s : Story). IsNoChanceImage (says sector_in) x (s ++ format_events old.places) y)
           none image) in
@@ -100,15 +116,44 @@ module _ (old new : Told) where
         (λ unrisen. ap (λ (t : Told). t.contents) is ∙ told) (omega arith)
         (λ same. absurd (omega (arith, same)))
 
-    stopped_survives : IsGeometry old.places → StopsEarly old.places (starts_at x) old new
-        → SurvivesFormat script x old new
-    stopped_survives fits stops =
-        let f = stops.formats in
-        let counted = ap length f.part in
-        let parts = length-append f.later f.added in
-        none_survives f.added (ap (λ (t : Told). t.history) stops.noted ∙ f.history)
-        (λ unrisen. absurd (omega (arith, unrisen, ap (λ (t : Told). t.write_faults) stops.noted, stops.rose)))
-        (omega (arith, counted, parts)) (λ whole. fits)
+    -- a format was stopped: since a write failed, or where a place was found worn
+    module _ (fits : IsGeometry old.places) (steady : IsSteady (starts_at x) old) (stopped : Told)
+        (noted : new ≡ but_noted stopped new.beside.noted) where
+      abbrev Left : FormatFault → Type 0
+      Left fault = Formats {A = Unit {0}} old.places (starts_at x) old (Err fault) stopped
+
+      grew_by : (fault : FormatFault) (f : Left fault)
+          → new.history ≡ option_map (adds_all f.added) old.history
+      grew_by fault f = ap (λ (t : Told). t.history) noted ∙ f.history
+
+      failed_survives : Left format.Stopped → Rose old.write_faults stopped.write_faults
+          → SurvivesFormat script x old new
+      failed_survives f rose =
+          let counted = ap length f.came.1 in
+          let parts = length-append f.came.0 f.added in
+          none_survives f.added (grew_by format.Stopped f)
+          (λ unrisen. absurd (omega (arith, unrisen, ap (λ (t : Told). t.write_faults) noted, rose)))
+          (omega (arith, counted, parts)) (λ whole. fits)
+
+      worn_survives : (p : ℕ) → Left (format.Worn p) → SurvivesFormat script x old new
+      worn_survives p f =
+          let few = worn_are_few old.places p fits.0 f.came.0 in
+          none_survives f.added (grew_by (format.Worn p) f)
+          (λ unrisen. ap (λ (t : Told). t.contents) noted ∙ (f.steady (λ is. cc) steady).holds
+          ∙ ap (λ (s : Story). Some (held x s)) (append-nil f.added))
+          (subst (λ (s : Story). length s ≤ length (format_events old.places)) (sym f.came.1) few)
+          (λ whole. fits)
+
+      stopped_by : (fault : FormatFault) → Left fault → StopRose fault old stopped
+          → SurvivesFormat script x old new
+      stopped_by format.Geometry f rose = absurd rose
+      stopped_by format.Stopped f rose = failed_survives f rose
+      stopped_by (format.Worn p) f rose = worn_survives p f
+
+    stopped_survives : {ending : Ending} → IsGeometry old.places → IsSteady (starts_at x) old
+        → StopsEarly old.places (starts_at x) old new ending → SurvivesFormat script x old new
+    stopped_survives fits steady stops =
+        stopped_by fits steady stops.stopped stops.noted stops.fault stops.formats stops.rose
 
   anew_by : IsConsistent old → (ending : Ending) → FormattedLeaves ending old new
       → SurvivesAnew old new
@@ -119,7 +164,7 @@ module _ (old new : Told) where
   anew_by consistent (Err (Chip e)) (inr l) x script told left =
       elim (l.1 (starts_at x) script (steady_start x old consistent told) left) [
         | inl runs ↦ run_survives x script (Err (Chip e)) runs
-        | inr stops ↦ stopped_survives x script l.0 stops
+        | inr stops ↦ stopped_survives x script l.0 (steady_start x old consistent told) stops
       ]
   anew_by consistent (Err OutOfMemory) l x script told left = untouched_survives x script told l
   anew_by consistent (Err Script) l x script told left = run_survives x script (Err Script)

@@ -3,7 +3,7 @@ use Rattle.std.proofs.Common.{◌≡◌, ◌≢◌, ◌⊎◌, ◌==◌, ◌^◌
 use Rattle.std.proofs.lemmas.Bool.{cases_lt}
 use Rattle.chip_trait.specs.Told.{History, Told, Counts, Rose, Grew, IsConsistent}
 use Rattle.ipl_base.specs.Places.{IsGeometry}
-use Rattle.ipl_base.specs.declared.fault.ChipFault.TheVariants.{ReadFault, Stopped, Damaged, Malformed}
+use Rattle.ipl_base.specs.declared.fault.ChipFault.TheVariants.{ReadFault, Stopped, Damaged, Malformed, WornOut}
 use Rattle.ipl_base.specs.declared.fault.ImageFault.{ImageFault}
 use Rattle.ipl_base.specs.declared.fault.ImageFault.TheVariants as image
 use Rattle.ipl_base.specs.declared.fault.FormatFault.{FormatFault}
@@ -21,10 +21,10 @@ use Rattle.command_line.specs.declared.asked.Request.{Request}
 use Rattle.command_line.specs.declared.asked.Request.TheVariants.{Format, Run, Serial, Trial}
 use Rattle.program_end.specs.Ends.{status_of, fault_status}
 use Rattle.program_end.specs.declared.end.End.TheVariants.{Words, Chip, OutOfMemory, Script, Output, TooLong}
-use Rattle.ipl_cli.specs.Ending.{AskedFor, AsksOpened, AsksFormatted, AsksAnew, AtStatus, Ending, IsUntouched, but_noted, status_at}
+use Rattle.ipl_cli.specs.Ending.{AskedFor, AsksOpened, AsksFormatted, AsksAnew, AtStatus, Ending, IsUntouched, but_noted, format_end, status_at}
 use Rattle.ipl_cli.specs.Trials.{TrialLeaves}
 use Rattle.ipl_cli.specs.Views.{ViewsTold, OnlyViews, OnlyHears, SerialLeaves}
-use Rattle.ipl_cli.specs.Top.{HasFault, IsLaidWell, LaidCause, StrayCause, OpenedCause, FormatCause, AnewCause, FormattedCause, ChipCause, IsTooLong, EndCause, RunsOpened, RunsFormatted, LaysOut, OnlyLooks, EndsAtFault, format_end, FormatLeaves, FormattedLeaves, OpenedLeaves, EndLeaves, Ends, RefusesFaults, StrayCause, SpentCause, IsMetLater, IsUnfit, IsSilent, EndsUnfit, UntouchedOrRuns, IsCalm, IsTold, Suffices, EndsInTime}
+use Rattle.ipl_cli.specs.Top.{HasFault, IsLaidWell, LaidCause, StrayCause, OpenedCause, FormatCause, AnewCause, FormattedCause, ChipCause, IsTooLong, EndCause, RunsOpened, RunsFormatted, LaysOut, OnlyLooks, EndsAtFault, FormatLeaves, FormattedLeaves, OpenedLeaves, EndLeaves, Ends, RefusesFaults, StrayCause, SpentCause, IsMetLater, IsUnfit, IsSilent, EndsUnfit, UntouchedOrRuns, IsCalm, IsTold, Suffices, EndsInTime}
 use Rattle.ipl_cli.proofs.EndLemmas.{stopped_early, untouched_runs}
 use Rattle.ipl_cli.proofs.StartLemmas.{opened_excused, stands_well}
 use Rattle.ipl_cli.proofs.ViewLemmas.{untouched_hears, hears_views, hears_only}
@@ -51,11 +51,14 @@ failed fault = Err fault
 pub failed_format : (old new : Told) → Counts old new → (fault : FormatFault)
     → (failed fault ≡ failed format.Geometry → new ≡ old)
     → (failed fault ≡ failed format.Stopped → Rose old.write_faults new.write_faults)
+    → ((p : ℕ) → failed fault ≡ failed (format.Worn p) → Rose old.worn_erases new.worn_erases)
     → ((h : History) → Formats {A = Unit {0}} old.places h old (Err fault) new)
     → FormatLeaves (Err (format_end fault)) old new
-failed_format old new counts format.Geometry same rose formats = untouched old new (same refl)
-failed_format old new counts format.Stopped same rose formats = stopped_early format.Stopped old new
-    counts (rose refl) formats
+failed_format old new counts format.Geometry same rose worn formats = untouched old new (same refl)
+failed_format old new counts format.Stopped same rose worn formats = stopped_early format.Stopped
+    old new counts (rose refl) formats
+failed_format old new counts (format.Worn p) same rose worn formats = stopped_early (format.Worn p)
+    old new counts (worn p refl) formats
 
 -- ---- by the status
 
@@ -82,8 +85,7 @@ module _ (old new : Told) where
   at_fault : (e ended : ImageFault) → EndsAtFault e ended
       → (fault_status ended ≡ fault_status e) ⊎ (fault_status ended ≡ 3) ⊎ (fault_status ended ≡ 5)
   at_fault e ended (inl same) = inl (ap fault_status same)
-  at_fault e ended (inr (inl read)) = inr (inl (ap fault_status read))
-  at_fault e ended (inr (inr stopped)) = inr (inl (ap fault_status stopped))
+  at_fault e ended (inr read) = inr (inl (ap fault_status read))
 
   laid_never : IsLaidWell old → (e : ImageFault) → HasFault old e → ⊥
   laid_never laid e has = none_is_some (sym (laid has.contents has.told) ∙ has.fault)
@@ -141,7 +143,7 @@ module _ (old new : Told) where
 
   stops_by : (ending : Ending) → FormattedLeaves ending old new
       → (status_at ending ≡ 3) ⊎ (status_at ending ≡ 4) ⊎ (status_at ending ≡ 9)
-      → UntouchedOrRuns old new ending
+      ⊎ (status_at ending ≡ 10) → UntouchedOrRuns old new ending
   stops_by (Ok u) l is = absurd (omega (arith, is))
   stops_by (Err Words) l is = absurd l
   stops_by (Err (Chip e)) (inl other) is = inl (other.0, other.2)
@@ -193,10 +195,15 @@ module _ (old new : Told) where
   opened_image (image.Chip Stopped) c is = absurd (omega (arith, is))
   opened_image (image.Chip (Damaged p s stored computed)) c is = c.1
   opened_image (image.Chip (Malformed p s)) c is = c
+  opened_image (image.Chip (WornOut n)) c is = absurd (omega (arith, is))
   opened_image image.Spent c is = absurd (omega (arith, is))
   opened_image (image.NoSpare n) c is = laid_image (image.NoSpare n) is c
 
-  opened_chip : (e : ImageFault) → OpenedCause e old new → fault_status e ≡ 3 → ChipRose old new
+  -- a read or a write of the chip failed
+  abbrev CallFailed : Type 0
+  CallFailed = Rose old.read_faults new.read_faults ⊎ Rose old.write_faults new.write_faults
+
+  opened_chip : (e : ImageFault) → OpenedCause e old new → fault_status e ≡ 3 → CallFailed
   opened_chip image.Geometry c is = absurd (omega (arith, is))
   opened_chip image.NotFormatted c is = absurd (omega (arith, is))
   opened_chip (image.Missing u) c is = absurd (omega (arith, is))
@@ -204,6 +211,7 @@ module _ (old new : Told) where
   opened_chip (image.Chip Stopped) c is = inr c
   opened_chip (image.Chip (Damaged p s stored computed)) c is = absurd (omega (arith, is))
   opened_chip (image.Chip (Malformed p s)) c is = absurd (omega (arith, is))
+  opened_chip (image.Chip (WornOut n)) c is = absurd (omega (arith, is))
   opened_chip image.Spent c is = absurd (omega (arith, is))
   opened_chip (image.NoSpare n) c is = absurd (omega (arith, is))
 
@@ -220,6 +228,7 @@ module _ (old new : Told) where
   opened_spent (image.Chip Stopped) c is = absurd (omega (arith, is))
   opened_spent (image.Chip (Damaged p s stored computed)) c is = absurd (omega (arith, is))
   opened_spent (image.Chip (Malformed p s)) c is = absurd (omega (arith, is))
+  opened_spent (image.Chip (WornOut n)) c is = absurd (omega (arith, is))
   opened_spent image.Spent c is = spent_first c
   opened_spent (image.NoSpare n) c is = absurd (omega (arith, is))
 
@@ -244,6 +253,12 @@ module _ (old new : Told) where
   )
   format_image (image.Chip (Damaged p s stored computed)) c = absurd c
   format_image (image.Chip (Malformed p s)) c = absurd c
+  format_image (image.Chip (WornOut n)) c = (
+    λ is. absurd (omega (arith, is)),
+    λ is. absurd (omega (arith, is)),
+    λ is. omega
+        (arith, is),
+  )
   format_image image.Spent c = absurd c
   format_image (image.NoSpare n) c = absurd c
 
@@ -257,11 +272,12 @@ module _ (old new : Told) where
   formatted_image (image.Chip Stopped) c is = absurd (omega (arith, is))
   formatted_image (image.Chip (Damaged p s stored computed)) c is = inr c.1
   formatted_image (image.Chip (Malformed p s)) c is = inr c
+  formatted_image (image.Chip (WornOut n)) c is = absurd (omega (arith, is))
   formatted_image image.Spent c is = absurd (omega (arith, is))
   formatted_image (image.NoSpare n) c is = inr c
 
   formatted_chip : (e : ImageFault) → FormattedCause e old new → fault_status e ≡ 3
-      → ChipRose old new
+      → CallFailed
   formatted_chip image.Geometry c is = absurd (omega (arith, is))
   formatted_chip image.NotFormatted c is = absurd (omega (arith, is))
   formatted_chip (image.Missing u) c is = absurd (omega (arith, is))
@@ -269,6 +285,7 @@ module _ (old new : Told) where
   formatted_chip (image.Chip Stopped) c is = inr c
   formatted_chip (image.Chip (Damaged p s stored computed)) c is = absurd (omega (arith, is))
   formatted_chip (image.Chip (Malformed p s)) c is = absurd (omega (arith, is))
+  formatted_chip (image.Chip (WornOut n)) c is = absurd (omega (arith, is))
   formatted_chip image.Spent c is = absurd (omega (arith, is))
   formatted_chip (image.NoSpare n) c is = absurd (omega (arith, is))
 
@@ -281,8 +298,49 @@ module _ (old new : Told) where
   formatted_spent (image.Chip Stopped) c is = absurd (omega (arith, is))
   formatted_spent (image.Chip (Damaged p s stored computed)) c is = absurd (omega (arith, is))
   formatted_spent (image.Chip (Malformed p s)) c is = absurd (omega (arith, is))
+  formatted_spent (image.Chip (WornOut n)) c is = absurd (omega (arith, is))
   formatted_spent image.Spent c is = c
   formatted_spent (image.NoSpare n) c is = absurd (omega (arith, is))
+
+  -- the status of worn places
+  opened_worn : (e : ImageFault) → OpenedCause e old new → fault_status e ≡ 10
+      → Rose old.worn_erases new.worn_erases
+  opened_worn image.Geometry c is = absurd (omega (arith, is))
+  opened_worn image.NotFormatted c is = absurd (omega (arith, is))
+  opened_worn (image.Missing u) c is = absurd (omega (arith, is))
+  opened_worn (image.Chip ReadFault) c is = absurd (omega (arith, is))
+  opened_worn (image.Chip Stopped) c is = absurd (omega (arith, is))
+  opened_worn (image.Chip (Damaged p s stored computed)) c is = absurd (omega (arith, is))
+  opened_worn (image.Chip (Malformed p s)) c is = absurd (omega (arith, is))
+  opened_worn (image.Chip (WornOut n)) c is = c.1
+  opened_worn image.Spent c is = absurd (omega (arith, is))
+  opened_worn (image.NoSpare n) c is = absurd (omega (arith, is))
+
+  format_worn : (e : ImageFault) → FormatCause e old new → fault_status e ≡ 10
+      → Rose old.worn_erases new.worn_erases
+  format_worn image.Geometry c is = absurd (omega (arith, is))
+  format_worn image.NotFormatted c is = absurd c
+  format_worn (image.Missing u) c is = absurd c
+  format_worn (image.Chip ReadFault) c is = absurd c
+  format_worn (image.Chip Stopped) c is = absurd (omega (arith, is))
+  format_worn (image.Chip (Damaged p s stored computed)) c is = absurd c
+  format_worn (image.Chip (Malformed p s)) c is = absurd c
+  format_worn (image.Chip (WornOut n)) c is = c.1
+  format_worn image.Spent c is = absurd c
+  format_worn (image.NoSpare n) c is = absurd c
+
+  formatted_worn : (e : ImageFault) → FormattedCause e old new → fault_status e ≡ 10
+      → Rose old.worn_erases new.worn_erases
+  formatted_worn image.Geometry c is = absurd (omega (arith, is))
+  formatted_worn image.NotFormatted c is = absurd (omega (arith, is))
+  formatted_worn (image.Missing u) c is = absurd (omega (arith, is))
+  formatted_worn (image.Chip ReadFault) c is = absurd (omega (arith, is))
+  formatted_worn (image.Chip Stopped) c is = absurd (omega (arith, is))
+  formatted_worn (image.Chip (Damaged p s stored computed)) c is = absurd (omega (arith, is))
+  formatted_worn (image.Chip (Malformed p s)) c is = absurd (omega (arith, is))
+  formatted_worn (image.Chip (WornOut n)) c is = c.1
+  formatted_worn image.Spent c is = absurd (omega (arith, is))
+  formatted_worn (image.NoSpare n) c is = absurd (omega (arith, is))
 
 -- ---- by the words
 
@@ -326,7 +384,8 @@ module _ (asked : AskedFor) (old new : Told) (status : ℕ) (e : Ends asked old 
         (leaves_of (Run frames true) is) (rw e.status_is at at),
   )
 
-  pub end_stops : AsksFormatted asked → (status ≡ 3) ⊎ (status ≡ 4) ⊎ (status ≡ 9)
+  pub end_stops : AsksFormatted asked
+      → (status ≡ 3) ⊎ (status ≡ 4) ⊎ (status ≡ 9) ⊎ (status ≡ 10)
       → AtStatus (UntouchedOrRuns old new) status
   end_stops (frames, is) at = (
     e.ending,
@@ -397,6 +456,7 @@ module _ (old new : Told) where
   format_other (image.Chip Stopped) c l is = absurd (omega (arith, is))
   format_other (image.Chip (Damaged p s stored computed)) c l is = absurd c
   format_other (image.Chip (Malformed p s)) c l is = absurd c
+  format_other (image.Chip (WornOut n)) c l is = absurd (omega (arith, is))
   format_other image.Spent c l is = absurd c
   format_other (image.NoSpare n) c l is = absurd c
 
@@ -451,12 +511,20 @@ module _ (old new : Told) where
 
   -- what ends with a fault of the chip, by the request
   chip_by : (request : Request) (e : ImageFault) → ChipCause request e old new → fault_status e ≡ 3
-      → ChipRose old new
+      → CallFailed old new
   chip_by Format e c is = inr ((format_image old new e c).1 is)
   chip_by (Run frames true) e c is = formatted_chip old new e c is
   chip_by (Run frames false) e c is = opened_chip old new e c is
   chip_by (Trial seed count frames) e c is = formatted_chip old new e c is
   chip_by Serial e c is = absurd (omega (arith, is, ap fault_status c.0))
+
+  worn_by : (request : Request) (e : ImageFault) → ChipCause request e old new → fault_status e ≡ 10
+      → Rose old.worn_erases new.worn_erases
+  worn_by Format e c is = format_worn old new e c is
+  worn_by (Run frames true) e c is = formatted_worn old new e c is
+  worn_by (Run frames false) e c is = opened_worn old new e c is
+  worn_by (Trial seed count frames) e c is = formatted_worn old new e c is
+  worn_by Serial e c is = absurd (omega (arith, is, ap fault_status c.0))
 
   abbrev Imaged : AskedFor → Type 0
   Imaged asked = (¬ IsGeometry old.places) ⊎ (AsksOpened asked × StrayCause old) ⊎
@@ -575,7 +643,8 @@ module _ (old : Told) (consistent : IsConsistent old) where
 module _ (old new : Told) (consistent : IsConsistent old) (calm : IsCalm old new) where
   never_rose : ¬ ChipRose old new
   never_rose (inl read) = calm.reads read
-  never_rose (inr written) = calm.writes written
+  never_rose (inr (inl written)) = calm.writes written
+  never_rose (inr (inr worn)) = calm.worn worn
 
   format_never : IsGeometry old.places → (e : ImageFault) → ¬ FormatCause e old new
   format_never fits image.Geometry c = c fits
@@ -585,6 +654,7 @@ module _ (old new : Told) (consistent : IsConsistent old) (calm : IsCalm old new
   format_never fits (image.Chip Stopped) c = calm.writes c
   format_never fits (image.Chip (Damaged p s stored computed)) c = c
   format_never fits (image.Chip (Malformed p s)) c = c
+  format_never fits (image.Chip (WornOut n)) c = calm.worn c.1
   format_never fits image.Spent c = c
   format_never fits (image.NoSpare n) c = c
 
@@ -604,6 +674,7 @@ module _ (old new : Told) (consistent : IsConsistent old) (calm : IsCalm old new
   formatted_never told (image.Chip Stopped) c = calm.writes c
   formatted_never told (image.Chip (Damaged p s stored computed)) c = anew_never told c.1
   formatted_never told (image.Chip (Malformed p s)) c = anew_never told c
+  formatted_never told (image.Chip (WornOut n)) c = calm.worn c.1
   formatted_never told image.Spent c = anew_never told c
   formatted_never told (image.NoSpare n) c = anew_never told c
 
@@ -649,12 +720,19 @@ module _ (asked : AskedFor) (old new : Told) (status : ℕ) (e : Ends asked old 
   pub end_words : status ≡ 2 → asked ≡ None
   end_words at = words_by old new asked e.ending e.cause (sym e.status_is ∙ at)
 
-  pub end_chip : status ≡ 3 → ChipRose old new
+  pub end_chip : status ≡ 3 → CallFailed old new
   end_chip at =
       let (request, fault, is, at_3, cause) = fault_by old new 3 (omega arith) (omega arith)
       (omega arith) (omega arith) (omega arith) (omega arith) asked e.ending e.cause
       (sym e.status_is ∙ at) in
       chip_by old new request fault cause at_3
+
+  pub end_worn : status ≡ 10 → Rose old.worn_erases new.worn_erases
+  end_worn at =
+      let (request, fault, is, at_10, cause) = fault_by old new 10 (omega arith) (omega arith)
+      (omega arith) (omega arith) (omega arith) (omega arith) asked e.ending e.cause
+      (sym e.status_is ∙ at) in
+      worn_by old new request fault cause at_10
 
   pub end_image : status ≡ 4 → (¬ IsGeometry old.places) ⊎ (AsksOpened asked × StrayCause old) ⊎
       (AsksAnew asked × AnewCause old)

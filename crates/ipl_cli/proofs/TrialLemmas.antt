@@ -41,12 +41,12 @@ use Rattle.trial_run.specs.Trial.{StandsBehind as StandsBehindOf, TrialLeaves as
 use Rattle.command_line.specs.declared.asked.Request.TheVariants.{Run, Trial}
 use Rattle.program_end.specs.declared.end.End.{End}
 use Rattle.program_end.specs.declared.end.End.TheVariants.{Words, Chip, OutOfMemory, Script, Output, TooLong}
-use Rattle.ipl_cli.specs.Ending.{Ending}
+use Rattle.ipl_cli.specs.Ending.{Ending, StopsEarly}
 use Rattle.ipl_cli.specs.Top.{IsTooLong, RequestCause, EndCause}
 use Rattle.ipl_cli.specs.Trials.{commands_on, state_after, summary, StandsBehind, EndsAlong, EndsTrial, Trials, TrialsFormatted, TrialLeaves}
 use Rattle.ipl_cli.specs.Runs.{ClosesFor, StartsOpened, IsNotOpened, WasFormatted, StartsFormatted, IsNotStarted, TriesOver, ending_of}
 use Rattle.ipl_cli.proofs.EndLemmas.{Kept, kept, pieces_behind, history_behind, all_done, left_counts, opened_keeps, fresh_story, told_format, lawful_format}
-use Rattle.ipl_cli.proofs.StartLemmas.{cause_anew, over_cause, not_started_cause}
+use Rattle.ipl_cli.proofs.StartLemmas.{cause_anew, over_cause, not_started_cause, stopped_end}
 
 -- ---- what the chip stands for
 
@@ -339,8 +339,14 @@ module _ (old new : Told) (seed count : ℕ) where
       → TrialLeaves seed count (Err end) old new
   trial_not_started end (inl unmade) = subst (TrialLeaves seed count (Err end) old) (sym unmade.1)
       (unmade_trial end unmade.0)
-  trial_not_started end (inr (inl stopped)) = subst (λ (e : End). TrialLeaves seed count (Err e) old
-      new) (sym stopped.end_is) (inr (stopped.fits, λ h steady. inr (stopped.stops h)))
+  trial_not_started end (inr (inl stopped)) =
+      let (e, is, cause) = stopped_end old new end stopped in
+      subst (λ (last : End). TrialLeaves seed count (Err last) old new) (sym is)
+      (inr (
+        stopped.fits,
+        λ h steady. inr (subst
+            (λ (last : End). StopsEarly old.places h old new (Err last)) is (stopped.stops h)),
+      ))
   trial_not_started end (inr (inr (formatted, f, n))) = subst (λ (e : End). TrialLeaves seed count
       (Err e) old new) (sym n.end_is)
       (inr (
@@ -352,15 +358,17 @@ module _ (old new : Told) (seed count : ℕ) where
   -- no script is read
   not_script : (end : End) → IsNotStarted end old new → end ≡ Script → ⊥
   not_script end (inl unmade) is = subst (λ (e : End). ClosesFor old.places (Err e)) is unmade.0
-  not_script end (inr (inl stopped)) is = absurd (let both : Chip _ ≡ Script = sym stopped.end_is ∙
-      is in cc)
+  not_script end (inr (inl stopped)) is =
+      let (e, at, cause) = stopped_end old new end stopped in
+      absurd (let both : Chip e ≡ Script = sym at ∙ is in cc)
   not_script end (inr (inr (formatted, f, n))) is = absurd (let both : Chip _ ≡ Script = sym
       n.end_is ∙ is in cc)
 
   not_long : (end : End) → IsNotStarted end old new → end ≡ TooLong → ⊥
   not_long end (inl unmade) is = subst (λ (e : End). ClosesFor old.places (Err e)) is unmade.0
-  not_long end (inr (inl stopped)) is = absurd (let both : Chip _ ≡ TooLong = sym stopped.end_is ∙
-      is in cc)
+  not_long end (inr (inl stopped)) is =
+      let (e, at, cause) = stopped_end old new end stopped in
+      absurd (let both : Chip e ≡ TooLong = sym at ∙ is in cc)
   not_long end (inr (inr (formatted, f, n))) is = absurd (let both : Chip _ ≡ TooLong = sym n.end_is
       ∙ is in cc)
 

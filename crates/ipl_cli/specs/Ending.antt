@@ -1,12 +1,16 @@
 -- How the program ends, and what is noted of it.
 use Rattle.std.specs.Prelude.{◌≡◌, ◌⊎◌, ℕ, true, false, List, [], Option, Some, Result, Ok, Err}
 use Rattle.chip_trait.specs.Told.{History, Told, Counts, Rose}
+use Rattle.ipl_base.specs.declared.fault.ChipFault.TheVariants.{Stopped, WornOut}
 use Rattle.ipl_base.specs.declared.fault.FormatFault.{FormatFault}
+use Rattle.ipl_base.specs.declared.fault.FormatFault.TheVariants as format
+use Rattle.ipl_base.specs.declared.fault.ImageFault.TheVariants as image
 use Rattle.restart.specs.Fresh.{Formats}
 use Rattle.command_line.specs.declared.asked.Request.{Request}
 use Rattle.command_line.specs.declared.asked.Request.TheVariants.{Run, Trial}
 use Rattle.program_end.specs.Ends.{status_of, note_of}
 use Rattle.program_end.specs.declared.end.End.{End}
+use Rattle.program_end.specs.declared.end.End.TheVariants.{Chip}
 
 -- what the words ask, where they are valid
 abbrev pub AskedFor : Type 0
@@ -53,16 +57,30 @@ AtStatus P status = (ending : Ending) × (status ≡ status_at ending) × P endi
 
 -- ---- a format that was stopped
 
--- What a format leaves that was stopped, since a write failed: an earlier part of its events, or all.
--- Nothing was said, and nothing read of the script.
-pub record StopsEarly (places : ℕ) (h : History) (old new : Told) : Type 0 where
+-- the end that a failed format is
+abbrev pub format_end : FormatFault → End
+format_end format.Geometry = Chip image.Geometry
+format_end format.Stopped = Chip (image.Chip Stopped)
+format_end (format.Worn p) = Chip (image.Chip (WornOut 1))
+
+-- why a format was stopped: a write failed, or an erase found its place worn
+abbrev pub StopRose : FormatFault → Told → Told → Type 0
+StopRose format.Geometry old new = ⊥
+StopRose format.Stopped old new = Rose old.write_faults new.write_faults
+StopRose (format.Worn p) old new = Rose old.worn_erases new.worn_erases
+
+-- What a format leaves that was stopped, and the program ends so. Since a write failed: an earlier
+-- part of its events, or all; or at a worn place: exactly the erases of those below it, and that it
+-- was found worn. Nothing was said, and nothing read of the script.
+pub record StopsEarly (places : ℕ) (h : History) (old new : Told) (ending : Ending) : Type 0 where
   pub stopped : Told
   pub fault : FormatFault
+  pub ending_is : ending ≡ Err (format_end fault)
   pub formats : Formats {A = Unit {0}} places h old (Err fault) stopped
   pub counts : Counts old stopped
-  pub rose : Rose old.write_faults stopped.write_faults
+  pub rose : StopRose fault old stopped
   pub noted : new ≡ but_noted stopped new.beside.noted
 
 -- a format was stopped, whatever history is looked at
-abbrev pub IsStopped : Told → Told → Type 0
-IsStopped old new = (h : History) → StopsEarly old.places h old new
+abbrev pub IsStopped : Told → Told → Ending → Type 0
+IsStopped old new ending = (h : History) → StopsEarly old.places h old new ending

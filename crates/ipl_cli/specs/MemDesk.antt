@@ -28,7 +28,8 @@ desk_told d = record (told_of d.chip) { beside = beside_of d }
 pub desk_consistently : (d : MemDesk) → IsConsistent (desk_told d)
 desk_consistently d =
     let chip = all_consistently d.chip.places d.chip.settled (history_of d.chip)
-    (contents_of d.chip.sectors.items) d.chip.read_faults d.chip.write_faults d.chip.replayed in
+    (contents_of d.chip.sectors.items) d.chip.read_faults d.chip.write_faults
+    d.chip.worn_erases d.chip.replayed in
     record { settled = chip.settled; replayed = chip.replayed }
 
 -- beside a new desk's chip stands the script, and nothing was read, said or noted

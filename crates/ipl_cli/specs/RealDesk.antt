@@ -12,6 +12,7 @@ real_told chip script_bytes script_faults say_faults = record {
   contents = None;
   read_faults = chip.read_faults;
   write_faults = chip.write_faults;
+  worn_erases = chip.worn_erases;
   beside = record {
     left = None;
     script_bytes = script_bytes;

@@ -1,8 +1,7 @@
 -- How the program starts and runs.
 use Rattle.std.specs.Prelude.{ℕ, ◌≡◌, ◌⊎◌, Result, Ok, Err, OnOk, IfErr, IsErrOf, is_ok}
-use Rattle.chip_trait.specs.Told.{History, Told, Counts, Rose}
+use Rattle.chip_trait.specs.Told.{History, Told, Counts}
 use Rattle.ipl_base.specs.Places.{IsGeometry}
-use Rattle.ipl_base.specs.declared.fault.ChipFault.TheVariants.{Stopped}
 use Rattle.ipl_base.specs.declared.fault.FormatFault.{FormatFault}
 use Rattle.ipl_base.specs.declared.fault.ImageFault.{ImageFault}
 use Rattle.ipl_base.specs.declared.fault.ImageFault.TheVariants as image
@@ -23,7 +22,7 @@ use Rattle.script_store.specs.Keeps.{IsRunning, script_keeping}
 use Rattle.trial_run.specs.Trial.{RunsTrial, IsTrialStop}
 use Rattle.program_end.specs.declared.end.End.{End}
 use Rattle.program_end.specs.declared.end.End.TheVariants.{Words, Chip, OutOfMemory, Script, Output, TooLong}
-use Rattle.ipl_cli.specs.Ending.{Ending, IsStopped}
+use Rattle.ipl_cli.specs.Ending.{Ending, IsStopped, StopRose, format_end}
 use Rattle.ipl_cli.specs.Top.{IsTooLong}
 use Rattle.ipl_cli.specs.Trials.{commands_on}
 
@@ -63,15 +62,16 @@ OpensOver (Err end) old new = IsNotOpened end old new
 pub record WasFormatted (old new : Told) : Type 0 where
   pub fits : IsGeometry old.places
   pub counts : Counts old new
-  pub formats : (h : History) → Formats {A = Unit {0}} {E = FormatFault} old.places h old (Ok tt) new
+  pub formats : (h : History) → Formats {A = Unit {0}} old.places h old (Ok tt) new
 
--- a format was stopped, since a write failed, and it ends so
+-- a format was stopped, since a write failed or a place is worn, and it ends so
 pub record IsNotFormatted (end : End) (old new : Told) : Type 0 where
-  pub end_is : end ≡ Chip (image.Chip Stopped)
+  pub fault : FormatFault
+  pub end_is : end ≡ format_end fault
   pub fits : IsGeometry old.places
   pub counts : Counts old new
-  pub rose : Rose old.write_faults new.write_faults
-  pub stops : IsStopped old new
+  pub rose : StopRose fault old new
+  pub stops : IsStopped old new (Err end)
 
 -- the chip was formatted, or it wasn't
 abbrev pub FormatsFirst : Result (Unit {0}) End → Told → Told → Type 0

@@ -10,9 +10,7 @@ use Rattle.chip_trait.specs.Moment.{AtEachMoment, Leaves}
 use Rattle.chip_trait.specs.Lawful.{IsLawful}
 use Rattle.chip_trait.specs.Told.{History, Told, Grew, IsPrefix, Rose, adds_all, Unrisen}
 use Rattle.ipl_base.specs.Places.{IsGeometry}
-use Rattle.ipl_base.specs.declared.fault.ChipFault.TheVariants.{ReadFault, Stopped, Damaged, Malformed}
-use Rattle.ipl_base.specs.declared.fault.FormatFault.{FormatFault}
-use Rattle.ipl_base.specs.declared.fault.FormatFault.TheVariants as format
+use Rattle.ipl_base.specs.declared.fault.ChipFault.TheVariants.{ReadFault, Stopped, Damaged, Malformed, WornOut}
 use Rattle.ipl_base.specs.declared.fault.ImageFault.{ImageFault}
 use Rattle.ipl_base.specs.declared.fault.ImageFault.TheVariants as image
 use Rattle.ipl_rules.specs.State.{State, Map, at_rest}
@@ -101,6 +99,10 @@ LaidCause e old = IsAtFault old e ⊎ IsMetLater old
 abbrev pub StrayCause : Told → Type 0
 StrayCause old = IsStray old ⊎ IsMetLater old
 
+-- an erase found its place worn, and no other place is spare
+abbrev pub WornCause : ℕ → Told → Told → Type 0
+WornCause n old new = (n ≡ 1) × Rose old.worn_erases new.worn_erases
+
 -- when a fault of the chip ends a run that opens it
 abbrev pub OpenedCause : ImageFault → Told → Told → Type 0
 OpenedCause image.Geometry old new = LaidCause image.Geometry old
@@ -111,6 +113,7 @@ OpenedCause (image.Chip Stopped) old new = Rose old.write_faults new.write_fault
 OpenedCause (image.Chip (Damaged p s stored computed)) old new =
     (stored ≢ computed) × StrayCause old
 OpenedCause (image.Chip (Malformed p s)) old new = StrayCause old
+OpenedCause (image.Chip (WornOut n)) old new = WornCause n old new
 OpenedCause image.Spent old new = LaidCause image.Spent old
 OpenedCause (image.NoSpare n) old new = LaidCause (image.NoSpare n) old
 
@@ -123,6 +126,7 @@ FormatCause (image.Chip ReadFault) old new = ⊥
 FormatCause (image.Chip Stopped) old new = Rose old.write_faults new.write_faults
 FormatCause (image.Chip (Damaged p s stored computed)) old new = ⊥
 FormatCause (image.Chip (Malformed p s)) old new = ⊥
+FormatCause (image.Chip (WornOut n)) old new = WornCause n old new
 FormatCause image.Spent old new = ⊥
 FormatCause (image.NoSpare n) old new = ⊥
 
@@ -141,6 +145,7 @@ FormattedCause (image.Chip Stopped) old new = Rose old.write_faults new.write_fa
 FormattedCause (image.Chip (Damaged p s stored computed)) old new =
     (stored ≢ computed) × AnewCause old
 FormattedCause (image.Chip (Malformed p s)) old new = AnewCause old
+FormattedCause (image.Chip (WornOut n)) old new = WornCause n old new
 FormattedCause image.Spent old new = AnewCause old
 FormattedCause (image.NoSpare n) old new = AnewCause old
 
@@ -295,11 +300,11 @@ FromItsRecords old m = HoldsRecords old.places m old
 abbrev pub FromNoRecords : Told → Map → Type 0
 FromNoRecords old m = (m ≡ empty) × ((x : Contents) × (old.contents ≡ Some x))
 
--- a call of the chip failed in the run, or before it in the format
+-- the script was run, or a part of it, or the format before it was stopped
 abbrev pub RunsOrStops : Told → Told → Ending → Type 0
 RunsOrStops old new ending = OverTold
     (λ places script h. Runs places empty script h (format_events places) old new ending
-    ⊎ StopsEarly places h old new) old
+    ⊎ StopsEarly places h old new ending) old
 
 -- ---- a format
 
@@ -327,11 +332,6 @@ pub record IsLaidOut (places : ℕ) (h : History) (old new : Told) (done : Bool)
 abbrev pub LaysOut : Told → Told → Bool → Type 0
 LaysOut old new done = (h : History) → IsLaidOut old.places h old new done
 
--- the end that a failed format is
-abbrev pub format_end : FormatFault → End
-format_end format.Geometry = Chip image.Geometry
-format_end format.Stopped = Chip (image.Chip Stopped)
-
 -- ---- what is left
 
 -- what a format leaves
@@ -339,7 +339,7 @@ abbrev pub FormatLeaves : Ending → Told → Told → Type 0
 FormatLeaves (Ok u) old new = LaysOut old new true
 FormatLeaves (Err Words) old new = ⊥
 FormatLeaves (Err (Chip image.Geometry)) old new = IsUntouched old new
-FormatLeaves (Err (Chip e)) old new = IsStopped old new
+FormatLeaves (Err (Chip e)) old new = IsStopped old new (Err (Chip e))
 FormatLeaves (Err OutOfMemory) old new = IsUntouched old new
 FormatLeaves (Err Script) old new = ⊥
 FormatLeaves (Err Output) old new = LaysOut old new false
@@ -363,9 +363,9 @@ pub record OnlyLooks (old new : Told) : Type 0 where
   pub reads : OnlyReads old read
   pub noted : new ≡ but_noted read new.beside.noted
 
--- the end is that fault of the chip, or a call of the chip failed
+-- the end is that fault of the chip, or a read of the chip failed
 abbrev pub EndsAtFault : ImageFault → ImageFault → Type 0
-EndsAtFault e ended = (ended ≡ e) ⊎ (ended ≡ image.Chip ReadFault) ⊎ (ended ≡ image.Chip Stopped)
+EndsAtFault e ended = (ended ≡ e) ⊎ (ended ≡ image.Chip ReadFault)
 
 -- a chip that has a fault as it is laid out was only read, and the run ended with that fault
 abbrev pub IsRefused : ImageFault → Told → Told → Type 0
@@ -420,6 +420,7 @@ pub record NoneFalls (old new : Told) : Type 0 where
   pub places : new.places ≡ old.places
   pub reads : old.read_faults ≤ new.read_faults
   pub writes : old.write_faults ≤ new.write_faults
+  pub worn : old.worn_erases ≤ new.worn_erases
   pub says : old.beside.say_faults ≤ new.beside.say_faults
   pub script : old.beside.script_faults ≤ new.beside.script_faults
   pub bytes : old.beside.script_bytes ≤ new.beside.script_bytes
@@ -427,7 +428,7 @@ pub record NoneFalls (old new : Told) : Type 0 where
 -- ---- by the status
 
 -- A chip that has a fault as it is laid out was only read; the run ended with that fault's status,
--- with 3 where a call of the chip failed, or for want of memory.
+-- with 3 where a read of the chip failed, or for want of memory.
 abbrev pub RefusesFaults : Told → Told → ℕ → Type 0
 RefusesFaults old new status = (e : ImageFault) → HasFault old e
     → OnlyLooks old new × ((status ≡ fault_status e) ⊎ (status ≡ 3) ⊎ (status ≡ 5))
@@ -449,6 +450,7 @@ UntouchedOrRuns old new ending = ((¬ IsGeometry old.places) × IsUntouched old 
 pub record IsCalm (old new : Told) : Type 0 where
   pub reads : ¬ Rose old.read_faults new.read_faults
   pub writes : ¬ Rose old.write_faults new.write_faults
+  pub worn : ¬ Rose old.worn_erases new.worn_erases
   pub script : ¬ Rose old.beside.script_faults new.beside.script_faults
   pub says : ¬ Rose old.beside.say_faults new.beside.say_faults
 

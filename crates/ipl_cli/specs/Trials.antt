@@ -105,12 +105,12 @@ TrialsFormatted seed count old new ending = (h : History) → IsSteady h old
     → Trials old.places (commands_on old.places seed count) h (format_events old.places) old new
     ending
 
--- a call of the chip failed in the trial, or before it in the format
+-- the trial was done, or a part of it, or the format before it was stopped
 abbrev pub TrialsOrStops : ℕ → ℕ → Told → Told → Ending → Type 0
 TrialsOrStops seed count old new ending = (h : History) → IsSteady h old
     → Trials old.places (commands_on old.places seed count) h (format_events old.places) old new
     ending
-    ⊎ StopsEarly old.places h old new
+    ⊎ StopsEarly old.places h old new ending
 
 -- what a trial leaves; another number of places was left alone
 abbrev pub TrialLeaves : ℕ → ℕ → Ending → Told → Told → Type 0

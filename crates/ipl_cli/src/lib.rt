@@ -16,7 +16,8 @@
 //! told story grows by: each moment of a cut; what is said, line by line, and all of it at 0;
 //! lawful events; where no write failed, the chip holds at the end what the history then leaves,
 //! which rests on the records of exactly the commands that are done, so that the next run may
-//! begin there. A format that was stopped wrote a part of its events, and nothing is said.
+//! begin there. A format that was stopped wrote a part of its events, or erased exactly the places
+//! below one that is worn, and nothing is said.
 //!
 //! Proved, by `top`: `records`, `anew`: a chip that tells what it holds, and maybe no story: where
 //! that stands for records, at 0 it holds the records after all commands; formatted first, those
@@ -29,11 +30,12 @@
 //! exactly its line is noted; at 2 and 5 nothing is asked of the chip, said or read, but that at 5
 //! a view may have read its script; another number of places is left alone. A chip that has a
 //! fault as it is laid out, where it tells what it holds, is only read by a run without
-//! `--format`, and the status is that of its first fault, or 5, or 3 where a call failed. A run
+//! `--format`, and the status is that of its first fault, or 5, or 3 where a read failed. A run
 //! that opens a chip which tells what it holds ends with 4 or 9 only where that stood for no
-//! records, or a number of 2^62 or more was among it (`unfit`); a failed call is told as such. Where
-//! no count rises, the script ends in time and the chip is such as the words ask for, the status is
-//! 0, or 5. At 0 a run or a trial was done by a store of as many frames as were asked (`framed`).
+//! records, or a number of 2^62 or more was among it (`unfit`); a failed call is told as such. At 10
+//! an erase found its place worn (`worn`). Where no count rises, the script ends in time and the
+//! chip is such as the words ask for, the status is 0, or 5. At 0 a run or a trial was done by a
+//! store of as many frames as were asked (`framed`).
 //!
 //! Proved, by `top`: `views`, `untouched`: the serial view of a script, run from no records: over
 //! every desk that tells its script, what is said is a beginning of its lines, one by one, and at 0

@@ -4,7 +4,7 @@ ghost use Rattle.std.specs.Prelude.{◌≡◌, ◌≤◌, ◌<◌, ◌-◌, vec_
 use crate::failing::{FailingSay, kept_of};
 use arrayvec::ArrayVec;
 use chip_mem::MemChip;
-use chip_trait::{Chip, Desk, Failed};
+use chip_trait::{Chip, Desk, Failed, Wear};
 use ipl_base::OutOfMemory;
 use std::alloc::Global;
 
@@ -170,7 +170,7 @@ impl Chip for MemDesk {
         self.chip.program(p, s, from)
     }
 
-    fn erase(&mut self, p: u32) -> Result<(), Failed> {
+    fn erase(&mut self, p: u32) -> Result<Wear, Failed> {
         self.chip.erase(p)
     }
 

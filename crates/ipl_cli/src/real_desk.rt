@@ -4,7 +4,7 @@ ghost use Rattle.std.specs.Io.{ReadsAtMost};
 ghost use Rattle.std.specs.IoError.{error_kind};
 ghost use Rattle.ipl_cli.specs.RealDesk.{real_told, real_consistently};
 
-use chip_trait::{Chip, Desk, Failed};
+use chip_trait::{Chip, Desk, Failed, Wear};
 use std::io;
 use std::io::{ErrorKind, Read, Write};
 use std::rt::{Stderr, Stdin, Stdout};
@@ -42,6 +42,7 @@ impl<C: Chip + Drop> Chip for RealDesk<C> {
     ghost use Rattle.std.specs.Prelude.{◌<◌, MatchResult, OnOk, OnErr, IfSome};
     ghost use Rattle.chip_trait.specs.declared.event.Event.TheVariants.{Read, Program, Erase, Barrier};
     ghost use Rattle.chip_trait.specs.Told.{Appends, Misses, Breaks, Halts, Counts, Rose};
+    ghost use Rattle.chip_trait.specs.Wears.{Wears};
 
     ghost told = { λ d. real_told (C.told d.chip) d.script_bytes d.script_faults d.say_faults };
 
@@ -83,10 +84,10 @@ impl<C: Chip + Drop> Chip for RealDesk<C> {
     }
 
     /// It is an erase of the chip within.
-    fn erase(&mut self, p: u32) -> Result<(), Failed>
+    fn erase(&mut self, p: u32) -> Result<Wear, Failed>
         requires { p < (C.told self.old.chip).places }
         ensures within { MatchResult result
-            (λ _. Appends (Erase p) (C.told self.old.chip) (C.told self.new.chip))
+            (λ wear. Wears wear p (C.told self.old.chip) (C.told self.new.chip))
             (λ _. Breaks (Erase p) (C.told self.old.chip) (C.told self.new.chip)) }
         ensures counts { Counts
             (real_told (C.told self.old.chip) self.old.script_bytes self.old.script_faults self.old.say_faults)

@@ -13,9 +13,9 @@ ghost use Rattle.command_line.specs.declared.asked.Request.{Request};
 ghost use Rattle.command_line.specs.declared.asked.Request.TheVariants.{Format, Run, Serial, Trial};
 ghost use Rattle.ipl_cli.specs.Trials.{TrialLeaves};
 ghost use Rattle.ipl_cli.specs.Adds.{AddsLawful};
-ghost use Rattle.ipl_cli.specs.Ending.{AsksOpened, AsksFormatted, AsksAnew, AtStatus, status_at, note_at, but_noted, IsUntouched};
+ghost use Rattle.ipl_cli.specs.Ending.{AsksOpened, AsksFormatted, AsksAnew, AtStatus, status_at, note_at, but_noted, format_end, IsUntouched};
 ghost use Rattle.ipl_cli.specs.Views.{ViewsTold, OnlyViews, OnlyHears, SerialLeaves, view_end};
-ghost use Rattle.ipl_cli.specs.Top.{NoneFalls, format_end, EndCause, RequestCause, FormatLeaves, FormattedLeaves, OpenedLeaves, EndLeaves};
+ghost use Rattle.ipl_cli.specs.Top.{NoneFalls, EndCause, RequestCause, FormatLeaves, FormattedLeaves, OpenedLeaves, EndLeaves};
 ghost use Rattle.ipl_cli.specs.Top.{RunsOpened, RunsFormatted, UntouchedOrRuns, RefusesFaults, IsLaidWell, LaysOut};
 ghost use Rattle.ipl_cli.specs.Top.{EndsWithRecords, FromItsRecords, FromNoRecords};
 ghost use Rattle.ipl_cli.specs.Top.{StrayCause, SpentCause, AnewCause, EndsUnfit, IsCalm, Suffices, EndsInTime, Ends};
@@ -46,6 +46,7 @@ fn format_end(fault: FormatFault) -> End
     match fault {
         FormatFault::Geometry => End::Chip(ImageFault::Geometry),
         FormatFault::Stopped => End::Chip(ImageFault::Chip(ChipFault::Stopped)),
+        FormatFault::Worn(_) => End::Chip(ImageFault::Chip(ChipFault::WornOut(1))),
     }
 }
 
@@ -368,14 +369,14 @@ pub fn top<D: Desk>(alloc: Global, words: &[String], desk: &mut D) -> u8
         → EndsWithRecords FromNoRecords (D.told desk.old) (D.told desk.new) }
 
     // The same over a chip that is formatted first. At 6, 7 and 8 a part of the script was run; at 3,
-    // 4 and 9 too, or the format was stopped, or another number of places was left alone.
+    // 4, 9 and 10 too, or the format was stopped, or another number of places was left alone.
     ensures formatted { AsksFormatted (requested (map string_bytes words.now)) → result ≡ 0
         → RunsFormatted (D.told desk.old) (D.told desk.new) (Ok tt) }
     ensures part { AsksFormatted (requested (map string_bytes words.now))
         → (result ≡ 6) ⊎ (result ≡ 7) ⊎ (result ≡ 8)
         → AtStatus (RunsFormatted (D.told desk.old) (D.told desk.new)) result }
     ensures stops { AsksFormatted (requested (map string_bytes words.now))
-        → (result ≡ 3) ⊎ (result ≡ 4) ⊎ (result ≡ 9)
+        → (result ≡ 3) ⊎ (result ≡ 4) ⊎ (result ≡ 9) ⊎ (result ≡ 10)
         → AtStatus (UntouchedOrRuns (D.told desk.old) (D.told desk.new)) result }
 
     // A format says its line at 0, and the chip has no record then, whatever moment the power is cut at.
@@ -423,6 +424,7 @@ pub fn top<D: Desk>(alloc: Global, words: &[String], desk: &mut D) -> u8
     ensures spent { result ≡ 9
         → (AsksOpened (requested (map string_bytes words.now)) × SpentCause (D.told desk.old))
         ⊎ (AsksAnew (requested (map string_bytes words.now)) × AnewCause (D.told desk.old)) }
+    ensures worn { result ≡ 10 → Rose (D.told desk.old).worn_erases (D.told desk.new).worn_erases }
 
     // Words that aren't valid give 2, or 5. Where they are, the chip is such as they ask for, no count
     // rises and the script ends in time, the answer is 0, or 5.

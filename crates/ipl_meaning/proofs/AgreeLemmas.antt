@@ -2,7 +2,7 @@
 use Rattle.std.proofs.Common.{◌≡◌, ℕ, eqb, ◌&&◌, None, inl, inr, refl, sym, arith}
 use Rattle.std.proofs.lemmas.Bool.{cases_Bool, and_parts, eqb-true, eq-eqb, ne_eqb}
 use Rattle.chip_trait.specs.Lawful.{Clean, age}
-use Rattle.chip_trait.proofs.AgeLemmas.{clean_blank, clean_closed}
+use Rattle.chip_trait.proofs.AgeLemmas.{clean_blank, clean_closed, clean_lasting}
 use Rattle.chip_trait.specs.declared.event.Event.TheVariants.{Erase}
 use Rattle.chip_trait.specs.Told.{History, adds}
 use Rattle.chip_trait.proofs.ClosedLemmas.{held_program}
@@ -11,11 +11,11 @@ use Rattle.ipl_format.proofs.SectorLemmas.{blank_says_nothing}
 use Rattle.ipl_meaning.specs.Rests.{now}
 use Rattle.ipl_meaning.specs.Steps.{SameBut}
 use Rattle.ipl_meaning.specs.Tables.{IsCountedClean}
-use Rattle.ipl_meaning.specs.AgreeingLaws.{CountedAreUntouched, CountedMayBeProgrammed, TidyAfterPrograms, TidyAfterMoves, TidyAfterBarriers, TidyAfterErases, ProgramsAgree, BarriersAgree, ReadsAgree, SaysAgree, ErasesAgree}
+use Rattle.ipl_meaning.specs.AgreeingLaws.{CountedAreUntouched, CountedMayBeProgrammed, TidyAfterPrograms, TidyAfterMoves, TidyAfterBarriers, TidyAfterErases, TidyAfterWorns, ProgramsAgree, BarriersAgree, ReadsAgree, SaysAgree, ErasesAgree, WornsAgree}
 use Rattle.ipl_meaning.proofs.IdleFollowLemmas.{counted_apart, tables_follow_idle_places}
 
 pub counted_are_untouched : CountedAreUntouched
-counted_are_untouched h t p s tidy counted_clean = (clean_blank h.start h.story p s (tidy p s counted_clean), clean_closed h.story p s (tidy p s counted_clean))
+counted_are_untouched h t p s tidy counted_clean = (clean_blank h.start h.story p s (tidy p s counted_clean), clean_closed h.story p s (tidy p s counted_clean), clean_lasting h.story p s (tidy p s counted_clean))
 
 pub counted_may_be_programmed : CountedMayBeProgrammed
 counted_may_be_programmed story t p s bytes tidy counted_clean lawful = (tidy p s counted_clean, lawful)
@@ -42,6 +42,12 @@ tidy_after_barriers story t tidy q n counted_clean = rw (tidy q n counted_clean)
 
 pub tidy_after_erases : TidyAfterErases
 tidy_after_erases story t p tidy none q n counted_clean = elim (cases_Bool (eqb p q)) [
+  | inl here ↦ let same : p ≡ q = eqb-true _ _ here in absurd (none n (rw (← same) at counted_clean))
+  | inr elsewhere ↦ rw elsewhere (tidy q n counted_clean)
+]
+
+pub tidy_after_worns : TidyAfterWorns
+tidy_after_worns story t p tidy none q n counted_clean = elim (cases_Bool (eqb p q)) [
   | inl here ↦ let same : p ≡ q = eqb-true _ _ here in absurd (none n (rw (← same) at counted_clean))
   | inr elsewhere ↦ rw elsewhere (tidy q n counted_clean)
 ]
@@ -75,3 +81,9 @@ erases_agree places h it t p agrees idle not_overflow =
       mirrors = tables_follow_idle_places places (now h) it t p (now (adds (Erase p) h)) t.next agrees.mirrors idle not_overflow (erased_elsewhere h p) (erased_there h p) (omega arith);
       tidy = tidy_after_erases h.story t p agrees.tidy none;
     }
+
+pub worns_agree : WornsAgree
+worns_agree places h it t p agrees idle not_overflow = record {
+  mirrors = agrees.mirrors;
+  tidy = tidy_after_worns h.story t p agrees.tidy (λ s counted_clean. counted_apart places (now h) it t p agrees.mirrors idle not_overflow p s counted_clean refl);
+}

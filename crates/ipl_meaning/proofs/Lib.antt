@@ -31,3 +31,4 @@ pub mod RenewalFollowLemmas
 pub mod OverflowFollowLemmas
 pub mod AgreeLemmas
 pub mod RoomLemmas
+pub mod WornLemmas

@@ -1,12 +1,14 @@
 -- A chart that has lost some sectors, but no header, has the same units at the same places.
-use Rattle.std.proofs.Common.{◌≡◌, ℕ, ◌<◌, ◌-◌, Option, Some, None, inl, inr, refl, sym, ◌∙◌, ap, List, false}
+use Rattle.std.proofs.Common.{◌≡◌, ℕ, ◌<◌, ◌-◌, Option, Some, None, inl, inr, refl, sym, ◌∙◌, ap, List, Bool, true, false}
 use Rattle.std.proofs.lemmas.Bool.{cases_Bool}
 use Rattle.ipl_format.specs.Sector.{Sector}
 use Rattle.ipl_format.specs.Record.{Record}
 use Rattle.ipl_meaning.specs.Chart.{Chart, IsChosen, IsDataHeader, IsStatusHeader}
 use Rattle.ipl_meaning.specs.Layout.{IsCommitted, Layout, Laid, IsLiveIn}
-use Rattle.ipl_meaning.specs.Steps.{IsPart, SameBut, IsIdle, ComesToNothing, MayLog}
+use Rattle.ipl_meaning.specs.Steps.{IsPart, SameOff, LeftAt, KeepsPages, IsIdle, ComesToNothing, MayLog}
+use Rattle.ipl_meaning.specs.Laws.{LossesDoNotCount}
 use Rattle.ipl_meaning.proofs.OnceLemmas.{chosen_once}
+use Rattle.ipl_meaning.proofs.IdleLemmas.{these_do_not_count}
 
 module _ (places : ℕ) (c h : Chart) (part : IsPart c h) (jt it : Layout) (less : Laid places c jt) (whole : Laid places h it) where
   chosen_there : (Fits : Sector → Type 0) (p : ℕ) (head : Sector) → IsChosen c places Fits p head → IsChosen h places Fits p head
@@ -71,8 +73,8 @@ module _ (places : ℕ) (c h : Chart) (part : IsPart c h) (jt it : Layout) (less
   }
 
   -- nothing that an idle place has, or had, comes to count
-  pub nothing_comes : (p : ℕ) (y : Chart) → IsIdle places h it p → SameBut p c y → ((s : ℕ) (sector : Sector) → y p s ≡ Some sector → h p s ≡ Some sector) → p < places → ComesToNothing places y jt p
-  nothing_comes p y idle same some within = record {
+  pub nothing_left : (p : ℕ) (y : Chart) → IsIdle places h it p → ((s : ℕ) (sector : Sector) → y p s ≡ Some sector → h p s ≡ Some sector) → p < places → ComesToNothing places y jt p
+  nothing_left p y idle some within = record {
     unit_header = λ u low head there fits.
         let beats = (whole.each u low).chosen.best p head within (some 0 head there) fits in
         rw ((same_unit u low).0, (same_unit u low).1) beats;
@@ -111,3 +113,36 @@ module _ (places : ℕ) (c h : Chart) (part : IsPart c h) (jt it : Layout) (less
     in_overflow = λ v q t other low live away. may.in_overflow v q t other low (live_there v low q t other live) (λ at_home. away (at_home ∙ sym (same_unit v low).0));
     in_overflow_here = λ away. may.in_overflow_here (λ at_home. away (at_home ∙ sym unit.0));
   }
+
+pub losses_do_not_count : LossesDoNotCount
+losses_do_not_count places h c y it jt w whole less part idle same left =
+    these_do_not_count w c y same places jt less (λ q on. idle_there places c h part jt it less whole q (idle q on))
+    (λ q on within. nothing_left places c h part jt it less whole q y (idle q on) (λ s sector there. left q s sector on there) within)
+
+itself : (c : Chart) → IsPart c c
+itself c = record { each = λ p s sector there. there; headers = λ p. refl }
+
+-- a place is idle in each layout of a chart, or in none
+pub idle_once : (places : ℕ) (c : Chart) (it jt : Layout) → Laid places c it → Laid places c jt → (p : ℕ) → IsIdle places c it p → IsIdle places c jt p
+idle_once places c it jt laid other p idle = idle_there places c c (itself c) jt it other laid p idle
+
+-- the same layout, with nothing lost but at idle places
+pub still_laid : (places : ℕ) (c y : Chart) (it : Layout) (w : ℕ → Bool) → Laid places c it → ((q : ℕ) → w q ≡ true → IsIdle places c it q) → SameOff w c y → LeftAt w c y
+    → Laid places y it × KeepsPages places c it y it
+still_laid places c y it w laid idle same left = losses_do_not_count places c c y it it w laid laid (itself c) idle same left
+
+-- an idle place stays so where nothing changes there, and the units and the status stay where they are
+pub idle_still : (places : ℕ) (c y : Chart) (it jt : Layout) (q : ℕ) → ((s : ℕ) → y q s ≡ c q s) → jt.status ≡ it.status
+    → ((u : ℕ) → u < places - 4 → ((jt.units u).home ≡ (it.units u).home) × ((jt.units u).head ≡ (it.units u).head)) → IsIdle places c it q → IsIdle places y jt q
+idle_still places c y it jt q same status units idle = record {
+  not_status = λ is. idle.not_status (sym status ∙ is);
+  not_home = λ u low is. idle.not_home u low (sym (units u low).0 ∙ is);
+  no_live = λ u low s sector live. idle.no_live u low s sector (record {
+    here = sym (same s) ∙ live.here;
+    kind = live.kind;
+    of_unit = live.of_unit;
+    of_generation = live.of_generation ∙ ap (λ (z : Sector). z.generation) (units u low).1;
+    within = live.within;
+    counts = elim live.counts [ inl at_home ↦ inl (at_home.0 ∙ (units u low).0, at_home.1) | inr over ↦ inr ((over.0.0, sym (same 0) ∙ over.0.1, over.0.2), over.1) ];
+  });
+}

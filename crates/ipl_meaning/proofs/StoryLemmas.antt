@@ -1,29 +1,31 @@
 -- From bytes to charts.
-use Rattle.std.proofs.Common.{Some, ◌≡◌, ◌≢◌, ℕ, None, inl, inr, refl, sym, ◌∙◌, ap, List, arith, eqb, ◌&&◌, false}
-use Rattle.std.proofs.lemmas.Bool.{ne_eqb, eq-eqb}
+use Rattle.std.proofs.Common.{Some, ◌≡◌, ◌≢◌, ℕ, None, inl, inr, refl, sym, ◌∙◌, ap, List, arith, eqb, ◌&&◌, ◌||◌, not, Bool, ◌∷◌, ◌<◌, ◌-◌, true, false}
+use Rattle.std.proofs.lemmas.Bool.{cases_Bool, cases_eq, and_parts, eqb-true, ne_eqb, eq-eqb}
 use Rattle.std.proofs.Math.Path.{fun_ext}
-use Rattle.chip_trait.specs.declared.event.Event.TheVariants.{Barrier}
+use Rattle.chip_trait.specs.declared.event.Event.TheVariants.{Program, Erase, Worn, Barrier}
 use Rattle.chip_trait.specs.Story.{held}
+use Rattle.chip_trait.specs.Image.{is_worn, IsQuiet, IsClosed}
 use Rattle.chip_trait.specs.Chart.{with_sector}
-use Rattle.chip_trait.specs.Told.{adds}
+use Rattle.chip_trait.specs.Told.{History, adds}
 use Rattle.chip_trait.proofs.ImageLemmas.{held_is_image, image_if_closed, image_before_barrier, closed_is_quiet}
-use Rattle.chip_trait.proofs.ClosedLemmas.{held_program, program_leads}
-use Rattle.chip_trait.proofs.ProgramLemmas.{part_in_quiet, headers_there, program_keeps}
-use Rattle.chip_trait.proofs.EraseLemmas.{erase_keeps}
+use Rattle.chip_trait.proofs.ClosedLemmas.{held_program, closed_means, program_leads}
+use Rattle.chip_trait.proofs.ProgramLemmas.{EachWholeMeans, part_in_quiet, headers_there, program_keeps}
+use Rattle.chip_trait.proofs.LossLemmas.{Loses, each_by_whole, worn_keeps, lossy, erase_keeps}
 use Rattle.ipl_format.specs.Sector.{Sector, sector_in}
 use Rattle.ipl_format.specs.Record.{Record}
 use Rattle.ipl_format.proofs.SectorLemmas.{blank_says_nothing}
 use Rattle.ipl_meaning.specs.Chart.{Chart, chart_of}
-use Rattle.ipl_meaning.specs.Layout.{Layout}
+use Rattle.ipl_meaning.specs.Layout.{Entry, Layout, Laid}
 use Rattle.ipl_meaning.specs.Stands.{Stands}
-use Rattle.ipl_meaning.specs.Rests.{now}
-use Rattle.ipl_meaning.specs.Steps.{IsPart, MayLog}
-use Rattle.ipl_meaning.specs.StoryLaws.{QuietImagesAreParts, HeldStands, RestsOnce, ChipsRestOnce, ClosedRests, BarriersRest, BarriersKeepEither, ReadsKeep, SaysKeep, ErasesKeep, LogSectorsKeep, AsidesKeep, ProgramsLead, EitherIsKept}
+use Rattle.ipl_rules.specs.State.{Map}
+use Rattle.ipl_meaning.specs.Rests.{now, EachStands, WornAreIdle, StoryRests}
+use Rattle.ipl_meaning.specs.Steps.{IsPart, KeepsPages, IsIdle, MayLog, with_log, entry_at}
+use Rattle.ipl_meaning.specs.StoryLaws.{QuietImagesAreParts, HeldStands, RestsOnce, ChipsRestOnce, ClosedRests, BarriersRest, BarriersKeepEither, ReadsKeep, SaysKeep, WornsKeep, ErasesKeep, LogSectorsKeep, AsidesKeep, ProgramsLead, EitherIsKept}
 use Rattle.ipl_meaning.proofs.OnceLemmas.{stands_once}
 use Rattle.ipl_meaning.proofs.StandsLemmas.{stands_by}
 use Rattle.ipl_meaning.proofs.IdleLemmas.{idle_places_do_not_count, bare_is_idle, bare_comes_to_nothing}
 use Rattle.ipl_meaning.proofs.WaitLemmas.{log_sectors_wait}
-use Rattle.ipl_meaning.proofs.PartLemmas.{idle_there, nothing_comes, may_log_there}
+use Rattle.ipl_meaning.proofs.PartLemmas.{losses_do_not_count, still_laid, idle_once, idle_still, may_log_there}
 
 -- away from where the sector is put, the chart is as before
 apart_at : (c : Chart) (p s : ℕ) (sector : Sector) (q t : ℕ) → (eqb p q && eqb s t) ≡ false → with_sector c p s sector q t ≡ c q t
@@ -36,10 +38,17 @@ apart_from : (c : Chart) (p s : ℕ) (sector : Sector) (t : ℕ) → s ≢ t →
 apart_from c p s sector t other none = apart_at c p s sector p t (rw (eq-eqb p p refl, ne_eqb s t other)) ∙ none
 
 pub quiet_images_are_parts : QuietImagesAreParts
-quiet_images_are_parts h x quiet image = record {
+quiet_images_are_parts h x quiet image whole = record {
   each = part_in_quiet sector_in blank_says_nothing h.start h.story x quiet image;
-  headers = headers_there sector_in h.start h.story x quiet image;
+  headers = headers_there sector_in h.start h.story x quiet image whole;
 }
+
+-- where idle places may lose what they have, a chart stands for the same map
+loses_keep : (places : ℕ) (m : Map) (h : History) (quiet : IsQuiet h.start h.story) (w : ℕ → Bool) (it : Layout) → Laid places (now h) it → ((q : ℕ) → w q ≡ true → IsIdle places (now h) it q)
+    → Loses sector_in blank_says_nothing h.start h.story quiet (λ c. Stands places c m) w
+loses_keep places m h quiet w it laid idle c y part headers same left stands =
+    let whole : IsPart c (now h) = record { each = part; headers = headers } in
+    stands_by places m c y stands.layout stands.layout (losses_do_not_count places (now h) c y it stands.layout w laid stands.laid whole idle same left) stands.says
 
 pub held_stands : HeldStands
 held_stands places m h each = each (held h.start h.story) (held_is_image _ h.start h.story)
@@ -54,67 +63,170 @@ chips_rest_once m n t one other =
     rests_once t.places m n other.history (rw same at one.story) other.story
 
 pub closed_rests : ClosedRests
-closed_rests places m h closed stands = record {
-  quiet = closed_is_quiet h.start h.story closed;
-  each = λ x image.
-      let same : chart_of x ≡ now h = fun_ext λ p. fun_ext λ s. ap sector_in (image_if_closed h.start h.story x p s (closed p s) image.image) in
-      rw same stands;
-}
+closed_rests places m h closed stands worn =
+    let quiet = closed_is_quiet h.start h.story closed in
+    record {
+      quiet = quiet;
+      each = each_by_whole sector_in blank_says_nothing h.start h.story quiet (λ c. Stands places c m)
+          (loses_keep places m h quiet (is_worn h.story) stands.layout stands.laid (worn stands.layout stands.laid))
+          (closed_means sector_in (λ c. Stands places c m) h.start h.story closed stands);
+      worn = worn;
+    }
 
 pub barriers_rest : BarriersRest
-barriers_rest places m h stands = closed_rests places m (adds Barrier h) (λ p s. refl) stands
+barriers_rest places m h stands worn = closed_rests places m (adds Barrier h) (λ p s. refl) stands (λ it laid p is. worn it laid p (and_parts _ _ is).0)
 
 pub barriers_keep_either : BarriersKeepEither
 barriers_keep_either places m n h each x image = each x (image_before_barrier _ h.start h.story x image)
 
 pub reads_keep : ReadsKeep
-reads_keep places m h p s rests = record { quiet = rests.quiet; each = λ x is. rests.each x (record { image = is.image; chance = is.chance }) }
+reads_keep places m h p s rests = record { quiet = rests.quiet; each = λ x is. rests.each x (record { image = is.image; chance = is.chance }); worn = rests.worn }
 
 pub says_keep : SaysKeep
-says_keep places m h piece rests = record { quiet = rests.quiet; each = λ x is. rests.each x (record { image = is.image; chance = is.chance }) }
+says_keep places m h piece rests = record { quiet = rests.quiet; each = λ x is. rests.each x (record { image = is.image; chance = is.chance }); worn = rests.worn }
+
+-- one place more that is idle
+module _ (places : ℕ) (h : History) (it : Layout) (laid : Laid places (now h) it) (p : ℕ) (idle : IsIdle places (now h) it p) (worn : WornAreIdle places h.story (now h)) where
+  and_these : (q : ℕ) → (eqb p q || is_worn h.story q) ≡ true → IsIdle places (now h) it q
+  and_these q on = elim (cases_Bool (eqb p q)) [
+    | inl here ↦ rw (← eqb-true p q here) idle
+    | inr elsewhere ↦ worn it laid q (rw elsewhere at on)
+  ]
+
+pub worns_keep : WornsKeep
+worns_keep places m h it p rests laid idle = record {
+  quiet = rests.quiet;
+  each = each_by_whole sector_in blank_says_nothing h.start (Worn p ∷ h.story) rests.quiet (λ c. Stands places c m)
+      (loses_keep places m (adds (Worn p) h) rests.quiet (is_worn (Worn p ∷ h.story)) it laid (and_these places h it laid p idle rests.worn))
+      (worn_keeps sector_in blank_says_nothing h.start h.story rests.quiet (λ c. Stands places c m) p rests.each);
+  worn = λ jt other q on. idle_once places (now h) it jt laid other q (and_these places h it laid p idle rests.worn q on);
+}
+
+-- the chart once the place is erased
+module _ (places : ℕ) (h : History) (it : Layout) (laid : Laid places (now h) it) (p : ℕ) (idle : IsIdle places (now h) it p) (worn : WornAreIdle places h.story (now h)) where
+  erased_elsewhere : (q s : ℕ) → eqb p q ≡ false → now (adds (Erase p) h) q s ≡ now h q s
+  erased_elsewhere q s off = rw off refl
+
+  erased_here : (q s : ℕ) (sector : Sector) → eqb p q ≡ true → now (adds (Erase p) h) q s ≡ Some sector → now h q s ≡ Some sector
+  erased_here q s sector on there = absurd (let bare = rw on at there in cc (bare, blank_says_nothing))
+
+  only_here : (q : ℕ) → eqb p q ≡ true → IsIdle places (now h) it q
+  only_here q on = rw (← eqb-true p q on) idle
+
+  erased_laid : Laid places (now (adds (Erase p) h)) it
+  erased_laid = (still_laid places (now h) (now (adds (Erase p) h)) it (eqb p) laid only_here erased_elsewhere erased_here).0
+
+  nothing_erased : (q : ℕ) → eqb p q ≡ true → IsIdle places (now (adds (Erase p) h)) it q
+  nothing_erased q on = let was = only_here q on in record {
+    not_status = was.not_status;
+    not_home = was.not_home;
+    no_live = λ u low s sector live. let here = live.here in let bare = rw on at here in cc (bare, blank_says_nothing);
+  }
+
+  erased_worn : WornAreIdle places (Erase p ∷ h.story) (now (adds (Erase p) h))
+  erased_worn jt other q is = idle_once places (now (adds (Erase p) h)) it jt erased_laid other q (elim (cases_Bool (eqb p q)) [
+    | inl here ↦ nothing_erased q here
+    | inr elsewhere ↦ idle_still places (now h) (now (adds (Erase p) h)) it it q (λ s. erased_elsewhere q s elsewhere) refl (λ u low. (refl, refl)) (worn it laid q is)
+  ])
 
 pub erases_keep : ErasesKeep
-erases_keep places m h it p rests laid within idle =
-    erase_keeps sector_in blank_says_nothing h.start h.story rests.quiet p (λ c. Stands places c m)
-    (λ c y part headers same some stands.
-    let whole : IsPart c (now h) = record { each = part; headers = headers } in
-    let idle_too = idle_there places c (now h) whole stands.layout it stands.laid laid p idle in
-    let nothing = nothing_comes places c (now h) whole stands.layout it stands.laid laid p y idle same some within in
-    stands_by places m c y stands.layout stands.layout (idle_places_do_not_count places c stands.layout p y stands.laid idle_too same nothing) stands.says)
-    rests.each
+erases_keep places m h it p rests laid within idle = (
+  erase_keeps sector_in blank_says_nothing h.start h.story rests.quiet p (λ c. Stands places c m)
+      (loses_keep places m h rests.quiet (λ q. eqb p q || is_worn h.story q) it laid (and_these places h it laid p idle rests.worn)) rests.each,
+  erased_worn places h it laid p idle rests.worn,
+)
 
 no_header : (places : ℕ) (c : Chart) (it : Layout) (u p s : ℕ) (sector : Sector) (records : List Record) → MayLog places c it u p s sector records → s ≢ 0
 no_header places c it u p s sector records may none = elim may.counts [ inl at_home ↦ omega (arith, at_home.1) | inr over ↦ omega (arith, over.1) ]
 
+same_homes : (it : Layout) (u : ℕ) (e : Entry) (places v : ℕ) → v < places - 4 → (((with_log it u e).units v).home ≡ (it.units v).home) × (((with_log it u e).units v).head ≡ (it.units v).head)
+same_homes it u e places v low = elim (cases_Bool (eqb v u)) [
+  | inl here ↦ rw (eqb-true v u here, eq-eqb u u refl) (refl, refl)
+  | inr elsewhere ↦ rw elsewhere (refl, refl)
+]
+
+-- one sector put into two charts that are the same there
+pub put_same : (c d : Chart) (p s : ℕ) (sector : Sector) (q t : ℕ) → c q t ≡ d q t → with_sector c p s sector q t ≡ with_sector d p s sector q t
+put_same c d p s sector q t same = elim (cases_Bool (eqb p q && eqb s t)) [ inl here ↦ rw here refl | inr elsewhere ↦ rw elsewhere same ]
+
+pub put_left : (c d : Chart) (p s : ℕ) (sector : Sector) (q t : ℕ) (other : Sector) → (c q t ≡ Some other → d q t ≡ Some other) → with_sector c p s sector q t ≡ Some other → with_sector d p s sector q t ≡ Some other
+put_left c d p s sector q t other left there = elim (cases_Bool (eqb p q && eqb s t)) [
+  | inl here ↦ rw here (rw here at there)
+  | inr elsewhere ↦ rw elsewhere (left (rw elsewhere at there))
+]
+
+-- a sector is programmed at a place that isn't worn, and the layout then has all units and the status where they were
+module _ (places : ℕ) (h : History) (it : Layout) (laid : Laid places (now h) it) (p s : ℕ) (bytes : List ℕ) (sector : Sector) (spelled : sector_in bytes ≡ Some sector)
+    (lasting : is_worn h.story p ≡ false) (worn : WornAreIdle places h.story (now h)) (jt : Layout) (then : Laid places (with_sector (now h) p s sector) jt) (status : jt.status ≡ it.status)
+    (units : (u : ℕ) → u < places - 4 → ((jt.units u).home ≡ (it.units u).home) × ((jt.units u).head ≡ (it.units u).head)) where
+  not_here : (q : ℕ) → is_worn h.story q ≡ true → q ≢ p
+  not_here q on at = let off = rw (← at) at lasting in cc (on, off)
+
+  worn_then : WornAreIdle places h.story (with_sector (now h) p s sector)
+  worn_then kt other q on =
+      idle_once places (with_sector (now h) p s sector) jt kt then other q
+      (idle_still places (now h) (with_sector (now h) p s sector) it jt q (λ n. away (now h) p s sector q n (not_here q on)) status units (worn it laid q on))
+
+  programmed_worn : WornAreIdle places (Program p s bytes ∷ h.story) (now (adds (Program p s bytes) h))
+  programmed_worn = rw (held_program sector_in h.start h.story p s bytes sector spelled) worn_then
+
+-- what holds of whole images of a program holds of all
+by_whole : (places : ℕ) (m : Map) (h : History) (p s : ℕ) (bytes : List ℕ) (sector : Sector) → sector_in bytes ≡ Some sector → (quiet : IsQuiet h.start (Program p s bytes ∷ h.story))
+    → (jt : Layout) → Laid places (with_sector (now h) p s sector) jt → WornAreIdle places (Program p s bytes ∷ h.story) (now (adds (Program p s bytes) h))
+    → EachWholeMeans sector_in (λ c. Stands places c m) h.start (Program p s bytes ∷ h.story) → EachStands places m (adds (Program p s bytes) h)
+by_whole places m h p s bytes sector spelled quiet jt then worn all =
+    let laid : Laid places (now (adds (Program p s bytes) h)) jt = rw (held_program sector_in h.start h.story p s bytes sector spelled) then in
+    each_by_whole sector_in blank_says_nothing h.start (Program p s bytes ∷ h.story) quiet (λ c. Stands places c m)
+    (loses_keep places m (adds (Program p s bytes) h) quiet (is_worn h.story) jt laid (worn jt laid)) all
+
 pub log_sectors_keep : LogSectorsKeep
-log_sectors_keep places m h it u p s bytes sector records rests untouched spelled laid may = record {
-  quiet = (no_header places (now h) it u p s sector records may, untouched.0, untouched.1, rests.quiet);
-  each = program_keeps sector_in blank_says_nothing h.start h.story rests.quiet p s bytes sector untouched.1 untouched.0 spelled (λ c. Stands places c m)
-      (λ c part headers stands.
-      let whole : IsPart c (now h) = record { each = part; headers = headers } in
-      let may_too = may_log_there places c (now h) whole stands.layout it stands.laid laid u p s sector records may in
-      stands_by places m c (with_sector c p s sector) stands.layout _ (log_sectors_wait places c stands.layout u p s sector records stands.laid may_too) stands.says)
-      rests.each;
-}
+log_sectors_keep places m h it u p s bytes sector records rests untouched spelled laid may =
+    let quiet : IsQuiet h.start (Program p s bytes ∷ h.story) = (no_header places (now h) it u p s sector records may, untouched.0, untouched.1, rests.quiet) in
+    let new = with_log it u (entry_at p s sector records) in
+    let then : Laid places (with_sector (now h) p s sector) new = (log_sectors_wait places (now h) it u p s sector records laid may).0 in
+    let worn = programmed_worn places h it laid p s bytes sector spelled untouched.2 rests.worn new then refl (same_homes it u (entry_at p s sector records) places) in
+    record {
+      quiet = quiet;
+      each = by_whole places m h p s bytes sector spelled quiet new then worn
+          (program_keeps sector_in blank_says_nothing h.start h.story rests.quiet p s bytes sector untouched.1 untouched.0 spelled (λ c. Stands places c m)
+          (λ c part headers stands.
+          let whole : IsPart c (now h) = record { each = part; headers = headers } in
+          let may_too = may_log_there places c (now h) whole stands.layout it stands.laid laid u p s sector records may in
+          stands_by places m c (with_sector c p s sector) stands.layout _ (log_sectors_wait places c stands.layout u p s sector records stands.laid may_too) stands.says)
+          rests.each);
+      worn = worn;
+    }
 
 pub asides_keep : AsidesKeep
-asides_keep places m h p s bytes sector rests untouched spelled bare other = record {
-  quiet = (other, untouched.0, untouched.1, rests.quiet);
-  each = program_keeps sector_in blank_says_nothing h.start h.story rests.quiet p s bytes sector untouched.1 untouched.0 spelled (λ c. Stands places c m)
-      (λ c part headers stands.
-      let bare_there : c p 0 ≡ None = headers p ∙ bare in
-      let idle = bare_is_idle places c stands.layout p stands.laid bare_there in
-      let nothing = bare_comes_to_nothing places c stands.layout p stands.laid bare_there (with_sector c p s sector) (apart_from c p s sector 0 other bare_there) in
-      stands_by places m c (with_sector c p s sector) stands.layout stands.layout
-      (idle_places_do_not_count places c stands.layout p (with_sector c p s sector) stands.laid idle (λ q t apart. away c p s sector q t apart) nothing) stands.says)
-      rests.each;
-}
+asides_keep places m h p s bytes sector rests untouched spelled bare other =
+    let quiet : IsQuiet h.start (Program p s bytes ∷ h.story) = (other, untouched.0, untouched.1, rests.quiet) in
+    let stands = held_stands places m h rests.each in
+    let aside : (c : Chart) (it : Layout) → Laid places c it → c p 0 ≡ None → Laid places (with_sector c p s sector) it × KeepsPages places c it (with_sector c p s sector) it = λ c it laid bare_there.
+    let idle = bare_is_idle places c it p laid bare_there in
+    let nothing = bare_comes_to_nothing places c it p laid bare_there (with_sector c p s sector) (apart_from c p s sector 0 other bare_there) in
+    idle_places_do_not_count places c it p (with_sector c p s sector) laid idle (λ q t apart. away c p s sector q t apart) nothing in
+    let then = (aside (now h) stands.layout stands.laid bare).0 in
+    let worn = programmed_worn places h stands.layout stands.laid p s bytes sector spelled untouched.2 rests.worn stands.layout then refl (λ u low. (refl, refl)) in
+    record {
+      quiet = quiet;
+      each = by_whole places m h p s bytes sector spelled quiet stands.layout then worn
+          (program_keeps sector_in blank_says_nothing h.start h.story rests.quiet p s bytes sector untouched.1 untouched.0 spelled (λ c. Stands places c m)
+          (λ c part headers stood. stands_by places m c (with_sector c p s sector) stood.layout stood.layout (aside c stood.layout stood.laid (headers p ∙ bare)) stood.says)
+          rests.each);
+      worn = worn;
+    }
 
 pub programs_lead : ProgramsLead
-programs_lead places m n h p s bytes sector rests closed untouched spelled after = (
-  program_leads sector_in blank_says_nothing h.start h.story rests.quiet closed p s bytes sector untouched.0 spelled (λ c. Stands places c m) (λ c. Stands places c n) rests.each after,
-  rw (held_program sector_in h.start h.story p s bytes sector spelled) after,
-)
+programs_lead places m n h p s bytes sector rests closed untouched spelled after worn =
+    let new = with_sector (now h) p s sector in (
+      program_leads sector_in blank_says_nothing h.start h.story rests.quiet closed p s bytes sector untouched.0 spelled (λ c. Stands places c m) (λ c. Stands places c n) rests.each
+          (λ c same left. stands_by places n new (with_sector c p s sector) after.layout after.layout
+          (still_laid places new (with_sector c p s sector) after.layout (is_worn h.story) after.laid (worn after.layout after.laid)
+          (λ q t off. put_same c (now h) p s sector q t (same q t off))
+          (λ q t other on. put_left c (now h) p s sector q t other (left q t other on))) after.says),
+      rw (held_program sector_in h.start h.story p s bytes sector spelled) after,
+      rw (held_program sector_in h.start h.story p s bytes sector spelled) worn,
+    )
 
 pub either_is_kept : EitherIsKept
 either_is_kept places m h each x image = elim (each x image) [ inl is ↦ is | inr is ↦ is ]

@@ -1,7 +1,7 @@
 -- What agreement gives, and what keeps it.
 use Rattle.std.specs.Prelude.{ℕ, ◌≡◌, ◌<◌, ◌≤◌, ◌∷◌, List, Some, Contains}
 use Rattle.ipl_base.specs.declared.limits.TheConstants.{SECTORS}
-use Rattle.chip_trait.specs.declared.event.Event.TheVariants.{Read, Program, Erase, Barrier, Said}
+use Rattle.chip_trait.specs.declared.event.Event.TheVariants.{Read, Program, Erase, Worn, Barrier, Said}
 use Rattle.chip_trait.specs.Story.{Story}
 use Rattle.chip_trait.specs.Lawful.{Clean, age, IsLawful}
 use Rattle.chip_trait.specs.Chart.{with_sector}
@@ -46,6 +46,10 @@ TidyAfterBarriers = (story : Story) (t : Tables) → IsTidy story t → IsTidy (
 abbrev pub TidyAfterErases : Type 0
 TidyAfterErases = (story : Story) (t : Tables) (p : ℕ) → IsTidy story t → ((s : ℕ) → ¬ IsCountedClean t p s) → IsTidy (Erase p ∷ story) t
 
+-- and where such a place is found worn
+abbrev pub TidyAfterWorns : Type 0
+TidyAfterWorns = (story : Story) (t : Tables) (p : ℕ) → IsTidy story t → ((s : ℕ) → ¬ IsCountedClean t p s) → IsTidy (Worn p ∷ story) t
+
 -- after a program the tables agree where they mirror the chart with its sector
 abbrev pub ProgramsAgree : Type 0
 ProgramsAgree =
@@ -69,6 +73,12 @@ abbrev pub SaysAgree : Type 0
 SaysAgree =
     (places : ℕ) (h : History) (it : Layout) (t : Tables) (piece : List ℕ) → Agrees places h it t
     → Agrees places (adds (Said piece) h) it t
+
+-- after an idle place that is no overflow place was found worn, where they agreed
+abbrev pub WornsAgree : Type 0
+WornsAgree =
+    (places : ℕ) (h : History) (it : Layout) (t : Tables) (p : ℕ) → Agrees places h it t
+    → IsIdle places (now h) it p → ¬ Contains (overflow_places t) p → Agrees places (adds (Worn p) h) it t
 
 -- after an erase of an idle place that is no overflow place, where they agreed
 abbrev pub ErasesAgree : Type 0

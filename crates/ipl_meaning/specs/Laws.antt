@@ -1,5 +1,5 @@
 -- Laws of what stands.
-use Rattle.std.specs.Prelude.{ℕ, ◌≡◌, ◌<◌, ◌≤◌, ◌-◌, Some, Bool, List, Contains}
+use Rattle.std.specs.Prelude.{ℕ, ◌≡◌, ◌<◌, ◌≤◌, ◌-◌, Some, Bool, true, List, Contains}
 use Rattle.std.specs.FinMap.{empty}
 use Rattle.ipl_base.specs.declared.limits.TheConstants.{LEAST_PLACES, MOST_PLACES, RESERVED_PLACES}
 use Rattle.chip_trait.specs.Chart.{with_sector}
@@ -13,7 +13,7 @@ use Rattle.ipl_meaning.specs.Allowed.{IsAllowed}
 use Rattle.ipl_meaning.specs.Values.{Values}
 use Rattle.ipl_meaning.specs.Stands.{Shows, Says, Stands}
 use Rattle.ipl_meaning.specs.Formatted.{formatted}
-use Rattle.ipl_meaning.specs.Steps.{SameBut, SameWithin, KeepsPages, with_unit, with_log, with_status, with_committed, entry_at, IsIdle, ComesToNothing, MayLog, MayCommit, MaySeal, IsSameUnit, IsMerged, MaySwitch, KeepsNumbers, MayOpenOverflow}
+use Rattle.ipl_meaning.specs.Steps.{IsPart, SameBut, SameOff, LeftAt, SameWithin, KeepsPages, with_unit, with_log, with_status, with_committed, entry_at, IsIdle, ComesToNothing, MayLog, MayCommit, MaySeal, IsSameUnit, IsMerged, MaySwitch, KeepsNumbers, MayOpenOverflow}
 
 -- a chart stands for one map at most
 abbrev pub StandsOnce : Type 0
@@ -60,6 +60,13 @@ IdlePlacesDoNotCount =
     (places : ℕ) (c : Chart) (it : Layout) (p : ℕ) (y : Chart)
     → Laid places c it → IsIdle places c it p → SameBut p c y → ComesToNothing places y it p
     → Laid places y it × KeepsPages places c it y it
+
+-- at places at which nothing counts a chart may lose some of what another one has there
+abbrev pub LossesDoNotCount : Type 0
+LossesDoNotCount =
+    (places : ℕ) (h c y : Chart) (it jt : Layout) (w : ℕ → Bool)
+    → Laid places h it → Laid places c jt → IsPart c h → ((q : ℕ) → w q ≡ true → IsIdle places h it q) → SameOff w c y → LeftAt w h y
+    → Laid places y jt × KeepsPages places c jt y jt
 
 -- nothing outside the chip counts
 abbrev pub OutsideDoesNotCount : Type 0

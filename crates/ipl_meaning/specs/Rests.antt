@@ -1,13 +1,15 @@
 -- When a chip rests on a map.
 use Rattle.std.specs.Prelude.{ℕ, ◌≡◌, ◌⊎◌, true, Some}
-use Rattle.chip_trait.specs.Story.{held}
-use Rattle.chip_trait.specs.Image.{IsQuiet}
+use Rattle.chip_trait.specs.Story.{Story, held}
+use Rattle.chip_trait.specs.Image.{IsQuiet, is_worn}
 use Rattle.chip_trait.specs.Chart.{EachMeans}
 use Rattle.chip_trait.specs.Told.{History, Told}
 use Rattle.ipl_rules.specs.State.{Map}
 use Rattle.ipl_format.specs.Sector.{sector_in}
 use Rattle.ipl_meaning.specs.Chart.{Chart, chart_of}
+use Rattle.ipl_meaning.specs.Layout.{Layout, Laid}
 use Rattle.ipl_meaning.specs.Stands.{Stands}
+use Rattle.ipl_meaning.specs.Steps.{IsIdle}
 
 -- what a chip with this history holds
 abbrev pub now : History → Chart
@@ -21,11 +23,16 @@ EachStands places m h = EachMeans sector_in (λ c. Stands places c m) h.start h.
 abbrev pub EachStandsEither : ℕ → Map → Map → History → Type 0
 EachStandsEither places m n h = EachMeans sector_in (λ c. Stands places c m ⊎ Stands places c n) h.start h.story
 
--- the story rests on the map: whatever a power cut leaves, but by chance, stands for it, and since the last barrier only
--- blank sectors were programmed, each once, and no header
+-- nothing that counts stands at a place that the story found worn
+abbrev pub WornAreIdle : ℕ → Story → Chart → Type 0
+WornAreIdle places story c = (it : Layout) → Laid places c it → (p : ℕ) → is_worn story p ≡ true → IsIdle places c it p
+
+-- the story rests on the map: whatever a power cut leaves, but by chance, stands for it; since the last barrier only
+-- blank sectors were programmed, each once, and no header; and worn places are idle
 pub record StoryRests (places : ℕ) (m : Map) (h : History) : Type 0 where
   pub quiet : IsQuiet h.start h.story
   pub each : EachStands places m h
+  pub worn : WornAreIdle places h.story (now h)
 
 -- the chip rests on the map: no write has failed, and its story rests on it
 pub record Rests (m : Map) (t : Told) : Type 0 where

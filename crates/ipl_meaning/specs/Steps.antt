@@ -1,5 +1,5 @@
 -- The steps from one chart to the next, and when each may be taken.
-use Rattle.std.specs.Prelude.{ℕ, ◌≡◌, ◌≢◌, ◌⊎◌, ◌<◌, ◌≤◌, ◌-◌, Bool, false, Some, None, All, Contains, IsTrue, List, [], ◌∷◌, ◌++◌, length, if◌then◌else◌, ◌==◌}
+use Rattle.std.specs.Prelude.{ℕ, ◌≡◌, ◌≢◌, ◌⊎◌, ◌<◌, ◌≤◌, ◌-◌, Bool, true, false, Some, None, All, Contains, IsTrue, List, [], ◌∷◌, ◌++◌, length, if◌then◌else◌, ◌==◌}
 use Rattle.ipl_base.specs.declared.limits.TheConstants.{SECTORS, RESERVED_PLACES, PAGES, SLOTS, FIRST_LOG_SECTOR, OVERFLOW_PLACES, OVERFLOW_SECTORS}
 use Rattle.chip_trait.specs.Chart.{IsPartOf}
 use Rattle.ipl_format.specs.Sector.{Sector}
@@ -17,6 +17,14 @@ use Rattle.ipl_meaning.specs.Stands.{Shows}
 -- two charts that may differ at this place alone
 abbrev pub SameBut : ℕ → Chart → Chart → Type 0
 SameBut p c y = (q s : ℕ) → q ≢ p → y q s ≡ c q s
+
+-- two charts that may differ at these places alone
+abbrev pub SameOff : (ℕ → Bool) → Chart → Chart → Type 0
+SameOff w c y = (q s : ℕ) → w q ≡ false → y q s ≡ c q s
+
+-- what the one says at these places the other says
+abbrev pub LeftAt : (ℕ → Bool) → Chart → Chart → Type 0
+LeftAt w h y = (q s : ℕ) (sector : Sector) → w q ≡ true → y q s ≡ Some sector → h q s ≡ Some sector
 
 -- two charts that are the same within the chip
 abbrev pub SameWithin : ℕ → Chart → Chart → Type 0

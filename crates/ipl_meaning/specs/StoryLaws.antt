@@ -1,27 +1,28 @@
 -- From bytes to charts: what each call makes of all that a power cut may leave.
-use Rattle.std.specs.Prelude.{ℕ, ◌≡◌, ◌≢◌, ◌<◌, List, Some, None, false}
-use Rattle.chip_trait.specs.declared.event.Event.TheVariants.{Read, Program, Erase, Barrier, Said}
-use Rattle.chip_trait.specs.Story.{Contents, blank, held}
-use Rattle.chip_trait.specs.Image.{is_open, IsNoChanceImage, IsQuiet, IsClosed}
+use Rattle.std.specs.Prelude.{ℕ, ◌≡◌, ◌≢◌, ◌<◌, ◌∷◌, List, Bool, Some, None, true, false}
+use Rattle.chip_trait.specs.declared.event.Event.TheVariants.{Read, Program, Erase, Worn, Barrier, Said}
+use Rattle.chip_trait.specs.Story.{Story, Contents, blank, held}
+use Rattle.chip_trait.specs.Image.{is_open, is_worn, IsNoChanceImage, IsQuiet, IsClosed, IsWhole}
 use Rattle.chip_trait.specs.Chart.{with_sector, says}
 use Rattle.chip_trait.specs.Told.{History, Told, adds}
 use Rattle.ipl_rules.specs.State.{Map}
 use Rattle.ipl_format.specs.Sector.{Sector, sector_in}
 use Rattle.ipl_format.specs.Record.{Record}
-use Rattle.ipl_meaning.specs.Chart.{chart_of}
-use Rattle.ipl_meaning.specs.Layout.{Layout, Laid}
+use Rattle.ipl_meaning.specs.Chart.{Chart, chart_of}
+use Rattle.ipl_meaning.specs.Layout.{Shape, Layout, Laid}
 use Rattle.ipl_meaning.specs.Stands.{Stands}
-use Rattle.ipl_meaning.specs.Rests.{now, EachStands, EachStandsEither, StoryRests, Rests}
-use Rattle.ipl_meaning.specs.Steps.{IsPart, IsIdle, MayLog}
+use Rattle.ipl_meaning.specs.Rests.{now, EachStands, EachStandsEither, WornAreIdle, StoryRests, Rests}
+use Rattle.ipl_meaning.specs.Steps.{IsPart, IsIdle, MayLog, MayCommit, MaySeal, with_committed, with_unit, with_status}
 
--- the sector is blank, and was neither programmed nor erased since the last barrier
+-- the sector is blank, and was neither programmed nor erased since the last barrier, and its place isn't worn
 abbrev pub IsUntouched : History → ℕ → ℕ → Type 0
-IsUntouched h p s = (held h.start h.story p s ≡ blank) × (is_open h.story p s ≡ false)
+IsUntouched h p s = (held h.start h.story p s ≡ blank) × (is_open h.story p s ≡ false) × (is_worn h.story p ≡ false)
 
--- in a quiet story, what a power cut leaves is a part of what is held, with the same headers
+-- in a quiet story, what a power cut leaves is a part of what is held, with the same headers where nothing is lost at worn
+-- places
 abbrev pub QuietImagesAreParts : Type 0
 QuietImagesAreParts = (h : History) (x : Contents) → IsQuiet h.start h.story
-    → IsNoChanceImage (says sector_in) h.start h.story x → IsPart (chart_of x) (now h)
+    → IsNoChanceImage (says sector_in) h.start h.story x → IsWhole h.start h.story x → IsPart (chart_of x) (now h)
 
 -- what is held stands for what all images stand for
 abbrev pub HeldStands : Type 0
@@ -35,13 +36,13 @@ RestsOnce = (places : ℕ) (m n : Map) (h : History) → StoryRests places m h �
 abbrev pub ChipsRestOnce : Type 0
 ChipsRestOnce = (m n : Map) (t : Told) → Rests m t → Rests n t → m ≡ n
 
--- where nothing is open, the story rests on what the held chart stands for
+-- where nothing is open and worn places are idle, the story rests on what the held chart stands for
 abbrev pub ClosedRests : Type 0
-ClosedRests = (places : ℕ) (m : Map) (h : History) → IsClosed h.story → Stands places (now h) m → StoryRests places m h
+ClosedRests = (places : ℕ) (m : Map) (h : History) → IsClosed h.story → Stands places (now h) m → WornAreIdle places h.story (now h) → StoryRests places m h
 
 -- so it does after a barrier
 abbrev pub BarriersRest : Type 0
-BarriersRest = (places : ℕ) (m : Map) (h : History) → Stands places (now h) m → StoryRests places m (adds Barrier h)
+BarriersRest = (places : ℕ) (m : Map) (h : History) → Stands places (now h) m → WornAreIdle places h.story (now h) → StoryRests places m (adds Barrier h)
 
 -- and at the moment of a barrier there is nothing new
 abbrev pub BarriersKeepEither : Type 0
@@ -56,12 +57,17 @@ ReadsKeep = (places : ℕ) (m : Map) (h : History) (p s : ℕ) → StoryRests pl
 abbrev pub SaysKeep : Type 0
 SaysKeep = (places : ℕ) (m : Map) (h : History) (piece : List ℕ) → StoryRests places m h → StoryRests places m (adds (Said piece) h)
 
+-- nor an idle place that is found worn
+abbrev pub WornsKeep : Type 0
+WornsKeep = (places : ℕ) (m : Map) (h : History) (it : Layout) (p : ℕ) → StoryRests places m h
+    → Laid places (now h) it → IsIdle places (now h) it p → StoryRests places m (adds (Worn p) h)
+
 -- an erase of an idle place changes no meaning
 abbrev pub ErasesKeep : Type 0
 ErasesKeep =
     (places : ℕ) (m : Map) (h : History) (it : Layout) (p : ℕ) → StoryRests places m h
     → Laid places (now h) it → p < places → IsIdle places (now h) it p
-    → EachStands places m (adds (Erase p) h)
+    → EachStands places m (adds (Erase p) h) × WornAreIdle places (Erase p ∷ h.story) (now (adds (Erase p) h))
 
 -- a program of a log sector that may join its unit's
 abbrev pub LogSectorsKeep : Type 0
@@ -85,9 +91,41 @@ abbrev pub ProgramsLead : Type 0
 ProgramsLead =
     (places : ℕ) (m n : Map) (h : History) (p s : ℕ) (bytes : List ℕ) (sector : Sector)
     → StoryRests places m h → IsClosed h.story → IsUntouched h p s → sector_in bytes ≡ Some sector
-    → Stands places (with_sector (now h) p s sector) n
+    → Stands places (with_sector (now h) p s sector) n → WornAreIdle places h.story (with_sector (now h) p s sector)
     → EachStandsEither places m n (adds (Program p s bytes) h) × Stands places (now (adds (Program p s bytes) h)) n
+    × WornAreIdle places (Program p s bytes ∷ h.story) (now (adds (Program p s bytes) h))
 
 -- where both are one, it is kept
 abbrev pub EitherIsKept : Type 0
 EitherIsKept = (places : ℕ) (m : Map) (h : History) → EachStandsEither places m m h → EachStands places m h
+
+-- ---- idle places, as units and the status move
+
+-- where worn places are idle in one layout of a chart, they are idle
+abbrev pub WornByLayout : Type 0
+WornByLayout = (places : ℕ) (story : Story) (c : Chart) (it : Layout) → Laid places c it → ((p : ℕ) → is_worn story p ≡ true → IsIdle places c it p)
+    → WornAreIdle places story c
+
+-- an idle place stays so with a commit sector
+abbrev pub IdleAfterCommits : Type 0
+IdleAfterCommits =
+    (places : ℕ) (c : Chart) (it : Layout) (s : ℕ) (sector : Sector) (numbers : List ℕ) (committed : ℕ → Bool) (q : ℕ)
+    → MayCommit c it s sector numbers committed → IsIdle places c it q → IsIdle places (with_sector c it.status s sector) (with_committed it committed) q
+
+-- with a data header at another place
+abbrev pub IdleAfterHeaders : Type 0
+IdleAfterHeaders =
+    (places : ℕ) (c : Chart) (it : Layout) (u p : ℕ) (fresh : Shape) (q : ℕ) → MaySeal places c it u p fresh → q ≢ p → IsIdle places c it q
+    → IsIdle places (with_sector c p 0 fresh.head) (with_unit it u fresh) q
+
+-- with a status header at another place
+abbrev pub IdleAfterRenewals : Type 0
+IdleAfterRenewals =
+    (places : ℕ) (c : Chart) (it : Layout) (p : ℕ) (head : Sector) (committed : ℕ → Bool) (q : ℕ) → q ≢ p → IsIdle places c it q
+    → IsIdle places (with_sector c p 0 head) (with_status it p head committed) q
+
+-- and with an overflow header at another place
+abbrev pub IdleAfterOverflows : Type 0
+IdleAfterOverflows =
+    (places : ℕ) (c : Chart) (it : Layout) (p : ℕ) (head : Sector) (q : ℕ) → q ≢ p → IsIdle places c it q
+    → IsIdle places (with_sector c p 0 head) it q

@@ -1,13 +1,13 @@
 //! The laws of what the sectors of a chip mean.
-ghost use Rattle.ipl_meaning.specs.Laws.{StandsOnce, LaidOnce, AllowedSectorsSuffice, KeptPagesKeepTheMap, IdlePlacesDoNotCount, OutsideDoesNotCount, LogSectorsWait, CommitSectorsAdd, HeadersSwitch, MergesKeepPages, SameUnitsKeepPages, StatusHeadersSwitch, KeptNumbersKeepPages, OverflowHeadersWait, FormattedChipsAreEmpty};
+ghost use Rattle.ipl_meaning.specs.Laws.{StandsOnce, LaidOnce, AllowedSectorsSuffice, KeptPagesKeepTheMap, IdlePlacesDoNotCount, LossesDoNotCount, OutsideDoesNotCount, LogSectorsWait, CommitSectorsAdd, HeadersSwitch, MergesKeepPages, SameUnitsKeepPages, StatusHeadersSwitch, KeptNumbersKeepPages, OverflowHeadersWait, FormattedChipsAreEmpty};
 ghost use Rattle.ipl_meaning.specs.StandingLaws.{StandsAfterIdle, StandsAfterLogs, StandsAfterCommits, StandsAfterHeaders, StandsAfterMerges, StandsAfterRenewals, StandsAfterOverflows};
-ghost use Rattle.ipl_meaning.specs.StoryLaws.{QuietImagesAreParts, HeldStands, RestsOnce, ChipsRestOnce, ClosedRests, BarriersRest, BarriersKeepEither, ReadsKeep, SaysKeep, ErasesKeep, LogSectorsKeep, AsidesKeep, ProgramsLead, EitherIsKept};
+ghost use Rattle.ipl_meaning.specs.StoryLaws.{QuietImagesAreParts, HeldStands, RestsOnce, ChipsRestOnce, ClosedRests, BarriersRest, BarriersKeepEither, ReadsKeep, SaysKeep, WornsKeep, ErasesKeep, LogSectorsKeep, AsidesKeep, ProgramsLead, EitherIsKept, WornByLayout, IdleAfterCommits, IdleAfterHeaders, IdleAfterRenewals, IdleAfterOverflows};
 ghost use Rattle.ipl_meaning.specs.RecordLaws.{TheLastGivesTheValue, MergesCarryTheLast, CommitsApplyTheLast, PacksAreTheList, PacksFit, FewAreCarried, TextsHaveSizes, ShortValuesHaveRoom};
 ghost use Rattle.ipl_meaning.specs.CounterLaws.{NewGenerationsWakeNothing, NewSerialsAreGreatest, NewNumbersWait, LogSectorsKeepTheCounter, CommitSectorsKeepTheCounter, HeadersKeepTheCounter, BarePlacesKeepTheCounter};
 ghost use Rattle.ipl_meaning.specs.TableLaws.{FreePlacesAreIdle, LogSectorsMayGoHome, LogSectorsMayGoElsewhere, CommitSectorsMayGo, HeadersMayGo, StatusHeadersMayGo, OverflowHeadersMayGo, FirstTablesMirror};
 ghost use Rattle.ipl_meaning.specs.FollowingLaws.{TablesFollowHomeLogs, TablesFollowOverflowLogs, TablesFollowCommits, CountedFollow};
 ghost use Rattle.ipl_meaning.specs.MovingLaws.{TablesFollowIdlePlaces, PlacesMayBeTaken, TablesFollowMerges, TablesFollowRenewals, TablesFollowOverflows, CountedFollowMerges, CountedFollowRenewals, CountedFollowOverflows};
-ghost use Rattle.ipl_meaning.specs.AgreeingLaws.{CountedAreUntouched, CountedMayBeProgrammed, TidyAfterPrograms, TidyAfterMoves, TidyAfterBarriers, TidyAfterErases, ProgramsAgree, BarriersAgree, ReadsAgree, SaysAgree, ErasesAgree};
+ghost use Rattle.ipl_meaning.specs.AgreeingLaws.{CountedAreUntouched, CountedMayBeProgrammed, TidyAfterPrograms, TidyAfterMoves, TidyAfterBarriers, TidyAfterErases, TidyAfterWorns, ProgramsAgree, BarriersAgree, ReadsAgree, SaysAgree, ErasesAgree, WornsAgree};
 
 /// A chart is laid out in one way and stands for one map at most; what keeps its pages keeps the map; a page is rebuilt from
 /// the allowed sectors alone.
@@ -34,6 +34,7 @@ pub fn story_laws()
     ensures barriers { BarriersKeepEither }
     ensures reads { ReadsKeep }
     ensures says { SaysKeep }
+    ensures worns { WornsKeep }
     ensures erases { ErasesKeep }
     ensures log_sectors { LogSectorsKeep }
     ensures asides { AsidesKeep }
@@ -41,9 +42,19 @@ pub fn story_laws()
     ensures either { EitherIsKept }
 {}
 
+/// An idle place stays so, as units and the status move, so that worn places are idle.
+pub fn worn_laws()
+    ensures layout { WornByLayout }
+    ensures commits { IdleAfterCommits }
+    ensures headers { IdleAfterHeaders }
+    ensures renewals { IdleAfterRenewals }
+    ensures overflows { IdleAfterOverflows }
+{}
+
 /// What does not count may change.
 pub fn idle_laws()
     ensures idle { IdlePlacesDoNotCount }
+    ensures losses { LossesDoNotCount }
     ensures outside { OutsideDoesNotCount }
 {}
 
@@ -145,6 +156,7 @@ pub fn clean_laws()
     ensures moves { TidyAfterMoves }
     ensures barriers { TidyAfterBarriers }
     ensures erases { TidyAfterErases }
+    ensures worns { TidyAfterWorns }
 {}
 
 /// The tables agree with the chip after each call, where they mirror its chart.
@@ -154,4 +166,5 @@ pub fn agreeing_laws()
     ensures reads { ReadsAgree }
     ensures says { SaysAgree }
     ensures erases { ErasesAgree }
+    ensures worns { WornsAgree }
 {}

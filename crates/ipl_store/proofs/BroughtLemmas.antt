@@ -101,7 +101,7 @@ then_tells : (old mid : Transactions) (before between : Told) (n : ℕ)
     → TellsFaultsFor mid done between last → TellsFaultsFor old done before last
 then_tells old mid before between n did same (Ok v) last alike tells x told layout state fits = tt
 then_tells old mid before between n did same (Err e) last alike tells x told layout state fits =
-    λ read stopped.
+    λ fine.
     let after = memory_of (tables_in mid.pages) (frames_in mid.pages) old.sessions in
     let (y, now, had) = (did.keeps old.sessions).fits before.places refl tt x told in
     let on = had layout state fits in
@@ -111,7 +111,7 @@ then_tells old mid before between n did same (Err e) last alike tells x told lay
     (subst (λ (k : ℕ). MemoryFits k (chart_of y) on.layout (memory_in mid) state) (sym sized)
     (subst (λ (slots : Slots). MemoryFits before.places (chart_of y) on.layout
     (memory_of (tables_in mid.pages) (frames_in mid.pages) slots) state) (sym same) on.fits))
-    read stopped) in
+    fine) in
     record {
       unit = is.unit;
       page = is.page;

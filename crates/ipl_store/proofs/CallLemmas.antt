@@ -36,7 +36,7 @@ use Rattle.transactions.specs.declared.transactions.Transactions.{Transactions}
 use Rattle.transactions.specs.Turns.{memory_in, CompletesFor, IsInOrder, TellsFaultsFor, Turns, TurnsInMemory}
 use Rattle.transactions.proofs.TurnLemmas.{completes_for, tells_for}
 use Rattle.ipl_store.specs.declared.store.Store.{Store}
-use Rattle.ipl_store.specs.Calls.{memory_of_store, view_of, counter_of, IsMade, IsSound, early_fault, entry_fault, down_fault, is_stopped, EndsAs, IsOfTheChip, EndsFor, KeepsHolds, Calls}
+use Rattle.ipl_store.specs.Calls.{memory_of_store, view_of, counter_of, IsMade, IsSound, early_fault, entry_fault, down_fault, puts_down, EndsAs, IsOfTheChip, EndsFor, KeepsHolds, Calls}
 use Rattle.ipl_store.specs.Shown.{IsUsedLastIn}
 
 -- ---- before anything is done
@@ -183,7 +183,7 @@ ends_for (Err e) was result new before after up cause ends =
       e,
       refl,
       cause,
-      ends.1 ∙ ap (λ (b : Bool). is_stopped e || b) up ∙ not_down (is_stopped e),
+      ends.1 ∙ ap (λ (b : Bool). puts_down e || b) up ∙ not_down (puts_down e),
     )
 
 -- a call hands its work's fault on, which is one of the chip
@@ -193,10 +193,8 @@ failed_so : (done : Result (Unit {0}) ChipFault) (was is : Bool)
 failed_so (Ok v) was is result ends alone =
     subst (λ (r : Result (Unit {0}) StoreFault). IfErr r IsOfTheChip) (sym ends.0) tt
 failed_so (Err e) was is result ends alone =
-    subst (λ (r : Result (Unit {0}) StoreFault). IfErr r IsOfTheChip) (sym ends.0) (elim alone [
-      | inl read ↦ inl (ap Chip read)
-      | inr stopped ↦ inr (ap Chip stopped)
-    ])
+    subst (λ (r : Result (Unit {0}) StoreFault). IfErr r IsOfTheChip) (sym ends.0)
+    (e, refl, alone)
 
 -- or that of a page
 blamed_so : (places : ℕ) (x : Contents) (it : Layout) (done : Result (Unit {0}) ChipFault)

@@ -1,10 +1,11 @@
 -- What a contract sees of a store, and what each of its calls leaves.
-use Rattle.std.specs.Prelude.{ℕ, ◌≡◌, ◌⊎◌, ◌≤◌, ◌+◌, ◌-◌, ◌||◌, ◌&&◌, nat_le, nat_lt, Bool, not, true, false, ◌∷◌, [], length, Option, Some, None, Result, Ok, Err, MatchResult, IfErr, if◌then◌else◌}
+use Rattle.std.specs.Prelude.{ℕ, ◌≡◌, ◌≤◌, ◌+◌, ◌-◌, ◌||◌, ◌&&◌, nat_le, nat_lt, Bool, not, true, false, ◌∷◌, [], length, Option, Some, None, Result, Ok, Err, MatchResult, IfErr, if◌then◌else◌}
 use Rattle.chip_trait.specs.Told.{Told, Counts}
 use Rattle.ipl_base.specs.declared.limits.TheConstants.{RESERVED_PLACES, PAGES}
+use Rattle.ipl_base.specs.Calls.{IsFailedCall}
 use Rattle.ipl_base.specs.Places.{IsGeometry}
 use Rattle.ipl_base.specs.declared.fault.ChipFault.{ChipFault}
-use Rattle.ipl_base.specs.declared.fault.ChipFault.TheVariants.{ReadFault, Stopped, Damaged, Malformed}
+use Rattle.ipl_base.specs.declared.fault.ChipFault.TheVariants.{ReadFault, Stopped, Damaged, Malformed, WornOut}
 use Rattle.ipl_base.specs.declared.fault.Refusal.{Refusal}
 use Rattle.ipl_base.specs.declared.fault.Refusal.TheVariants.{BadUnit, HoldsFull, NotHeld}
 use Rattle.ipl_base.specs.declared.fault.StoreFault.{StoreFault}
@@ -110,29 +111,30 @@ refuses_release units pool u page = first_of (bad_page units u page ∷ not_held
 
 -- ---- calls that do something
 
--- from a failed write on the store is down
-abbrev pub is_stopped : ChipFault → Bool
-is_stopped ReadFault = false
-is_stopped Stopped = true
-is_stopped (Damaged p s stored computed) = false
-is_stopped (Malformed p s) = false
+-- from such a fault on the store is down: a write failed, or no place could be taken
+abbrev pub puts_down : ChipFault → Bool
+puts_down ReadFault = false
+puts_down Stopped = true
+puts_down (Damaged p s stored computed) = false
+puts_down (Malformed p s) = false
+puts_down (WornOut n) = true
 
--- the answer of work on the chip; a fault is handed on, and a failed write leaves the store down
+-- the answer of work on the chip; a fault is handed on, and some leave the store down
 abbrev pub EndsAs : Result (Unit {0}) ChipFault → Bool → Result (Unit {0}) StoreFault → Bool
     → Type 0
 EndsAs (Ok v) was result is = (result ≡ Ok v) × (is ≡ was)
-EndsAs (Err e) was result is = (result ≡ Err (Chip e)) × (is ≡ (is_stopped e || was))
+EndsAs (Err e) was result is = (result ≡ Err (Chip e)) × (is ≡ (puts_down e || was))
 
--- a read or a write of the chip failed
+-- a call of the chip failed
 abbrev pub IsOfTheChip : StoreFault → Type 0
-IsOfTheChip fault = (fault ≡ Chip ReadFault) ⊎ (fault ≡ Chip Stopped)
+IsOfTheChip fault = (e : ChipFault) × (fault ≡ Chip e) × IsFailedCall e
 
 -- done, the store isn't down; else a fault of the chip ended the call, for its cause, and the store
--- is down exactly where a write failed
+-- is down exactly where a write failed or no place could be taken
 abbrev pub EndsFor : {T : Type 0} → Told → Result T StoreFault → Store → Told → Type 0
 EndsFor before result new after = MatchResult result (λ v. new.down ≡ false)
     (λ fault. (e : ChipFault) × (fault ≡ Chip e) × PageCause e before after
-    × (new.down ≡ is_stopped e))
+    × (new.down ≡ puts_down e))
 
 -- Over contents that the memory fits, whatever their pages say, the fault is of a page that didn't
 -- read well or had no room for its values, at the place where its unit is then; or a call of the

@@ -64,7 +64,7 @@ pub record Tries (places : ℕ) (old : Told) (result : Result (Unit {0}) ImageFa
     (new : Told) : Type 0 where
   pub tells : RecoversTold places old result t new
   pub steps : RecoversInSteps places old result t new
-  pub looks : LooksAtFaults places old new
+  pub looks : LooksAtFaults places old result new
   pub complete : CompletesOpening places result old
   pub bytes : ReadsBytes places old result
   pub tidy : Spends (TidyWork IsNowhere (IsCountedClean t) (is_ok result ≡ true)) old new

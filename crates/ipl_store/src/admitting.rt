@@ -2,7 +2,14 @@
 ghost use Rattle.std.specs.Prelude.{◌≡◌, ◌<◌, ◌↔◌, IsTrue};
 ghost use Rattle.std.specs.Result.{result_err};
 ghost use Rattle.store_trait.specs.Keeping.{LAST_NUMBER};
-ghost use Rattle.ipl_store.specs.Calls.{counter_of, down_fault, early_fault, entry_fault, EndsAs};
+ghost use Rattle.ipl_store.specs.Calls.{
+  counter_of,
+  down_fault,
+  early_fault,
+  entry_fault,
+  puts_down,
+  EndsAs,
+};
 
 use crate::Store;
 use ipl_base::{ChipFault, LAST_NUMBER, Refusal, StoreFault};
@@ -44,7 +51,8 @@ impl Store {
         }
     }
 
-    /// The answer of work on the chip. From a failed write on the store is down.
+    /// The answer of work on the chip. Where a write failed, or no place could be taken, the store is
+    /// down from then on.
     pub(crate) fn end(&mut self, done: Result<(), ChipFault>) -> Result<(), StoreFault>
         ensures rest { self.new ≡ record self.old { down = self.new.down } }
         ensures ends { EndsAs done self.old.down result self.new.down }
@@ -52,11 +60,21 @@ impl Store {
         match done {
             Ok(()) => Ok(()),
             Err(fault) => {
-                if fault == ChipFault::Stopped {
+                if puts_down(&fault) {
                     self.down = true;
                 }
                 Err(StoreFault::Chip(fault))
             }
         }
+    }
+}
+
+/// Whether a store is down after such a fault: a write failed, or no place could be taken.
+fn puts_down(fault: &ChipFault) -> bool
+    ensures { result ≡ puts_down fault.now }
+{
+    match fault {
+        ChipFault::Stopped | ChipFault::WornOut(_) => true,
+        ChipFault::ReadFault | ChipFault::Damaged { .. } | ChipFault::Malformed { .. } => false,
     }
 }

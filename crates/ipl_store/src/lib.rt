@@ -12,8 +12,8 @@
 //! in a frame, exactly where the page has no room for it in each state that memory and contents
 //! show, and the state is as it was then. Else a call leads from each state for which memory and
 //! chip stand to the model's next one, or leaves it where it fails, and the store is down exactly
-//! where a write failed; over a chip that tells what it holds, where memory and contents show a
-//! state, it fails only where a call of the chip failed. A get lends what the session sees, and asks
+//! where a write failed or no place could be taken; over a chip that tells what it holds, where
+//! memory and contents show a state, it fails only where a call of the chip failed. A get lends what the session sees, and asks
 //! the chip nothing where the page is in a frame. A begin draws one number. A commit, or a batch,
 //! which commits several sessions together, makes all their writes last and closes them; a power cut
 //! in it leaves the writes of all its sessions or of none. A batch costs one commit sector, as a

@@ -17,7 +17,8 @@ pub struct Store {
     pub(crate) units: u32,
     // So many pages may be in frames.
     pub(crate) frames: u32,
-    // A write failed or the chip wasn't opened again: nothing is done until it is.
+    // A write failed, no place could be taken, or the chip wasn't opened again: nothing is done until
+    // it is.
     pub(crate) down: bool,
 }
 

@@ -16,7 +16,7 @@ pub(crate) const FORMAT: usize = 9;
 /// What a list says of no record, of the first run's and of the second's besides.
 pub(crate) const NO_RECORD: &[u8] = b"end\n";
 
-const ONE_RECORD: &[u8] = b"5 6869\nend\n";
+pub(crate) const ONE_RECORD: &[u8] = b"5 6869\nend\n";
 
 const TWO_RECORDS: &[u8] = b"5 6869\n6 61\nend\n";
 
@@ -45,10 +45,23 @@ fn choice(left: Left, number: usize, bytes: &[u8; 512]) -> Choice {
     }
 }
 
-/// What is left of the sectors that are open after the first `at` events. Of an erased place the first
-/// sectors are named.
+/// Picks what is left of the first sectors of a place that the event of this number was to erase.
+fn pick_place(picks: &mut Vec<Pick>, place: u32, number: usize, left: Left) -> Result<(), Fail> {
+    for sector in 0..3 {
+        picks.push(Pick {
+            place,
+            sector,
+            choice: choice(left, number, &[0x5a; 512]),
+        })?;
+    }
+    Ok(())
+}
+
+/// What is left of the sectors that are open after the first `at` events, and of those of worn places.
+/// Of an erased place the first sectors are named, and of a worn one.
 fn picks(alloc: Global, events: &[Event], at: usize, left: Left) -> Result<Vec<Pick>, Fail> {
     let mut picks = Vec::new(alloc);
+    let mut worn = Vec::new(alloc);
     for (number, event) in events.iter().enumerate() {
         if number >= at {
             break;
@@ -60,17 +73,14 @@ fn picks(alloc: Global, events: &[Event], at: usize, left: Left) -> Result<Vec<P
                 sector: *sector,
                 choice: choice(left, number, bytes),
             })?,
-            Event::Erase(place) => {
-                for sector in 0..3 {
-                    picks.push(Pick {
-                        place: *place,
-                        sector,
-                        choice: choice(left, number, &[0x5a; 512]),
-                    })?;
-                }
-            }
+            Event::Erase(place) => pick_place(&mut picks, *place, number, left)?,
+            // What stands there isn't sure to last, and no barrier mends it.
+            Event::Worn(place) => pick_place(&mut worn, *place, number, left)?,
             Event::Read(_, _) | Event::Said(_) => {}
         }
+    }
+    for pick in &worn {
+        picks.push(*pick)?;
     }
     Ok(picks)
 }

@@ -1,6 +1,6 @@
-//! Tests of the program over desks in memory: what it says and notes, what power cuts and faults of the
-//! chip leave, what is opened of changed chips and of one of version 1, trials and serial views. They
-//! stand in a crate of their own so that the crates below are proved once.
+//! Tests of the program over desks in memory: what it says and notes, what power cuts, faults of the chip
+//! and worn places leave, what is opened of changed chips and of one of version 1, trials and serial
+//! views. They stand in a crate of their own so that the crates below are proved once.
 #![tactic(auto)]
 
 #[cfg(test)]
@@ -19,3 +19,5 @@ mod trials;
 mod versions;
 #[cfg(test)]
 mod views;
+#[cfg(test)]
+mod wear;

@@ -1,6 +1,6 @@
 //! Images of a small story, calls that are to fail, and chips that are altered.
 use chip_mem::{Choice, MemChip, Pick, PlainChip};
-use chip_trait::Chip;
+use chip_trait::{Chip, Wear};
 use ipl_base::OutOfMemory;
 use std::alloc::Global;
 use std::process::Abort;
@@ -14,7 +14,7 @@ fn programs<C: Chip>(rt: &impl Abort, chip: &mut C, place: u32, sector: u32, byt
 
 fn erases<C: Chip>(rt: &impl Abort, chip: &mut C, place: u32) -> bool {
     assert!(rt; place < chip.units());
-    chip.erase(place).is_ok()
+    matches!(chip.erase(place), Ok(Wear::Done))
 }
 
 /// The first and the last byte of a sector, where it can be read.
@@ -181,6 +181,36 @@ fn a_call_that_fails_does_nothing(rt: HostRuntime) -> Result<(), Fail> {
         (Ask::Read, false),
     ];
     asks(&rt, alloc, &mut full, &calls, 2, 1)
+}
+
+/// What an image leaves of the first sector of place 1, where that is picked to hold sevens.
+fn picked(rt: &impl Abort, alloc: Global, chip: &MemChip) -> Result<Option<(u8, u8)>, Fail> {
+    let mut image = chip.image(alloc, u64::MAX, &[pick(any(7))])?;
+    Ok(ends(rt, &mut image, 1, 0))
+}
+
+/// A place that is found worn holds what it held, but a cut may leave anything there, until it is erased and a barrier
+/// comes after.
+#[test]
+fn a_worn_place_is_not_sure_to_last(rt: HostRuntime) -> Result<(), Fail> {
+    let alloc = rt.alloc();
+    let mut chip = MemChip::new(alloc, 2, 20)?;
+    assert!(rt; programs(&rt, &mut chip, 1, 0, 9));
+    assert!(rt; chip.barrier().is_ok());
+    assert_eq!(rt; picked(&rt, alloc, &chip)?, Some((9, 9)));
+    chip.wear_out([1].to_vec(alloc)?);
+    assert!(rt; 1 < chip.units());
+    assert!(rt; matches!(chip.erase(1), Ok(Wear::Worn)));
+    assert!(rt; chip.barrier().is_ok());
+    assert!(rt; erases(&rt, &mut chip, 0));
+    assert_eq!(rt; ends(&rt, &mut chip, 1, 0), Some((9, 9)));
+    assert_eq!(rt; picked(&rt, alloc, &chip)?, Some((7, 7)));
+    chip.wear_out(Vec::new(alloc));
+    assert!(rt; erases(&rt, &mut chip, 1));
+    assert_eq!(rt; picked(&rt, alloc, &chip)?, Some((7, 7)));
+    assert!(rt; chip.barrier().is_ok());
+    assert_eq!(rt; picked(&rt, alloc, &chip)?, Some((255, 255)));
+    Ok(())
 }
 
 #[test]

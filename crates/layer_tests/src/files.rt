@@ -1,6 +1,6 @@
 //! A chip in a real file, what is refused as one, and a chip that isn't there.
 use chip_image::{AttachFault, FileChip, NoChip};
-use chip_trait::Chip;
+use chip_trait::{Chip, Wear};
 use std::alloc::Global;
 use std::fs::File;
 use std::io::{Read, Seek, SeekFrom};
@@ -28,7 +28,7 @@ fn programs<C: Chip>(rt: &impl Abort, chip: &mut C, place: u32, sector: u32, byt
 /// Erases a place; whether that went well.
 fn erases<C: Chip>(rt: &impl Abort, chip: &mut C, place: u32) -> bool {
     assert!(rt; place < chip.units());
-    chip.erase(place).is_ok()
+    matches!(chip.erase(place), Ok(Wear::Done))
 }
 
 /// The path of a new folder of this process for a test.

@@ -1,6 +1,7 @@
-//! What a format asks of a small chip, and the bytes of its first header.
+//! What a format asks of a small chip, also of one with a worn place, and the bytes of its first header.
 use chip_mem::MemChip;
 use chip_trait::Event;
+use ipl_base::FormatFault;
 use restart::format;
 use std::test::Fail;
 
@@ -11,6 +12,7 @@ fn named(event: &Event) -> (&'static str, u32) {
         Event::Program(place, 0, _) => ("header", *place),
         Event::Program(place, _, _) => ("program", *place),
         Event::Erase(place) => ("erase", *place),
+        Event::Worn(place) => ("worn", *place),
         Event::Barrier => ("barrier", 0),
         Event::Said(_) => ("said", 0),
     }
@@ -44,5 +46,20 @@ fn five_places_are_erased_and_get_two_headers(rt: HostRuntime) -> Result<(), Fai
     let mut payload = [0; 20];
     payload[3] = 1;
     assert!(rt; &bytes[32..52] == payload.as_slice());
+    Ok(())
+}
+
+#[test]
+fn a_format_ends_at_the_first_worn_place(rt: HostRuntime) -> Result<(), Fail> {
+    let alloc = rt.alloc();
+    let mut chip = MemChip::new(alloc, 5, 20)?;
+    chip.wear_out([4, 2].to_vec(alloc)?);
+    assert_eq!(rt; format(&mut chip), Err(FormatFault::Worn(2)));
+    let events = chip.events();
+    let cases = [("erase", 0), ("erase", 1), ("worn", 2)];
+    assert_eq!(rt; events.len(), cases.len());
+    for (event, case) in events.iter().zip(cases) {
+        assert_eq!(rt; named(event), case);
+    }
     Ok(())
 }

@@ -11,7 +11,8 @@ use Rattle.ipl_base.specs.First.{first_below}
 use Rattle.ipl_base.specs.Sizes.{size_of_values}
 use Rattle.ipl_base.specs.declared.limits.TheConstants.{PAGE_LEN}
 use Rattle.ipl_base.specs.declared.fault.ChipFault.{ChipFault}
-use Rattle.ipl_base.specs.declared.fault.ChipFault.TheVariants.{ReadFault, Stopped, Damaged, Malformed}
+use Rattle.ipl_base.specs.declared.fault.ChipFault.TheVariants.{ReadFault, Stopped, Damaged, Malformed, WornOut}
+use Rattle.ipl_base.specs.Calls.{IsFailedCall}
 use Rattle.ipl_base.proofs.FirstLemmas.{first_alike, first_found, first_none}
 use Rattle.ipl_format.specs.Page.{Slots, value_in}
 use Rattle.ipl_meaning.specs.Chart.{Chart, chart_of}
@@ -23,7 +24,7 @@ use Rattle.ipl_meaning.specs.Tables.{Tables}
 use Rattle.ipl_meaning.specs.Values.{Values, after_records}
 use Rattle.ipl_meaning.proofs.RoomLemmas.{same_sizes}
 use Rattle.unit_io.specs.Faults.{page_fault, text_below, TellsChipFault, HoldsPage}
-use Rattle.unit_io.specs.Leads.{IsStopped}
+use Rattle.unit_io.specs.Leads.{IsStopped, IsNotTaken}
 use Rattle.unit_io.proofs.HeldLemmas.{sound_pages_are_held, held_pages_read_well, spells_text}
 use Rattle.unit_io.proofs.SparesLemmas.{pages_alike, texts_alike}
 use Rattle.page_ops.specs.Rebuilt.{values_of, with_records, full_fault}
@@ -64,9 +65,9 @@ module _ (x y : Contents) (from : Source) (p : ℕ) (apart : from.place ≢ p) (
   pub first_page : (k : ℕ) (e : ChipFault) → k < 15
       → first_below (page_fault_from x from) k ≡ None
       → IsTheFault (page_fault_from y from k) e → IsTheFault (pages_fault x from) e
-  first_page k e low none is = λ read stopped.
+  first_page k e low none is = λ held.
       first_found (page_fault_from x from) k 15 e low none
-      (sym (page_from_alike k) ∙ is read stopped)
+      (sym (page_from_alike k) ∙ is held)
 
 -- ---- pages
 
@@ -76,10 +77,11 @@ pub page_told : (x : Contents) (from : Source) (page count : ℕ) (e : ChipFault
     → TellsChipFault {T = Unit {0}}
     (page_fault x from.place from.version from.unit from.generation page count) (Err e)
     → IsTheFault (page_fault_from x from page) e
-page_told x from page count e is told = λ read stopped.
+page_told x from page count e is told = λ held.
     ap (λ (o : Option ChipFault). option_or o (full_fault from.place (moved_values x from page)))
     (subst (λ (n : ℕ).
-    page_fault x from.place from.version from.unit from.generation page n ≡ Some e) is (told read))
+    page_fault x from.place from.version from.unit from.generation page n ≡ Some e) is
+    (told (λ unread. held (subst IsFailedCall (sym unread) tt))))
 
 -- a page that was read well
 module _ (x : Contents) (from : Source) (page count : ℕ) (base : Slots)
@@ -126,13 +128,24 @@ pub fault_as : (fault : Option ChipFault) (e f : ChipFault) → e ≡ f → IsTh
     → IsTheFault fault e
 fault_as fault e f same is = subst (IsTheFault fault) (sym same) is
 
+-- a call of the chip failed
+pub fault_failed : (fault : Option ChipFault) (e : ChipFault) → IsFailedCall e → IsTheFault fault e
+fault_failed fault e failed = λ held. absurd (held failed)
+
 -- a write failed
 pub fault_stopped : (fault : Option ChipFault) (e : ChipFault) → e ≡ Stopped → IsTheFault fault e
-fault_stopped fault e is = λ read stopped. absurd (stopped is)
+fault_stopped fault e is = fault_failed fault e (subst IsFailedCall (sym is) tt)
 
 -- a read failed
 pub fault_unread : (fault : Option ChipFault) (e : ChipFault) → e ≡ ReadFault → IsTheFault fault e
-fault_unread fault e is = λ read stopped. absurd (read is)
+fault_unread fault e is = fault_failed fault e (subst IsFailedCall (sym is) tt)
+
+-- a place couldn't be taken
+pub fault_not_taken : (fault : Option ChipFault) (e : ChipFault) (old new : Told)
+    → IsNotTaken e old new → IsTheFault fault e
+fault_not_taken fault e old new (inl stopped) = fault_stopped fault e stopped.0
+fault_not_taken fault e old new (inr worn) =
+    fault_failed fault e (subst IsFailedCall (sym worn.0) tt)
 
 -- a call that only writes, where nothing was wrong
 pub tells_written : {T : Type 0} (fault : Option ChipFault) (old new : Told)
@@ -226,9 +239,10 @@ mergeable_by c it t u status may = subst
 pub by_chip_alone : {T : Type 0} (fault : Option ChipFault) (result : Result T ChipFault)
     → fault ≡ None → IfErr result (IsTheFault fault) → FailsByChipAlone result
 by_chip_alone fault (Ok v) none is = tt
-by_chip_alone fault (Err ReadFault) none is = inl refl
-by_chip_alone fault (Err Stopped) none is = inr refl
+by_chip_alone fault (Err ReadFault) none is = tt
+by_chip_alone fault (Err Stopped) none is = tt
 by_chip_alone fault (Err (Damaged p s stored computed)) none is =
-    let clash = sym none ∙ is (λ e. cc e) (λ e. cc e) in cc clash
+    let clash = sym none ∙ is (λ failed. failed) in cc clash
 by_chip_alone fault (Err (Malformed p s)) none is =
-    let clash = sym none ∙ is (λ e. cc e) (λ e. cc e) in cc clash
+    let clash = sym none ∙ is (λ failed. failed) in cc clash
+by_chip_alone fault (Err (WornOut n)) none is = tt

@@ -1,11 +1,12 @@
 -- What is wrong with a unit that is to be merged, and why a merge fails.
-use Rattle.std.specs.Prelude.{ℕ, ◌≡◌, ◌≢◌, ◌⊎◌, ◌<◌, ◌≤◌, nat_le, Bool, slice_index, Option, Some, None, Result, MatchResult, IfErr, if◌then◌else◌}
+use Rattle.std.specs.Prelude.{ℕ, ◌≡◌, ◌<◌, ◌≤◌, nat_le, Bool, slice_index, Option, Some, None, Result, MatchResult, IfErr, if◌then◌else◌}
 use Rattle.std.specs.Option.{option_or}
 use Rattle.ipl_base.specs.declared.limits.TheConstants.{PAGES, CARRIED_SECTORS}
 use Rattle.chip_trait.specs.Story.{Contents}
 use Rattle.ipl_base.specs.First.{first_below}
 use Rattle.ipl_base.specs.declared.fault.ChipFault.{ChipFault}
-use Rattle.ipl_base.specs.declared.fault.ChipFault.TheVariants.{ReadFault, Stopped, Malformed}
+use Rattle.ipl_base.specs.declared.fault.ChipFault.TheVariants.{Malformed}
+use Rattle.ipl_base.specs.Calls.{IsFailedCall}
 use Rattle.ipl_meaning.specs.Chart.{Chart, chart_of}
 use Rattle.ipl_meaning.specs.Last.{carried_count}
 use Rattle.ipl_meaning.specs.Layout.{Shape, Layout}
@@ -62,7 +63,7 @@ pub record IsMergeable (c : Chart) (committed : ℕ → Bool) (t : Tables) (it :
 
 -- the one fault is the other, unless a call of the chip failed
 abbrev pub IsTheFault : Option ChipFault → ChipFault → Type 0
-IsTheFault fault e = e ≢ ReadFault → e ≢ Stopped → fault ≡ Some e
+IsTheFault fault e = ¬ IsFailedCall e → fault ≡ Some e
 
 -- it tells this fault, or that there is none; unless a call of the chip failed
 abbrev pub TellsTheFault : {T : Type 0} → Option ChipFault → Result T ChipFault → Type 0
@@ -70,4 +71,4 @@ TellsTheFault fault result = MatchResult result (λ _. fault ≡ None) (IsTheFau
 
 -- it fails only where a call of the chip failed
 abbrev pub FailsByChipAlone : {T : Type 0} → Result T ChipFault → Type 0
-FailsByChipAlone result = IfErr result (λ e. (e ≡ ReadFault) ⊎ (e ≡ Stopped))
+FailsByChipAlone result = IfErr result IsFailedCall

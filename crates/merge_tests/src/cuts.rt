@@ -24,6 +24,7 @@ enum Left {
 #[derive(Clone, Copy, PartialEq, Eq)]
 enum Write {
     Erase(u32),
+    Worn(u32),
     Program(u32, u32),
     Barrier,
 }
@@ -44,6 +45,7 @@ const MERGE: [Write; 7] = [
 fn write_of(event: &Event) -> Option<Write> {
     match event {
         Event::Erase(place) => Some(Write::Erase(*place)),
+        Event::Worn(place) => Some(Write::Worn(*place)),
         Event::Program(place, sector, _) => Some(Write::Program(*place, *sector)),
         Event::Barrier => Some(Write::Barrier),
         Event::Read(_, _) | Event::Said(_) => None,
@@ -94,7 +96,7 @@ fn add_picks(picks: &mut Vec<Pick>, left: Left, number: usize, event: &Event) ->
                 })?;
             }
         }
-        Event::Read(_, _) | Event::Said(_) => {}
+        Event::Read(_, _) | Event::Worn(_) | Event::Said(_) => {}
     }
     Ok(())
 }

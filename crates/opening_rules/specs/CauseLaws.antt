@@ -1,7 +1,7 @@
 -- What each fault says of a chart.
 use Rattle.std.specs.Prelude.{ℕ, ◌≡◌, ◌⊎◌, ◌<◌, ◌≤◌, ◌-◌, ◌/◌, ◌%◌, ◌^◌, false, true, Some}
 use Rattle.ipl_base.specs.declared.limits.TheConstants.{SECTORS, LEAST_PLACES, MOST_PLACES, RESERVED_PLACES, OVERFLOW_PLACES}
-use Rattle.ipl_base.specs.declared.fault.ChipFault.TheVariants.{ReadFault, Stopped, Damaged, Malformed}
+use Rattle.ipl_base.specs.declared.fault.ChipFault.TheVariants.{ReadFault, Stopped, Damaged, Malformed, WornOut}
 use Rattle.ipl_base.specs.declared.fault.ImageFault.{ImageFault}
 use Rattle.ipl_base.specs.declared.fault.ImageFault.TheVariants.{Geometry, NotFormatted, Missing, Chip, Spent, NoSpare}
 use Rattle.ipl_format.specs.Sector.{Sector}
@@ -60,6 +60,7 @@ IsCaused c places (Chip ReadFault) = ⊥
 IsCaused c places (Chip Stopped) = ⊥
 IsCaused c places (Chip (Damaged p s stored computed)) = ⊥
 IsCaused c places (Chip (Malformed p s)) = IsBadSector c places p s
+IsCaused c places (Chip (WornOut n)) = ⊥
 IsCaused c places Spent = 2 ^ 63 ≤ greatest_found c places
 IsCaused c places (NoSpare k) = (OVERFLOW_PLACES < k) × (k ≡ overflows_found c places)
 

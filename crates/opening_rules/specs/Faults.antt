@@ -2,7 +2,7 @@
 use Rattle.std.specs.Prelude.{ℕ, ◌≡◌, ◌*◌, ◌-◌, ◌/◌, ◌%◌, ◌^◌, nat_lt, nat_le, ◌==◌, ◌&&◌, ◌||◌, not, Bool, true, false, List, [], ◌∷◌, max, Option, Some, None, if◌then◌else◌, Result, MatchResult}
 use Rattle.std.specs.List.{list_any, count_by}
 use Rattle.ipl_base.specs.declared.limits.TheConstants.{SECTORS, LEAST_PLACES, MOST_PLACES, RESERVED_PLACES, OVERFLOW_PLACES, OVERFLOW_SECTORS}
-use Rattle.ipl_base.specs.declared.fault.ChipFault.TheVariants.{ReadFault, Stopped, Damaged, Malformed}
+use Rattle.ipl_base.specs.declared.fault.ChipFault.TheVariants.{ReadFault, Stopped, Damaged, Malformed, WornOut}
 use Rattle.ipl_base.specs.declared.fault.ImageFault.{ImageFault}
 use Rattle.ipl_base.specs.declared.fault.ImageFault.TheVariants.{Geometry, NotFormatted, Missing, Chip, Spent, NoSpare}
 use Rattle.ipl_format.specs.Sector.{Sector}
@@ -199,6 +199,7 @@ is_image (Chip ReadFault) = false
 is_image (Chip Stopped) = false
 is_image (Chip (Damaged p s stored computed)) = false
 is_image (Chip (Malformed p s)) = true
+is_image (Chip (WornOut n)) = false
 is_image Spent = true
 is_image (NoSpare n) = true
 

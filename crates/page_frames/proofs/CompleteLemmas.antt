@@ -1,8 +1,10 @@
 -- Calls over contents that stand for a state fail only where a call of the chip failed.
-use Rattle.std.proofs.Common.{◌≡◌, ◌≤◌, ◌<◌, ◌+◌, ◌-◌, ℕ, Bool, Option, None, Result, Ok, Err, IfErr, refl, sym, subst, arith}
+use Rattle.std.proofs.Common.{◌≡◌, ◌≢◌, ◌≤◌, ◌<◌, ◌+◌, ◌-◌, ℕ, Bool, Option, None, Result, Ok, Err, IfErr, refl, sym, subst, arith}
 use Rattle.chip_trait.specs.Story.{Contents}
 use Rattle.chip_trait.specs.Told.{Told}
+use Rattle.ipl_base.specs.Calls.{IsFailedCall}
 use Rattle.ipl_base.specs.declared.fault.ChipFault.{ChipFault}
+use Rattle.ipl_base.specs.declared.fault.ChipFault.TheVariants.{ReadFault, Stopped}
 use Rattle.ipl_base.specs.declared.limits.TheConstants.{PAGE_LEN}
 use Rattle.ipl_rules.specs.State.{State}
 use Rattle.record_locks.specs.Held.{Slots}
@@ -63,10 +65,17 @@ pub no_load_fault : (x : Contents) (it : Layout) (active : ℕ → Bool) (u page
 no_load_fault x it active u page now shows room =
     (sound_pages_show_values x it active u page).1 (now, shows, room)
 
+-- a fault that doesn't say that a call failed is none of a read, and none of a write
+pub unread : (e : ChipFault) → ¬ IsFailedCall e → e ≢ ReadFault
+unread e fine is = fine (subst IsFailedCall (sym is) tt)
+
+pub unstopped : (e : ChipFault) → ¬ IsFailedCall e → e ≢ Stopped
+unstopped e fine is = fine (subst IsFailedCall (sym is) tt)
+
 fault_told : {T : Type 0} (fault : Option ChipFault) (result : Result T ChipFault)
     → TellsChipFault fault result → IfErr result (IsTheFault fault)
 fault_told fault (Ok v) tells = tt
-fault_told fault (Err e) tells = λ read stopped. tells read
+fault_told fault (Err e) tells = λ fine. tells (unread e fine)
 
 pub load_completes : {T : Type 0} (t : Tables) (u page : ℕ) (result : Result T ChipFault)
     (told : Told)

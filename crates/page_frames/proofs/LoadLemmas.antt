@@ -4,7 +4,7 @@ use Rattle.std.specs.Option.{option_map_or}
 use Rattle.std.proofs.lemmas.List.{append-nil}
 use Rattle.chip_trait.specs.Told.{Told}
 use Rattle.ipl_base.specs.declared.fault.ChipFault.{ChipFault}
-use Rattle.ipl_base.specs.declared.fault.ChipFault.TheVariants.{ReadFault, Stopped, Damaged, Malformed}
+use Rattle.ipl_base.specs.declared.fault.ChipFault.TheVariants.{ReadFault, Stopped, Damaged, Malformed, WornOut}
 use Rattle.ipl_meaning.specs.Chart.{Chart, chart_of}
 use Rattle.ipl_meaning.specs.Layout.{Layout, records_of}
 use Rattle.ipl_meaning.specs.Last.{last_that}
@@ -44,6 +44,8 @@ load_cause home spots page few (Damaged p s stored computed) old new (inl none) 
 load_cause home spots page few (Damaged p s stored computed) old new (inr is) =
     (omega (arith, few, is.1), is.2)
 load_cause home spots page few (Malformed p s) old new cause = tt
+load_cause home spots page few (WornOut n) old new (inl none) = absurd none
+load_cause home spots page few (WornOut n) old new (inr none) = absurd none
 
 -- what is loaded is the frame of a page without records in memory
 loaded_frame : (c : Chart) (it : Layout) (frames : Frames) (active : List ℕ) (u page : ℕ)

@@ -5,7 +5,7 @@ use Rattle.std.specs.Option.{option_map, option_map_or}
 use Rattle.chip_trait.specs.Told.{Told}
 use Rattle.log_records.specs.View.{Versioned, Spells}
 use Rattle.ipl_base.specs.declared.fault.ChipFault.{ChipFault}
-use Rattle.ipl_base.specs.declared.fault.ChipFault.TheVariants.{ReadFault, Stopped, Damaged, Malformed}
+use Rattle.ipl_base.specs.declared.fault.ChipFault.TheVariants.{ReadFault, Stopped, Damaged, Malformed, WornOut}
 use Rattle.ipl_meaning.specs.Tables.{Tables}
 use Rattle.unit_io.specs.Accounts.{Accounts}
 use Rattle.selective_merge.specs.Moving.{Holds}
@@ -34,6 +34,7 @@ out_cause t u ReadFault old new rose = rose
 out_cause t u Stopped old new rose = rose
 out_cause t u (Damaged p s stored computed) old new is = (is.1, is.2)
 out_cause t u (Malformed p s) old new cause = tt
+out_cause t u (WornOut n) old new worn = worn
 
 out_accounts : (t : Tables) (u : ℕ) (result : Result (Unit {0}) ChipFault) (old new : Told)
     → Accounts (WritingCause t u) result old new → Accounts PageCause result old new

@@ -1,5 +1,5 @@
 -- Calls over contents that stand for a state tell the fault of a page that didn't read well.
-use Rattle.std.proofs.Common.{◌≡◌, ◌≢◌, ◌<◌, ◌+◌, ◌-◌, ℕ, List, Option, Some, None, slice_index, Result, Ok, Err, IfErr, inl, inr, refl, sym, ◌∙◌, ap, subst, arith}
+use Rattle.std.proofs.Common.{◌≡◌, ◌≢◌, ◌<◌, ◌+◌, ◌-◌, ℕ, List, Option, Some, None, slice_index, Result, Ok, Err, IfErr, refl, sym, ◌∙◌, ap, subst, arith}
 use Rattle.chip_trait.specs.Story.{Contents}
 use Rattle.chip_trait.specs.Told.{Told}
 use Rattle.ipl_base.specs.declared.fault.ChipFault.{ChipFault}
@@ -25,6 +25,7 @@ use Rattle.store_steps.specs.Advances.{memory_of, MemoryFits, KeepsState}
 use Rattle.page_frames.specs.declared.pages.Pages.{Pages}
 use Rattle.page_frames.specs.Pages.{tables_in, frames_in}
 use Rattle.page_frames.specs.Faulty.{FailsAsPage, NamesBadPage, TellsFaults}
+use Rattle.page_frames.proofs.CompleteLemmas.{unread, unstopped}
 use Rattle.page_frames.proofs.FaultyLemmas.{first_some, moved_fault, names_page, still_sound}
 
 -- ---- merges
@@ -50,9 +51,9 @@ pub merge_tells : {T : Type 0} (u : ℕ) (old new : Pages) (result : Result T Ch
     → StaysInPlace told.places (tables_in old) u (tables_in new) result told
     → TellsFaults old result told new
 merge_tells u old new (Ok v) told low alike fails stays x there slots it state fits = tt
-merge_tells u old new (Err e) told low alike fails stays x there slots it state fits = λ read stopped.
+merge_tells u old new (Err e) told low alike fails stays x there slots it state fits = λ fine.
     unit_names told.places x it old (tables_in new) slots state u e (omega (arith, low)) fits alike
-    (stays x there it fits.mirrors read stopped) (fails x there it fits.mirrors read stopped)
+    (stays x there it fits.mirrors fine) (fails x there it fits.mirrors fine)
 
 -- where it fails the tables mirror the same layout
 pub merge_in_place : (places u : ℕ) (t after : Tables) (result : Result (Unit {0}) ChipFault)
@@ -60,8 +61,8 @@ pub merge_in_place : (places u : ℕ) (t after : Tables) (result : Result (Unit 
     → ChartsThroughout (λ done. Merges places u t after) (StaysMirrored places t after) result old new
     → StaysInPlace places t u after result old
 merge_in_place places u t after (Ok v) old new low tells x told it mirrors = tt
-merge_in_place places u t after (Err e) old new low tells x told it mirrors = λ read stopped.
-    let (y, there, still) = tells stopped x told in
+merge_in_place places u t after (Err e) old new low tells x told it mirrors = λ fine.
+    let (y, there, still) = tells (unstopped e fine) x told in
     (still it mirrors).0.directory.current u low ∙ sym (mirrors.directory.current u low)
 
 pub merged_tells : (u : ℕ) (old new : Pages) (result : Result (Unit {0}) ChipFault)
@@ -81,8 +82,8 @@ pub renew_tells : (old new : Pages) (result : Result (Unit {0}) ChipFault) (told
     → RenewalFailsInPlace told.places (tables_in old) (tables_in new) result told
     → TellsFaults old result told new
 renew_tells old new (Ok v) told alike fails x there slots it state fits = tt
-renew_tells old new (Err e) told alike fails x there slots it state fits = λ read stopped.
-    let here = fails x there it fits.mirrors read stopped in
+renew_tells old new (Err e) told alike fails x there slots it state fits = λ fine.
+    let here = fails x there it fits.mirrors fine in
     unit_names told.places x it old (tables_in new) slots state here.is.unit e here.is.low fits alike
     (here.stays ∙ sym (fits.mirrors.directory.current here.is.unit here.is.low)) here.is.fault
 
@@ -108,21 +109,18 @@ pub loaded_tells : {T : Type 0} (u page : ℕ) (old new : Pages) (result : Resul
     → FailsAsPage (tables_in old) u page result told → TellsFaults old result told new
 loaded_tells u page old new (Ok v) told low few same fails x there slots it state fits = tt
 loaded_tells u page old new (Err e) told low few same fails x there slots it state fits =
-    λ read stopped. names_page told.places x it (tables_in old) (tables_in new) u page e fits.mirrors
+    λ fine. names_page told.places x it (tables_in old) (tables_in new) u page e fits.mirrors
     (omega (arith, low)) few (ap (λ (t : Tables). t.active) same)
     (ap (λ (t : Tables). slice_index t.places.current u) same)
-    (fails x there it fits.mirrors read)
+    (fails x there it fits.mirrors (unread e fine))
 
 -- ---- calls of the chip
 
 pub alone_tells : {T : Type 0} (old new : Pages) (result : Result T ChipFault) (told : Told)
     → FailsByChipAlone result → TellsFaults old result told new
 alone_tells old new (Ok v) told alone x there slots it state fits = tt
-alone_tells old new (Err e) told alone x there slots it state fits = λ read stopped.
-    elim alone [
-      | inl is ↦ absurd (read is)
-      | inr is ↦ absurd (stopped is)
-    ]
+alone_tells old new (Err e) told alone x there slots it state fits = λ fine.
+    absurd (fine alone)
 
 -- ---- two calls
 
@@ -135,7 +133,7 @@ pub tells_then : {T : Type 0} (first between last : Pages) (result : Result T Ch
     → TellsFaults between result mid last → TellsFaults first result old last
 tells_then first between last (Ok v) old mid sized alike keeps tells x there slots it state fits = tt
 tells_then first between last (Err e) old mid sized alike keeps tells x there slots it state fits =
-    λ read stopped.
+    λ fine.
     let memory = memory_of (tables_in first) (frames_in first) slots in
     let after = memory_of (tables_in between) (frames_in between) slots in
     let (y, now, had) = (keeps slots).fits old.places refl tt x there in
@@ -143,7 +141,7 @@ tells_then first between last (Err e) old mid sized alike keeps tells x there sl
     let is = subst (λ (n : ℕ). NamesBadPage n y on.layout (tables_in last) e) sized
     (tells y now slots on.layout state
     (subst (λ (n : ℕ). MemoryFits n (chart_of y) on.layout after state) (sym sized) on.fits)
-    read stopped) in
+    fine) in
     record {
       unit = is.unit;
       page = is.page;

@@ -3,8 +3,9 @@ use Rattle.std.specs.Prelude.{ℕ, ◌≡◌, ◌≢◌, ◌⊎◌, ◌<◌, ◌
 use Rattle.ipl_base.specs.declared.limits.TheConstants.{RESERVED_PLACES, PAGES, PAGE_SECTORS}
 use Rattle.chip_trait.specs.Story.{Contents}
 use Rattle.chip_trait.specs.Told.{Told}
+use Rattle.ipl_base.specs.Calls.{IsFailedCall}
 use Rattle.ipl_base.specs.declared.fault.ChipFault.{ChipFault}
-use Rattle.ipl_base.specs.declared.fault.ChipFault.TheVariants.{ReadFault, Stopped, Damaged, Malformed}
+use Rattle.ipl_base.specs.declared.fault.ChipFault.TheVariants.{ReadFault, Stopped, Damaged, Malformed, WornOut}
 use Rattle.ipl_rules.specs.State.{State}
 use Rattle.record_locks.specs.Held.{Slots}
 use Rattle.ipl_meaning.specs.Chart.{chart_of}
@@ -31,6 +32,7 @@ IsOfPage place page (Damaged p s stored computed) =
     (p ≡ place) × IsPieceSpot page PAGE_SECTORS s × (stored ≢ computed)
 IsOfPage place page (Malformed p s) =
     (p ≡ place) × ((s ≡ 0) ⊎ IsPieceSpot page PAGE_SECTORS s)
+IsOfPage place page (WornOut n) = ⊥
 
 -- over contents that the tables mirror it fails exactly with what is wrong with the page, unless a
 -- read failed
@@ -54,7 +56,7 @@ pub record NamesBadPage (places : ℕ) (x : Contents) (it : Layout) (after : Tab
 
 -- the fault is of such a page, unless a call of the chip failed
 abbrev pub FailsByPage : ℕ → Contents → Layout → Tables → ChipFault → Type 0
-FailsByPage places x it after e = e ≢ ReadFault → e ≢ Stopped → NamesBadPage places x it after e
+FailsByPage places x it after e = ¬ IsFailedCall e → NamesBadPage places x it after e
 
 -- Where the chip tells what it holds, and that with the tables, the frames and whatever sessions
 -- stands for a state, the call fails by a page that didn't read well or had no room for its values with

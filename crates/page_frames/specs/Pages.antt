@@ -79,8 +79,9 @@ pub record IsReady (places : ℕ) (pages : Pages) : Type 0 where
 
 -- ---- causes
 
--- why a call fails, whatever the chip tells: a read or a write failed, and its count rose; or a
--- sector isn't what it must be, and where it is damaged it is a base sector whose sums differ
+-- why a call fails, whatever the chip tells: a read or a write failed, or an erase found its place
+-- worn, and its count rose; or a sector isn't what it must be, and where it is damaged it is a base
+-- sector whose sums differ
 abbrev pub PageCause : ChipFault → Told → Told → Type 0
 PageCause = RenewCause
 

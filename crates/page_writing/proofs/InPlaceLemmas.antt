@@ -2,6 +2,7 @@
 use Rattle.std.proofs.Common.{◌≡◌, ◌≢◌, ◌<◌, ◌-◌, ℕ, Some, sym, ◌∙◌, subst}
 use Rattle.chip_trait.specs.Story.{Contents}
 use Rattle.chip_trait.specs.Told.{Told}
+use Rattle.ipl_base.specs.Calls.{IsFailedCall}
 use Rattle.ipl_base.specs.declared.fault.ChipFault.{ChipFault}
 use Rattle.ipl_base.specs.declared.fault.ChipFault.TheVariants.{Stopped}
 use Rattle.ipl_meaning.specs.Chart.{chart_of}
@@ -17,13 +18,13 @@ module _ (t : Tables) (u : ℕ) (after : Tables) where
   in_place_as e f same is = subst (IsInPlace t u after) (sym same) is
 
   pub in_place_stopped : (e : ChipFault) → e ≡ Stopped → IsInPlace t u after e
-  in_place_stopped e is = λ read stopped. absurd (stopped is)
+  in_place_stopped e is = λ held. absurd (held (subst IsFailedCall (sym is) tt))
 
   -- no room was made
   pub unplaced_stays : (places : ℕ) (old new : Told) (e : ChipFault) → u < places - 4
       → (e ≢ Stopped → Charts (StaysMirrored places t after) old new) → (x : Contents)
       → old.contents ≡ Some x → (it : Layout) → Mirrors places (chart_of x) it t
       → IsInPlace t u after e
-  unplaced_stays places old new e low stays x told it mirrors = λ read stopped.
-      let (y, there, still) = stays stopped x told in
+  unplaced_stays places old new e low stays x told it mirrors = λ held.
+      let (y, there, still) = stays (λ is. held (subst IsFailedCall (sym is) tt)) x told in
       (still it mirrors).0.directory.current u low ∙ sym (mirrors.directory.current u low)

@@ -3,43 +3,44 @@ use Rattle.std.proofs.Common.{◌≡◌, ◌≤◌, ◌<◌, ◌+◌, ◌-◌, �
 use Rattle.std.specs.List.{Contains}
 use Rattle.std.proofs.lemmas.Bool.{cases_Bool, cases_eq, cases_lt, false≢true}
 use Rattle.std.proofs.lemmas.List.{get_or-set_same, get_or-set_other, set_past}
-use Rattle.chip_trait.specs.declared.event.Event.TheVariants.{Read, Program, Erase, Barrier, Said}
+use Rattle.chip_trait.specs.declared.event.Event.TheVariants.{Read, Program, Erase, Worn, Barrier, Said}
 use Rattle.chip_trait.specs.Story.{Story}
 use Rattle.chip_trait.specs.Told.{Told}
 use Rattle.ipl_base.specs.declared.fault.ChipFault.{ChipFault}
 use Rattle.ipl_meaning.specs.Tables.{Places, Tables, first_log, masks_in, with_mask, with_written}
-use Rattle.unit_io.specs.Costs.{Costs, ProgramsAt, Spends, erases, is_erased}
+use Rattle.unit_io.specs.Costs.{Costs, ProgramsAt, Spends, erases, is_tried}
 use Rattle.unit_io.specs.ReadsAt.{ReadsAt}
-use Rattle.unit_io.proofs.CostLemmas.{costs_at_most, costs_then, erased_joined, programs_at_cost, spends_reads, spends_then, spends_weaker}
+use Rattle.unit_io.proofs.CostLemmas.{costs_at_most, costs_then, programs_at_cost, spends_reads, spends_then, spends_weaker, tried_joined}
 use Rattle.selective_merge.specs.Spending.{IsLowestFree, ErasesFree}
 use Rattle.selective_merge.specs.Spotting.{HasHomeSpot}
 use Rattle.page_writing.specs.Spending.{ErasesAndLogs, KeepsMasks, UsesHome, RoomCosts, WritingCosts}
 use Rattle.page_writing.specs.Writing.{IsAfterLog}
 
--- ---- what is erased
+-- ---- which erase is tried
 
--- nothing, where no event erases
-none_erased : (p : ℕ) (added : Story) → erases added ≤ 0 → is_erased added p ≡ false
-none_erased p [] none = refl
-none_erased p (Read q s ∷ older) none = none_erased p older none
-none_erased p (Program q s bytes ∷ older) none = none_erased p older none
-none_erased p (Erase q ∷ older) none = absurd (omega (arith, none))
-none_erased p (Barrier ∷ older) none = none_erased p older none
-none_erased p (Said piece ∷ older) none = none_erased p older none
+-- none, where no event tries one
+none_tried : (p : ℕ) (added : Story) → erases added ≤ 0 → is_tried added p ≡ false
+none_tried p [] none = refl
+none_tried p (Read q s ∷ older) none = none_tried p older none
+none_tried p (Program q s bytes ∷ older) none = none_tried p older none
+none_tried p (Erase q ∷ older) none = absurd (omega (arith, none))
+none_tried p (Worn q ∷ older) none = absurd (omega (arith, none))
+none_tried p (Barrier ∷ older) none = none_tried p older none
+none_tried p (Said piece ∷ older) none = none_tried p older none
 
 pub nothing_lowest : (before : Places) (added : Story) → erases added ≤ 0 → (p : ℕ)
-    → is_erased added p ≡ true → IsLowestFree before p
+    → is_tried added p ≡ true → IsLowestFree before p
 nothing_lowest before added none p is =
-    absurd (false≢true (sym (none_erased p added none) ∙ is))
+    absurd (false≢true (sym (none_tried p added none) ∙ is))
 
 pub both_lowest : (before : Places) (later earlier : Story)
-    → ((p : ℕ) → is_erased later p ≡ true → IsLowestFree before p)
-    → ((p : ℕ) → is_erased earlier p ≡ true → IsLowestFree before p)
-    → (p : ℕ) → is_erased (later ++ earlier) p ≡ true → IsLowestFree before p
-both_lowest before later earlier one two p is = elim (cases_Bool (is_erased later p)) [
+    → ((p : ℕ) → is_tried later p ≡ true → IsLowestFree before p)
+    → ((p : ℕ) → is_tried earlier p ≡ true → IsLowestFree before p)
+    → (p : ℕ) → is_tried (later ++ earlier) p ≡ true → IsLowestFree before p
+both_lowest before later earlier one two p is = elim (cases_Bool (is_tried later p)) [
   | inl here ↦ one p here
-  | inr none ↦ two p (ap (λ (b : Bool). b || is_erased earlier p) (sym none)
-      ∙ (sym (erased_joined later earlier p) ∙ is))
+  | inr none ↦ two p (ap (λ (b : Bool). b || is_tried earlier p) (sym none)
+      ∙ (sym (tried_joined later earlier p) ∙ is))
 ]
 
 -- ---- the log sector

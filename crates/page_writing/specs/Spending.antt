@@ -4,15 +4,15 @@ use Rattle.chip_trait.specs.Story.{Story}
 use Rattle.chip_trait.specs.Told.{Told}
 use Rattle.ipl_base.specs.declared.fault.ChipFault.{ChipFault}
 use Rattle.ipl_meaning.specs.Tables.{Places, Tables, masks_in, with_written}
-use Rattle.unit_io.specs.Costs.{Costs, Spends, is_erased}
+use Rattle.unit_io.specs.Costs.{Costs, Spends, is_tried}
 use Rattle.selective_merge.specs.Spending.{ErasesFree, IsLowestFree}
 use Rattle.selective_merge.specs.Spotting.{HasHomeSpot}
 
--- At most one place is erased, which was the lowest free one; of what wasn't erased before at most
+-- At most one erase is tried, of the lowest free place; of what wasn't erased before at most
 -- one sector is programmed, a log sector; and there are at most three barriers.
 pub record ErasesAndLogs (before : Places) (added : Story) : Type 0 where
   pub costs : Costs 1 1 3 (5 ∷ []) added
-  pub lowest : (p : ℕ) → is_erased added p ≡ true → IsLowestFree before p
+  pub lowest : (p : ℕ) → is_tried added p ≡ true → IsLowestFree before p
 
 -- the log sectors at home that counted as written before name the pages that they named
 abbrev pub KeepsMasks : Places → Places → Type 0
@@ -37,13 +37,14 @@ UsesHome (Ok v) before after u =
 UsesHome (Err e) before after u = after ≡ before
 
 -- What finding room costs: where a log sector is clean at the unit's home, reads alone, and the
--- tables stay as they are; else at most the erase of the lowest free place.
+-- tables stay as they are; else at most an erase that is tried, of the lowest free place.
 pub record RoomCosts (t after : Tables) (u : ℕ) (old new : Told) : Type 0 where
   pub home : HasHomeSpot t u → (after ≡ t) × Spends (Costs 0 0 0 []) old new
   pub any : Spends (ErasesFree t.places) old new
 
 -- What writing out costs: where a log sector is clean at the unit's home, at most one program, of a
--- log sector, and no erase and no barrier; else at most the erase of the lowest free place too.
+-- log sector, and no erase and no barrier; else at most an erase that is tried, of the lowest free
+-- place, too.
 pub record WritingCosts (result : Result (Unit {0}) ChipFault) (t after : Tables) (u : ℕ)
     (old new : Told) : Type 0 where
   pub home : HasHomeSpot t u

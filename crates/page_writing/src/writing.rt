@@ -108,7 +108,7 @@ fn write_log<C: Chip>(
 /// no write failed, it rests on that map at the end: nothing makes sure of the sector, which is for
 /// the next barrier. Where it failed, the list is as it was; at most 14 numbers are drawn.
 ///
-/// It fails as `log_place` does, or where a write failed.
+/// It fails as `log_place` does, also where a place for it is worn, or where a write failed.
 pub fn write_out<C: Chip>(
     chip: &mut C,
     parts: &mut Parts,

@@ -4,13 +4,14 @@ use Rattle.std.specs.Fmt.{decimal}
 use Rattle.std.specs.Int.{w32, to_be_bytes}
 use Rattle.hex.specs.Hex.{encode_lower}
 use Rattle.ipl_base.specs.declared.fault.ChipFault.{ChipFault}
-use Rattle.ipl_base.specs.declared.fault.ChipFault.TheVariants.{ReadFault, Stopped, Damaged, Malformed}
+use Rattle.ipl_base.specs.declared.fault.ChipFault.TheVariants.{ReadFault, Stopped, Damaged, Malformed, WornOut}
 use Rattle.ipl_base.specs.declared.fault.ImageFault.{ImageFault}
 use Rattle.ipl_base.specs.declared.fault.ImageFault.TheVariants as image
 use Rattle.program_end.specs.declared.end.End.{End}
 use Rattle.program_end.specs.declared.end.End.TheVariants.{Words, Chip, OutOfMemory, Script, Output, TooLong}
 
--- the status of a fault of the chip: 3 where a call of it failed, 9 where its numbers are spent, else 4
+-- the status of a fault of the chip: 3 where a call of it failed, 9 where its numbers are spent, 10 where it is worn
+-- out, else 4
 abbrev pub fault_status : ImageFault → ℕ
 fault_status image.Geometry = 4
 fault_status image.NotFormatted = 4
@@ -19,6 +20,7 @@ fault_status (image.Chip ReadFault) = 3
 fault_status (image.Chip Stopped) = 3
 fault_status (image.Chip (Damaged place sector stored computed)) = 4
 fault_status (image.Chip (Malformed place sector)) = 4
+fault_status (image.Chip (WornOut places)) = 10
 fault_status image.Spent = 9
 fault_status (image.NoSpare places) = 4
 
@@ -47,6 +49,7 @@ chip_text (Damaged place sector stored computed) =
     codes "damaged " ++ spot_text place sector
     ++ codes " stored " ++ sum_text stored ++ codes " computed " ++ sum_text computed
 chip_text (Malformed place sector) = codes "malformed " ++ spot_text place sector
+chip_text (WornOut places) = codes "worn out " ++ decimal places
 
 -- why an image can't be opened
 abbrev pub fault_text : ImageFault → List ℕ

@@ -28,6 +28,7 @@ fn fault_status(fault: ImageFault) -> u8
     match fault {
         ImageFault::Chip(ChipFault::ReadFault | ChipFault::Stopped) => 3,
         ImageFault::Spent => 9,
+        ImageFault::Chip(ChipFault::WornOut(_)) => 10,
         _ => 4,
     }
 }

@@ -90,6 +90,10 @@ fn push_chip_fault(line: &mut TextLine, fault: ChipFault)
             line.push(b"malformed ");
             push_spot(line, place, sector);
         }
+        ChipFault::WornOut(places) => {
+            line.push(b"worn out ");
+            line.push_number(places);
+        }
     }
 }
 

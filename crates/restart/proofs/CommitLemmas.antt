@@ -6,7 +6,7 @@ use Rattle.std.specs.List.{Contains}
 use Rattle.std.proofs.lemmas.Option.{same_Some}
 use Rattle.chip_trait.specs.Told.{Told}
 use Rattle.ipl_base.specs.declared.fault.ChipFault.{ChipFault}
-use Rattle.ipl_base.specs.declared.fault.ChipFault.TheVariants.{ReadFault, Stopped, Damaged, Malformed}
+use Rattle.ipl_base.specs.declared.fault.ChipFault.TheVariants.{ReadFault, Stopped, Damaged, Malformed, WornOut}
 use Rattle.ipl_base.specs.declared.fault.ImageFault.{ImageFault}
 use Rattle.ipl_base.specs.declared.fault.ImageFault.TheVariants.{Chip}
 use Rattle.ipl_meaning.specs.Chart.{Chart}
@@ -39,6 +39,7 @@ at_cause At ReadFault old new cause = λ other. record { fault = refl; rose = ca
 at_cause At Stopped old new cause = absurd cause
 at_cause At (Damaged p s stored computed) old new cause = absurd cause
 at_cause At (Malformed p s) old new cause = λ other. absurd cc
+at_cause At (WornOut n) old new cause = absurd cause
 
 -- and it is handed on
 pub at_looks : {T : Type 0} (At : ℕ → ℕ → Type 0) (r : Result T ImageFault) (e : ChipFault) (old new : Told)

@@ -3,6 +3,7 @@ pub mod EventLemmas
 pub mod HeldLemmas
 pub mod LawfulLemmas
 pub mod MirrorLemmas
+pub mod WornLemmas
 pub mod FreshLemmas
 pub mod LookLemmas
 pub mod KeptLemmas

@@ -24,13 +24,15 @@ abbrev pub CompletesSoFar : {S : Type 0} → Keeping S → Limits → ℕ → S 
 CompletesSoFar k limits n before old then new = Completes k {T = Unit {0}} limits n before old (Ok tt) then new
 
 -- from earlier on
-chip_earlier : (first old new : Told) → first.read_faults ≤ old.read_faults → first.write_faults ≤ old.write_faults → ChipRose old new → ChipRose first new
-chip_earlier first old new reads writes (inl rose) = inl (omega (arith, reads, rose))
-chip_earlier first old new reads writes (inr rose) = inr (omega (arith, writes, rose))
+chip_earlier : (first old new : Told) → first.read_faults ≤ old.read_faults → first.write_faults ≤ old.write_faults
+    → first.worn_erases ≤ old.worn_erases → ChipRose old new → ChipRose first new
+chip_earlier first old new reads writes worn (inl rose) = inl (omega (arith, reads, rose))
+chip_earlier first old new reads writes worn (inr (inl rose)) = inr (inl (omega (arith, writes, rose)))
+chip_earlier first old new reads writes worn (inr (inr rose)) = inr (inr (omega (arith, worn, rose)))
 
 excuse_earlier : (first old new : Told) (fault : Fault) → first.read_faults ≤ old.read_faults → first.write_faults ≤ old.write_faults
-    → ChipRose old new × SaysFailedCall fault → ChipRose first new × SaysFailedCall fault
-excuse_earlier first old new fault reads writes (rose, says) = (chip_earlier first old new reads writes rose, says)
+    → first.worn_erases ≤ old.worn_erases → ChipRose old new × SaysFailedCall fault → ChipRose first new × SaysFailedCall fault
+excuse_earlier first old new fault reads writes worn (rose, says) = (chip_earlier first old new reads writes worn rose, says)
 
 -- the fault that was met is the one that the run stops with
 fault_excused : {S : Type 0} (k : Keeping S) (n : ℕ) (before : S) (old new : Told) (s : Stop) (fault e : Fault) → s ≡ stop.Store fault
@@ -104,7 +106,7 @@ module _ {S : Type 0} {k : Keeping S} {limits : Limits} where
   completes_then {T} {n} {m} {before} {between} {then} {old} {mid} {new} first on next =
       let more = next first.again in record {
         drawn = omega (arith, first.drawn, more.drawn);
-        excuse = λ fault is few. excuse_earlier old mid new fault on.reads on.writes (more.excuse fault is (omega (arith, few, first.drawn)));
+        excuse = λ fault is few. excuse_earlier old mid new fault on.reads on.writes on.worn (more.excuse fault is (omega (arith, few, first.drawn)));
         again = more.again;
       }
 
@@ -115,7 +117,7 @@ module _ {S : Type 0} {k : Keeping S} {limits : Limits} where
       let still = still_beside old mid read in
       let more = next (record { state = keeps.state; history = adds_all (sayings still.pieces) keeps.history; holds = k.still limits before old mid keeps.history keeps.state still keeps.holds }) in record {
         drawn = more.drawn;
-        excuse = λ fault is few. excuse_earlier old mid new fault read.reads read.writes (more.excuse fault is few);
+        excuse = λ fault is few. excuse_earlier old mid new fault read.reads read.writes read.worn (more.excuse fault is few);
         again = more.again;
       }
 

@@ -14,6 +14,7 @@ further_read old new n chip is grew = record {
   places = chip.places;
   reads = chip.reads;
   writes = chip.writes;
+  worn = chip.worn;
   says = let e : new.beside.say_faults ≡ old.beside.say_faults = ap (λ (d : Beside). d.say_faults) is in omega arith;
   script = chip.script;
   bytes = grew.later;
@@ -25,6 +26,7 @@ further_failed old new chip is = record {
   places = chip.places;
   reads = chip.reads;
   writes = chip.writes;
+  worn = chip.worn;
   says = let e : new.beside.say_faults ≡ old.beside.say_faults = ap (λ (d : Beside). d.say_faults) is in omega arith;
   script = chip.script;
   bytes = let e : new.beside.script_bytes ≡ old.beside.script_bytes = ap (λ (d : Beside). d.script_bytes) is in omega arith;

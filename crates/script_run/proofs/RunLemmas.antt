@@ -8,7 +8,7 @@ use Rattle.ipl_model.specs.Step.{step}
 use Rattle.ipl_model.specs.Run.{reply_lines, lines, text, after_all, IsNear}
 use Rattle.ipl_model.proofs.RunLemmas.{found_after, found_longer, found_said, found_silent, lines-append}
 use Rattle.chip_trait.specs.declared.event.Event.{Event}
-use Rattle.chip_trait.specs.declared.event.Event.TheVariants.{Read, Program, Erase, Barrier, Said}
+use Rattle.chip_trait.specs.declared.event.Event.TheVariants.{Read, Program, Erase, Worn, Barrier, Said}
 use Rattle.chip_trait.specs.Story.{Story, Contents, pieces, joined, said}
 use Rattle.chip_trait.specs.Image.{IsNoChanceImage}
 use Rattle.chip_trait.specs.Moment.{Leaves}
@@ -95,6 +95,7 @@ pub or_said : (P : Event → Type 0) (e : Event) → P e → IsSaidOr P e
 or_said P (Read p s) is = is
 or_said P (Program p s bytes) is = is
 or_said P (Erase p) is = is
+or_said P (Worn p) is = is
 or_said P Barrier is = is
 or_said P (Said piece) is = tt
 

@@ -6,7 +6,7 @@ use Rattle.ipl_model.specs.declared.command.Command.{Command}
 use Rattle.ipl_model.specs.Step.{step}
 use Rattle.ipl_model.specs.Run.{reply_lines, lines, after_all, IsNear}
 use Rattle.chip_trait.specs.declared.event.Event.{Event}
-use Rattle.chip_trait.specs.declared.event.Event.TheVariants.{Read, Program, Erase, Barrier, Said}
+use Rattle.chip_trait.specs.declared.event.Event.TheVariants.{Read, Program, Erase, Worn, Barrier, Said}
 use Rattle.chip_trait.specs.Story.{Story, Contents, pieces, said}
 use Rattle.chip_trait.specs.Moment.{AtEachMoment, Leaves}
 use Rattle.chip_trait.specs.Lawful.{IsLawfulAfter, LeavesClean}
@@ -92,6 +92,7 @@ abbrev pub IsSaidOr : (Event → Type 0) → Event → Type 0
 IsSaidOr P (Read p s) = P (Read p s)
 IsSaidOr P (Program p s bytes) = P (Program p s bytes)
 IsSaidOr P (Erase p) = P (Erase p)
+IsSaidOr P (Worn p) = P (Worn p)
 IsSaidOr P Barrier = P Barrier
 IsSaidOr P (Said piece) = Unit {0}
 

@@ -1,8 +1,8 @@
 -- A chip that is opened again is the work of a restart.
-use Rattle.std.proofs.Common.{ℕ, ◌≡◌, ◌≢◌, ◌⊎◌, inl, inr, ◌≤◌, ◌<◌, ◌+◌, ◌^◌, arith, Bool, true, false, [], None, Some, Result, Ok, Err, OnOk, if◌then◌else◌, refl, sym, ◌∙◌, ap, subst}
+use Rattle.std.proofs.Common.{ℕ, ◌≡◌, ◌⊎◌, inl, inr, ◌≤◌, ◌<◌, ◌+◌, ◌^◌, arith, Bool, true, false, [], None, Some, Result, Ok, Err, OnOk, if◌then◌else◌, refl, sym, ◌∙◌, ap, subst}
 use Rattle.chip_trait.specs.Story.{Contents, held}
 use Rattle.chip_trait.specs.Told.{History, Told}
-use Rattle.ipl_base.specs.declared.fault.ChipFault.TheVariants.{ReadFault, Stopped, Damaged, Malformed}
+use Rattle.ipl_base.specs.declared.fault.ChipFault.TheVariants.{ReadFault, Stopped, Damaged, Malformed, WornOut}
 use Rattle.ipl_base.specs.declared.fault.ImageFault.{ImageFault}
 use Rattle.ipl_base.specs.declared.fault.ImageFault.TheVariants as image
 use Rattle.ipl_rules.specs.Operations.{after_restart}
@@ -111,47 +111,38 @@ module _ (a b : ScriptStore) (old new : Told) (up : a.store.down ≡ false)
 
 -- ---- a fault of the opening
 
+-- it says that a call of the chip failed, where one did
+says_call : (e : ImageFault) → FailsByCallAlone e → SaysFailedCall (Image e)
+says_call e (fault, is, failed) =
+    subst (λ (f : ImageFault). SaysFailedCall (Image f)) (sym is) failed
+
+-- one that doesn't say so would not have come
+never_else : (e : ImageFault) → ¬ SaysFailedCall (Image e)
+    → (¬ FailsByCallAlone e → FailsByCallAlone e) → ⊥
+never_else e other fails = other (says_call e (fails (λ by. other (says_call e by))))
+
 -- where no call of the chip failed it would have been done
 rose_for : (e : ImageFault) (before after : Told) → OpeningCause e before after
-    → (e ≢ image.Chip ReadFault → e ≢ image.Chip Stopped → FailsByCallAlone e)
+    → (¬ FailsByCallAlone e → FailsByCallAlone e)
     → ChipRose before after × SaysFailedCall (Image e)
 rose_for (image.Chip ReadFault) before after cause fails = (inl (cause.read refl), tt)
-rose_for (image.Chip Stopped) before after cause fails = (inr (cause.stopped refl), tt)
+rose_for (image.Chip Stopped) before after cause fails = (inr (inl (cause.stopped refl)), tt)
 rose_for (image.Chip (Damaged p s stored computed)) before after cause fails =
-    elim (fails (λ no. absurd (cc no)) (λ no. absurd (cc no))) [
-      | inl is ↦ absurd (cc is)
-      | inr is ↦ absurd (cc is)
-    ]
+    absurd (never_else (image.Chip (Damaged p s stored computed)) (λ none. none) fails)
 rose_for (image.Chip (Malformed p s)) before after cause fails =
-    elim (fails (λ no. absurd (cc no)) (λ no. absurd (cc no))) [
-      | inl is ↦ absurd (cc is)
-      | inr is ↦ absurd (cc is)
-    ]
+    absurd (never_else (image.Chip (Malformed p s)) (λ none. none) fails)
+rose_for (image.Chip (WornOut n)) before after cause fails =
+    (inr (inr (cause.worn n refl).1), tt)
 rose_for image.Geometry before after cause fails =
-    elim (fails (λ no. absurd (cc no)) (λ no. absurd (cc no))) [
-      | inl is ↦ absurd (cc is)
-      | inr is ↦ absurd (cc is)
-    ]
+    absurd (never_else image.Geometry (λ none. none) fails)
 rose_for image.NotFormatted before after cause fails =
-    elim (fails (λ no. absurd (cc no)) (λ no. absurd (cc no))) [
-      | inl is ↦ absurd (cc is)
-      | inr is ↦ absurd (cc is)
-    ]
+    absurd (never_else image.NotFormatted (λ none. none) fails)
 rose_for (image.Missing u) before after cause fails =
-    elim (fails (λ no. absurd (cc no)) (λ no. absurd (cc no))) [
-      | inl is ↦ absurd (cc is)
-      | inr is ↦ absurd (cc is)
-    ]
+    absurd (never_else (image.Missing u) (λ none. none) fails)
 rose_for image.Spent before after cause fails =
-    elim (fails (λ no. absurd (cc no)) (λ no. absurd (cc no))) [
-      | inl is ↦ absurd (cc is)
-      | inr is ↦ absurd (cc is)
-    ]
+    absurd (never_else image.Spent (λ none. none) fails)
 rose_for (image.NoSpare n) before after cause fails =
-    elim (fails (λ no. absurd (cc no)) (λ no. absurd (cc no))) [
-      | inl is ↦ absurd (cc is)
-      | inr is ↦ absurd (cc is)
-    ]
+    absurd (never_else (image.NoSpare n) (λ none. none) fails)
 
 -- and its cause
 image_cause : (e : ImageFault) (before after : Told) → OpeningCause e before after
@@ -161,6 +152,7 @@ image_cause (image.Chip Stopped) before after cause = cause.stopped refl
 image_cause (image.Chip (Damaged p s stored computed)) before after cause =
     cause.damaged p s stored computed refl
 image_cause (image.Chip (Malformed p s)) before after cause = tt
+image_cause (image.Chip (WornOut n)) before after cause = cause.worn n refl
 image_cause image.Geometry before after cause = tt
 image_cause image.NotFormatted before after cause = tt
 image_cause (image.Missing u) before after cause = tt
@@ -326,10 +318,11 @@ module _ (a b : ScriptStore) (before after : Told) (runs : IsRunning before.plac
           says : Says before.places (chart_of x) shown.layout state.map
           says = subst (λ (n : ℕ). Says n (chart_of x) shown.layout state.map) suits shown.says
 
-          fails : e ≢ image.Chip ReadFault → e ≢ image.Chip Stopped → FailsByCallAlone e
-          fails unread unstopped =
-              let fault = tries.tells x told unread unstopped in
-              let bytes = tries.bytes x told unread unstopped
+          fails : ¬ FailsByCallAlone e → FailsByCallAlone e
+          fails unfailed =
+              let fault = tries.tells x told unfailed in
+              let bytes = tries.bytes x told (λ is. unfailed (ReadFault, is, tt))
+              (λ is. unfailed (Stopped, is, tt))
               (spent_or_none before.places x shown.layout e laid fault) in
               let none = laid_has_no_fault (chart_of x) before.places shown.layout bytes laid above
               in

@@ -3,8 +3,9 @@ use Rattle.std.proofs.Common.{ℕ, ◌≡◌, ◌≢◌, ◌⊎◌, inl, inr, �
 use Rattle.std.proofs.lemmas.Bool.Decides.{nat_tests}
 use Rattle.chip_trait.specs.Told.{Told, Counts}
 use Rattle.chip_trait.proofs.CountsLemmas.{counts_none}
+use Rattle.ipl_base.specs.Calls.{IsFailedCall}
 use Rattle.ipl_base.specs.declared.fault.ChipFault.{ChipFault}
-use Rattle.ipl_base.specs.declared.fault.ChipFault.TheVariants.{ReadFault, Stopped, Damaged, Malformed}
+use Rattle.ipl_base.specs.declared.fault.ChipFault.TheVariants.{ReadFault, Stopped, Damaged, Malformed, WornOut}
 use Rattle.ipl_base.specs.declared.fault.Refusal.{Refusal}
 use Rattle.ipl_base.specs.declared.fault.Refusal.TheVariants.{PageFull}
 use Rattle.ipl_base.specs.declared.fault.StoreFault.{StoreFault}
@@ -20,7 +21,7 @@ use Rattle.pending_writes.specs.Fits.{AreSessionsOf}
 use Rattle.steps.specs.Steps.{Tidies}
 use Rattle.page_frames.specs.Pages.{tables_in, PageCause}
 use Rattle.store_trait.specs.declared.fault.Fault.TheVariants.{Chip, Spent}
-use Rattle.store_trait.specs.Keeping.{LAST_NUMBER, WORK_DRAWS, ChipRose, IsFailedCall, Works, LeavesTidy}
+use Rattle.store_trait.specs.Keeping.{LAST_NUMBER, WORK_DRAWS, ChipRose, Works, LeavesTidy}
 use Rattle.store_trait.proofs.TidyLemmas.{tidy_same}
 use Rattle.store_steps.specs.Advances.{TurnsMapOf}
 use Rattle.store_steps.specs.Keeps.{View, limits_of, ShowsState, StoreCause, store_keeping}
@@ -39,14 +40,19 @@ use Rattle.script_store.proofs.KeepLemmas.{works_so, draws_few, tidy_so}
 -- ---- faults of the chip
 
 -- a fault of a call of the chip has its excuse, and says so
+call_rose : (e : ChipFault) (before after : Told) → IsFailedCall e → PageCause e before after
+    → ChipRose before after × IsFailedCall e
+call_rose ReadFault before after failed cause = (inl cause, tt)
+call_rose Stopped before after failed cause = (inr (inl cause), tt)
+call_rose (Damaged p s stored computed) before after none cause = absurd none
+call_rose (Malformed p s) before after none cause = absurd none
+call_rose (WornOut n) before after failed cause = (inr (inr cause.1), tt)
+
 pub chip_rose : (e : ChipFault) (before after : Told) → IsOfTheChip (store.Chip e)
     → PageCause e before after → ChipRose before after × IsFailedCall e
-chip_rose ReadFault before after of cause = (inl cause, tt)
-chip_rose Stopped before after of cause = (inr cause, tt)
-chip_rose (Damaged p s stored computed) before after (inl is) cause = absurd (cc is)
-chip_rose (Damaged p s stored computed) before after (inr is) cause = absurd (cc is)
-chip_rose (Malformed p s) before after (inl is) cause = absurd (cc is)
-chip_rose (Malformed p s) before after (inr is) cause = absurd (cc is)
+chip_rose e before after (f, is, failed) cause =
+    let same : e ≡ f = cc is in
+    call_rose e before after (subst IsFailedCall (sym same) failed) cause
 
 -- and its cause
 pub chip_cause : (e : ChipFault) (before after : Told) → PageCause e before after
@@ -55,6 +61,7 @@ chip_cause ReadFault before after cause = cause
 chip_cause Stopped before after cause = cause
 chip_cause (Damaged p s stored computed) before after cause = cause.1
 chip_cause (Malformed p s) before after cause = tt
+chip_cause (WornOut n) before after cause = cause
 
 -- ---- how a call may end early
 

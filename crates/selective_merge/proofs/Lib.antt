@@ -12,6 +12,7 @@ mod FillLemmas
 mod SealLemmas
 mod MovingLemmas
 mod HeldLemmas
+pub mod TakenLemmas
 mod MergedLemmas
 mod WholeLemmas
 mod OverflowLemmas

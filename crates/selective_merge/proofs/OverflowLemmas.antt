@@ -1,21 +1,20 @@
 -- A new overflow place.
-use Rattle.std.proofs.Common.{◌≡◌, ◌≢◌, ◌⊎◌, ◌<◌, ◌≤◌, ◌+◌, ℕ, zero, suc, Bool, true, [], ◌∷◌, ◌++◌, length, None, Some, Result, Ok, Err, OnOk, is_ok, inl, inr, refl, sym, ◌∙◌, ap, arith}
+use Rattle.std.proofs.Common.{◌≡◌, ◌≢◌, ◌⊎◌, ◌<◌, ◌≤◌, ◌+◌, ℕ, zero, suc, true, [], ◌∷◌, ◌++◌, length, None, Some, Result, Ok, Err, IfErr, IfOk, OnOk, is_ok, inl, inr, refl, sym, ◌∙◌, ap, subst, arith}
 use Rattle.std.specs.List.{Contains}
 use Rattle.std.proofs.lemmas.List.Elements.{Contains-append_cases}
 use Rattle.chip_trait.specs.Chart.{with_sector}
 use Rattle.chip_trait.specs.Lawful.{Clean, age, AreClean}
 use Rattle.chip_trait.specs.Story.{Story}
-use Rattle.chip_trait.specs.Told.{History, Told, adds_all}
+use Rattle.chip_trait.specs.Told.{History, Told, Counts, adds_all}
 use Rattle.ipl_base.specs.declared.fault.ChipFault.{ChipFault}
 use Rattle.ipl_format.specs.Header.{SpellsUnits}
 use Rattle.ipl_format.specs.Sector.{Sector}
 use Rattle.ipl_rules.specs.State.{Map}
-use Rattle.ipl_meaning.specs.Agrees.{Agrees}
 use Rattle.ipl_meaning.specs.Chart.{Chart, chart_of}
 use Rattle.ipl_meaning.specs.Found.{MentionsBelow}
 use Rattle.ipl_meaning.specs.Layout.{Layout, Laid}
 use Rattle.ipl_meaning.specs.Mirrors.{Mirrors}
-use Rattle.ipl_meaning.specs.Rests.{now, EachStands, EachStandsEither, StoryRests}
+use Rattle.ipl_meaning.specs.Rests.{now, EachStands, EachStandsEither, WornAreIdle, StoryRests}
 use Rattle.ipl_meaning.specs.Stands.{Stands}
 use Rattle.ipl_meaning.specs.Steps.{KeepsPages}
 use Rattle.ipl_meaning.specs.Tables.{Places, OverflowLists, IsFree, Tables, IsCountedClean}
@@ -27,29 +26,24 @@ use Rattle.ipl_meaning.proofs.OverflowFollowLemmas.{tables_follow_overflows}
 use Rattle.ipl_meaning.proofs.StandsLemmas.{stands_after_overflows}
 use Rattle.ipl_meaning.proofs.StoryLemmas.{held_stands, either_is_kept}
 use Rattle.ipl_meaning.proofs.SwitchLemmas.{overflow_headers_wait}
+use Rattle.ipl_meaning.proofs.WornLemmas.{worn_by_layout, idle_after_overflows}
+use Rattle.unit_directory.specs.Free.{first_free}
 use Rattle.unit_io.specs.Charts.{Charts, IsCleared, Gains}
-use Rattle.unit_io.specs.Leads.{IsSteady, KeepsMap, SwitchesMap, IsStopped}
+use Rattle.unit_io.specs.Leads.{IsSteady, SwitchesMap, IsStopped}
 use Rattle.unit_io.specs.Spots.{Programs, Clears, Rewrites, IsSpot}
-use Rattle.unit_io.proofs.LeadsLemmas.{leads_then, leads_weaker, leads_failed}
-use Rattle.unit_io.proofs.SpotLemmas.{refills_from, rewrites_cleared}
-use Rattle.steps.proofs.StepLemmas.{failed_writes_are_steps}
+use Rattle.unit_io.proofs.LeadsLemmas.{leads_weaker}
 use Rattle.steps.specs.Steps.{Steps, RestsAgreeing}
+use Rattle.place_taking.specs.Takes.{TakesPlace}
+use Rattle.place_taking.proofs.JoinLemmas.{first_is_free}
 use Rattle.merge_rules.proofs.KnownLemmas.{taken_is_used}
-use Rattle.selective_merge.specs.Placing.{IsOpened, RestsOpened}
+use Rattle.selective_merge.specs.Placing.{IsOpened, OpensPlace, RestsOpened}
+use Rattle.selective_merge.specs.Throughout.{KeepsThroughout}
+use Rattle.selective_merge.proofs.FillLemmas.{clean_bare, worn_apart}
 use Rattle.selective_merge.proofs.SealLemmas.{says_of}
+use Rattle.selective_merge.proofs.TakenLemmas.{cleared_mirrors, taken_so_far, rewrites_below}
+use Rattle.selective_merge.proofs.ThroughoutLemmas.{so_far_and, keeps_written, keeps_then, charts_then}
 
 -- ---- on the chip
-
--- the events: an erase, and the header
-rewrites_one : (p : ℕ) (done : Bool) (b a : Story) → Clears p true a → Programs p (IsSpot 0) done b
-    → Rewrites p 1 done (b ++ a)
-rewrites_one p done b a one two =
-    let did = refills_from p (IsSpot 0) done b a one two in record {
-      silent = did.silent;
-      lawful = did.lawful;
-      others = did.others;
-      fresh = λ is base s above. did.fresh base s (λ spot. omega (arith, spot, above));
-    }
 
 -- a header of an overflow place
 pub record IsOverflowHead (units g : ℕ) (head : Sector) : Type 0 where
@@ -58,12 +52,10 @@ pub record IsOverflowHead (units g : ℕ) (head : Sector) : Type 0 where
   pub serial : head.serial ≡ g
   pub counts : SpellsUnits head.version units head.payload
 
-opened_by : (p units g : ℕ) (c bare y : Chart) (head : Sector) → IsOverflowHead units g head
-    → IsCleared p c bare → Gains p 0 head bare y → IsOpened p units g c y
-opened_by p units g c bare y head is cleared gains = record {
-  bare = bare;
+opened_by : (p units g : ℕ) (c y : Chart) (head : Sector) → IsOverflowHead units g head
+    → Gains p 0 head c y → IsOpened p units g c y
+opened_by p units g c y head is gains = record {
   head = head;
-  cleared = cleared;
   kind = is.kind;
   of_generation = is.of_generation;
   serial = is.serial;
@@ -71,15 +63,13 @@ opened_by p units g c bare y head is cleared gains = record {
   gains = gains;
 }
 
-pub opened_told : (p units g : ℕ) (head : Sector) (old mid new : Told) → IsOverflowHead units g head
-    → Charts (IsCleared p) old mid → (result : Result (Unit {0}) ChipFault)
-    → OnOk result (Charts (Gains p 0 head) mid new)
+pub opened_told : (p units g : ℕ) (head : Sector) (old new : Told) → IsOverflowHead units g head
+    → (result : Result (Unit {0}) ChipFault) → OnOk result (Charts (Gains p 0 head) old new)
     → OnOk result (Charts (IsOpened p units g) old new)
-opened_told p units g head old mid new is one (Ok w) two = λ x told.
-    let (y, told_y, cleared) = one x told in
-    let (z, told_z, gains) = two y told_y in
-    (z, told_z, opened_by p units g (chart_of x) (chart_of y) (chart_of z) head is cleared gains)
-opened_told p units g head old mid new is one (Err e) two = tt
+opened_told p units g head old new is (Ok w) tells = λ x told.
+    let (y, told_y, gains) = tells x told in
+    (y, told_y, opened_by p units g (chart_of x) (chart_of y) head is gains)
+opened_told p units g head old new is (Err e) tells = tt
 
 -- a cleared place that is free is laid out as before
 cleared_kept : (places p : ℕ) (c y : Chart) (it : Layout) (t : Tables) → Mirrors places c it t
@@ -100,52 +90,39 @@ abbrev pub HeaderSays : ℕ → ℕ → Sector → Told → Result (Unit {0}) Ch
 HeaderSays places p head old result new = (m n : Map) (h : History) → IsSteady h old
     → StoryRests places m h → age h.story p 0 ≡ Clean
     → Stands places (with_sector (now h) p 0 head) n
+    → WornAreIdle places h.story (with_sector (now h) p 0 head)
     → SwitchesMap places m n (Programs p (IsSpot 0)) (λ done. Gains p 0 head) h old result new
 
-module _ (places p units g : ℕ) (m : Map) (it : Layout) (t : Tables) (h : History)
-    (mirrors : Mirrors places (now h) it t) (free : IsFree t.places p) where
-  pub open_unerased : (e f : ChipFault) (old new : Told)
-      → KeepsMap {T = Unit {0}} places m (Clears p) (λ done. IsCleared p) h old (Err e) new
-      → KeepsMap {T = Unit {0}} places m (Rewrites p 1) (λ done. IsOpened p units g) h old (Err f) new
-  open_unerased e f old new did =
-      leads_failed (EachStands places m) (Clears p) (Rewrites p 1)
-      (λ (done : Unit {0}) k. StoryRests places m k × IsCleared p (now h) (now k))
-      (λ (done : Unit {0}) k. StoryRests places m k × IsOpened p units g (now h) (now k)) h e f old new
-      did (rewrites_cleared p 1)
+pub place_opened : (places p units g : ℕ) (head : Sector) (old new : Told)
+    (result : Result (Unit {0}) ChipFault) → IsOverflowHead units g head
+    → HeaderSays places p head old result new → OpensPlace places p units g old result new
+place_opened places p units g head old new result is seal m it h steady rests laid clean =
+    let may = overflow_headers_may_go places (now h) it p head (λ s. clean_bare h p s (clean s)) is.kind in
+    let says = says_of places (now h) it m laid (held_stands places m h rests.each) in
+    let worn = worn_by_layout places h.story (with_sector (now h) p 0 head) it
+    (overflow_headers_wait places (now h) it p head laid may).0
+    (λ q worn. idle_after_overflows places (now h) it p head q
+    (worn_apart h.story p q 0 (clean 0) worn) (rests.worn it laid q worn)) in
+    leads_weaker (EachStandsEither places m m) (EachStands places m) (Programs p (IsSpot 0))
+    (Programs p (IsSpot 0)) (λ done k. StoryRests places m k × Gains p 0 head (now h) (now k))
+    (λ done k. StoryRests places m k × IsOpened p units g (now h) (now k)) h old result new
+    (λ k either. either_is_kept places m k either) (λ done a does. does)
+    (λ done k both. (both.0, opened_by p units g (now h) (now k) head is both.1))
+    (seal m m h steady rests (clean 0)
+    (stands_after_overflows places (now h) it m p head laid says may) worn)
 
-  pub place_opened : (head : Sector) (old mid new : Told) (result : Result (Unit {0}) ChipFault)
-      → IsOverflowHead units g head
-      → KeepsMap {T = Unit {0}} {E = ChipFault} places m (Clears p) (λ done. IsCleared p) h
-      old (Ok tt) mid
-      → HeaderSays places p head mid result new
-      → KeepsMap places m (Rewrites p 1) (λ done. IsOpened p units g) h old result new
-  place_opened head old mid new result is did seal =
-      let j = adds_all did.added h in
-      let cleared = did.ends.1.1 in
-      let laid = (cleared_kept places p (now h) (now j) it t mirrors free cleared).0 in
-      let says = says_of places (now j) it m laid (held_stands places m j did.ends.1.0.each) in
-      let stands = stands_after_overflows places (now j) it m p head laid says
-      (overflow_headers_may_go places (now j) it p head cleared.bare is.kind) in
-      let sealed = leads_weaker (EachStandsEither places m m) (EachStands places m)
-      (Programs p (IsSpot 0)) (Programs p (IsSpot 0))
-      (λ done k. StoryRests places m k × Gains p 0 head (now j) (now k))
-      (λ done k. StoryRests places m k × Gains p 0 head (now j) (now k)) j mid result new
-      (λ k either. either_is_kept places m k either) (λ done a does. does) (λ v k is. is)
-      (seal m m j did.ends.0 did.ends.1.0
-      (did.does.fresh refl h.story 0) stands) in
-      leads_then (EachStands places m) (Clears p) (Programs p (IsSpot 0)) (Rewrites p 1)
-      (λ done k. StoryRests places m k × IsCleared p (now h) (now k))
-      (λ done k. StoryRests places m k × Gains p 0 head (now j) (now k))
-      (λ done k. StoryRests places m k × IsOpened p units g (now h) (now k)) h tt old mid new result did
-      sealed (λ a b one two. rewrites_one p (is_ok result) b a one two)
-      (λ w k both. (both.0, opened_by p units g (now h) (now j) (now k) head is cleared both.1))
+-- the place was cleared, and then opened
+pub record WasOpened (p units g : ℕ) (c z : Chart) : Type 0 where
+  pub bare : Chart
+  pub cleared : IsCleared p c bare
+  pub opened : IsOpened p units g bare z
 
 -- ---- in the tables
 
 -- the tables mirror the chart with the header, and each page is shown still
 pub opened_mirrors : (places p units g : ℕ) (c z : Chart) (it : Layout) (t : Tables)
     → Mirrors places c it t → IsFree t.places p → p < places → t.next ≤ g
-    → length t.overflow.in_use < 2 → IsOpened p units g c z
+    → length t.overflow.in_use < 2 → WasOpened p units g c z
     → Mirrors places z it (with_overflow (taken t p) p (g + 1)) × KeepsPages places c it z it
 opened_mirrors places p units g c z it t mirrors free within new two is =
     let idle = free_places_are_idle places c it t p mirrors free in
@@ -153,18 +130,19 @@ opened_mirrors places p units g c z it t mirrors free within new two is =
     let bare = tables_follow_idle_places places c it (taken t p) p is.bare t.next
     (places_may_be_taken places c it t p mirrors within) idle no_overflow is.cleared.others
     (is.cleared.bare 0) (omega arith) in
-    let may = overflow_headers_may_go places is.bare it p is.head is.cleared.bare is.kind in
-    let mentions : MentionsBelow (g + 1) is.head = λ number how. elim how [
-      | inl same ↦ omega (arith, same, is.of_generation)
-      | inr (inl same) ↦ omega (arith, same, is.serial)
-      | inr (inr (inl commit)) ↦ absurd (omega (arith, commit.0, is.kind))
-      | inr (inr (inr log)) ↦ absurd (omega (arith, log.0, is.kind))
+    let then = is.opened in
+    let may = overflow_headers_may_go places is.bare it p then.head is.cleared.bare then.kind in
+    let mentions : MentionsBelow (g + 1) then.head = λ number how. elim how [
+      | inl same ↦ omega (arith, same, then.of_generation)
+      | inr (inl same) ↦ omega (arith, same, then.serial)
+      | inr (inr (inl commit)) ↦ absurd (omega (arith, commit.0, then.kind))
+      | inr (inr (inr log)) ↦ absurd (omega (arith, log.0, then.kind))
     ] in
-    let waits = overflow_headers_wait places is.bare it p is.head bare.laid may in
+    let waits = overflow_headers_wait places is.bare it p then.head bare.laid may in
     let kept = (cleared_kept places p c is.bare it t mirrors free is.cleared).1 in (
-      rw is.gains (tables_follow_overflows places is.bare it (taken t p) p (g + 1) is.head bare may
+      rw then.gains (tables_follow_overflows places is.bare it (taken t p) p (g + 1) then.head bare may
           within (taken_is_used t p) two (omega (arith, new)) mentions is.cleared.bare),
-      rw is.gains (λ u page values low few shows.
+      rw then.gains (λ u page values low few shows.
           waits.1 u page values low few (kept u page values low few shows)),
     )
 
@@ -184,70 +162,118 @@ opened_counted t p next q n (small, inr (inl (first, has, above))) =
     only (suc k, within, same) = absurd (omega (arith, within))
 opened_counted t p next q n (small, inr (inr status)) = inl (small, inr (inr status))
 
-module _ (places p units g : ℕ) (m : Map) (it : Layout) (t after : Tables) (h : History)
-    (old new : Told) (agrees : Agrees places h it t) (free : IsFree t.places p) where
-  abbrev Opened : Unit {0} → History → Type 0
-  Opened done k = StoryRests places m k × IsOpened p units g (now h) (now k)
+-- what a power cut leaves
+module _ (p units g : ℕ) (m : Map) (it : Layout) (t : Tables) (h : History) (old mid new : Told)
+    (lowest : first_free t.places.in_use ≡ Some p) (steady : IsSteady h old)
+    (here : RestsAgreeing old.places m it t h) (takes : TakesPlace t.places old (Ok p) mid)
+    (counts : Counts old mid) (result : Result (Unit {0}) ChipFault)
+    (opens : OpensPlace mid.places p units g mid result new)
+    (stopped : IfErr result (λ fault. IsStopped fault mid new)) where
+  free : IsFree t.places p
+  free = first_is_free t.places p lowest
+
+  -- the place taken, and its header
+  opened_all : KeepsThroughout old.places m (Rewrites p 1) (λ done. WasOpened p units g) (λ c y. ⊥) h
+      result old new
+  opened_all =
+      let Mirror : Chart → Type 0 = λ c. Mirrors old.places c it t in
+      let first = so_far_and old.places m h (Clears p true) (IsCleared p) Mirror old mid
+      here.agrees.mirrors (taken_so_far t p m it h old mid lowest steady here takes) in
+      let k = adds_all first.added h in
+      let there = (first.ends tt).1 in
+      let says = subst (λ (q : ℕ). OpensPlace q p units g mid result new) counts.places opens in
+      keeps_then old.places m h (Clears p true) (Programs p (IsSpot 0)) (Rewrites p 1)
+      (λ c y. IsCleared p c y × Mirror c) (λ (done : Unit {0}). IsOpened p units g)
+      (λ done. WasOpened p units g) (λ c y. ⊥) (λ c y. ⊥) old mid new result first counts
+      (keeps_written old.places m k (Programs p (IsSpot 0)) (λ done. IsOpened p units g) (λ c y. ⊥) mid
+      new result
+      (says m it k (first.steady tt) (first.ends tt).0
+      (cleared_mirrors old.places (now h) (now k) it t p there.1 free there.0).laid
+      (λ s. first.does.fresh refl h.story s)) stopped)
+      (λ a b one two. rewrites_below t p 1 (IsSpot 0) (is_ok result) b a lowest
+      (λ s above spot. omega (arith, above, spot)) one two)
+      (each result) (λ c d e is none. none)
+    where
+      each : (r : Result (Unit {0}) ChipFault) → IfOk r (λ done. (c d e : Chart)
+          → IsCleared p c d × Mirrors old.places c it t → IsOpened p units g d e
+          → WasOpened p units g c e)
+      each (Ok done) = λ c d e is opened. record { bare = d; cleared = is.0; opened = opened }
+      each (Err e) = tt
 
   apart : (q s : ℕ) → IsCountedClean t q s → q ≢ p
-  apart = counted_apart places (now h) it t p agrees.mirrors
-      (free_places_are_idle places (now h) it t p agrees.mirrors free)
-      (agrees.mirrors.directory.not_overflow p free)
+  apart = counted_apart old.places (now h) it t p here.agrees.mirrors
+      (free_places_are_idle old.places (now h) it t p here.agrees.mirrors free)
+      (here.agrees.mirrors.directory.not_overflow p free)
 
-  -- the place was opened
-  pub opened_steps : (T : Type 0) (v : T) → p < places → t.next ≤ g
-      → length t.overflow.in_use < 2 → after ≡ with_overflow (taken t p) p (g + 1)
-      → KeepsMap {T = Unit {0}} {E = ChipFault} places m (Rewrites p 1)
-      (λ done. IsOpened p units g) h old (Ok tt) new
-      → Steps {T = T} {E = ChipFault} (EachStands places m) t after
-      (λ v k. RestsOpened places m (now h) it after k)
-      (λ k. RestsAgreeing places m it after k) h (Ok v) old new
-  opened_steps T v within newer two is did =
-      let there = opened_mirrors places p units g (now h) (now (adds_all did.added h)) it t
-      agrees.mirrors free within newer two did.ends.1.1 in record {
-        added = did.added;
-        history = did.history;
-        each_moment = did.each_moment;
-        does = record {
-          silent = did.does.silent;
-          lawful = record { lawful = λ base lawful clean. did.does.lawful base lawful };
-          clean = λ done. clean;
-        };
-        steady = λ done. did.ends.0;
-        ends = λ done. record {
-          rests = did.ends.1.0;
-          agrees = record { mirrors = rw is there.0; tidy = clean h.story agrees.tidy };
-          keeps = there.1;
-        };
-      }
-    where
-      clean : (base : Story) → AreClean (IsCountedClean t) base
-          → AreClean (IsCountedClean after) (did.added ++ base)
-      clean base before q s counted = elim (opened_counted t p (g + 1) q s (rw is at counted)) [
-        | inl was ↦ did.does.others base q s (apart q s was) (before q s was)
-        | inr (at, above) ↦ rw at (did.does.fresh refl base s above)
-      ]
+-- the place was opened
+pub opened_steps : (p units g : ℕ) (m : Map) (it : Layout) (t after : Tables) (h : History)
+    (old mid new : Told) → first_free t.places.in_use ≡ Some p → (steady : IsSteady h old)
+    → RestsAgreeing old.places m it t h → TakesPlace t.places old (Ok p) mid → Counts old mid
+    → OpensPlace mid.places p units g mid (Ok tt) new → (T : Type 0) (v : T) → p < old.places
+    → t.next ≤ g → length t.overflow.in_use < 2 → after ≡ with_overflow (taken t p) p (g + 1)
+    → Steps {T = T} {E = ChipFault} (EachStands old.places m) t after
+    (λ v k. RestsOpened old.places m (now h) it after k)
+    (λ k. RestsAgreeing old.places m it after k) h (Ok v) old new
+opened_steps p units g m it t after h old mid new lowest steady here takes counts opens T v within newer
+    two is =
+    let did = opened_all p units g m it t h old mid new lowest steady here takes counts (Ok tt) opens tt in
+    let free = first_is_free t.places p lowest in
+    let there = opened_mirrors old.places p units g (now h) (now (adds_all did.added h)) it t
+    here.agrees.mirrors free within newer two (did.ends tt).1 in
+    let clean : (base : Story) → AreClean (IsCountedClean t) base
+    → AreClean (IsCountedClean after) (did.added ++ base) = λ base before q s counted.
+    elim (opened_counted t p (g + 1) q s (rw is at counted)) [
+      | inl was ↦ did.does.others base q s
+          (apart p units g m it t h old mid new lowest steady here takes counts (Ok tt) opens tt q s was)
+          (before q s was)
+      | inr (at, above) ↦ rw at (did.does.fresh refl base s above)
+    ] in record {
+      added = did.added;
+      history = did.history;
+      each_moment = did.each_moment;
+      does = record {
+        silent = did.does.silent;
+        lawful = record { lawful = λ base lawful clean. did.does.lawful base lawful };
+        clean = λ done. clean;
+      };
+      steady = λ done. did.steady tt;
+      ends = λ done. record {
+        rests = (did.ends tt).0;
+        agrees = record { mirrors = rw is there.0; tidy = clean h.story here.agrees.tidy };
+        keeps = there.1;
+      };
+    }
 
-  -- it wasn't: a write failed
-  pub open_failed : (T : Type 0) (e f : ChipFault) → IsStopped e old new
-      → KeepsMap {T = Unit {0}} places m (Rewrites p 1) (λ done. IsOpened p units g) h old (Err e) new
-      → Steps {T = T} {E = ChipFault} (EachStands places m) t after
-      (λ v k. RestsOpened places m (now h) it after k)
-      (λ k. RestsAgreeing places m it after k) h (Err f) old new
-  open_failed T e f stopped did =
-      let less = failed_writes_are_steps (Unit {0}) T (EachStands places m) (Rewrites p 1) Opened
-      (λ v k. RestsOpened places m (now h) it after k) t after h old new e f did stopped
-      (λ a rewrites. (
-        rewrites.silent,
-        record { lawful = λ base lawful clean. rewrites.lawful base lawful },
-      )) in record {
-        added = less.added;
-        history = less.history;
-        each_moment = less.each_moment;
-        does = less.does;
-        steady = less.steady;
-        ends = λ unrisen. absurd (less.ends unrisen);
-      }
+-- it wasn't: a write failed
+pub open_failed : (p units g : ℕ) (m : Map) (it : Layout) (t after : Tables) (h : History)
+    (old mid new : Told) → first_free t.places.in_use ≡ Some p → (steady : IsSteady h old)
+    → RestsAgreeing old.places m it t h → TakesPlace t.places old (Ok p) mid → Counts old mid
+    → (T : Type 0) (e f : ChipFault) → IsStopped e mid new
+    → OpensPlace mid.places p units g mid (Err e) new
+    → Steps {T = T} {E = ChipFault} (EachStands old.places m) t after
+    (λ v k. RestsOpened old.places m (now h) it after k)
+    (λ k. RestsAgreeing old.places m it after k) h (Err f) old new
+open_failed p units g m it t after h old mid new lowest steady here takes counts T e f stopped opens =
+    let did = opened_all p units g m it t h old mid new lowest steady here takes counts (Err e) opens
+    stopped in record {
+      added = did.added;
+      history = did.history;
+      each_moment = did.each_moment;
+      does = record {
+        silent = did.does.silent;
+        lawful = record { lawful = λ base lawful clean. did.does.lawful base lawful };
+        clean = λ unrisen. absurd (did.ends unrisen).1;
+      };
+      steady = did.steady;
+      ends = λ unrisen. absurd (did.ends unrisen).1;
+    }
+
+-- what the chip tells once the place was taken and opened
+pub taken_told : (p units g : ℕ) (old mid new : Told) → Charts (IsCleared p) old mid
+    → Charts (IsOpened p units g) mid new → Charts (WasOpened p units g) old new
+taken_told p units g old mid new first second =
+    charts_then (IsCleared p) (IsOpened p units g) (WasOpened p units g) old mid new first second
+    (λ c d e cleared opened. record { bare = d; cleared = cleared; opened = opened })
 
 pub tables_same : (t : Tables) (a b : Places) (x y : OverflowLists) (n k : ℕ) → a ≡ b → x ≡ y
     → n ≡ k → ◌≡◌ {A = Tables} (record {

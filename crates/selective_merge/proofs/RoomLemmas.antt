@@ -1,5 +1,5 @@
 -- What the calls leave that make room.
-use Rattle.std.proofs.Common.{◌≡◌, ℕ, Some, Result, Ok, Err, IfOk, IfErr, OnOk, ◌∙◌}
+use Rattle.std.proofs.Common.{◌≡◌, ℕ, Some, Result, Ok, Err, IfOk, ◌∙◌}
 use Rattle.chip_trait.specs.Story.{Contents, held}
 use Rattle.chip_trait.specs.Told.{History, Told}
 use Rattle.ipl_base.specs.declared.fault.ChipFault.{ChipFault}
@@ -10,8 +10,6 @@ use Rattle.ipl_meaning.specs.Mirrors.{Mirrors}
 use Rattle.ipl_meaning.specs.Rests.{now, EachStands}
 use Rattle.ipl_meaning.specs.Steps.{KeepsPages}
 use Rattle.ipl_meaning.specs.Tables.{Tables, IsCountedClean}
-use Rattle.unit_io.specs.Charts.{Charts}
-use Rattle.unit_io.specs.Leads.{IsStopped}
 use Rattle.unit_io.specs.ReadsAt.{ReadsAt}
 use Rattle.steps.specs.Steps.{TidyWork, Steps, RestsAgreeing}
 use Rattle.steps.proofs.StepLemmas.{outcome_none, outcome_weaker}
@@ -122,20 +120,20 @@ module _ (Is : RoomOf) (places u : ℕ) (t after : Tables) (old new : Told) wher
   makes_by_opening (Err e) says is m it h steady rests agrees = says m it h steady rests agrees
 
   pub told_by_opening : (result : Result Spot ChipFault)
-      → OnOk result (Charts (Opens places t after) old new)
-      → IfErr result (λ fault. IsStopped fault old new)
+      → ChartsThroughout (λ (spot : Spot). Opens places t after) (StaysMirrored places t after)
+      result old new
       → IfOk result (λ spot. (c y : Chart) (it : Layout) → Mirrors places y it after
       → KeepsPages places c it y it → Is places c y it t u after spot.place spot.sector)
       → ChartsThroughout (MakesRoom Is places u t after) (StaysMirrored places t after)
       result old new
-  told_by_opening (Ok spot) tells stopped is = λ x there.
+  told_by_opening (Ok spot) tells is = λ x there.
       let (y, told_y, opens) = tells x there in (
         y,
         told_y,
         λ it mirrors.
             let made = opens it mirrors in is (chart_of x) (chart_of y) it made.0 made.1,
       )
-  told_by_opening (Err e) tells stopped is = λ soft. absurd (soft stopped.0)
+  told_by_opening (Err e) tells is = tells
 
 -- ---- behind reads
 

@@ -1,5 +1,5 @@
 -- A place sealed.
-use Rattle.std.proofs.Common.{◌≡◌, ◌+◌, ◌-◌, ℕ, List, length, true, Result, Ok, Err, IfErr, IfOk, OnOk, is_ok, inl, refl, sym, ◌∙◌, ap, subst, arith}
+use Rattle.std.proofs.Common.{◌≡◌, ◌+◌, ◌-◌, ℕ, List, length, true, None, Result, Ok, Err, IfErr, IfOk, OnOk, is_ok, refl, sym, ◌∙◌, ap, subst, arith}
 use Rattle.std.proofs.lemmas.List.{length-map}
 use Rattle.chip_trait.specs.Chart.{with_sector}
 use Rattle.chip_trait.specs.Lawful.{Clean, age}
@@ -12,23 +12,28 @@ use Rattle.ipl_format.specs.Header.{SpellsDataHeader, data_header_bytes}
 use Rattle.ipl_format.specs.Sector.{Sector}
 use Rattle.ipl_meaning.specs.Chart.{Chart}
 use Rattle.ipl_meaning.specs.Layout.{Layout, Laid, Shape, records_of}
-use Rattle.ipl_meaning.specs.Rests.{now, EachStands, EachStandsEither, StoryRests}
+use Rattle.ipl_meaning.specs.Rests.{now, EachStands, EachStandsEither, WornAreIdle, StoryRests}
 use Rattle.ipl_meaning.specs.Stands.{Shows, Says, Stands, page_in}
+use Rattle.ipl_meaning.specs.Steps.{with_unit}
 use Rattle.ipl_meaning.specs.Tables.{Tables}
+use Rattle.ipl_meaning.specs.TableSteps.{taken, with_next}
+use Rattle.ipl_meaning.proofs.MirrorLemmas.{headers_may_go}
 use Rattle.ipl_meaning.proofs.OnceLemmas.{laid_once}
 use Rattle.ipl_meaning.proofs.StoryLemmas.{held_stands, either_is_kept}
-use Rattle.ipl_meaning.proofs.SwitchLemmas.{same_applied}
+use Rattle.ipl_meaning.proofs.SwitchLemmas.{headers_switch, same_applied}
+use Rattle.ipl_meaning.proofs.WornLemmas.{worn_by_layout, idle_after_headers}
 use Rattle.unit_io.specs.Charts.{Charts, Gains}
 use Rattle.unit_io.specs.Leads.{IsSteady, SwitchesMap, IsStopped}
-use Rattle.unit_io.specs.Spots.{Programs, Rewrites, IsSpot}
+use Rattle.unit_io.specs.Spots.{Programs, IsSpot}
 use Rattle.unit_io.proofs.LeadsLemmas.{leads_weaker}
-use Rattle.merge_rules.specs.Merged.{source_of, packs_in, IsUnitHead, IsFilled, MayMerge, IsToMerge, IsWritten}
-use Rattle.merge_rules.specs.Moved.{Source, IsUnsealed}
+use Rattle.merge_rules.specs.Merged.{source_of, packs_in, merged_shape, IsUnitHead, IsFilled, MayMerge, IsToMerge, IsWritten}
+use Rattle.merge_rules.specs.Moved.{Source, IsAside}
 use Rattle.merge_rules.specs.Pages.{IsFew}
-use Rattle.merge_rules.proofs.MergeLemmas.{stands_after_filling}
+use Rattle.merge_rules.proofs.FilledLemmas.{mirrors_filled}
+use Rattle.merge_rules.proofs.MergeLemmas.{filled_places_are_ready, stands_after_filling}
 use Rattle.selective_merge.specs.Throughout.{KeepsThroughout, ChartsThroughout}
-use Rattle.selective_merge.specs.Writing.{Fills, IsSealed, SealsUnit, TellsWritten}
-use Rattle.selective_merge.proofs.FillLemmas.{rewrites_sealed, fills_rewrite}
+use Rattle.selective_merge.specs.Writing.{GainsUnit, IsCleanPlace, IsFilledSpot, IsSealed, IsUnitSpot, SealsUnit, TellsWritten}
+use Rattle.selective_merge.proofs.FillLemmas.{clean_bare, worn_apart, programs_unit, programs_unsealed, filled_by}
 use Rattle.selective_merge.proofs.ThroughoutLemmas.{so_far_and, keeps_written, keeps_then, keeps_failed, told_then, told_written}
 
 -- ---- the header
@@ -39,6 +44,7 @@ pub sealed_keeps : (places p units u g : ℕ) (pieces : List ℕ) (carried : ℕ
     → IsUnitHead units u g pieces carried head
     → ((m n : Map) (h : History) → IsSteady h old → StoryRests places m h
     → age h.story p 0 ≡ Clean → Stands places (with_sector (now h) p 0 head) n
+    → WornAreIdle places h.story (with_sector (now h) p 0 head)
     → SwitchesMap places m n (Programs p (IsSpot 0)) (λ done. Gains p 0 head) h old result new)
     → SealsUnit places p units u g pieces carried old result new
 sealed_keeps places p units u g pieces carried head old result new is says m h steady rests clean
@@ -49,7 +55,7 @@ sealed_keeps places p units u g pieces carried head old result new is says m h s
     (λ done k. StoryRests places m k × IsSealed p units u g pieces carried (now h) (now k))
     h old result new (λ k each. either_is_kept places m k each) (λ done a same. same)
     (λ done k held. (held.0, (head, is, held.1)))
-    (says m m h steady rests clean (stands head is))
+    (says m m h steady rests clean (stands head is).0 (stands head is).1)
 
 pub sealed_tells : (p units u g : ℕ) (pieces : List ℕ) (carried : ℕ) (head : Sector) (old : Told)
     (result : Result (Unit {0}) ChipFault) (new : Told) → IsUnitHead units u g pieces carried head
@@ -81,6 +87,24 @@ says_of places c it m laid stands =
           };
       nowhere_else = stands.says.nowhere_else;
     }
+
+-- ---- worn places
+
+-- with the header of a unit that was written to a clean place, nothing counts at worn ones still
+worn_after_filling : (places : ℕ) (c : Chart) (it : Layout) (t : Tables) (u p : ℕ) (head : Sector)
+    (pieces : List ℕ) (serial : ℕ) (m : Map) (k : History)
+    → MayMerge places c (now k) it t u p head pieces serial → StoryRests places m k
+    → age k.story p 0 ≡ Clean → WornAreIdle places k.story (with_sector (now k) p 0 head)
+worn_after_filling places c it t u p head pieces serial m k may rests clean =
+    let fresh = merged_shape t (it.units u) u p head pieces serial in
+    let taken_then = with_next (taken t p) head.generation in
+    let mirrors = mirrors_filled places c (now k) it t u p head pieces serial may in
+    let ready = (filled_places_are_ready places c (now k) it t u p head pieces serial may).0 in
+    let seal = headers_may_go places (now k) it taken_then u p fresh mirrors may.low ready in
+    worn_by_layout places k.story (with_sector (now k) p 0 head) (with_unit it u fresh)
+    (headers_switch places (now k) it u p fresh mirrors.laid seal).0
+    (λ q worn. idle_after_headers places (now k) it u p fresh q seal
+    (worn_apart k.story p q 0 clean worn) (rests.worn it mirrors.laid q worn))
 
 -- ---- a unit written
 
@@ -127,71 +151,86 @@ module _ (places units p g serial carried : ℕ) (from : Source) (payloads : Lis
             (subst (λ (k : ℕ). IsFilled from p k serial pieces payloads c y) (sym gen) filled));
       }
 
-  written : (c y z : Chart) (it : Layout) (t : Tables) (u : ℕ)
+  -- what was written to a place at which nothing checked
+  filled_on : (c y : Chart) → ((s : ℕ) → c p s ≡ None)
+      → GainsUnit from p g serial pieces payloads c y → IsFilled from p g serial pieces payloads c y
+  filled_on c y bare gains = filled_by from p g serial pieces payloads c c y
+      (record { bare = bare; others = λ q s apart. refl }) gains
+
+  written : (c y z : Chart) (it : Layout) (t : Tables) (u : ℕ) → ((s : ℕ) → c p s ≡ None)
       → IsToMerge places c it t u p g serial from payloads
-      → IsFilled from p g serial pieces payloads c y
+      → GainsUnit from p g serial pieces payloads c y
       → IsSealed p units from.unit g pieces carried y z
       → IsWritten places c z it t u p g serial
-  written c y z it t u what filled (head, is, gains) = record {
+  written c y z it t u bare what gains (head, is, sealed) = record {
     head = head;
     pieces = pieces;
     filled = y;
     generation_is = is.of_generation;
-    may = may_merge c y it t u head what is filled;
-    gains = gains;
+    may = may_merge c y it t u head what is (filled_on c y bare gains);
+    gains = sealed;
   }
+
+  -- what is known of the place before
+  abbrev Was : Layout → Tables → ℕ → Chart → Type 0
+  Was it t u c = IsToMerge places c it t u p g serial from payloads × ((s : ℕ) → c p s ≡ None)
 
   pub unit_written : (m : Map) (it : Layout) (t : Tables) (u : ℕ) (h : History) (old mid new : Told)
       (result : Result (Unit {0}) ChipFault)
       → IsToMerge places (now h) it t u p g serial from payloads → StoryRests places m h
-      → Counts old mid
-      → KeepsThroughout {T = List ℕ} {E = ChipFault} places m (Fills p (length payloads))
-      (λ pieces. IsFilled from p g serial pieces payloads) (IsUnsealed p) h (Ok pieces) old mid
+      → IsCleanPlace p h → Counts old mid
+      → KeepsThroughout {T = List ℕ} {E = ChipFault} places m
+      (Programs p (IsFilledSpot (length payloads)))
+      (λ pieces. GainsUnit from p g serial pieces payloads) (IsAside p) h (Ok pieces) old mid
       → SealsUnit places p units from.unit g pieces carried mid result new
       → IfErr result (λ fault. IsStopped fault mid new)
-      → KeepsThroughout places m (Rewrites p (241 + length payloads))
-      (λ done c y. IsWritten places c y it t u p g serial) (IsUnsealed p) h result old new
-  unit_written m it t u h old mid new result what rests counts filled seals stopped =
-      let first = so_far_and places m h (Fills p (length payloads) true)
-      (IsFilled from p g serial pieces payloads)
-      (λ c. IsToMerge places c it t u p g serial from payloads) old mid what filled in
+      → KeepsThroughout places m (Programs p (IsUnitSpot (length payloads)))
+      (λ done c y. IsWritten places c y it t u p g serial) (IsAside p) h result old new
+  unit_written m it t u h old mid new result what rests clean counts filled seals stopped =
+      let bare : (s : ℕ) → now h p s ≡ None = λ s. clean_bare h p s (clean s) in
+      let first = so_far_and places m h (Programs p (IsFilledSpot (length payloads)) true)
+      (GainsUnit from p g serial pieces payloads) (Was it t u) old mid (what, bare) filled in
       let k = adds_all first.added h in
       let there = (first.ends tt).1 in
       let says = says_of places (now h) it m what.mirrors.laid (held_stands places m h rests.each) in
-      keeps_then places m h (Fills p (length payloads) true) (Programs p (IsSpot 0))
-      (Rewrites p (241 + length payloads))
-      (λ c y. IsFilled from p g serial pieces payloads c y
-      × IsToMerge places c it t u p g serial from payloads)
+      let ready : age k.story p 0 ≡ Clean = first.does.others h.story p 0
+      (λ same is. omega (arith, is.0)) (clean 0) in
+      keeps_then places m h (Programs p (IsFilledSpot (length payloads)) true)
+      (Programs p (IsSpot 0)) (Programs p (IsUnitSpot (length payloads)))
+      (λ c y. GainsUnit from p g serial pieces payloads c y × Was it t u c)
       (λ (done : Unit {0}). IsSealed p units from.unit g pieces carried)
-      (λ done c y. IsWritten places c y it t u p g serial) (λ c y. ⊥) (IsUnsealed p)
+      (λ done c y. IsWritten places c y it t u p g serial) (λ c y. ⊥) (IsAside p)
       old mid new result first counts
       (keeps_written places m k (Programs p (IsSpot 0))
       (λ done. IsSealed p units from.unit g pieces carried) (λ c y. ⊥) mid new result
-      (seals m k (first.steady tt) (first.ends tt).0
-      (first.does.fresh refl h.story 0 (inl refl))
-      (λ head is. stands_after_filling places (now h) (now k) it t u p head pieces serial m
-      (may_merge (now h) (now k) it t u head what is there.0) says)) stopped)
-      (λ a b one two. rewrites_sealed p (length payloads) (is_ok result) b a one two)
+      (seals m k (first.steady tt) (first.ends tt).0 ready
+      (λ head is.
+      let may = may_merge (now h) (now k) it t u head what is
+      (filled_on (now h) (now k) bare there.0) in (
+        stands_after_filling places (now h) (now k) it t u p head pieces serial m may says,
+        worn_after_filling places (now h) it t u p head pieces serial m k may (first.ends tt).0
+            ready,
+      ))) stopped)
+      (λ a b one two. programs_unit p (length payloads) (is_ok result) b a one two)
       (each result) (λ c d e is none. absurd none)
     where
       each : (r : Result (Unit {0}) ChipFault) → IfOk r (λ done. (c d e : Chart)
-          → IsFilled from p g serial pieces payloads c d
-          × IsToMerge places c it t u p g serial from payloads
+          → GainsUnit from p g serial pieces payloads c d × Was it t u c
           → IsSealed p units from.unit g pieces carried d e
           → IsWritten places c e it t u p g serial)
-      each (Ok done) = λ c d e is sealed. written c d e it t u is.1 is.0 sealed
+      each (Ok done) = λ c d e is sealed. written c d e it t u is.1.1 is.1.0 is.0 sealed
       each (Err e) = tt
 
   pub written_told : (old mid new : Told) (result : Result (Unit {0}) ChipFault)
-      → Charts (IsFilled from p g serial pieces payloads) old mid
+      → Charts (GainsUnit from p g serial pieces payloads) old mid
       → OnOk result (Charts (IsSealed p units from.unit g pieces carried) mid new)
       → IfErr result (λ fault. IsStopped fault mid new)
-      → ChartsThroughout (λ done. TellsWritten places from p g serial payloads) (IsUnsealed p)
+      → ChartsThroughout (λ done. TellsWritten places from p g serial payloads) (IsAside p)
       result old new
   written_told old mid new result one two stopped =
-      told_then (IsFilled from p g serial pieces payloads)
+      told_then (GainsUnit from p g serial pieces payloads)
       (λ (done : Unit {0}). IsSealed p units from.unit g pieces carried)
-      (λ done. TellsWritten places from p g serial payloads) (λ c y. ⊥) (IsUnsealed p)
+      (λ done. TellsWritten places from p g serial payloads) (λ c y. ⊥) (IsAside p)
       old mid new result one
       (told_written (λ (done : Unit {0}). IsSealed p units from.unit g pieces carried) (λ c y. ⊥)
       mid mid new result (on_ok result two) stopped) (each result) (λ c d e is none. absurd none)
@@ -203,21 +242,22 @@ module _ (places units p g serial carried : ℕ) (from : Source) (payloads : Lis
       on_ok (Err e) is = tt
 
       each : (r : Result (Unit {0}) ChipFault) → IfOk r (λ done. (c d e : Chart)
-          → IsFilled from p g serial pieces payloads c d
+          → GainsUnit from p g serial pieces payloads c d
           → IsSealed p units from.unit g pieces carried d e
           → TellsWritten places from p g serial payloads c e)
-      each (Ok done) = λ c d e is sealed it t u what. written c d e it t u what is sealed
+      each (Ok done) = λ c d e gains sealed it t u bare what. written c d e it t u bare what gains sealed
       each (Err e) = tt
 
 -- the place wasn't filled
 pub fill_failed : (places p g serial : ℕ) (from : Source) (payloads : List Versioned) (m : Map)
     (it : Layout) (t : Tables) (u : ℕ) (h : History) (old new : Told) (e f : ChipFault)
-    → KeepsThroughout {T = List ℕ} places m (Fills p (length payloads))
-    (λ pieces. IsFilled from p g serial pieces payloads) (IsUnsealed p) h (Err e) old new
-    → KeepsThroughout {T = Unit {0}} places m (Rewrites p (241 + length payloads))
-    (λ done c y. IsWritten places c y it t u p g serial) (IsUnsealed p) h (Err f) old new
+    → KeepsThroughout {T = List ℕ} places m (Programs p (IsFilledSpot (length payloads)))
+    (λ pieces. GainsUnit from p g serial pieces payloads) (IsAside p) h (Err e) old new
+    → KeepsThroughout {T = Unit {0}} places m (Programs p (IsUnitSpot (length payloads)))
+    (λ done c y. IsWritten places c y it t u p g serial) (IsAside p) h (Err f) old new
 fill_failed places p g serial from payloads m it t u h old new e f did =
-    keeps_failed places m h (Fills p (length payloads)) (Rewrites p (241 + length payloads))
-    (λ pieces. IsFilled from p g serial pieces payloads)
-    (λ (done : Unit {0}) c y. IsWritten places c y it t u p g serial) (IsUnsealed p) (IsUnsealed p)
-    old new e f did (fills_rewrite p (length payloads) (241 + length payloads)) (λ c d is. is)
+    keeps_failed places m h (Programs p (IsFilledSpot (length payloads)))
+    (Programs p (IsUnitSpot (length payloads)))
+    (λ pieces. GainsUnit from p g serial pieces payloads)
+    (λ (done : Unit {0}) c y. IsWritten places c y it t u p g serial) (IsAside p) (IsAside p)
+    old new e f did (programs_unsealed p (length payloads)) (λ c d is. is)

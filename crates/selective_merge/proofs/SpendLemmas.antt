@@ -4,13 +4,14 @@ use Rattle.std.specs.List.{All}
 use Rattle.std.proofs.lemmas.Bool.{false≢true}
 use Rattle.std.proofs.lemmas.List.Elements.{All-head, All-tail}
 use Rattle.chip_trait.specs.declared.event.Event.{Event}
-use Rattle.chip_trait.specs.declared.event.Event.TheVariants.{Read, Program, Erase, Barrier, Said}
+use Rattle.chip_trait.specs.declared.event.Event.TheVariants.{Read, Program, Erase, Worn, Barrier, Said}
 use Rattle.chip_trait.specs.Story.{Story}
 use Rattle.chip_trait.specs.Told.{Told}
 use Rattle.ipl_meaning.specs.Tables.{Places}
-use Rattle.unit_io.specs.Costs.{ErasesOnce, ProgramsAt, Spends, is_erased}
+use Rattle.unit_io.specs.Costs.{ErasesOnce, ProgramsAt, Spends, is_erased, is_tried}
 use Rattle.unit_io.specs.ReadsAt.{IsReadAt, ReadsAt}
-use Rattle.unit_io.proofs.CostLemmas.{costs_at_most, costs_none, costs_reads, costs_then, erased_joined, nothing_at, spends_at_then, spends_none, spends_then, spends_weaker}
+use Rattle.unit_io.proofs.CostLemmas.{costs_at_most, costs_none, costs_reads, costs_then, erased_joined, nothing_at, once_at_most, spends_at_then, spends_none, spends_then, spends_weaker, tried_joined}
+use Rattle.place_taking.specs.Takes.{ErasesLowest}
 use Rattle.selective_merge.specs.Spending.{IsLowestFree, ErasesFree, ErasesFor}
 
 -- ---- reads
@@ -30,22 +31,24 @@ at_reads At place kind (e ∷ older) reads =
     by_event (Program p s bytes) is rest = absurd is
     by_event (Erase p) is rest = absurd is
     by_event Barrier is rest = absurd is
+    by_event (Worn q) is rest = absurd is
     by_event (Said piece) is rest = absurd is
 
--- nor do they erase anything
-reads_erase_none : (At : ℕ → ℕ → Type 0) (p : ℕ) (added : Story) → All (IsReadAt At) added
-    → is_erased added p ≡ false
-reads_erase_none At p [] reads = refl
-reads_erase_none At p (e ∷ older) reads =
+-- nor do they try an erase
+reads_try_none : (At : ℕ → ℕ → Type 0) (p : ℕ) (added : Story) → All (IsReadAt At) added
+    → is_tried added p ≡ false
+reads_try_none At p [] reads = refl
+reads_try_none At p (e ∷ older) reads =
     by_event e (All-head (IsReadAt At) e older reads)
-    (reads_erase_none At p older (All-tail (IsReadAt At) e older reads))
+    (reads_try_none At p older (All-tail (IsReadAt At) e older reads))
   where
-    by_event : (e : Event) → IsReadAt At e → is_erased older p ≡ false
-        → is_erased (e ∷ older) p ≡ false
+    by_event : (e : Event) → IsReadAt At e → is_tried older p ≡ false
+        → is_tried (e ∷ older) p ≡ false
     by_event (Read q s) is rest = rest
     by_event (Program q s bytes) is rest = absurd is
     by_event (Erase q) is rest = absurd is
     by_event Barrier is rest = absurd is
+    by_event (Worn q) is rest = absurd is
     by_event (Said piece) is rest = absurd is
 
 pub spends_read : (At : ℕ → ℕ → Type 0) (place kind : ℕ) (old new : Told) → ReadsAt At old new
@@ -65,7 +68,7 @@ programs_behind At place n kind old mid new did =
     → Spends (ProgramsAt place k 0 kind) old new) (omega arith)
     (spends_at_then place 0 n 0 0 kind old mid new (spends_read At place kind old mid did))
 
--- what is erased behind reads
+-- what is tried behind reads
 or_false : (a : Bool) → (a || false) ≡ true → a ≡ true
 or_false true is = refl
 or_false false is = absurd (false≢true is)
@@ -74,9 +77,9 @@ free_behind : (At : ℕ → ℕ → Type 0) (before : Places) (later earlier : S
     → All (IsReadAt At) earlier → ErasesFree before later → ErasesFree before (later ++ earlier)
 free_behind At before later earlier reads does = record {
   costs = costs_then 0 1 0 0 0 3 [] later earlier (costs_reads At [] earlier reads) does.costs;
-  lowest = λ p is. does.lowest p (or_false (is_erased later p)
-      (ap (λ (b : Bool). is_erased later p || b) (sym (reads_erase_none At p earlier reads))
-      ∙ sym (erased_joined later earlier p) ∙ is));
+  lowest = λ p is. does.lowest p (or_false (is_tried later p)
+      (ap (λ (b : Bool). is_tried later p || b) (sym (reads_try_none At p earlier reads))
+      ∙ sym (tried_joined later earlier p) ∙ is));
 }
 
 pub erases_free_behind : (At : ℕ → ℕ → Type 0) (before : Places) (old mid new : Told)
@@ -97,14 +100,14 @@ erases_for_behind At before place done old mid new did =
           ∙ ap (λ (b : Bool). b || is_erased earlier place) (does.erased is);
     }) (record { added = did.added; does = did.each; history = did.history })
 
--- ---- what a call erases
+-- ---- what a call tries to erase
 
 free_read : (At : ℕ → ℕ → Type 0) (before : Places) (added : Story) → All (IsReadAt At) added
     → ErasesFree before added
 free_read At before added reads = record {
   costs = costs_at_most 0 1 0 0 0 3 [] [] added (omega arith) (omega arith) (omega arith)
       (λ kind has. has) (costs_reads At [] added reads);
-  lowest = λ p is. absurd (false≢true (sym (reads_erase_none At p added reads) ∙ is));
+  lowest = λ p is. absurd (false≢true (sym (reads_try_none At p added reads) ∙ is));
 }
 
 -- reads alone
@@ -177,6 +180,25 @@ for_nobody before place at old new free =
     (λ added once. record {
       erases = was_free before place false added free once;
       erased = λ done. absurd (false≢true done);
+    })
+
+-- and where none could be taken
+pub frees_untaken : (before : Places) (old new : Told) → Spends (ErasesLowest before false) old new
+    → Spends (ErasesFree before) old new
+frees_untaken before old new did =
+    frees_once before did.does.place false old new did.does.lowest (record {
+      added = did.added;
+      does = once_at_most did.does.place 1 3 false did.added (omega arith) did.does.once;
+      history = did.history;
+    })
+
+pub for_untaken : (before : Places) (at : ℕ) (old new : Told) → Spends (ErasesLowest before false) old new
+    → Spends (ErasesFor before at false) old new
+for_untaken before at old new did =
+    for_nobody before did.does.place at old new did.does.lowest (record {
+      added = did.added;
+      does = once_at_most did.does.place 1 3 false did.added (omega arith) did.does.once;
+      history = did.history;
     })
 
 -- what was erased for a unit was free

@@ -2,7 +2,7 @@
 use Rattle.std.proofs.Common.{◌≡◌, ℕ, Bool, false, [], ◌++◌, Result, Ok, Err, MatchResult, IfErr, IfOk, is_ok, arith}
 use Rattle.std.proofs.lemmas.List.Elements.{All-weaker}
 use Rattle.chip_trait.specs.declared.event.Event.{Event}
-use Rattle.chip_trait.specs.declared.event.Event.TheVariants.{Read, Program, Erase, Barrier, Said}
+use Rattle.chip_trait.specs.declared.event.Event.TheVariants.{Read, Program, Erase, Worn, Barrier, Said}
 use Rattle.chip_trait.specs.Story.{Story}
 use Rattle.chip_trait.specs.Told.{History, Told, Counts, adds_all}
 use Rattle.ipl_base.specs.declared.fault.ChipFault.{ChipFault}
@@ -149,6 +149,7 @@ page_event place page n (Read p s) is = is.0
 page_event place page n (Program p s bytes) is = is
 page_event place page n (Erase p) is = is
 page_event place page n Barrier is = is
+page_event place page n (Worn q) is = is
 page_event place page n (Said piece) is = is
 
 reads_at : (place page n : ℕ) (old new : Told) → Reads (page_reads place page n) old new

@@ -6,18 +6,20 @@ use Rattle.ipl_meaning.specs.Tables.{IsFree, Tables}
 use Rattle.ipl_meaning.specs.TableSteps.{IsMoved, taken, with_next, with_overflow}
 use Rattle.unit_io.specs.Costs.{Spends}
 use Rattle.unit_io.specs.ReadsAt.{ReadsAt}
-use Rattle.unit_io.specs.Spots.{Programs, Clears, Rewrites, IsSpot, IsPieceSpot}
+use Rattle.unit_io.specs.Spots.{Programs, Rewrites, IsSpot, IsPieceSpot}
 use Rattle.unit_io.proofs.CostLemmas.{spends_none, spends_then, spends_weaker}
-use Rattle.unit_io.proofs.SpotLemmas.{Refills, programs_none}
-use Rattle.unit_io.proofs.TidyLemmas.{tidy_then, tidy_wider, tidy_refilled}
+use Rattle.unit_io.proofs.SpotLemmas.{programs_none}
+use Rattle.unit_io.proofs.TidyLemmas.{tidy_then, tidy_wider}
 use Rattle.steps.specs.Steps.{Tidies}
 use Rattle.steps.proofs.TablesLemmas.{tables_read, tables_then, tables_rewritten}
 use Rattle.merge_rules.specs.Known.{KnowsPlaces}
 use Rattle.merge_rules.specs.Packs.{IsLogSpotBelow}
 use Rattle.merge_rules.specs.Pages.{IsBaseSpotBelow}
 use Rattle.merge_rules.proofs.KnownCleanLemmas.{free_apart, merged_clean, opened_clean}
-use Rattle.selective_merge.specs.Writing.{Fills}
-use Rattle.selective_merge.proofs.FillLemmas.{fills_pages, fills_logs, rewrites_sealed, clears_fill, fills_less, fills_rewrite}
+use Rattle.place_taking.specs.Takes.{ClearsLowest}
+use Rattle.place_taking.proofs.JoinLemmas.{first_is_free, tidy_untaken}
+use Rattle.selective_merge.specs.Writing.{IsFilledSpot, IsUnitSpot}
+use Rattle.selective_merge.proofs.FillLemmas.{programs_filled, programs_unit, programs_pages, programs_unsealed}
 use Rattle.selective_merge.proofs.ReadLemmas.{reads_program}
 
 -- ---- programs
@@ -80,59 +82,40 @@ tidy_pages p n total done then old new few =
     tidy_wider p (IsBaseSpotBelow n) (IsBaseSpotBelow total) done then old new
     (λ s is. (is.0, omega (arith, is.1, few)))
 
--- ---- a place that was erased
+-- ---- a clean place
 
--- the pages behind the erase
-pub tidy_paged : (p : ℕ) (done : Bool) (old mid new : Told) → Spends (Clears p true) old mid
-    → Spends (Programs p (IsBaseSpotBelow 15) done) mid new → Spends (Fills p 0 done) old new
-tidy_paged p done old mid new =
-    spends_then (Clears p true) (Programs p (IsBaseSpotBelow 15) done) (Fills p 0 done) old mid new
-    (λ later earlier. fills_pages p done later earlier)
+-- pages alone
+pub tidy_paged : (p n : ℕ) (old new : Told) → Spends (Programs p (IsBaseSpotBelow 15) false) old new
+    → Spends (Programs p (IsFilledSpot n) false) old new
+tidy_paged p n old new =
+    spends_weaker (Programs p (IsBaseSpotBelow 15) false) (Programs p (IsFilledSpot n) false) old new
+    (λ added. programs_pages p n added)
 
--- the log sectors behind these
-pub tidy_logged : (p n : ℕ) (done : Bool) (old mid new : Told) → Spends (Fills p 0 true) old mid
-    → Spends (Programs p (IsLogSpotBelow n) done) mid new → Spends (Fills p n done) old new
+-- and log sectors behind these
+pub tidy_logged : (p n : ℕ) (done : Bool) (old mid new : Told)
+    → Spends (Programs p (IsBaseSpotBelow 15) true) old mid
+    → Spends (Programs p (IsLogSpotBelow n) done) mid new
+    → Spends (Programs p (IsFilledSpot n) done) old new
 tidy_logged p n done old mid new =
-    spends_then (Fills p 0 true) (Programs p (IsLogSpotBelow n) done) (Fills p n done) old mid new
-    (λ later earlier. fills_logs p n done later earlier)
+    spends_then (Programs p (IsBaseSpotBelow 15) true) (Programs p (IsLogSpotBelow n) done)
+    (Programs p (IsFilledSpot n) done) old mid new
+    (λ later earlier. programs_filled p n done later earlier)
 
 -- and the header
-pub tidy_sealed : (p n : ℕ) (done : Bool) (old mid new : Told) → Spends (Fills p n true) old mid
-    → Spends (Programs p (IsSpot 0) done) mid new → Spends (Rewrites p (241 + n) done) old new
+pub tidy_sealed : (p n : ℕ) (done : Bool) (old mid new : Told)
+    → Spends (Programs p (IsFilledSpot n) true) old mid → Spends (Programs p (IsSpot 0) done) mid new
+    → Spends (Programs p (IsUnitSpot n) done) old new
 tidy_sealed p n done old mid new =
-    spends_then (Fills p n true) (Programs p (IsSpot 0) done) (Rewrites p (241 + n) done) old mid
-    new (λ later earlier. rewrites_sealed p n done later earlier)
-
--- the erase failed
-pub tidy_unerased : (p n : ℕ) (old new : Told) → Spends (Clears p false) old new
-    → Spends (Fills p n false) old new
-tidy_unerased p n old new =
-    spends_weaker (Clears p false) (Fills p n false) old new (λ added. clears_fill p n added)
+    spends_then (Programs p (IsFilledSpot n) true) (Programs p (IsSpot 0) done)
+    (Programs p (IsUnitSpot n) done) old mid new
+    (λ later earlier. programs_unit p n done later earlier)
 
 -- not all was written
-pub tidy_less : (p n total : ℕ) (old new : Told) → Spends (Fills p n false) old new
-    → Spends (Fills p total false) old new
-tidy_less p n total old new =
-    spends_weaker (Fills p n false) (Fills p total false) old new
-    (λ added. fills_less p n total added)
-
-pub tidy_unfilled : (p n from : ℕ) (old new : Told) → Spends (Fills p n false) old new
-    → Spends (Rewrites p from false) old new
-tidy_unfilled p n from old new =
-    spends_weaker (Fills p n false) (Rewrites p from false) old new
-    (λ added. fills_rewrite p n from added)
-
--- the header alone behind the erase
-pub tidy_headed : (p : ℕ) (done : Bool) (old mid new : Told) → Spends (Clears p true) old mid
-    → Spends (Programs p (IsSpot 0) done) mid new → Spends (Rewrites p 1 done) old new
-tidy_headed p done old mid new first second =
-    spends_weaker (Refills p (IsSpot 0)) (Rewrites p 1 done) old new
-    (λ added did. record {
-      silent = did.silent;
-      lawful = did.lawful;
-      others = did.others;
-      fresh = λ is base s above. did.fresh base s (λ at. omega (arith, at, above));
-    }) (tidy_refilled p (IsSpot 0) done old mid new first second)
+pub tidy_unsealed : (p n : ℕ) (old new : Told) → Spends (Programs p (IsFilledSpot n) false) old new
+    → Spends (Programs p (IsUnitSpot n) false) old new
+tidy_unsealed p n old new =
+    spends_weaker (Programs p (IsFilledSpot n) false) (Programs p (IsUnitSpot n) false) old new
+    (λ added. programs_unsealed p n added)
 
 -- ---- the tables
 
@@ -178,3 +161,12 @@ module _ (places : ℕ) (t : Tables) (known : KnowsPlaces places t) (p : ℕ)
   gives_back_tidily T after from next result old new is did =
       rw is (tables_rewritten t (with_next t next) p from false result old new
       (λ settled q n counted. inl (counted, free_apart places t known p q n free counted)) did)
+
+-- or none was taken
+pub untaken_tidily : (places : ℕ) (t : Tables) → KnowsPlaces places t → (T : Type 0) (after : Tables)
+    (next : ℕ) (result : Result T ChipFault) (old new : Told) → after ≡ with_next t next
+    → Spends (ClearsLowest t.places false) old new → Tidies t result after old new
+untaken_tidily places t known T after next result old new is did =
+    let p = did.does.place in
+    gives_back_tidily places t known p (first_is_free t.places p did.does.lowest) T after 0 next result
+    old new is (tidy_untaken t.places p 0 old new did.does.lowest did)

@@ -3,7 +3,7 @@ use Rattle.std.specs.Prelude.{ℕ, ◌≡◌, ◌≢◌, ◌⊎◌, ◌==◌, �
 use Rattle.ipl_base.specs.declared.limits.TheConstants.{PAGES}
 use Rattle.chip_trait.specs.Told.{Told, Rose}
 use Rattle.ipl_base.specs.declared.fault.ChipFault.{ChipFault}
-use Rattle.ipl_base.specs.declared.fault.ChipFault.TheVariants.{ReadFault, Stopped, Damaged, Malformed}
+use Rattle.ipl_base.specs.declared.fault.ChipFault.TheVariants.{ReadFault, Stopped, Damaged, Malformed, WornOut}
 use Rattle.ipl_format.specs.Record.{Record}
 use Rattle.ipl_meaning.specs.Layout.{Shape, records_of}
 use Rattle.ipl_meaning.specs.Tables.{Places, OverflowLists, Tables}
@@ -55,15 +55,16 @@ pub record IsLearnt (t : Tables) (u : ℕ) (told : Told) (home : Home) (log : Li
 
 -- ---- causes
 
--- why a unit isn't moved from this place, whatever the chip tells: a read or a write failed, and its
--- count rose; or a base sector of the place is at fault, and where it is damaged its sums differ; or a
--- page has no room, which is said of sector 0
+-- why a unit isn't moved from this place, whatever the chip tells: a read or a write failed, or the
+-- place for it is worn, and that count rose; or a base sector of the place is at fault, and where it is
+-- damaged its sums differ; or a page has no room, which is said of sector 0
 abbrev pub MoveCause : ℕ → ChipFault → Told → Told → Type 0
 MoveCause place ReadFault old new = Rose old.read_faults new.read_faults
 MoveCause place Stopped old new = Rose old.write_faults new.write_faults
 MoveCause place (Damaged p s stored computed) old new =
     (p ≡ place) × IsBaseSpotBelow PAGES s × (stored ≢ computed)
 MoveCause place (Malformed p s) old new = (p ≡ place) × (IsBaseSpotBelow PAGES s ⊎ (s ≡ 0))
+MoveCause place (WornOut n) old new = (n ≡ 1) × Rose old.worn_erases new.worn_erases
 
 -- why it isn't merged: this, or its header or a sector where its log may be read is at fault
 abbrev pub MergeCause : ℕ → List (ℕ × ℕ) → ChipFault → Told → Told → Type 0
@@ -73,3 +74,4 @@ MergeCause place spots (Damaged p s stored computed) old new =
     (p ≡ place) × IsBaseSpotBelow PAGES s × (stored ≢ computed)
 MergeCause place spots (Malformed p s) old new =
     ((p ≡ place) × IsBaseSpotBelow PAGES s) ⊎ IsLogRead place spots p s
+MergeCause place spots (WornOut n) old new = (n ≡ 1) × Rose old.worn_erases new.worn_erases

@@ -9,38 +9,36 @@ use Rattle.ipl_rules.specs.State.{Map}
 use Rattle.ipl_meaning.specs.Agrees.{IsTidy, Agrees}
 use Rattle.ipl_meaning.specs.Chart.{Chart}
 use Rattle.ipl_meaning.specs.Last.{carried_count}
-use Rattle.ipl_meaning.specs.Layout.{Layout}
+use Rattle.ipl_meaning.specs.Layout.{Layout, Laid}
 use Rattle.ipl_meaning.specs.Mirrors.{Mirrors}
 use Rattle.ipl_meaning.specs.Rests.{now, EachStands, StoryRests}
 use Rattle.ipl_meaning.specs.Steps.{KeepsPages}
-use Rattle.ipl_meaning.specs.Tables.{IsFree, Tables}
-use Rattle.unit_io.specs.Charts.{IsCleared, Gains}
+use Rattle.ipl_meaning.specs.Tables.{Tables}
+use Rattle.unit_io.specs.Charts.{Gains}
 use Rattle.unit_io.specs.Leads.{IsSteady, KeepsMap}
-use Rattle.unit_io.specs.Spots.{Rewrites}
+use Rattle.unit_io.specs.Spots.{Programs, IsSpot}
 use Rattle.steps.specs.Steps.{Steps, RestsAgreeing}
 use Rattle.merge_rules.specs.Merged.{IsMergedUnit}
 use Rattle.merge_rules.specs.Packs.{among}
+use Rattle.selective_merge.specs.Writing.{IsCleanPlace}
 use Rattle.selective_merge.specs.Spotting.{IsHomeSpot, MayOverflow, TakesOverflow, FollowsRules}
 
 -- ---- a new overflow place
 
--- the place was cleared, and has the header of an overflow place under this generation
+-- the place has the header of an overflow place under this generation, for so many units
 pub record IsOpened (p units generation : ℕ) (c y : Chart) : Type 0 where
-  pub bare : Chart
   pub head : Sector
-  pub cleared : IsCleared p c bare
   pub kind : head.kind ≡ 3
   pub of_generation : head.generation ≡ generation
   pub serial : head.serial ≡ generation
   pub counts : SpellsUnits head.version units head.payload
-  pub gains : Gains p 0 head bare y
+  pub gains : Gains p 0 head c y
 
--- a free place, opened
+-- a clean place, opened
 abbrev pub OpensPlace : ℕ → ℕ → ℕ → ℕ → Told → Result (Unit {0}) ChipFault → Told → Type 0
-OpensPlace places p units generation old result new =
-    (m : Map) (it : Layout) (t : Tables) (h : History)
-    → IsSteady h old → StoryRests places m h → Mirrors places (now h) it t → IsFree t.places p
-    → KeepsMap places m (Rewrites p 1) (λ done. IsOpened p units generation) h old result new
+OpensPlace places p units generation old result new = (m : Map) (it : Layout) (h : History)
+    → IsSteady h old → StoryRests places m h → Laid places (now h) it → IsCleanPlace p h
+    → KeepsMap places m (Programs p (IsSpot 0)) (λ done. IsOpened p units generation) h old result new
 
 -- whatever layout the tables mirrored, they mirror it still, and each page is shown still
 abbrev pub Opens : ℕ → Tables → Tables → Chart → Chart → Type 0

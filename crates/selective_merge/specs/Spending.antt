@@ -4,17 +4,17 @@ use Rattle.chip_trait.specs.Story.{Story, Contents}
 use Rattle.chip_trait.specs.Told.{Told}
 use Rattle.ipl_meaning.specs.Tables.{Places, IsFree}
 use Rattle.unit_directory.specs.Free.{first_free}
-use Rattle.unit_io.specs.Costs.{Costs, is_erased}
+use Rattle.unit_io.specs.Costs.{Costs, is_erased, is_tried}
 
 -- the lowest place that is free
 abbrev pub IsLowestFree : Places → ℕ → Type 0
 IsLowestFree before p = first_free before.in_use ≡ Some p
 
--- At most one place is erased, which was the lowest free one; only what was erased before is
+-- At most one erase is tried, of the lowest free place; only what was erased before is
 -- programmed; and there are at most three barriers.
 pub record ErasesFree (before : Places) (added : Story) : Type 0 where
   pub costs : Costs 1 0 3 [] added
-  pub lowest : (p : ℕ) → is_erased added p ≡ true → IsLowestFree before p
+  pub lowest : (p : ℕ) → is_tried added p ≡ true → IsLowestFree before p
 
 -- a chip that tells its contents goes on telling them, and each place that was in use has the
 -- bytes that it had

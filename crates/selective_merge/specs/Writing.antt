@@ -1,41 +1,26 @@
 -- What the calls leave that write a unit to a place: page by page, sector by sector, and sealed.
-use Rattle.std.specs.Prelude.{ℕ, ◌≡◌, ◌≢◌, ◌⊎◌, ◌≤◌, ◌+◌, List, [], ◌++◌, length, Bool, true, None, Result}
+use Rattle.std.specs.Prelude.{ℕ, ◌≡◌, ◌≢◌, ◌<◌, ◌≤◌, ◌+◌, List, length, None, Result}
 use Rattle.log_records.specs.View.{Versioned}
 use Rattle.ipl_base.specs.declared.limits.TheConstants.{PAGES, PAGE_SECTORS, FIRST_LOG_SECTOR}
 use Rattle.chip_trait.specs.Chart.{with_sector}
-use Rattle.chip_trait.specs.Lawful.{Clean, age, IsLawful}
-use Rattle.chip_trait.specs.Story.{Story, pieces}
+use Rattle.chip_trait.specs.Lawful.{Clean, age}
 use Rattle.chip_trait.specs.Told.{History, Told}
 use Rattle.ipl_base.specs.declared.fault.ChipFault.{ChipFault}
 use Rattle.ipl_format.specs.Sector.{Sector}
 use Rattle.ipl_rules.specs.State.{Map}
 use Rattle.ipl_meaning.specs.Chart.{Chart}
-use Rattle.ipl_meaning.specs.Layout.{Layout, Laid}
-use Rattle.ipl_meaning.specs.Rests.{now, StoryRests}
+use Rattle.ipl_meaning.specs.Layout.{Layout}
+use Rattle.ipl_meaning.specs.Rests.{now, WornAreIdle, StoryRests}
 use Rattle.ipl_meaning.specs.Stands.{Stands}
-use Rattle.ipl_meaning.specs.Steps.{IsIdle}
 use Rattle.ipl_meaning.specs.Tables.{Tables}
 use Rattle.unit_io.specs.Charts.{Gains}
 use Rattle.unit_io.specs.Leads.{IsSteady, KeepsMap}
-use Rattle.unit_io.specs.Spots.{Programs, Rewrites, IsSpot, IsPieceSpot}
-use Rattle.merge_rules.specs.Merged.{IsUnitHead, IsFilled, IsToMerge, IsWritten}
-use Rattle.merge_rules.specs.Moved.{Source, MovesPage, HasMoved, IsAside, IsUnsealed}
+use Rattle.unit_io.specs.Spots.{Programs, IsSpot, IsPieceSpot}
+use Rattle.merge_rules.specs.Merged.{IsUnitHead, IsToMerge, IsWritten}
+use Rattle.merge_rules.specs.Moved.{Source, MovesPage, HasMoved, IsAside}
 use Rattle.merge_rules.specs.Packs.{IsLogSpotBelow, HasLogs}
 use Rattle.merge_rules.specs.Pages.{IsBaseSpotBelow}
 use Rattle.selective_merge.specs.Throughout.{KeepsThroughout}
-
--- ---- the events
-
--- The events erase this place, and then program sectors of it, each once, and say nothing. They are
--- lawful after any lawful events, and what was clean elsewhere is so after them; and where all is
--- done, its header is clean still, and so are its log sectors but for the first n.
-pub record Fills (p n : ℕ) (done : Bool) (added : Story) : Type 0 where
-  pub silent : pieces added ≡ []
-  pub lawful : (base : Story) → IsLawful base → IsLawful (added ++ base)
-  pub others : (base : Story) (q s : ℕ) → q ≢ p → age base q s ≡ Clean
-      → age (added ++ base) q s ≡ Clean
-  pub fresh : done ≡ true → (base : Story) (s : ℕ) → (s ≡ 0) ⊎ (FIRST_LOG_SECTOR + n ≤ s)
-      → age (added ++ base) p s ≡ Clean
 
 -- ---- pages
 
@@ -81,43 +66,62 @@ WritesLogs places p u generation serial payloads old result new = (m : Map) (h :
 
 -- ---- the whole place
 
--- an idle place, filled
+-- the spots of the base sectors and of the first n log sectors
+abbrev pub IsFilledSpot : ℕ → ℕ → Type 0
+IsFilledSpot n s = (1 ≤ s) × (s < FIRST_LOG_SECTOR + n)
+
+-- and of the header
+abbrev pub IsUnitSpot : ℕ → ℕ → Type 0
+IsUnitSpot n s = s < FIRST_LOG_SECTOR + n
+
+-- each sector of the place is clean
+abbrev pub IsCleanPlace : ℕ → History → Type 0
+IsCleanPlace p h = (s : ℕ) → age h.story p s ≡ Clean
+
+-- the unit's pages stand at the place, and the log sectors with these payloads
+pub record GainsUnit (from : Source) (p generation serial : ℕ) (pieces : List ℕ)
+    (payloads : List Versioned) (c y : Chart) : Type 0 where
+  pub paged : Chart
+  pub moved : HasMoved from p generation pieces PAGES c paged
+  pub logs : HasLogs p from.unit generation serial payloads (length payloads) paged y
+
+-- a clean place, filled
 abbrev pub FillsPlace : ℕ → Source → ℕ → ℕ → ℕ → List Versioned
     → Told → Result (List ℕ) ChipFault → Told → Type 0
-FillsPlace places from p generation serial payloads old result new =
-    (m : Map) (it : Layout) (h : History)
-    → IsSteady h old → StoryRests places m h → Laid places (now h) it
-    → IsIdle places (now h) it p
-    → KeepsThroughout places m (Fills p (length payloads))
-    (λ pieces. IsFilled from p generation serial pieces payloads) (IsUnsealed p) h result old new
+FillsPlace places from p generation serial payloads old result new = (m : Map) (h : History)
+    → IsSteady h old → StoryRests places m h → IsCleanPlace p h
+    → KeepsThroughout places m (Programs p (IsFilledSpot (length payloads)))
+    (λ pieces. GainsUnit from p generation serial pieces payloads) (IsAside p) h result old new
 
 -- the chart has the unit's header too
 abbrev pub IsSealed : ℕ → ℕ → ℕ → ℕ → List ℕ → ℕ → Chart → Chart → Type 0
 IsSealed p units u generation pieces carried c y =
     (head : Sector) × IsUnitHead units u generation pieces carried head × Gains p 0 head c y
 
--- the header of a unit, where with it the map stands still
+-- the header of a unit, where with it the map stands still, and nothing counts at worn places
 abbrev pub SealsUnit : ℕ → ℕ → ℕ → ℕ → ℕ → List ℕ → ℕ
     → Told → Result (Unit {0}) ChipFault → Told → Type 0
 SealsUnit places p units u generation pieces carried old result new = (m : Map) (h : History)
     → IsSteady h old → StoryRests places m h → age h.story p 0 ≡ Clean
     → ((head : Sector) → IsUnitHead units u generation pieces carried head
-    → Stands places (with_sector (now h) p 0 head) m)
+    → Stands places (with_sector (now h) p 0 head) m
+    × WornAreIdle places h.story (with_sector (now h) p 0 head))
     → KeepsMap places m (Programs p (IsSpot 0))
     (λ done. IsSealed p units u generation pieces carried) h old result new
 
--- a unit, written to a place that is free
+-- a unit, written to a clean place that is free
 abbrev pub WritesUnit : ℕ → Source → ℕ → ℕ → ℕ → List Versioned
     → Told → Result (Unit {0}) ChipFault → Told → Type 0
 WritesUnit places from p generation serial payloads old result new =
     (m : Map) (it : Layout) (t : Tables) (u : ℕ) (h : History)
-    → IsSteady h old → StoryRests places m h
+    → IsSteady h old → StoryRests places m h → IsCleanPlace p h
     → IsToMerge places (now h) it t u p generation serial from payloads
-    → KeepsThroughout places m (Rewrites p (FIRST_LOG_SECTOR + length payloads))
-    (λ done c y. IsWritten places c y it t u p generation serial) (IsUnsealed p) h result old new
+    → KeepsThroughout places m (Programs p (IsUnitSpot (length payloads)))
+    (λ done c y. IsWritten places c y it t u p generation serial) (IsAside p) h result old new
 
--- whatever layout and tables asked for it
+-- whatever layout and tables asked for it, where nothing checks at the place
 abbrev pub TellsWritten : ℕ → Source → ℕ → ℕ → ℕ → List Versioned → Chart → Chart → Type 0
 TellsWritten places from p generation serial payloads c y = (it : Layout) (t : Tables) (u : ℕ)
+    → ((s : ℕ) → c p s ≡ None)
     → IsToMerge places c it t u p generation serial from payloads
     → IsWritten places c y it t u p generation serial

@@ -1,14 +1,14 @@
 //! The selective merge: a unit written anew at a free place, with its committed changes applied to
 //! its pages and the changes of open sessions carried over; and where a log sector of a unit goes.
 //! It stands on the tables (`unit_directory`, `overflow`, `txn_status`), on the unit's log as it is
-//! read (`unit_log`), and on the laws of `merge_rules`. A contract sees the tables as one record
-//! (`tables_of`), and what a call leaves as `Steps` has it.
+//! read (`unit_log`), on places that are taken (`place_taking`), and on the laws of `merge_rules`. A
+//! contract sees the tables as one record (`tables_of`), and what a call leaves as `Steps` has it.
 //!
 //! Proved, by `merge`: done, the unit stands at a place that was free, its pages show the same,
 //! and its log is the pack of what is carried; at each moment a power cut leaves the old map;
-//! where no write failed, the tables agree; one erase at most, of the lowest free place, and no
-//! program elsewhere; places in use keep their bytes; it draws a generation and a serial for each
-//! log sector.
+//! where no write failed, the tables agree, also where the place is worn; one erase at most is tried,
+//! of the lowest free place, and no program elsewhere; places in use keep their bytes; it draws a
+//! generation and a serial for each log sector.
 //!
 //! Proved, by `merge`, `log_place`: over what the chip holds it tells exactly what is wrong with
 //! the unit: too many log sectors to carry, or the first page that doesn't read well or has no room

@@ -40,6 +40,7 @@ use crate::places::write_unit;
 use chip_trait::Chip;
 use ipl_base::ChipFault;
 use merge_rules::known_laws;
+use place_taking::take_place;
 use unit_directory::directory_laws;
 
 /// Merges a unit that was read, and of which this is carried.
@@ -89,9 +90,9 @@ fn merge_packed<C: Chip>(
     directory_laws();
     parts.directory.facts();
     let places = chip.units();
-    let place = parts.directory.take_free();
     let generation = parts.counter.draw();
     let payloads = parts.scratch.packs.payloads();
+    let place = take_place(chip, &mut parts.directory)?;
     let used = payloads.len() as u32;
     let masks = masks_of(payloads);
     match write_unit(
@@ -232,17 +233,18 @@ pub fn merge_learnt<C: Chip>(
 ///
 /// Whatever a power cut leaves at any moment stands for the map on which the story rested, and done,
 /// it rests on that map. Where it failed and no write did, it rests on it too, and the tables have
-/// all as before but for the numbers that were drawn, at most 13. It erases one place, which was free,
-/// and programs nothing elsewhere.
+/// all as before but for the numbers that were drawn, at most 13. It tries one erase, of a place that
+/// was free, and programs nothing elsewhere.
 ///
 /// Done, it drew a generation and a serial for each log sector that it wrote.
 ///
-/// It fails where a read or a write failed, where a base sector of a page is damaged or malformed, where
-/// a page has no room for its committed records, or where the log isn't what it must be. Over contents
+/// It fails where a read or a write failed, where the place for the unit is worn, where a base sector of
+/// a page is damaged or malformed, where a page has no room for its committed records, or where the log
+/// isn't what it must be. Over contents
 /// that the tables mirror it tells exactly what is wrong with the unit: that more than 12 log sectors
 /// would be carried, which is Malformed at sector 0 of its place, or the fault of its first page that
 /// doesn't read well, or has no room, which is that one too; and where neither is so, it fails only
-/// where a read or a write failed.
+/// where a read or a write failed, or where that place is worn.
 pub fn merge<C: Chip>(chip: &mut C, parts: &mut Parts, unit: u32) -> Result<(), ChipFault>
     requires known { KnowsPlaces (C.told chip.old).places (tables_of parts.old) }
     requires unit { unit + 4 < (C.told chip.old).places }

@@ -4,24 +4,27 @@ ghost use Rattle.ipl_meaning.specs.Tables.{IsFree};
 ghost use Rattle.ipl_meaning.specs.TableSteps.{taken, with_overflow};
 ghost use Rattle.unit_io.specs.Accounts.{Accounts};
 ghost use Rattle.unit_io.specs.Charts.{Charts};
-ghost use Rattle.unit_io.specs.Costs.{ErasesOnce, Spends};
-ghost use Rattle.unit_io.specs.Leads.{IsStopped};
-ghost use Rattle.unit_io.specs.Spots.{Rewrites};
+ghost use Rattle.unit_io.specs.Costs.{ProgramsAt, Spends};
+ghost use Rattle.unit_io.specs.Leads.{IsNotTaken, IsStopped};
+ghost use Rattle.unit_io.specs.Spots.{Programs, IsSpot};
 ghost use Rattle.steps.specs.Steps.{Tidies};
 ghost use Rattle.merge_rules.specs.Known.{KnowsPlaces};
+ghost use Rattle.selective_merge.specs.Merging.{StaysMirrored};
 ghost use Rattle.selective_merge.specs.Moving.{tables_of, Holds};
 ghost use Rattle.selective_merge.specs.Spending.{ErasesFree};
 ghost use Rattle.selective_merge.specs.Placing.{IsOpened, OpensPlace, Opens, OpensInSteps};
+ghost use Rattle.selective_merge.specs.Throughout.{ChartsThroughout};
 
 use crate::Parts;
 use chip_trait::Chip;
 use ipl_base::{ChipFault, Spot};
 use merge_rules::known_laws;
+use place_taking::take_place;
 use sector_format::Head;
-use unit_io::{begin_unit, seal};
+use unit_io::seal;
 use unit_layout::write_overflow_header;
 
-/// Erases a place and puts the header of an overflow place on it, for so many units.
+/// Puts the header of an overflow place on a clean place, for so many units.
 fn write_overflow<C: Chip>(
     chip: &mut C,
     place: u32,
@@ -33,11 +36,10 @@ fn write_overflow<C: Chip>(
         (C.told chip.old) result (C.told chip.new) }
     ensures tells { OnOk result (Charts (IsOpened place units generation)
         (C.told chip.old) (C.told chip.new)) }
-    ensures costs { Spends (ErasesOnce place 3 (is_ok result)) (C.told chip.old) (C.told chip.new) }
-    ensures tidy { Spends (Rewrites place 1 (is_ok result)) (C.told chip.old) (C.told chip.new) }
+    ensures costs { Spends (ProgramsAt place 1 2 3) (C.told chip.old) (C.told chip.new) }
+    ensures tidy { Spends (Programs place (IsSpot 0) (is_ok result)) (C.told chip.old) (C.told chip.new) }
     ensures accounts { Accounts IsStopped result (C.told chip.old) (C.told chip.new) }
 {
-    begin_unit(chip, place)?;
     let mut payload = [0; 4];
     write_overflow_header(units, &mut payload);
     let head = Head::written(Head::OVERFLOW_HEADER, 0, generation, generation);
@@ -48,16 +50,18 @@ fn write_overflow<C: Chip>(
 /// use is a condition.
 ///
 /// Whatever a power cut leaves at any moment stands for the map on which the story rested. It fails
-/// only where a write failed, and the place is given back then.
+/// only where a write failed or where the place is worn, and the place is given back then; where it is
+/// worn the story rests on that map still.
 pub fn open_overflow<C: Chip>(chip: &mut C, parts: &mut Parts) -> Result<Spot, ChipFault>
     requires known { KnowsPlaces (C.told chip.old).places (tables_of parts.old) }
     requires two { length parts.old.overflow.in_use < 2 }
     requires left { parts.old.counter + 1 < 2 ^ 64 }
 
     // What the chip holds then, and what a power cut leaves.
-    ensures tells { OnOk result (Charts
-        (Opens (C.told chip.old).places (tables_of parts.old) (tables_of parts.new))
-        (C.told chip.old) (C.told chip.new)) }
+    ensures tells { ChartsThroughout
+        (λ spot. Opens (C.told chip.old).places (tables_of parts.old) (tables_of parts.new))
+        (StaysMirrored (C.told chip.old).places (tables_of parts.old) (tables_of parts.new))
+        result (C.told chip.old) (C.told chip.new) }
     ensures steps { OpensInSteps (C.told chip.old).places
         (tables_of parts.old) (tables_of parts.new) (C.told chip.old) result (C.told chip.new) }
 
@@ -72,12 +76,12 @@ pub fn open_overflow<C: Chip>(chip: &mut C, parts: &mut Parts) -> Result<Spot, C
     ensures costs { Spends (ErasesFree parts.old.directory) (C.told chip.old) (C.told chip.new) }
     ensures tidy { Tidies (tables_of parts.old) result (tables_of parts.new)
         (C.told chip.old) (C.told chip.new) }
-    ensures accounts { Accounts IsStopped result (C.told chip.old) (C.told chip.new) }
+    ensures accounts { Accounts IsNotTaken result (C.told chip.old) (C.told chip.new) }
 {
     known_laws();
     let units = chip.units() - 4;
-    let place = parts.directory.take_free();
     let generation = parts.counter.draw();
+    let place = take_place(chip, &mut parts.directory)?;
     match write_overflow(chip, place, generation, units) {
         Ok(()) => {
             parts.overflow.add_place(place);

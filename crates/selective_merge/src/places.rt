@@ -1,19 +1,28 @@
-//! A unit written to a place that was free.
+//! A unit written to a clean place.
 ghost use Rattle.std.specs.Prelude.{◌≡◌, ◌≢◌, ◌<◌, ◌≤◌, ◌+◌, ◌^◌, length, is_ok, IfOk, OnOk};
 ghost use Rattle.ipl_base.specs.declared.limits.TheConstants.{CARRIED_SECTORS, VERSION};
 ghost use Rattle.unit_io.specs.Accounts.{Accounts};
 ghost use Rattle.unit_io.specs.Charts.{Charts, Spares};
-ghost use Rattle.unit_io.specs.Costs.{ErasesOnce, ProgramsAt, Spends};
+ghost use Rattle.unit_io.specs.Costs.{ProgramsAt, Spends};
 ghost use Rattle.unit_io.specs.Leads.{IsStopped};
 ghost use Rattle.unit_io.specs.Reads.{OfContents};
-ghost use Rattle.unit_io.specs.Spots.{Programs, Rewrites, IsSpot};
+ghost use Rattle.unit_io.specs.Spots.{Programs, IsSpot};
+ghost use Rattle.place_taking.specs.Fills.{FillsAt};
 ghost use Rattle.merge_rules.specs.Faults.{pages_fault, TellsTheFault};
 ghost use Rattle.merge_rules.specs.Pages.{IsFew};
-ghost use Rattle.merge_rules.specs.Moved.{IsUnsealed};
-ghost use Rattle.merge_rules.specs.Merged.{IsFilled};
+ghost use Rattle.merge_rules.specs.Moved.{IsAside};
 ghost use Rattle.selective_merge.specs.Homes.{from_home, MoveCause};
 ghost use Rattle.selective_merge.specs.Throughout.{ChartsThroughout};
-ghost use Rattle.selective_merge.specs.Writing.{Fills, FillsPlace, IsSealed, SealsUnit, WritesUnit, TellsWritten};
+ghost use Rattle.selective_merge.specs.Writing.{
+  FillsPlace,
+  GainsUnit,
+  IsFilledSpot,
+  IsSealed,
+  IsUnitSpot,
+  SealsUnit,
+  WritesUnit,
+  TellsWritten,
+};
 
 use crate::home::Home;
 use crate::log::Log;
@@ -24,11 +33,11 @@ use ipl_base::{ChipFault, Counter};
 use log_records::Payload;
 use sector_format::Head;
 use txn_status::Status;
-use unit_io::{begin_unit, seal};
+use unit_io::seal;
 use unit_layout::{DataHeader, write_data_header};
 
-/// Erases a place and fills it with the pages of a unit, as the committed records leave them, and
-/// with log sectors of these payloads, at most 12. Answers how many sectors each page took.
+/// Fills a clean place with the pages of a unit, as the committed records leave them, and with log
+/// sectors of these payloads, at most 12. Answers how many sectors each page took.
 fn fill<C: Chip>(
     chip: &mut C,
     home: &Home,
@@ -50,9 +59,9 @@ fn fill<C: Chip>(
         (from_home home.now status.now.numbers log.now) place head.now.generation counter.old
         payloads.now (C.told chip.old) result (C.told chip.new) }
     ensures tells { ChartsThroughout
-        (λ pieces. IsFilled (from_home home.now status.now.numbers log.now) place
+        (λ pieces. GainsUnit (from_home home.now status.now.numbers log.now) place
         head.now.generation counter.old pieces payloads.now)
-        (IsUnsealed place) result (C.told chip.old) (C.told chip.new) }
+        (IsAside place) result (C.told chip.old) (C.told chip.new) }
     ensures fault { OfContents (C.told chip.old) (λ x. TellsTheFault
         (pages_fault x (from_home home.now status.now.numbers log.now)) result) }
     ensures spares { OnOk result (Spares place (C.told chip.old) (C.told chip.new)) }
@@ -60,14 +69,12 @@ fn fill<C: Chip>(
     ensures drawn { OnOk result (counter.new ≡ counter.old + length payloads.now) }
     ensures draws { (counter.old ≤ counter.new)
         × (counter.new ≤ counter.old + length payloads.now) }
-    ensures costs { Spends (ErasesOnce place 1 (is_ok result))
-        (C.told chip.old) (C.told chip.new) }
-    ensures tidy { Spends (Fills place (length payloads.now) (is_ok result))
+    ensures costs { Spends (FillsAt place 0) (C.told chip.old) (C.told chip.new) }
+    ensures tidy { Spends (Programs place (IsFilledSpot (length payloads.now)) (is_ok result))
         (C.told chip.old) (C.told chip.new) }
     ensures accounts { Accounts (MoveCause home.now.place) result
         (C.told chip.old) (C.told chip.new) }
 {
-    begin_unit(chip, place)?;
     let pieces = move_pages(chip, home, log, status, place, head)?;
     write_logs(chip, place, head, payloads, counter)?;
     Ok(pieces)
@@ -118,8 +125,8 @@ fn count_of(payloads: &[Payload]) -> u8
     payloads.len() as u8
 }
 
-/// Writes a unit to a place that was free, under a generation that was drawn for it: the place is
-/// erased and filled, and its header makes it the unit's.
+/// Writes a unit to a clean place that was free, under a generation that was drawn for it: the place
+/// is filled, and its header makes it the unit's.
 pub fn write_unit<C: Chip>(
     chip: &mut C,
     home: &Home,
@@ -144,16 +151,15 @@ pub fn write_unit<C: Chip>(
     ensures tells { ChartsThroughout
         (λ done. TellsWritten (C.told chip.old).places
         (from_home home.now status.now.numbers log.now) place generation counter.old payloads.now)
-        (IsUnsealed place) result (C.told chip.old) (C.told chip.new) }
+        (IsAside place) result (C.told chip.old) (C.told chip.new) }
     ensures fault { OfContents (C.told chip.old) (λ x. TellsTheFault
         (pages_fault x (from_home home.now status.now.numbers log.now)) result) }
     ensures spares { OnOk result (Spares place (C.told chip.old) (C.told chip.new)) }
     ensures drawn { OnOk result (counter.new ≡ counter.old + length payloads.now) }
     ensures draws { (counter.old ≤ counter.new)
         × (counter.new ≤ counter.old + length payloads.now) }
-    ensures costs { Spends (ErasesOnce place 3 (is_ok result))
-        (C.told chip.old) (C.told chip.new) }
-    ensures tidy { Spends (Rewrites place (241 + length payloads.now) (is_ok result))
+    ensures costs { Spends (FillsAt place 2) (C.told chip.old) (C.told chip.new) }
+    ensures tidy { Spends (Programs place (IsUnitSpot (length payloads.now)) (is_ok result))
         (C.told chip.old) (C.told chip.new) }
     ensures accounts { Accounts (MoveCause home.now.place) result
         (C.told chip.old) (C.told chip.new) }

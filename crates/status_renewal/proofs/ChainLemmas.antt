@@ -1,10 +1,13 @@
 -- What a power cut leaves is a start from which the next run goes on.
 use Rattle.std.proofs.Common.{inl, inr, refl}
+use Rattle.std.proofs.lemmas.Bool.{false≢true}
 use Rattle.ipl_meaning.proofs.StoryLemmas.{closed_rests}
 use Rattle.status_renewal.specs.Chains.{starts_at, ImagesRest, CutsMayBeOpened, CutsOfEitherMayBeOpened}
 
 pub images_rest : ImagesRest
-images_rest places m x stands = closed_rests places m (starts_at x) (λ p s. refl) stands
+images_rest places m x stands =
+    closed_rests places m (starts_at x) (λ p s. refl) stands
+    (λ it laid p worn. absurd (false≢true worn))
 
 pub cuts_may_be_opened : CutsMayBeOpened
 cuts_may_be_opened places m h added later e x each split image =

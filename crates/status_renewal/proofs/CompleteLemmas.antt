@@ -1,9 +1,10 @@
 -- A renewal and an opening of what reads well fail only where a call of the chip failed.
-use Rattle.std.proofs.Common.{◌≡◌, ◌⊎◌, ℕ, ◌<◌, ◌≤◌, ◌-◌, Bool, true, List, [], ◌∷◌, Some, None, Result, Ok, Err, IfErr, inl, inr, refl, sym, ◌∙◌, ap, subst, arith}
+use Rattle.std.proofs.Common.{◌≡◌, ℕ, ◌<◌, ◌≤◌, ◌-◌, true, List, [], ◌∷◌, Some, None, Result, Ok, Err, IfErr, inl, inr, refl, sym, ◌∙◌, subst, arith}
 use Rattle.std.proofs.lemmas.Bool.{cases_Bool}
 use Rattle.chip_trait.specs.Told.{Told}
 use Rattle.ipl_base.specs.declared.fault.ChipFault.{ChipFault}
-use Rattle.ipl_base.specs.declared.fault.ChipFault.TheVariants.{ReadFault, Stopped}
+use Rattle.ipl_base.specs.declared.fault.ChipFault.TheVariants.{ReadFault}
+use Rattle.ipl_base.specs.Calls.{IsFailedCall}
 use Rattle.ipl_base.specs.declared.fault.ImageFault.{ImageFault}
 use Rattle.ipl_base.specs.declared.fault.ImageFault.TheVariants.{Chip}
 use Rattle.ipl_format.specs.Record.{Record}
@@ -19,7 +20,7 @@ use Rattle.merge_rules.proofs.FaultLemmas.{said_units_are_mergeable}
 use Rattle.opening_rules.specs.Faults.{first_fault, is_image}
 use Rattle.restart.specs.Looks.{HasCause}
 use Rattle.selective_merge.specs.Merging.{CompletesMerge}
-use Rattle.unit_io.specs.Leads.{IsStopped}
+use Rattle.unit_io.specs.Leads.{IsNotTaken}
 use Rattle.status_renewal.specs.Passes.{HasPassed, AreMergeable}
 use Rattle.status_renewal.specs.Recovers.{FailsByCallAlone}
 
@@ -52,11 +53,16 @@ merge_is_complete places n c it t kept old mid between result low active sized s
     (same ∙ was.told) was.now was.mirrors
     (mergeable_then places n c it t kept old between was low active all)
 
--- a call that only writes
+-- a place that wasn't taken is a call of the chip that failed
+pub not_taken_failed : (fault : ChipFault) (old new : Told) → IsNotTaken fault old new
+    → IsFailedCall fault
+not_taken_failed fault old new (inl stopped) = subst IsFailedCall (sym stopped.0) tt
+not_taken_failed fault old new (inr worn) = subst IsFailedCall (sym worn.0) tt
+
 pub written_alone : {T : Type 0} (old new : Told) (result : Result T ChipFault)
-    → IfErr result (λ fault. IsStopped fault old new) → FailsByChipAlone result
-written_alone old new (Ok v) stopped = tt
-written_alone old new (Err e) stopped = inr stopped.0
+    → IfErr result (λ fault. IsNotTaken fault old new) → FailsByChipAlone result
+written_alone old new (Ok v) cause = tt
+written_alone old new (Err e) cause = not_taken_failed e old new cause
 
 -- ---- an opening
 
@@ -72,15 +78,13 @@ all_mergeable places c it m t says none u low =
     (subst (λ (a : List ℕ). carried_count (among a) (it.units u).log ≤ 12) (sym none)
     (rw (carried_none (records_of (it.units u).log)) (omega arith)))
 
-pub call_failed : (fault : ChipFault) → (fault ≡ ReadFault) ⊎ (fault ≡ Stopped)
-    → FailsByCallAlone (Chip fault)
-call_failed fault (inl read) = inl (ap Chip read)
-call_failed fault (inr stopped) = inr (ap Chip stopped)
+pub call_failed : (fault : ChipFault) → IsFailedCall fault → FailsByCallAlone (Chip fault)
+call_failed fault failed = (fault, refl, failed)
 
 pub reading_failed : (places : ℕ) (c : Chart) (e : ImageFault) (old new : Told)
     → (is_image e ≡ true → first_fault c places ≡ Some e) → HasCause e old new
     → first_fault c places ≡ None → FailsByCallAlone e
 reading_failed places c e old new tells cause none = elim (cases_Bool (is_image e)) [
   | inl image ↦ let clash = sym none ∙ tells image in cc clash
-  | inr other ↦ inl (cause other).fault
+  | inr other ↦ (ReadFault, (cause other).fault, tt)
 ]

@@ -6,6 +6,7 @@ use Rattle.std.proofs.lemmas.List.Elements.{Contains-get_or}
 use Rattle.std.proofs.lemmas.Option.{same_Some}
 use Rattle.chip_trait.specs.Story.{Contents}
 use Rattle.chip_trait.specs.Told.{Told}
+use Rattle.ipl_base.specs.Calls.{IsFailedCall}
 use Rattle.ipl_base.specs.declared.fault.ChipFault.{ChipFault}
 use Rattle.ipl_base.specs.declared.fault.ChipFault.TheVariants.{Malformed}
 use Rattle.ipl_base.specs.declared.fault.ImageFault.TheVariants.{Chip}
@@ -24,12 +25,12 @@ use Rattle.opening_rules.specs.LaidOut.{layout_in}
 use Rattle.selective_merge.specs.Merging.{Merges, StaysMirrored, FailsAsMerge}
 use Rattle.selective_merge.specs.Spending.{SparesUsed}
 use Rattle.selective_merge.specs.Throughout.{ChartsThroughout}
-use Rattle.unit_io.specs.Leads.{IsStopped}
+use Rattle.unit_io.specs.Leads.{IsNotTaken}
 use Rattle.status_renewal.specs.InPlace.{FailsInPlace}
 use Rattle.kept_numbers.specs.Joins.{joined}
 use Rattle.status_renewal.specs.Passes.{kept_below, has_room, HasPassed, SparesUnits, IsRenewalFault, FailsAsPass}
 use Rattle.status_renewal.specs.Recovers.{IsOpeningFault}
-use Rattle.status_renewal.proofs.CompleteLemmas.{carried_none}
+use Rattle.status_renewal.proofs.CompleteLemmas.{carried_none, not_taken_failed}
 
 -- ---- the bytes of units
 
@@ -120,13 +121,14 @@ module _ (places n : ℕ) (x : Contents) (it : Layout) (t : Tables) (kept : List
             (StaysMirrored places between after) r mid new
             → IfErr r (FailsInPlace places x it t after)
         go (Ok v) is stays = tt
-        go (Err e) is stays = λ read stopped.
-            let (y, told_y, still) = stays stopped was.contents (reads ∙ was.told) in record {
+        go (Err e) is stays = λ unfailed.
+            let (y, told_y, still) = stays (λ stopped. unfailed (subst IsFailedCall (sym stopped) tt))
+            was.contents (reads ∙ was.told) in record {
               is = record {
                 unit = n;
                 low = low;
                 full = no_room many;
-                fault = sym fault_is ∙ is read stopped;
+                fault = sym fault_is ∙ is unfailed;
               };
               stays = (still was.now was.mirrors).0.directory.current n low
                   ∙ ap (λ (s : Shape). s.home) same_unit;
@@ -137,20 +139,22 @@ pub in_place_fails : (places : ℕ) (x : Contents) (it : Layout) (t after : Tabl
     (result : Result (Unit {0}) ChipFault) → IfErr result (FailsInPlace places x it t after)
     → IfErr result (FailsAsPass places x it t)
 in_place_fails places x it t after (Ok v) fails = tt
-in_place_fails places x it t after (Err e) fails = λ read stopped. (fails read stopped).is
+in_place_fails places x it t after (Err e) fails = λ unfailed. (fails unfailed).is
 
 -- a call that only writes
 pub pass_written : (places : ℕ) (x : Contents) (it : Layout) (t : Tables) (old new : Told)
-    (result : Result (Unit {0}) ChipFault) → IfErr result (λ e. IsStopped e old new)
+    (result : Result (Unit {0}) ChipFault) → IfErr result (λ e. IsNotTaken e old new)
     → IfErr result (FailsAsPass places x it t)
 pass_written places x it t old new (Ok v) is = tt
-pass_written places x it t old new (Err e) is = λ read stopped. absurd (stopped is.0)
+pass_written places x it t old new (Err e) is = λ unfailed.
+    absurd (unfailed (not_taken_failed e old new is))
 
 pub place_written : (places : ℕ) (x : Contents) (it : Layout) (t after : Tables) (old new : Told)
-    (result : Result (Unit {0}) ChipFault) → IfErr result (λ e. IsStopped e old new)
+    (result : Result (Unit {0}) ChipFault) → IfErr result (λ e. IsNotTaken e old new)
     → IfErr result (FailsInPlace places x it t after)
 place_written places x it t after old new (Ok v) is = tt
-place_written places x it t after old new (Err e) is = λ read stopped. absurd (stopped is.0)
+place_written places x it t after old new (Err e) is = λ unfailed.
+    absurd (unfailed (not_taken_failed e old new is))
 
 -- ---- an opening
 

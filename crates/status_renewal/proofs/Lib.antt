@@ -1,6 +1,7 @@
 pub mod ReadyLemmas
 pub mod ChainLemmas
 pub mod PlaceLemmas
+pub mod PlaceStepLemmas
 pub mod UnitLemmas
 pub mod PassLemmas
 pub mod PreserveLemmas

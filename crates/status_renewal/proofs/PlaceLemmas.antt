@@ -1,40 +1,35 @@
 -- A new status place, in all tables.
-use Rattle.std.proofs.Common.{◌≡◌, ◌⊎◌, ◌<◌, ◌≤◌, ◌+◌, ℕ, Bool, true, false, List, length, slice_set, Ok, Err, inl, inr, refl, sym, ◌∙◌, ap, subst, arith}
+use Rattle.std.proofs.Common.{◌≡◌, ◌⊎◌, ◌<◌, ◌≤◌, ◌+◌, ℕ, Bool, true, false, List, length, slice_set, Some, None, inl, inr, refl, sym, ◌∙◌, ap, subst, arith}
 use Rattle.std.specs.List.{Contains}
 use Rattle.std.proofs.lemmas.Bool.{cases_eq, cases_lt}
-use Rattle.std.proofs.lemmas.List.{length-set, set_past, set-set, set-get_or}
+use Rattle.std.proofs.lemmas.List.{length-set, set_past}
+use Rattle.chip_trait.specs.Lawful.{Clean, age}
 use Rattle.chip_trait.specs.Told.{History, Told}
-use Rattle.ipl_base.specs.declared.fault.ChipFault.{ChipFault}
+use Rattle.ipl_format.specs.Sector.{Sector}
 use Rattle.ipl_rules.specs.State.{Map}
-use Rattle.ipl_meaning.specs.Agrees.{Agrees}
 use Rattle.ipl_meaning.specs.Chart.{Chart, chart_of}
 use Rattle.ipl_meaning.specs.Layout.{Layout}
 use Rattle.ipl_meaning.specs.Mirrors.{Mirrors, NoneIsLost}
-use Rattle.ipl_meaning.specs.Rests.{now, StoryRests}
+use Rattle.ipl_meaning.specs.Rests.{now}
+use Rattle.ipl_meaning.specs.Steps.{KeepsPages}
 use Rattle.ipl_meaning.specs.Tables.{IsFree, with_use, Places, Status, Tables}
 use Rattle.ipl_meaning.specs.TableSteps.{taken}
+use Rattle.ipl_meaning.proofs.IdleLemmas.{idle_places_do_not_count}
 use Rattle.ipl_meaning.proofs.IdleFollowLemmas.{places_may_be_taken}
 use Rattle.ipl_meaning.proofs.MirrorLemmas.{free_places_are_idle}
 use Rattle.txn_status.specs.Adding.{HasStatus}
 use Rattle.txn_status.specs.Status.{parts_of, switched_to}
-use Rattle.txn_status.specs.Switching.{IsTaken, MayKeep, IsSwitched, IsReadyToSwitch, Switched, Switches, StepsSwitching, SwitchesInSteps}
+use Rattle.txn_status.specs.Switching.{IsTaken, MayKeep, IsSwitched, IsReadyToSwitch, Switched, Switches}
 use Rattle.unit_directory.specs.Laws.{UsesTake, DisusesGiveBack}
-use Rattle.unit_io.specs.Charts.{Charts}
-use Rattle.status_renewal.specs.Renewed.{HasTables, with_tables, MayRenew, Renews, RenewsInSteps}
+use Rattle.unit_io.specs.Charts.{Charts, IsCleared}
+use Rattle.place_taking.specs.Takes.{RestsTaken}
+use Rattle.selective_merge.proofs.TakenLemmas.{cleared_mirrors}
+use Rattle.status_renewal.specs.Renewed.{HasTables, with_tables, MayRenew, Renews}
 use Rattle.status_renewal.proofs.ReadyLemmas.{resting_layouts_say}
 
 -- the directory with the place as the status place, and the old one free
 abbrev pub moved : Places → ℕ → ℕ → Places
 moved d p old = with_use (with_use d p true) old false
-
--- a place that was free, taken and given back
-pub given_back : (d : Places) (p : ℕ) → IsFree d p → moved d p p ≡ d
-given_back d p free =
-    let twice : slice_set (slice_set d.in_use p true) p false ≡ slice_set d.in_use p false =
-    set-set d.in_use p true false in
-    let once : slice_set d.in_use p false ≡ d.in_use =
-    ap (λ b. slice_set d.in_use p b) (sym free) ∙ set-get_or d.in_use p true in
-    ap (λ l. record d { in_use = l }) (twice ∙ once)
 
 -- to free what is no place of the chip changes nothing
 none_used : (d : Places) (p : ℕ) → length d.in_use ≤ p → with_use d p false ≡ d
@@ -70,33 +65,56 @@ module _ (takes : UsesTake) (gives_back : DisusesGiveBack) (places p : ℕ) (d :
     free_there : IsFree t.places p
     free_there = subst (λ (e : Places). IsFree e p) (sym has.places_is) free
 
-    has_status : HasStatus (taken t p) status next
+    pub has_status : HasStatus (taken t p) status next
     has_status = record { status_is = has.status_is; next_is = has.next_is }
 
-    is_taken : (c : Chart) → Mirrors places c it t → IsTaken places c it (taken t p) p
+    -- nothing checks there then
+    none_there : (c y : Chart) → IsCleared p c y → (s : ℕ) (sector : Sector) → y p s ≡ Some sector → ⊥
+    none_there c y cleared s sector here =
+        absurd (let e : Some sector ≡ None = sym here ∙ cleared.bare s in cc)
+
+    -- once it was cleared
+    is_taken : (c y : Chart) → Mirrors places c it t → IsCleared p c y
+        → IsTaken places y it (taken t p) p
     unfolding free_there
-    is_taken c mirrors = record {
-      idle = free_places_are_idle places c it t p mirrors free_there;
-      not_overflow = mirrors.directory.not_overflow p free_there;
-      in_use = λ still. let gone = ((takes t.places p).free p).0 still in gone.1 refl;
-    }
+    is_taken c y mirrors cleared =
+        let idle = free_places_are_idle places c it t p mirrors free_there in record {
+          idle = record {
+            not_status = idle.not_status;
+            not_home = idle.not_home;
+            no_live = λ u low s sector live. none_there c y cleared s sector live.here;
+          };
+          not_overflow = mirrors.directory.not_overflow p free_there;
+          in_use = λ still. let gone = ((takes t.places p).free p).0 still in gone.1 refl;
+          bare = cleared.bare;
+        }
 
     may_keep : MayKeep (taken t p) kept
     may_keep = record { below = may.may.below; waits = may.may.waits }
 
-    ready : (h : History) (m : Map) → StoryRests places m h → Agrees places h it t
-        → IsReadyToSwitch places h it (taken t p) m p kept
-    ready h m rests agrees = record {
-      rests = rests;
-      agrees = record {
-        mirrors = places_may_be_taken places (now h) it t p agrees.mirrors within;
-        tidy = agrees.tidy;
-      };
-      says = resting_layouts_say places h it m rests agrees.mirrors.laid;
-      taken = is_taken (now h) agrees.mirrors;
+    pub ready : (h k : History) (m : Map) → Mirrors places (now h) it t
+        → RestsTaken places m it t (now h) p k → ((s : ℕ) → age k.story p s ≡ Clean)
+        → IsReadyToSwitch places k it (taken t p) m p kept
+    ready h k m mirrors there clean = record {
+      rests = there.stands.rests;
+      agrees = there.stands.agrees;
+      says = resting_layouts_say places k it m there.stands.rests there.stands.agrees.mirrors.laid;
+      taken = is_taken (now h) (now k) mirrors there.cleared;
+      clean = clean;
       may = may_keep;
       keeps = may.keeps;
     }
+
+    -- all pages show the same once it was cleared
+    still_shown : (c y : Chart) → Mirrors places c it t → IsCleared p c y → KeepsPages places c it y it
+    unfolding free_there
+    still_shown c y mirrors cleared =
+        (idle_places_do_not_count places c it p y mirrors.laid
+        (free_places_are_idle places c it t p mirrors free_there) cleared.others (record {
+          unit_header = λ u low sector here fits. absurd (none_there c y cleared 0 sector here);
+          status = λ sector here fits. absurd (none_there c y cleared 0 sector here);
+          no_live = λ u low s sector live. none_there c y cleared s sector live.here;
+        })).1
 
   -- ---- the tables then
 
@@ -145,28 +163,31 @@ module _ (takes : UsesTake) (gives_back : DisusesGiveBack) (places p : ℕ) (d :
     at_place : p ≡ new.place
     at_place = sym (ap (λ (s : Status). s.place) is.status_is)
 
-    pub renews_in_steps : (old told : Told)
-        → SwitchesInSteps places status next p kept (Ok tt) old told
-        → RenewsInSteps places d status next kept after new drawn (Ok tt) old told
-    renews_in_steps old told switch m it t h steady has rests agrees may =
-        subst (λ (q : ℕ). StepsSwitching places it t (with_tables t after new drawn) m q next kept
-        h (Ok tt) old told) at_place
-        (switch h it (taken t p) (with_tables t after new drawn) m steady
-        (has_status it t has may) (ready it t has may h m rests agrees) (switched t has))
-
-    pub renews_told : (old told : Told) → Charts (Switches places status next p kept) old told
+    pub renews_told : (old mid told : Told) → Charts (IsCleared p) old mid
+        → Charts (Switches places status next p kept) mid told
         → Charts (Renews places d status next kept after new drawn) old told
-    renews_told old told switches x told_x =
-        let (y, told_y, made) = switches x told_x in (
-          y,
-          told_y,
-          λ it t has mirrors may. subst
-              (λ (q : ℕ). Switched places (chart_of x) (chart_of y) it (with_tables t after new drawn)
-              q next kept) at_place
-              (made it (taken t p) (with_tables t after new drawn)
-              (places_may_be_taken places (chart_of x) it t p mirrors within)
-              (has_status it t has may) (is_taken it t has may (chart_of x) mirrors)
-              (may_keep it t has may) (switched t has)),
+    renews_told old mid told clears switches x told_x =
+        let (y, told_y, cleared) = clears x told_x in
+        let (z, told_z, made) = switches y told_y in (
+          z,
+          told_z,
+          λ it t has mirrors may.
+              let then : Tables = with_tables t after new drawn in
+              let there = places_may_be_taken places (chart_of y) it t p
+              (cleared_mirrors places (chart_of x) (chart_of y) it t p mirrors
+              (free_there it t has may) cleared) within in
+              let done = made it (taken t p) then there (has_status it t has may)
+              (is_taken it t has may (chart_of x) (chart_of y) mirrors cleared)
+              (may_keep it t has may) (switched t has) in
+              subst (λ (q : ℕ). Switched places (chart_of x) (chart_of z) it then q next kept)
+              at_place (record {
+                head = done.head;
+                is_head = done.is_head;
+                mirrors = done.mirrors;
+                pages = λ keeps u page values low few shows. done.pages keeps u page values low few
+                    (still_shown it t has may (chart_of x) (chart_of y) mirrors cleared u page values
+                    low few shows);
+              }),
         )
 
     -- what was free before is free then, but for the place, and so is the old one
@@ -206,28 +227,3 @@ module _ (takes : UsesTake) (gives_back : DisusesGiveBack) (places p : ℕ) (d :
             | inr (inr there) ↦ inr (inr there)
           ]
     ]
-
-  -- it wasn't done: a write failed
-  pub failed_in_steps : (after : Places) (new : Status) (drawn : ℕ) (e f : ChipFault)
-      (old told : Told) → SwitchesInSteps places status next p kept (Err e) old told
-      → RenewsInSteps places d status next kept after new drawn (Err f) old told
-  failed_in_steps after new drawn e f old told switch m it t h steady has rests agrees may =
-      let there : Places = moved d p status.place in
-      let then_is : Status = switched_to p next kept in
-      let last : ℕ = next + 1 + parts_of kept in
-      let did = switch h it (taken t p) (with_tables t there then_is last) m steady
-      (has_status it t has may) (ready it t has may h m rests agrees)
-      (switched there then_is last
-      (record { places_is = refl; status_is = refl; drawn_is = refl }) t has) in
-      record {
-        added = did.added;
-        history = did.history;
-        each_moment = did.each_moment;
-        does = record {
-          silent = did.does.silent;
-          lawful = did.does.lawful;
-          clean = λ unrisen. absurd (did.ends unrisen);
-        };
-        steady = did.steady;
-        ends = λ unrisen. absurd (did.ends unrisen);
-      }

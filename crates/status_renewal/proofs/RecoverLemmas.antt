@@ -1,10 +1,11 @@
 -- An opening: reads, and then a new status place.
-use Rattle.std.proofs.Common.{◌≡◌, ◌≢◌, inl, inr, ℕ, ◌*◌, true, false, List, [], Some, None, Result, Ok, Err, sym, ◌∙◌, ap, subst, arith}
+use Rattle.std.proofs.Common.{◌≡◌, ◌⊎◌, inl, inr, ℕ, ◌*◌, true, false, List, [], Some, None, Result, Ok, Err, sym, ◌∙◌, ap, subst, arith}
 use Rattle.std.proofs.lemmas.Bool.{cases_Bool, false≢true}
+use Rattle.std.proofs.lemmas.Option.{same_Some}
 use Rattle.chip_trait.specs.Story.{Contents, held}
 use Rattle.chip_trait.specs.Told.{History, Told, Counts}
 use Rattle.ipl_base.specs.declared.fault.ChipFault.{ChipFault}
-use Rattle.ipl_base.specs.declared.fault.ChipFault.TheVariants.{ReadFault, Stopped, Damaged}
+use Rattle.ipl_base.specs.declared.fault.ChipFault.TheVariants.{ReadFault, Stopped, Damaged, WornOut}
 use Rattle.ipl_base.specs.declared.fault.ImageFault.{ImageFault}
 use Rattle.ipl_base.specs.declared.fault.ImageFault.TheVariants.{Chip}
 use Rattle.ipl_rules.specs.State.{Map}
@@ -28,7 +29,7 @@ use Rattle.unit_io.specs.Leads.{IsSteady}
 use Rattle.unit_io.specs.ReadsAt.{Anywhere}
 use Rattle.unit_io.proofs.ReadsAtLemmas.{at_rests}
 use Rattle.status_renewal.specs.Passes.{HasRenewed, TellsChart, KeepsInSteps, RenewCause}
-use Rattle.status_renewal.specs.Recovers.{HasOpened, IsOpeningFault, LooksAtFaults, IsNowhere, RecoversInSteps, OpeningCause}
+use Rattle.status_renewal.specs.Recovers.{HasOpened, FailsByCallAlone, IsOpeningFault, LooksAtFaults, IsNowhere, RecoversInSteps, OpeningCause}
 use Rattle.status_renewal.proofs.PreserveLemmas.{agrees_of, reads_preserve, preserves_then}
 
 -- ---- the tables
@@ -92,17 +93,26 @@ opens_done places c t after new none laid (y, told, is) = (
 -- a fault of the reading
 pub opens_told : (places : ℕ) (x : Contents) (e : ImageFault) (old new : Told)
     → (is_image e ≡ true → first_fault (chart_of x) places ≡ Some e) → HasCause e old new
-    → e ≢ Chip ReadFault → IsOpeningFault places x e
-opens_told places x e old new tells cause no_read = elim (cases_Bool (is_image e)) [
+    → ¬ FailsByCallAlone e → IsOpeningFault places x e
+opens_told places x e old new tells cause unfailed = elim (cases_Bool (is_image e)) [
   | inl image ↦ inl (tells image)
-  | inr other ↦ absurd (no_read (cause other).fault)
+  | inr other ↦ absurd (unfailed (ReadFault, (cause other).fault, tt))
+]
+
+-- of contents that have a fault it is that one, or a read failed
+pub fault_looks : (places : ℕ) (x : Contents) (e first : ImageFault) (old new : Told)
+    → (is_image e ≡ true → first_fault (chart_of x) places ≡ Some e) → HasCause e old new
+    → first_fault (chart_of x) places ≡ Some first → (e ≡ first) ⊎ (e ≡ Chip ReadFault)
+fault_looks places x e first old new tells cause is = elim (cases_Bool (is_image e)) [
+  | inl image ↦ inl (same_Some e first (sym (tells image) ∙ is))
+  | inr other ↦ inr (cause other).fault
 ]
 
 -- a chip without a fault has nothing to show here
-pub sound_looks : (places : ℕ) (old new : Told)
+pub sound_looks : (places : ℕ) (old : Told) (result : Result (Unit {0}) ImageFault) (new : Told)
     → ((x : Contents) → old.contents ≡ Some x → first_fault (chart_of x) places ≡ None)
-    → LooksAtFaults places old new
-sound_looks places old new sound x told e is =
+    → LooksAtFaults places old result new
+sound_looks places old result new sound x told e is =
     let no_way : None ≡ Some e = sym (sound x told) ∙ is in absurd cc
 
 -- ---- causes
@@ -117,10 +127,14 @@ damaged_is_no_read : (p s stored computed : ℕ)
     → ◌≡◌ {A = ImageFault} (Chip (Damaged p s stored computed)) (Chip ReadFault) → ⊥
 damaged_is_no_read p s stored computed e = cc
 
+worn_is_no_read : (n : ℕ) → ◌≡◌ {A = ImageFault} (Chip (WornOut n)) (Chip ReadFault) → ⊥
+worn_is_no_read n e = cc
+
 pub reading_cause : (e : ImageFault) (old new : Told) → HasCause e old new → OpeningCause e old new
 reading_cause e old new cause = record {
   read = λ is. (cause (ap is_image is)).rose;
   stopped = λ is. absurd (stopped_is_no_read (sym is ∙ (cause (ap is_image is)).fault));
+  worn = λ n is. absurd (worn_is_no_read n (sym is ∙ (cause (ap is_image is)).fault));
   damaged = λ p s stored computed is same.
       damaged_is_no_read p s stored computed (sym is ∙ (cause (ap is_image is)).fault);
 }
@@ -136,6 +150,10 @@ renewing_cause fault old mid new counts cause = record {
       let rose : RenewCause Stopped mid new =
       subst (λ (f : ChipFault). RenewCause f mid new) (same_chip fault Stopped is) cause in
       omega (arith, counts.writes, rose);
+  worn = λ n is.
+      let rose : RenewCause (WornOut n) mid new =
+      subst (λ (f : ChipFault). RenewCause f mid new) (same_chip fault (WornOut n) is) cause in
+      (rose.0, omega (arith, counts.worn, rose.1));
   damaged = λ p s stored computed is.
       let differ : RenewCause (Damaged p s stored computed) mid new =
       subst (λ (f : ChipFault). RenewCause f mid new)

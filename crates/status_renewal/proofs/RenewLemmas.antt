@@ -1,5 +1,5 @@
 -- All units passed, and a new status place with the numbers that are kept.
-use Rattle.std.proofs.Common.{◌≡◌, ◌≤◌, ◌-◌, ◌∙◌, ℕ, Bool, IsTrue, List, Result, Ok, Err, OnOk, OnErr, IfErr, MatchResult, refl, sym, ap, subst}
+use Rattle.std.proofs.Common.{◌≡◌, ◌≤◌, ◌-◌, ◌∙◌, ℕ, Bool, IsTrue, List, Result, Ok, Err, OnOk, OnErr, MatchResult, refl, sym, ap, subst}
 use Rattle.chip_trait.specs.Told.{Told}
 use Rattle.ipl_base.specs.declared.fault.ChipFault.{ChipFault}
 use Rattle.ipl_meaning.specs.Chart.{Chart, chart_of}
@@ -9,8 +9,9 @@ use Rattle.ipl_meaning.specs.Tables.{Places, Status, Tables}
 use Rattle.number_set.specs.Numbers.{among}
 use Rattle.txn_status.specs.Status.{room_of}
 use Rattle.unit_io.specs.Charts.{Charts}
-use Rattle.unit_io.specs.Leads.{IsStopped}
-use Rattle.status_renewal.specs.Passes.{HasPassed, HasRenewed, TellsChart, PassEnds}
+use Rattle.selective_merge.specs.Throughout.{ChartsThroughout}
+use Rattle.selective_merge.proofs.TakenLemmas.{told_not}
+use Rattle.status_renewal.specs.Passes.{HasPassed, HasRenewed, HasStopped, TellsChart, PassEnds}
 use Rattle.status_renewal.specs.Renewed.{with_tables, MayRenew, Renews}
 use Rattle.kept_numbers.proofs.KeepsLemmas.{kept_numbers_keep, kept_numbers_are_exact}
 use Rattle.status_renewal.proofs.ReadyLemmas.{kept_numbers_are_old}
@@ -55,15 +56,37 @@ module _ (places : ℕ) (c : Chart) (it : Layout) (t : Tables) (kept : List ℕ)
           },
         )
 
+    -- none was written, and the tables have the number that was drawn
+    unrenewed : directory ≡ between.places → status ≡ between.status → between.next ≤ drawn
+        → Charts (λ d y. y ≡ d) mid new
+        → TellsChart (HasStopped places c it t (with_tables between directory status drawn)) new
+    unrenewed same still more untouched =
+        let after : Tables = with_tables between directory status drawn in
+        let (y, told_y, stays) = told_not places between after drawn mid new (rw (same, still) refl)
+        more untouched was.contents was.told in (
+          y,
+          told_y,
+          record {
+            units = places - 4;
+            now = was.now;
+            mirrors = (stays was.now was.mirrors).0;
+            pages = λ u page values low few shows. (stays was.now was.mirrors).1 u page values low few
+                (was.pages u page values low few shows);
+            passed = was.passed;
+            committed = was.committed;
+          },
+        )
+
     -- however the writing of the status place ended
     pub renew_ends : (result : Result (Unit {0}) ChipFault)
-        → OnOk result (Charts (Renews places between.places between.status between.next kept
-        directory status drawn) mid new)
-        → IfErr result (λ fault. IsStopped fault mid new)
+        → ChartsThroughout (λ done. Renews places between.places between.status between.next kept
+        directory status drawn) (λ d y. y ≡ d) result mid new
+        → OnErr result ((directory ≡ between.places) × (status ≡ between.status))
+        → between.next ≤ drawn
         → PassEnds places c it t result new (with_tables between directory status drawn)
         (TellsChart (HasRenewed places c it t (with_tables between directory status drawn)) new)
-    renew_ends (Ok v) renews stopped = renewed renews
-    renew_ends (Err e) renews stopped = λ soft. absurd (soft stopped.0)
+    renew_ends (Ok v) renews same more = renewed renews
+    renew_ends (Err e) renews same more = λ soft. unrenewed same.0 same.1 more (renews soft)
 
 -- what the status has, however its writing ended
 pub status_ends : (result : Result (Unit {0}) ChipFault) (before after : Places)

@@ -1,5 +1,5 @@
 -- A chip that tells its contents goes on telling them.
-use Rattle.std.proofs.Common.{◌≡◌, ◌∙◌, ℕ, Some, Result, Ok, Err, OnOk, IfErr, sym, subst}
+use Rattle.std.proofs.Common.{◌≡◌, ◌∙◌, ℕ, Some, Result, Ok, Err, sym, subst}
 use Rattle.chip_trait.specs.Story.{Contents}
 use Rattle.chip_trait.specs.Told.{Told}
 use Rattle.ipl_base.specs.declared.fault.ChipFault.{ChipFault}
@@ -9,7 +9,6 @@ use Rattle.ipl_meaning.specs.Mirrors.{Mirrors}
 use Rattle.ipl_meaning.specs.Tables.{Tables}
 use Rattle.selective_merge.specs.Throughout.{ChartsThroughout}
 use Rattle.unit_io.specs.Charts.{Charts}
-use Rattle.unit_io.specs.Leads.{IsStopped}
 use Rattle.status_renewal.specs.Passes.{HasRenewed, HasStopped, TellsChart, PassEnds, GoesOnTelling, RenewsTold}
 use Rattle.status_renewal.proofs.PreserveLemmas.{same_told}
 
@@ -29,14 +28,6 @@ goes_on_from F G (Ok v) old new tells = λ x told.
     let (y, there, is) = tells x told in (y, there, tt)
 goes_on_from F G (Err e) old new tells = λ soft x told.
     let (y, there, is) = tells soft x told in (y, there, tt)
-
--- one that fails only where a write failed
-pub goes_on_where : (F : Chart → Chart → Type 0) (result : Result (Unit {0}) ChipFault)
-    (old new : Told) → OnOk result (Charts F old new)
-    → IfErr result (λ fault. IsStopped fault old new) → GoesOnTelling result old new
-goes_on_where F (Ok v) old new tells cause = λ x told.
-    let (y, there, is) = tells x told in (y, there, tt)
-goes_on_where F (Err e) old new tells cause = λ soft. absurd (soft cause.0)
 
 -- a call that was done, and then another
 pub goes_on_then : (result : Result (Unit {0}) ChipFault) (old mid new : Told)

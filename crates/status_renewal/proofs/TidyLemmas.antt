@@ -10,6 +10,8 @@ use Rattle.restart.specs.Opened.{NoneIsClean}
 use Rattle.steps.specs.Steps.{Settled, TidyWork, Tidies}
 use Rattle.steps.proofs.TablesLemmas.{tables_none, tables_read, tables_then, tables_rewritten}
 use Rattle.steps.proofs.TidyLemmas.{tidy_reads, tidy_then}
+use Rattle.place_taking.specs.Takes.{ClearsLowest}
+use Rattle.selective_merge.proofs.TidyLemmas.{untaken_tidily}
 use Rattle.txn_status.specs.Status.{parts_of}
 use Rattle.unit_directory.specs.Laws.{UsesTake, DisusesGiveBack}
 use Rattle.unit_io.specs.Costs.{Spends}
@@ -89,6 +91,15 @@ module _ (takes : UsesTake) (gives_back : DisusesGiveBack) (places p : ℕ) (d :
       (tables_rewritten {T = Unit {0}} {E = ChipFault} t (with_tables t t.places t.status drawn) p
       from false (Err e) old told
       (λ _ q s counted. inl (counted, free_apart places t known p q s free_there counted)) did))
+
+-- none was taken
+pub tidy_not_taken : (places : ℕ) (t : Tables) → KnowsPlaces places t → (after : Places)
+    (new : Status) (drawn : ℕ) (e : ChipFault) (old told : Told) → after ≡ t.places → new ≡ t.status
+    → Spends (ClearsLowest t.places false) old told
+    → Tidies {T = Unit {0}} {E = ChipFault} t (Err e) (with_tables t after new drawn) old told
+tidy_not_taken places t known after new drawn e old told same still =
+    untaken_tidily places t known (Unit {0}) (with_tables t after new drawn) drawn (Err e) old told
+    (rw (same, still) refl)
 
 -- ---- an opening
 

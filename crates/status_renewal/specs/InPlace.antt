@@ -1,9 +1,9 @@
 -- Where a unit is whose fault ended a renewal.
-use Rattle.std.specs.Prelude.{ℕ, ◌≡◌, ◌≢◌, slice_index, Result, IfErr}
+use Rattle.std.specs.Prelude.{ℕ, ◌≡◌, slice_index, Result, IfErr}
 use Rattle.chip_trait.specs.Story.{Contents}
 use Rattle.chip_trait.specs.Told.{Told}
 use Rattle.ipl_base.specs.declared.fault.ChipFault.{ChipFault}
-use Rattle.ipl_base.specs.declared.fault.ChipFault.TheVariants.{ReadFault, Stopped}
+use Rattle.ipl_base.specs.Calls.{IsFailedCall}
 use Rattle.ipl_meaning.specs.Chart.{chart_of}
 use Rattle.ipl_meaning.specs.Layout.{Layout}
 use Rattle.ipl_meaning.specs.Mirrors.{Mirrors}
@@ -19,8 +19,7 @@ pub record IsFaultInPlace (places : ℕ) (x : Contents) (it : Layout) (t after :
 
 -- it is such a fault, unless a call of the chip failed
 abbrev pub FailsInPlace : ℕ → Contents → Layout → Tables → Tables → ChipFault → Type 0
-FailsInPlace places x it t after e =
-    e ≢ ReadFault → e ≢ Stopped → IsFaultInPlace places x it t after e
+FailsInPlace places x it t after e = ¬ IsFailedCall e → IsFaultInPlace places x it t after e
 
 -- over contents that the tables mirror it fails so alone
 abbrev pub RenewalFailsInPlace : {T : Type 0} → ℕ → Tables → Tables → Result T ChipFault → Told

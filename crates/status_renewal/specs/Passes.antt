@@ -4,7 +4,8 @@ use Rattle.ipl_base.specs.declared.limits.TheConstants.{RESERVED_PLACES, PAGES, 
 use Rattle.chip_trait.specs.Story.{Story, Contents}
 use Rattle.chip_trait.specs.Told.{History, Told, Rose}
 use Rattle.ipl_base.specs.declared.fault.ChipFault.{ChipFault}
-use Rattle.ipl_base.specs.declared.fault.ChipFault.TheVariants.{ReadFault, Stopped, Damaged, Malformed}
+use Rattle.ipl_base.specs.Calls.{IsFailedCall}
+use Rattle.ipl_base.specs.declared.fault.ChipFault.TheVariants.{ReadFault, Stopped, Damaged, Malformed, WornOut}
 use Rattle.ipl_rules.specs.State.{Map}
 use Rattle.ipl_meaning.specs.Agrees.{Agrees}
 use Rattle.ipl_meaning.specs.Chart.{Chart, chart_of}
@@ -175,7 +176,7 @@ pub record IsRenewalFault (places : ℕ) (x : Contents) (it : Layout) (t : Table
 
 -- it is such a fault, unless a call of the chip failed
 abbrev pub FailsAsPass : ℕ → Contents → Layout → Tables → ChipFault → Type 0
-FailsAsPass places x it t e = e ≢ ReadFault → e ≢ Stopped → IsRenewalFault places x it t e
+FailsAsPass places x it t e = ¬ IsFailedCall e → IsRenewalFault places x it t e
 
 -- over contents that the tables mirror it fails so alone
 abbrev pub FailsAsRenewal : ℕ → Tables → Result (Unit {0}) ChipFault → Told → Type 0
@@ -206,10 +207,12 @@ HasErased place added = is_erased added place ≡ true
 
 -- ---- causes
 
--- why a renewal fails, whatever the chip tells: a read or a write failed, and its count rose; or a
--- sector isn't what it must be, and where it is damaged it is a base sector whose sums differ
+-- why a renewal fails, whatever the chip tells: a read or a write failed, or an erase found its place
+-- worn, and that count rose; or a sector isn't what it must be, and where it is damaged it is a base
+-- sector whose sums differ
 abbrev pub RenewCause : ChipFault → Told → Told → Type 0
 RenewCause ReadFault old new = Rose old.read_faults new.read_faults
 RenewCause Stopped old new = Rose old.write_faults new.write_faults
 RenewCause (Damaged p s stored computed) old new = IsBaseSpotBelow PAGES s × (stored ≢ computed)
 RenewCause (Malformed p s) old new = Unit {0}
+RenewCause (WornOut n) old new = (n ≡ 1) × Rose old.worn_erases new.worn_erases

@@ -4,7 +4,8 @@ use Rattle.ipl_base.specs.declared.limits.TheConstants.{RESERVED_PLACES, KEPT_NU
 use Rattle.chip_trait.specs.Story.{Contents}
 use Rattle.chip_trait.specs.Told.{History, Told, Rose}
 use Rattle.ipl_base.specs.declared.fault.ChipFault.{ChipFault}
-use Rattle.ipl_base.specs.declared.fault.ChipFault.TheVariants.{ReadFault, Stopped, Damaged}
+use Rattle.ipl_base.specs.Calls.{IsFailedCall}
+use Rattle.ipl_base.specs.declared.fault.ChipFault.TheVariants.{ReadFault, Stopped, Damaged, WornOut}
 use Rattle.ipl_base.specs.declared.fault.ImageFault.{ImageFault}
 use Rattle.ipl_base.specs.declared.fault.ImageFault.TheVariants.{Chip}
 use Rattle.ipl_rules.specs.State.{Map}
@@ -58,20 +59,22 @@ IsOpeningFault places x e =
     (first_fault (chart_of x) places ≡ Some e)
     ⊎ ((first_fault (chart_of x) places ≡ None) × IsPageFault places x e)
 
+-- a call of the chip failed
+abbrev pub FailsByCallAlone : ImageFault → Type 0
+FailsByCallAlone e = (fault : ChipFault) × (e ≡ Chip fault) × IsFailedCall fault
+
 -- over contents that are told: opened, or this fault, unless a call failed
 abbrev pub RecoversTold : ℕ → Told → Result (Unit {0}) ImageFault → Tables → Told → Type 0
 RecoversTold places old result after new = (x : Contents) → old.contents ≡ Some x
     → MatchResult result (λ _. TellsChart (HasOpened places (chart_of x) after) new)
-    (λ e. e ≢ Chip ReadFault → e ≢ Chip Stopped → IsOpeningFault places x e)
+    (λ e. ¬ FailsByCallAlone e → IsOpeningFault places x e)
 
--- a chip whose contents have a fault was only read
-abbrev pub LooksAtFaults : ℕ → Told → Told → Type 0
-LooksAtFaults places old new = OfContents old (λ x. (e : ImageFault)
-    → first_fault (chart_of x) places ≡ Some e → OnlyReads old new)
-
--- a call of the chip failed
-abbrev pub FailsByCallAlone : ImageFault → Type 0
-FailsByCallAlone e = (e ≡ Chip ReadFault) ⊎ (e ≡ Chip Stopped)
+-- a chip whose contents have a fault was only read, and it fails with that one, or since a read
+-- failed
+abbrev pub LooksAtFaults : ℕ → Told → Result (Unit {0}) ImageFault → Told → Type 0
+LooksAtFaults places old result new = OfContents old (λ x. (e : ImageFault)
+    → first_fault (chart_of x) places ≡ Some e
+    → OnlyReads old new × IfErr result (λ f. (f ≡ e) ⊎ (f ≡ Chip ReadFault)))
 
 -- over contents that have no fault and whose pages say a map, it fails only so
 abbrev pub CompletesOpening : ℕ → Result (Unit {0}) ImageFault → Told → Type 0
@@ -118,9 +121,10 @@ pub record HoldsOpened (places : ℕ) (after : Tables) : Type 0 where
   pub known : KnowsPlaces places after
   pub room : 191 ≤ room_of after.status
 
--- why it fails: a read or a write failed, and its count rose; or the chip has a fault, and where a
--- sector is damaged its sums differ
+-- why it fails: a read or a write failed, or an erase found its place worn, and that count rose; or
+-- the chip has a fault, and where a sector is damaged its sums differ
 pub record OpeningCause (e : ImageFault) (old new : Told) : Type 0 where
   pub read : e ≡ Chip ReadFault → Rose old.read_faults new.read_faults
   pub stopped : e ≡ Chip Stopped → Rose old.write_faults new.write_faults
+  pub worn : (n : ℕ) → e ≡ Chip (WornOut n) → (n ≡ 1) × Rose old.worn_erases new.worn_erases
   pub damaged : (p s stored computed : ℕ) → e ≡ Chip (Damaged p s stored computed) → stored ≢ computed

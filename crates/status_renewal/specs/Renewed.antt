@@ -7,12 +7,13 @@ use Rattle.ipl_meaning.specs.Agrees.{Agrees}
 use Rattle.ipl_meaning.specs.Chart.{Chart}
 use Rattle.ipl_meaning.specs.Layout.{Layout}
 use Rattle.ipl_meaning.specs.Mirrors.{Mirrors}
-use Rattle.ipl_meaning.specs.Rests.{StoryRests}
+use Rattle.ipl_meaning.specs.Rests.{EachStands, StoryRests}
 use Rattle.ipl_meaning.specs.Steps.{KeepsNumbers}
 use Rattle.ipl_meaning.specs.Tables.{Places, Status, Tables, with_use}
 use Rattle.number_set.specs.Numbers.{among}
 use Rattle.txn_status.specs.Status.{switched_to}
-use Rattle.txn_status.specs.Switching.{MayKeep, Switched, StepsSwitching}
+use Rattle.steps.specs.Steps.{Steps, RestsAgreeing}
+use Rattle.txn_status.specs.Switching.{MayKeep, Switched, RestsSwitched}
 use Rattle.unit_directory.specs.Free.{first_free}
 use Rattle.unit_io.specs.Leads.{IsSteady}
 
@@ -55,13 +56,15 @@ Renews places directory status next kept after new drawn c y = (it : Layout) (t 
 
 -- ---- what a power cut leaves
 
--- At each moment a power cut leaves the map; done, the story rests on it and the tables with the new
--- status place agree. It fails only where a write failed.
+-- At each moment a power cut leaves the map. Where no write failed, the story rests on it and the
+-- tables agree: done, with the new status place; and where the place is worn, as they were but for the
+-- counter.
 abbrev pub RenewsInSteps : ℕ → Places → Status → ℕ → List ℕ → Places → Status → ℕ
     → Result (Unit {0}) ChipFault → Told → Told → Type 0
 RenewsInSteps places directory status next kept after new drawn result old told =
     (m : Map) (it : Layout) (t : Tables) (h : History)
     → IsSteady h old → HasTables t directory status next
     → StoryRests places m h → Agrees places h it t → MayRenew places it t kept
-    → StepsSwitching places it t (with_tables t after new drawn) m new.place next kept
-    h result old told
+    → Steps (EachStands places m) t (with_tables t after new drawn)
+    (λ done k. RestsSwitched places m it (with_tables t after new drawn) new.place next kept k)
+    (λ k. RestsAgreeing places m it (with_tables t after new drawn) k) h result old told

@@ -4,27 +4,29 @@ ghost use Rattle.ipl_base.specs.declared.limits.TheConstants.{KEPT_NUMBERS};
 ghost use Rattle.ipl_meaning.specs.Tables.{IsFree, Tables};
 ghost use Rattle.merge_rules.specs.Known.{KnowsPlaces};
 ghost use Rattle.number_set.specs.Numbers.{AreRising};
+ghost use Rattle.selective_merge.specs.Throughout.{ChartsThroughout};
 ghost use Rattle.steps.specs.Steps.{Tidies};
 ghost use Rattle.txn_status.specs.Status.{parts_of, room_of};
 ghost use Rattle.unit_directory.specs.Free.{first_free, free_count};
 ghost use Rattle.unit_io.specs.Accounts.{Accounts};
-ghost use Rattle.unit_io.specs.Charts.{Charts};
 ghost use Rattle.unit_io.specs.Costs.{ErasesOnce, Spends};
-ghost use Rattle.unit_io.specs.Leads.{IsStopped};
+ghost use Rattle.unit_io.specs.Leads.{IsNotTaken};
 ghost use Rattle.unit_io.specs.Unread.{ReadsNothing};
 ghost use Rattle.status_renewal.specs.Renewed.{HasTables, with_tables, MovesStatus, Renews, RenewsInSteps};
 
 use chip_trait::Chip;
 use ipl_base::{ChipFault, Counter};
+use place_taking::take_place;
 use txn_status::Status;
 use unit_directory::{Directory, directory_laws};
 
 /// Makes the lowest free place the status place, with exactly these numbers, at most 3,840 in rising
-/// order: the place is taken and written, and the old status place is free then. It fails only where
-/// a write failed, and the place is given back then.
+/// order: the place is taken, erased and written, and the old status place is free then. It fails
+/// only where a write failed or the place is worn, and the place is given back then.
 ///
 /// Where of the numbers in live log sectors exactly the committed ones are kept, whatever a power
-/// cut leaves at any moment stands for the map on which the story rested.
+/// cut leaves at any moment stands for the map on which the story rested; and where the place is
+/// worn, the story rests on that map.
 pub fn renew_place<C: Chip>(
     chip: &mut C,
     directory: &mut Directory,
@@ -54,12 +56,13 @@ pub fn renew_place<C: Chip>(
     ensures draws { (counter.old < counter.new) × (counter.new ≤ counter.old + 65) }
 
     // What the chip holds then, and what a power cut leaves.
-    ensures tells { OnOk result (Charts
-        (Renews (C.told chip.old).places directory.old status.old counter.old kept.now
-        directory.new status.new counter.new) (C.told chip.old) (C.told chip.new)) }
+    ensures tells { ChartsThroughout
+        (λ done. Renews (C.told chip.old).places directory.old status.old counter.old kept.now
+        directory.new status.new counter.new) (λ c y. y ≡ c)
+        result (C.told chip.old) (C.told chip.new) }
     ensures steps { RenewsInSteps (C.told chip.old).places directory.old status.old counter.old
         kept.now directory.new status.new counter.new result (C.told chip.old) (C.told chip.new) }
-    // One erase, of the place that is taken, then programs of it alone, and three barriers.
+    // One erase is tried, of the place that is taken, then programs of it alone, and three barriers.
     ensures costs { (place : ℕ) × (first_free directory.old.in_use ≡ Some place)
         × Spends (ErasesOnce place 3 (is_ok result)) (C.told chip.old) (C.told chip.new) }
     ensures tidy { (t : Tables) → HasTables t directory.old status.old counter.old
@@ -68,13 +71,14 @@ pub fn renew_place<C: Chip>(
         (C.told chip.old) (C.told chip.new) }
     // It reads nothing.
     ensures unread { Spends ReadsNothing (C.told chip.old) (C.told chip.new) }
-    ensures accounts { Accounts IsStopped result (C.told chip.old) (C.told chip.new) }
+    ensures accounts { Accounts IsNotTaken result (C.told chip.old) (C.told chip.new) }
 {
     directory_laws();
     directory.facts();
     let old = status.place();
-    let place = directory.take_free();
-    match status.switch(chip, counter, place, kept) {
+    let generation = counter.draw();
+    let place = take_place(chip, directory)?;
+    match status.switch(chip, counter, place, generation, kept) {
         Ok(()) => {
             directory.give_back(old);
             Ok(())

@@ -44,7 +44,8 @@ pub fn recover<C: Chip>(
     // What the chip holds then, and what a power cut leaves.
     ensures tells { RecoversTold (C.told chip.old).places (C.told chip.old) result
         (tables_of parts.new) (C.told chip.new) }
-    ensures looks { LooksAtFaults (C.told chip.old).places (C.told chip.old) (C.told chip.new) }
+    ensures looks { LooksAtFaults (C.told chip.old).places (C.told chip.old) result
+        (C.told chip.new) }
     ensures number { OnOk result (OfContents (C.told chip.old) (λ x. parts.new.counter
         ≤ greatest_found (chart_of x) (C.told chip.old).places + 1 + 2 ^ 14)) }
     ensures steps { RecoversInSteps (C.told chip.old).places (C.told chip.old) result

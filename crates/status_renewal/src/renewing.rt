@@ -69,8 +69,8 @@ pub(crate) fn renew_with<C: Chip>(
 /// of a committed number then. What the list of numbers has then says nothing.
 ///
 /// Whatever a power cut leaves at any moment stands for the map on which the story rested, and where
-/// no write failed, it rests on that map. It fails where a read or a write failed, or where a unit
-/// can't be merged; the status place is the old one then.
+/// no write failed, it rests on that map. It fails where a read or a write failed, where the place for
+/// it or for a unit is worn, or where a unit can't be merged; the status place is the old one then.
 pub fn renew<C: Chip>(
     chip: &mut C,
     parts: &mut Parts,

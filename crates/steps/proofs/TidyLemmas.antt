@@ -2,7 +2,7 @@
 use Rattle.std.proofs.Common.{◌≡◌, ℕ, List, [], ◌∷◌, ◌++◌, refl, sym, ◌∙◌, ap, subst, append_assoc}
 use Rattle.std.specs.List.{All}
 use Rattle.std.proofs.lemmas.List.Elements.{All-head, All-tail}
-use Rattle.chip_trait.specs.declared.event.Event.TheVariants.{Read, Program, Erase, Barrier, Said}
+use Rattle.chip_trait.specs.declared.event.Event.TheVariants.{Read, Program, Erase, Worn, Barrier, Said}
 use Rattle.chip_trait.specs.Story.{Story, pieces}
 use Rattle.chip_trait.specs.Lawful.{age, IsLawful, AreClean}
 use Rattle.chip_trait.proofs.SaidLemmas.{pieces-append}
@@ -17,6 +17,7 @@ module _ (At : ℕ → ℕ → Type 0) where
   silent_reads (Program p s bytes ∷ added) each = absurd (All-head (IsReadAt At) (Program p s bytes) added each)
   silent_reads (Erase p ∷ added) each = absurd (All-head (IsReadAt At) (Erase p) added each)
   silent_reads (Barrier ∷ added) each = absurd (All-head (IsReadAt At) Barrier added each)
+  silent_reads (Worn q ∷ added) each = absurd (All-head (IsReadAt At) (Worn q) added each)
   silent_reads (Said piece ∷ added) each = absurd (All-head (IsReadAt At) (Said piece) added each)
 
   lawful_reads : (added base : Story) → All (IsReadAt At) added → IsLawful base → IsLawful (added ++ base)
@@ -25,6 +26,7 @@ module _ (At : ℕ → ℕ → Type 0) where
   lawful_reads (Program p s bytes ∷ added) base each is = absurd (All-head (IsReadAt At) (Program p s bytes) added each)
   lawful_reads (Erase p ∷ added) base each is = absurd (All-head (IsReadAt At) (Erase p) added each)
   lawful_reads (Barrier ∷ added) base each is = absurd (All-head (IsReadAt At) Barrier added each)
+  lawful_reads (Worn q ∷ added) base each is = absurd (All-head (IsReadAt At) (Worn q) added each)
   lawful_reads (Said piece ∷ added) base each is = absurd (All-head (IsReadAt At) (Said piece) added each)
 
   age_of_reads : (added base : Story) (q t : ℕ) → All (IsReadAt At) added → age (added ++ base) q t ≡ age base q t
@@ -33,6 +35,7 @@ module _ (At : ℕ → ℕ → Type 0) where
   age_of_reads (Program p s bytes ∷ added) base q t each = absurd (All-head (IsReadAt At) (Program p s bytes) added each)
   age_of_reads (Erase p ∷ added) base q t each = absurd (All-head (IsReadAt At) (Erase p) added each)
   age_of_reads (Barrier ∷ added) base q t each = absurd (All-head (IsReadAt At) Barrier added each)
+  age_of_reads (Worn p ∷ added) base q t each = absurd (All-head (IsReadAt At) (Worn p) added each)
   age_of_reads (Said piece ∷ added) base q t each = absurd (All-head (IsReadAt At) (Said piece) added each)
 
 pub tidy_none : (before : ℕ → ℕ → Type 0) (Settles : Type 0) → TidyWork before before Settles []

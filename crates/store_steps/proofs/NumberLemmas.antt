@@ -114,7 +114,8 @@ numbers_in_steps places next_places status next tids result old mid new same cou
     let first = waited_steps places m n h it t old mid steady agreeing did in
     let k = adds_all first.added h in
     let ready : IsReadyToAdd places (adds Barrier h) it t m n tids active = record {
-      rests = barriers_rest places m h (held_stands places m h agreeing.rests.each);
+      rests = barriers_rest places m h (held_stands places m h agreeing.rests.each)
+          agreeing.rests.worn;
       closed = λ p s. refl;
       agrees = barriers_agree places h it t agreeing.agrees;
       may = may_add places _ it t tids agreeing.agrees.mirrors mine;

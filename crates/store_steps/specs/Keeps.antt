@@ -8,7 +8,7 @@ use Rattle.chip_trait.specs.Moment.{Leaves}
 use Rattle.chip_trait.specs.Story.{Story, Contents, held}
 use Rattle.chip_trait.specs.Told.{History, Told, Rose, adds_all}
 use Rattle.ipl_base.specs.declared.fault.ChipFault.{ChipFault}
-use Rattle.ipl_base.specs.declared.fault.ChipFault.TheVariants.{ReadFault, Stopped, Damaged, Malformed}
+use Rattle.ipl_base.specs.declared.fault.ChipFault.TheVariants.{ReadFault, Stopped, Damaged, Malformed, WornOut}
 use Rattle.ipl_base.specs.declared.fault.ImageFault.{ImageFault}
 use Rattle.ipl_base.specs.declared.fault.ImageFault.TheVariants as image
 use Rattle.ipl_base.specs.Places.{home_of}
@@ -86,6 +86,7 @@ ChipCause ReadFault old new = Rose old.read_faults new.read_faults
 ChipCause Stopped old new = Rose old.write_faults new.write_faults
 ChipCause (Damaged p s stored computed) old new = stored ≢ computed
 ChipCause (Malformed p s) old new = Unit {0}
+ChipCause (WornOut n) old new = (n ≡ 1) × Rose old.worn_erases new.worn_erases
 
 -- when an image isn't opened again
 abbrev pub ImageCause : ImageFault → Told → Told → Type 0
@@ -115,6 +116,11 @@ chip_longer Stopped first old new last before cause after =
     before.writes cause after.writes
 chip_longer (Damaged p s stored computed) first old new last before cause after = cause
 chip_longer (Malformed p s) first old new last before cause after = tt
+chip_longer (WornOut n) first old new last before cause after = (
+  cause.0,
+  rose_longer first.worn_erases old.worn_erases new.worn_erases last.worn_erases before.worn
+      cause.1 after.worn,
+)
 
 image_longer : (e : ImageFault) (first old new last : Told) → Further first old
     → ImageCause e old new → Further new last → ImageCause e first last

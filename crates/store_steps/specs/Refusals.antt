@@ -14,7 +14,6 @@ use Rattle.ipl_rules.specs.Refusals.{first_of, bad_session, bad_name, too_long, 
 use Rattle.ipl_rules.specs.State.{State, Limits, holder_for_write}
 use Rattle.ipl_model.specs.declared.command.Command.{Command}
 use Rattle.ipl_model.specs.declared.command.Command.TheVariants as command
-use Rattle.ipl_model.specs.declared.reply.Reply.{Reply}
 use Rattle.ipl_model.specs.declared.reply.Reply.TheVariants as reply
 use Rattle.ipl_model.specs.Step.{Stepped, refusal_of, accepted, step}
 use Rattle.record_locks.specs.Held.{Slots, marks_in, number_of}

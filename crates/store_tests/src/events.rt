@@ -7,12 +7,13 @@ use sector_format::{Decoded, Head, decode};
 use std::alloc::Global;
 use std::test::Fail;
 
-/// What an event writes: a sector of a place, with what its bytes say; an erased place; or a
-/// barrier.
+/// What an event writes: a sector of a place, with what its bytes say; an erased place, or one that
+/// is found worn; or a barrier.
 #[derive(Clone, Copy, Debug, PartialEq, Eq)]
 pub(crate) enum Write {
     Program(u32, u32, Decoded),
     Erase(u32),
+    Worn(u32),
     Barrier,
 }
 
@@ -22,6 +23,7 @@ fn write_of(event: &Event) -> Option<Write> {
             Some(Write::Program(*place, *sector, decode(bytes)))
         }
         Event::Erase(place) => Some(Write::Erase(*place)),
+        Event::Worn(place) => Some(Write::Worn(*place)),
         Event::Barrier => Some(Write::Barrier),
         Event::Read(_, _) | Event::Said(_) => None,
     }

@@ -8,13 +8,14 @@ use Rattle.chip_trait.proofs.HistoryLemmas.{same_history}
 use Rattle.store_trait.specs.Onward.{Onward, Further, Still}
 
 pub onward_none : (t : Told) → Onward t t
-onward_none t = record { places = refl; reads = omega arith; writes = omega arith; says = omega arith; keeps = refl }
+onward_none t = record { places = refl; reads = omega arith; writes = omega arith; worn = omega arith; says = omega arith; keeps = refl }
 
 pub onward_then : (old mid new : Told) → Onward old mid → Onward mid new → Onward old new
 onward_then old mid new a b = record {
   places = b.places ∙ a.places;
   reads = omega (arith, a.reads, b.reads);
   writes = omega (arith, a.writes, b.writes);
+  worn = omega (arith, a.worn, b.worn);
   says = omega (arith, a.says, b.says);
   keeps = b.keeps ∙ ap (λ (d : Beside). record d { say_faults = new.beside.say_faults }) a.keeps;
 }
@@ -25,22 +26,24 @@ onward_counts old new counts = record {
   places = counts.places;
   reads = counts.reads;
   writes = counts.writes;
+  worn = counts.worn;
   says = let e : new.beside.say_faults ≡ old.beside.say_faults = ap (λ (d : Beside). d.say_faults) counts.beside in omega arith;
   keeps = counts.beside ∙ ap (λ (n : ℕ). record old.beside { say_faults = n }) (sym (ap (λ (d : Beside). d.say_faults) counts.beside));
 }
 
 -- a piece was said, or couldn't be
 pub onward_said : (old new : Told) → new.places ≡ old.places → SayCounts old new → Onward old new
-onward_said old new places counts = record { places = places; reads = counts.reads; writes = counts.writes; says = counts.says; keeps = counts.beside }
+onward_said old new places counts = record { places = places; reads = counts.reads; writes = counts.writes; worn = counts.worn; says = counts.says; keeps = counts.beside }
 
 pub further_none : (t : Told) → Further t t
-further_none t = record { places = refl; reads = omega arith; writes = omega arith; says = omega arith; script = omega arith; bytes = omega arith; noted = refl }
+further_none t = record { places = refl; reads = omega arith; writes = omega arith; worn = omega arith; says = omega arith; script = omega arith; bytes = omega arith; noted = refl }
 
 pub further_then : (old mid new : Told) → Further old mid → Further mid new → Further old new
 further_then old mid new a b = record {
   places = b.places ∙ a.places;
   reads = omega (arith, a.reads, b.reads);
   writes = omega (arith, a.writes, b.writes);
+  worn = omega (arith, a.worn, b.worn);
   says = omega (arith, a.says, b.says);
   script = omega (arith, a.script, b.script);
   bytes = omega (arith, a.bytes, b.bytes);
@@ -52,6 +55,7 @@ further_onward old new o = record {
   places = o.places;
   reads = o.reads;
   writes = o.writes;
+  worn = o.worn;
   says = o.says;
   script = let e : new.beside.script_faults ≡ old.beside.script_faults = ap (λ (d : Beside). d.script_faults) o.keeps in omega arith;
   bytes = let e : new.beside.script_bytes ≡ old.beside.script_bytes = ap (λ (d : Beside). d.script_bytes) o.keeps in omega arith;

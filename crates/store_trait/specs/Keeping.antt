@@ -2,8 +2,7 @@
 use Rattle.std.specs.Prelude.{IfErr, ◌≡◌, ◌⊎◌, ◌<◌, ◌≤◌, ◌+◌, ◌-◌, ◌^◌, max, ℕ, Bool, true, List, [], ◌∷◌, Option, Result, MatchResult, is_ok}
 use Rattle.std.specs.Option.{option_map}
 use Rattle.std.specs.FinMap.{get}
-use Rattle.ipl_base.specs.declared.fault.ChipFault.{ChipFault}
-use Rattle.ipl_base.specs.declared.fault.ChipFault.TheVariants.{ReadFault, Stopped, Damaged, Malformed}
+use Rattle.ipl_base.specs.Calls.{IsFailedCall}
 use Rattle.ipl_base.specs.declared.fault.ImageFault.TheVariants as image
 use Rattle.ipl_rules.specs.State.{Map, State, Limits}
 use Rattle.ipl_model.specs.declared.command.Command.{Command}
@@ -74,18 +73,12 @@ COMMAND_DRAWS = 2 ^ 24
 abbrev pub SCRIPT_DRAWS : ℕ
 SCRIPT_DRAWS = 2 ^ 56
 
--- a read or a write of the chip failed
+-- a read or a write of the chip failed, or an erase found its place worn
 abbrev pub ChipRose : Told → Told → Type 0
 ChipRose old new = Rose old.read_faults new.read_faults ⊎ Rose old.write_faults new.write_faults
+    ⊎ Rose old.worn_erases new.worn_erases
 
--- the fault says that a read or a write failed
-abbrev pub IsFailedCall : ChipFault → Type 0
-IsFailedCall ReadFault = Unit {0}
-IsFailedCall Stopped = Unit {0}
-IsFailedCall (Damaged p s stored computed) = ⊥
-IsFailedCall (Malformed p s) = ⊥
-
--- so does that of a store, whether its chip was open or was to be opened again
+-- the fault of a store says that a call of the chip failed, whether its chip was open or was to be opened again
 abbrev pub SaysFailedCall : Fault → Type 0
 SaysFailedCall (Chip e) = IsFailedCall e
 SaysFailedCall (Image image.Geometry) = ⊥

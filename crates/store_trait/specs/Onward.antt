@@ -10,6 +10,7 @@ pub record Onward (old new : Told) : Type 0 where
   pub places : new.places ≡ old.places
   pub reads : old.read_faults ≤ new.read_faults
   pub writes : old.write_faults ≤ new.write_faults
+  pub worn : old.worn_erases ≤ new.worn_erases
   pub says : old.beside.say_faults ≤ new.beside.say_faults
   pub keeps : new.beside ≡ record old.beside { say_faults = new.beside.say_faults }
 
@@ -18,6 +19,7 @@ pub record Further (old new : Told) : Type 0 where
   pub places : new.places ≡ old.places
   pub reads : old.read_faults ≤ new.read_faults
   pub writes : old.write_faults ≤ new.write_faults
+  pub worn : old.worn_erases ≤ new.worn_erases
   pub says : old.beside.say_faults ≤ new.beside.say_faults
   pub script : old.beside.script_faults ≤ new.beside.script_faults
   pub bytes : old.beside.script_bytes ≤ new.beside.script_bytes

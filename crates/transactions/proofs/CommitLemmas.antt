@@ -19,7 +19,6 @@ use Rattle.unit_io.specs.Accounts.{Accounts}
 use Rattle.unit_io.specs.Charts.{Charts}
 use Rattle.unit_io.specs.Leads.{IsStopped}
 use Rattle.txn_status.specs.Status.{after_add, room_of}
-use Rattle.status_renewal.proofs.CauseLemmas.{write_accounts}
 use Rattle.buffer_pool.specs.Holding.{KeepsPins}
 use Rattle.buffer_pool.specs.Pools.{PoolView}
 use Rattle.buffer_pool.proofs.HoldingLemmas.{nothing_keeps}
@@ -34,7 +33,7 @@ use Rattle.store_steps.proofs.CommitLemmas.{numbers_lead, failed_numbers_lead}
 use Rattle.store_steps.proofs.SessionLemmas.{empty_commits_lead}
 use Rattle.frame_changes.specs.Views.{frames_of}
 use Rattle.page_frames.specs.declared.pages.Pages.{Pages}
-use Rattle.page_frames.specs.Pages.{tables_in, frames_in, Upholds}
+use Rattle.page_frames.specs.Pages.{tables_in, frames_in, PageCause, Upholds}
 use Rattle.transactions.specs.declared.transactions.Transactions.{Transactions}
 use Rattle.transactions.specs.Turns.{memory_in, IsInOrder, MayAddNumbers, Turns, IsSameButActive}
 use Rattle.transactions.proofs.OrderLemmas.{changed_had, same_had, still_ready, memory_is}
@@ -55,6 +54,15 @@ number_tidy places t after done result old new known room fewer =
     (λ end q s counted.
     let was = commit_shrinks places t known [] [] 0 q s (fewer end q s counted) in
     (was.0, λ here spot. was.1 here spot))
+
+-- it fails only where a write failed, which is a cause of any call on pages
+stopped_accounts : (before after : Told) (result : Result (Unit {0}) ChipFault)
+    → Accounts IsStopped result before after → Accounts PageCause result before after
+stopped_accounts before after (Ok v) did = record { counts = did.counts; cause = tt }
+stopped_accounts before after (Err e) did = record {
+  counts = did.counts;
+  cause = subst (λ (f : ChipFault). PageCause f before after) (sym did.cause.0) did.cause.1;
+}
 
 -- the numbers of sessions were added, and their changes are values
 pub numbers_added : (ss tids : List ℕ) (old new : Transactions) (added : Pages)
@@ -124,7 +132,7 @@ numbers_added ss tids old new added before after order are may writers adds step
       pins = pins_then;
       least = omega (arith, rest.counter, counter);
       drawn = omega (arith, rest.counter, counter);
-      accounts = write_accounts before after (Ok tt) accounts;
+      accounts = stopped_accounts before after (Ok tt) accounts;
     }
 
 -- they weren't added
@@ -164,7 +172,7 @@ numbers_not_added ss tids e old new before after order are may writers steps ses
       pins = pins;
       least = draws.0;
       drawn = draws.1;
-      accounts = write_accounts before after (Err e) accounts;
+      accounts = stopped_accounts before after (Err e) accounts;
     }
 
 -- the names' pages were written out, where a clean sector was made sure of before

@@ -14,7 +14,10 @@ use Rattle.ipl_rules.specs.State.{Map}
 use Rattle.ipl_meaning.specs.Chart.{Chart}
 use Rattle.ipl_meaning.specs.Layout.{Layout}
 use Rattle.ipl_meaning.specs.Stands.{Says, Stands}
-use Rattle.ipl_meaning.specs.Rests.{now, EachStandsEither, StoryRests}
+use Rattle.ipl_meaning.specs.Rests.{now, EachStandsEither, WornAreIdle, StoryRests}
+use Rattle.ipl_meaning.proofs.PartLemmas.{idle_still}
+use Rattle.ipl_meaning.proofs.WornLemmas.{worn_by_layout}
+use Rattle.std.proofs.lemmas.Bool.{ne_eqb}
 use Rattle.ipl_meaning.specs.Steps.{with_committed, MayCommit}
 use Rattle.ipl_meaning.specs.Found.{MentionsBelow}
 use Rattle.ipl_meaning.specs.Tables.{Status, Tables, IsCountedClean}
@@ -205,6 +208,11 @@ added_in_steps places status next numbers result old new are least room leads st
     (same_chart places status next numbers (now h) it t mirrors has)
     (stands_added places (now h) it t numbers active mirrors ready.may are fits_least fits_room n
     ready.then_says) in
+    let y : Chart = with_sector (now h) status.place status.first sector in
+    let then = adds_chart places status next numbers (now h) y are least room refl it t active mirrors has ready.may in
+    let worn : WornAreIdle places h.story y = worn_by_layout places h.story y (layout_added it numbers) then.mirrors.laid (λ q on.
+    let idle = ready.rests.worn it mirrors.laid q on in
+    idle_still places (now h) y it (layout_added it numbers) q (λ s. rw (ne_eqb status.place q (λ is. idle.not_status (sym at ∙ is))) refl) refl (λ u low. (refl, refl)) idle) in
     let apart : (base : Story) → AreClean (IsCountedClean t) base → (a : Story)
     → Programs status.place (IsSpot status.first) true a
     → AreClean (IsCountedClean (with_added t numbers (1 + next) active)) (a ++ base) =
@@ -221,7 +229,7 @@ added_in_steps places status next numbers result old new are least room leads st
     t (with_added t numbers (1 + next) active) h old new result
     (leads m n h steady ready.rests ready.closed
     (ready.agrees.tidy status.place status.first counted)
-    stands) stopped
+    stands worn) stopped
     (λ done a programs. (
       programs.silent,
       record {

@@ -7,7 +7,7 @@ use Rattle.ipl_format.specs.Sector.{Sector}
 use Rattle.chip_trait.specs.Story.{Contents}
 use Rattle.chip_trait.specs.Told.{Told}
 use Rattle.ipl_base.specs.declared.fault.ChipFault.{ChipFault}
-use Rattle.ipl_base.specs.declared.fault.ChipFault.TheVariants.{ReadFault, Stopped, Damaged, Malformed}
+use Rattle.ipl_base.specs.declared.fault.ChipFault.TheVariants.{ReadFault, Stopped, Damaged, Malformed, WornOut}
 use Rattle.ipl_meaning.specs.Chart.{Chart}
 use Rattle.unit_io.specs.Kinds.{of_kinds, commit_only, header_only, sector_named}
 use Rattle.sector_format.specs.declared.sector.Head.{Head}
@@ -101,6 +101,7 @@ cause_wider At More ReadFault old mid new more wider cause = omega (arith, more,
 cause_wider At More Stopped old mid new more wider cause = cause
 cause_wider At More (Damaged p s stored computed) old mid new more wider cause = cause
 cause_wider At More (Malformed p s) old mid new more wider cause = wider p s cause
+cause_wider At More (WornOut n) old mid new more wider cause = cause
 
 pub in_place : (place sector : ℕ) → 1 ≤ sector → sector < 256 → (p s : ℕ) → IsAt place sector p s
     → IsCommitSpot place p s

@@ -1,29 +1,32 @@
 -- What a new status place makes of a chart, of the tables, and of what a power cut leaves.
 use Rattle.std.proofs.Common.{◌≡◌, ◌↔◌, ℕ, zero, suc, ◌<◌, ◌≤◌, ◌+◌, ◌-◌, ◌*◌, ◌/◌, ◌%◌, false, min, List, length, drop, get_or, Some, None, IsTrue, inl, inr, refl, sym, ◌∙◌, ap, subst, arith}
 use Rattle.std.specs.List.{All, Contains}
-use Rattle.std.proofs.lemmas.Bool.{cases_lt, cases_Bool}
+use Rattle.std.proofs.lemmas.Bool.{cases_lt, cases_Bool, false≢true}
 use Rattle.std.proofs.lemmas.List.{length-take, length-drop, get_or-take, get_or-drop}
 use Rattle.std.proofs.lemmas.List.Elements.{All-contains, All-take, All-drop, All-weaker}
 use Rattle.chip_trait.specs.Chart.{with_sector}
+use Rattle.chip_trait.specs.Image.{is_worn}
+use Rattle.chip_trait.specs.Story.{Story}
 use Rattle.ipl_format.specs.Sector.{Sector}
 use Rattle.ipl_format.specs.Commit.{SpellsCommit, IsLong}
 use Rattle.ipl_format.proofs.PayloadLemmas.{commits_spell_once}
 use Rattle.ipl_rules.specs.State.{Map}
 use Rattle.ipl_meaning.specs.Chart.{Chart}
 use Rattle.ipl_meaning.specs.Layout.{Layout, Laid, IsStatus}
+use Rattle.ipl_meaning.specs.Rests.{WornAreIdle}
 use Rattle.ipl_meaning.specs.Stands.{Says, Stands}
 use Rattle.ipl_meaning.specs.Steps.{SameBut, KeepsPages, KeepsNumbers, with_status, ComesToNothing, MaySwitch}
 use Rattle.ipl_meaning.specs.Found.{MentionsBelow, IsPlaceBelow}
 use Rattle.ipl_meaning.specs.Tables.{Status, Tables}
-use Rattle.ipl_meaning.specs.TableSteps.{IsRenewed, CountedMove}
+use Rattle.ipl_meaning.specs.TableSteps.{IsRenewed}
 use Rattle.ipl_meaning.specs.Mirrors.{Mirrors}
 use Rattle.ipl_meaning.proofs.MirrorLemmas.{status_headers_may_go}
 use Rattle.ipl_meaning.proofs.IdleLemmas.{idle_places_do_not_count}
 use Rattle.ipl_meaning.proofs.IdleFollowLemmas.{tables_follow_idle_places}
-use Rattle.ipl_meaning.proofs.RenewalFollowLemmas.{tables_follow_renewals, counted_follow_renewals}
+use Rattle.ipl_meaning.proofs.RenewalFollowLemmas.{tables_follow_renewals}
 use Rattle.ipl_meaning.proofs.SwitchLemmas.{status_headers_switch, kept_numbers_keep_pages}
 use Rattle.ipl_meaning.proofs.StandsLemmas.{kept_pages_keep_the_map, stands_after_renewals}
-use Rattle.unit_io.specs.Charts.{IsCleared}
+use Rattle.ipl_meaning.proofs.WornLemmas.{worn_by_layout, idle_after_renewals}
 use Rattle.number_set.specs.Numbers.{among}
 use Rattle.number_set.proofs.AmongLemmas.{among_is_contains}
 use Rattle.txn_status.specs.Commits.{commit_sector, part_of}
@@ -87,9 +90,7 @@ pub record IsPrepared (places : ℕ) (c y : Chart) (it : Layout) (t : Tables) (p
   pub may : MayKeep t kept
   pub each : AreLong kept
   pub most : length kept ≤ 3840
-  pub bare : Chart
-  pub cleared : IsCleared p c bare
-  pub parts : HasParts p t.next (t.next + 1) kept (parts_of kept) bare y
+  pub parts : HasParts p t.next (t.next + 1) kept (parts_of kept) c y
   pub is_head : IsStatusHead (places - 4) t.next head
 
 module _ (places : ℕ) (c y : Chart) (it : Layout) (t : Tables) (p : ℕ) (kept : List ℕ)
@@ -104,11 +105,11 @@ module _ (places : ℕ) (c y : Chart) (it : Layout) (t : Tables) (p : ℕ) (kept
 
   at_place : (s : ℕ) → AtPlace s
   at_place zero = Nothing (is.parts.others p 0 (λ _ least most. omega (arith, least))
-      ∙ is.cleared.bare 0)
+      ∙ is.taken.bare 0)
   at_place (suc i) = elim (cases_lt i n) [
     | inl low ↦ Part i low (omega arith)
     | inr high ↦ Nothing (is.parts.others p (suc i) (λ _ least most. omega (arith, most, high))
-        ∙ is.cleared.bare (suc i))
+        ∙ is.taken.bare (suc i))
   ]
 
   -- a sector there is one of the parts
@@ -136,15 +137,14 @@ module _ (places : ℕ) (c y : Chart) (it : Layout) (t : Tables) (p : ℕ) (kept
       ap (λ (z : Sector). z.kind) part.same
 
   no_header : y p 0 ≡ None
-  no_header = is.parts.others p 0 (λ _ least most. omega (arith, least)) ∙ is.cleared.bare 0
+  no_header = is.parts.others p 0 (λ _ least most. omega (arith, least)) ∙ is.taken.bare 0
 
   pub beyond : (s : ℕ) → 1 + n ≤ s → y p s ≡ None
   beyond s high = is.parts.others p s (λ _ least most. omega (arith, most, high))
-      ∙ is.cleared.bare s
+      ∙ is.taken.bare s
 
   same_but : SameBut p c y
   same_but q s apart = is.parts.others q s (λ same. absurd (apart same))
-      ∙ is.cleared.others q s apart
 
   nothing_comes : ComesToNothing places y it p
   nothing_comes = record {
@@ -155,7 +155,7 @@ module _ (places : ℕ) (c y : Chart) (it : Layout) (t : Tables) (p : ℕ) (kept
         omega (arith, live.kind, six);
   }
 
-  kept_still : Laid places y it × KeepsPages places c it y it
+  pub kept_still : Laid places y it × KeepsPages places c it y it
   kept_still = idle_places_do_not_count places c it p y is.mirrors.laid is.taken.idle same_but
       nothing_comes
 
@@ -256,11 +256,6 @@ module _ (places : ℕ) (c y : Chart) (it : Layout) (t : Tables) (p : ℕ) (kept
         (among kept) mirrors_written may_switch is.taken.in_use renewed numbers_then waits
         mentions_head place_below (omega arith) (λ s high within. beyond s high)
 
-    pub counted_then : CountedMove t after p 0 (1 + n)
-    counted_then = counted_follow_renewals places y it t after p (1 + n) head
-        (among kept) mirrors_written may_switch is.taken.in_use renewed numbers_then waits
-        mentions_head place_below (omega arith) (λ s high within. beyond s high)
-
     pub switched_then : Switched places c (with_sector y p 0 head) it after p t.next kept
     switched_then = record {
       head = head;
@@ -277,3 +272,13 @@ module _ (places : ℕ) (c y : Chart) (it : Layout) (t : Tables) (p : ℕ) (kept
       → Stands places (with_sector y p 0 head) m
   stands_then m says keeps = stands_after_renewals places y it m p head (among kept) kept_still.0
       (kept_pages_keep_the_map places c y it it m kept_still.1 says) may_switch keeps
+
+  -- worn places are idle with the header too, since this one isn't worn
+  pub worn_then : (story : Story) → WornAreIdle places story y → is_worn story p ≡ false
+      → WornAreIdle places story (with_sector y p 0 head)
+  worn_then story worn sound =
+      worn_by_layout places story (with_sector y p 0 head) (with_status it p head (among kept))
+      (status_headers_switch places y it p head (among kept) kept_still.0 may_switch).0
+      (λ q on. idle_after_renewals places y it p head (among kept) q
+      (λ at. absurd (false≢true (sym sound ∙ ap (is_worn story) (sym at) ∙ on)))
+      (worn it kept_still.0 q on))

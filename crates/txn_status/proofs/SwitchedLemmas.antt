@@ -1,34 +1,40 @@
--- What a switch leaves: the erase, the parts and the header.
-use Rattle.std.proofs.Common.{◌≡◌, ℕ, ◌<◌, ◌≤◌, ◌+◌, ◌-◌, Bool, true, false, List, [], ◌++◌, length, Result, Ok, Err, IfErr, is_ok, inl, inr, refl, sym, ◌∙◌, subst, arith}
+-- What a switch leaves: the parts and the header.
+use Rattle.std.proofs.Common.{◌≡◌, ◌≢◌, ℕ, ◌<◌, ◌≤◌, ◌+◌, ◌-◌, true, false, List, ◌++◌, length, slice_index, Result, Ok, Err, IfErr, is_ok, inl, inr, sym, ◌∙◌, ap, subst, arith}
+use Rattle.std.specs.Prelude.{◌⊎◌}
+use Rattle.std.specs.List.{Contains}
 use Rattle.chip_trait.specs.Chart.{with_sector}
-use Rattle.chip_trait.specs.Lawful.{Clean, age, AreClean, IsLawfulAfter}
-use Rattle.chip_trait.specs.Story.{Story, pieces}
+use Rattle.chip_trait.specs.Lawful.{Clean, age, AreClean}
+use Rattle.chip_trait.specs.Story.{Story}
 use Rattle.chip_trait.specs.Told.{History, Told, adds_all}
+use Rattle.chip_trait.proofs.AgeLemmas.{clean_lasting}
 use Rattle.ipl_base.specs.declared.fault.ChipFault.{ChipFault}
 use Rattle.ipl_format.specs.Sector.{Sector}
 use Rattle.ipl_rules.specs.State.{Map}
 use Rattle.ipl_meaning.specs.Chart.{Chart, chart_of}
-use Rattle.ipl_meaning.specs.Layout.{Layout, Laid}
-use Rattle.ipl_meaning.specs.Steps.{IsIdle, with_status}
+use Rattle.ipl_meaning.specs.Layout.{Layout}
+use Rattle.ipl_meaning.specs.Steps.{with_status}
 use Rattle.ipl_meaning.specs.Rests.{now, EachStands, StoryRests}
-use Rattle.ipl_meaning.specs.Tables.{Tables, Status, IsCountedClean}
+use Rattle.ipl_meaning.specs.Tables.{OverflowLists, Tables, Status, IsCountedClean}
+use Rattle.ipl_meaning.specs.TableSteps.{IsRenewed}
 use Rattle.ipl_meaning.specs.Mirrors.{Mirrors}
 use Rattle.ipl_meaning.proofs.MirrorLemmas.{map_contains}
-use Rattle.unit_io.specs.Leads.{IsSteady, IsStopped, Leads, KeepsMap}
-use Rattle.unit_io.specs.Spots.{Clears, Programs, Rewrites, IsSpot}
-use Rattle.unit_io.specs.Charts.{Charts, IsCleared, Gains}
-use Rattle.unit_io.proofs.LeadsLemmas.{leads_then}
-use Rattle.unit_io.proofs.SpotLemmas.{Refills, refills_from, rewrites_then}
-use Rattle.steps.proofs.StepLemmas.{writes_are_steps, failed_writes_are_steps}
+use Rattle.unit_io.specs.Leads.{IsSteady, IsStopped, Leads}
+use Rattle.unit_io.specs.Spots.{Programs, IsSpot}
+use Rattle.unit_io.specs.Charts.{Charts, Gains}
+use Rattle.unit_io.proofs.LeadsLemmas.{leads_and, leads_failed, leads_then}
+use Rattle.unit_io.proofs.SpotLemmas.{programs_then, programs_wider}
+use Rattle.steps.specs.Steps.{NoOtherEnd}
+use Rattle.steps.proofs.StepLemmas.{outcome_written}
 use Rattle.number_set.specs.Numbers.{among}
 use Rattle.txn_status.specs.Status.{parts_of}
 use Rattle.txn_status.specs.Adding.{HasStatus}
-use Rattle.txn_status.specs.Switching.{HasParts, IsPartSpot, IsStatusHead, IsTaken, IsSwitched, IsReadyToSwitch, Switched, RestsSwitched, Switches, StepsSwitching, SwitchesInSteps}
-use Rattle.txn_status.specs.Writing.{LeadsParts, LeadsHeader, IsHeaded}
-use Rattle.txn_status.proofs.SwitchLemmas.{AreLong, IsPrepared, mirrors_then, counted_then, switched_then, stands_then}
+use Rattle.txn_status.specs.Switching.{HasParts, IsPartSpot, IsStatusSpot, IsStatusHead, IsTaken, IsSwitched, IsReadyToSwitch, Switched, RestsSwitched, Switches, StepsSwitching}
+use Rattle.txn_status.specs.Writing.{KeepsParts, LeadsParts, LeadsHeader, IsHeaded}
+use Rattle.txn_status.proofs.SwitchLemmas.{AreLong, IsPrepared, mirrors_then, switched_then, stands_then, worn_then}
 
--- ---- a place that was taken has no clean sector yet
+-- ---- what is counted as clean
 
+-- a place that was taken has no clean sector yet
 not_counted : (places : ℕ) (c : Chart) (it : Layout) (t : Tables) (p s : ℕ) → Mirrors places c it t
     → IsTaken places c it t p → IsCountedClean t p s → ⊥
 not_counted places c it t p s mirrors taken (small, inl (u, low, at, high)) =
@@ -39,224 +45,211 @@ not_counted places c it t p s mirrors taken (small, inr (inl (first, there, high
 not_counted places c it t p s mirrors taken (small, inr (inr (at, high))) =
     taken.idle.not_status (sym mirrors.status.place ∙ sym at)
 
--- ---- all three calls
+-- what is counted then was so before, or is one of the new place
+counted_then : (t after : Tables) (p own from q s : ℕ) → IsRenewed t after p own from
+    → IsCountedClean after q s → IsCountedClean t q s ⊎ ((q ≡ p) × (from ≤ s))
+counted_then t after p own from q s renewed (small, inl (u, low, at, high)) = inl (
+  small,
+  inl (
+    u,
+    subst (λ (l : List ℕ). u < length l) renewed.current low,
+    at ∙ ap (λ (l : List ℕ). slice_index l u) renewed.current,
+    subst (λ (l : List ℕ). 241 + slice_index l u ≤ s) renewed.written high,
+  ),
+)
+counted_then t after p own from q s renewed (small, inr (inl (first, there, high))) = inl (
+  small,
+  inr (inl (
+    first,
+    subst (λ (o : OverflowLists). Contains o.in_use (q, first)) renewed.overflow there,
+    high,
+  )),
+)
+counted_then t after p own from q s renewed (small, inr (inr (at, high))) =
+    inr (at ∙ renewed.place, omega (arith, high, renewed.first))
 
--- what the first of them says
-abbrev pub LeadsErase : ℕ → ℕ → Told → Result (Unit {0}) ChipFault → Told → Type 0
-LeadsErase places p old result new = (m : Map) (it : Layout) (h : History)
-    → IsSteady h old → StoryRests places m h → Laid places (now h) it → IsIdle places (now h) it p
-    → KeepsMap places m (Clears p) (λ done. IsCleared p) h old result new
+-- and where it was so before, it stands elsewhere
+pub counted_apart : (places : ℕ) (c : Chart) (it : Layout) (t after : Tables) (p own from : ℕ)
+    → Mirrors places c it t → IsTaken places c it t p → IsRenewed t after p own from
+    → (q s : ℕ) → IsCountedClean after q s
+    → (IsCountedClean t q s × (q ≢ p)) ⊎ ((q ≡ p) × (from ≤ s))
+counted_apart places c it t after p own from mirrors taken renewed q s counted =
+    elim (counted_then t after p own from q s renewed counted) [
+      | inl was ↦ inl (
+        was,
+        λ same. not_counted places c it t p s mirrors taken
+            (subst (λ (z : ℕ). IsCountedClean t z s) same was),
+      )
+      | inr here ↦ inr here
+    ]
 
--- Whatever a call does that begins with an erase and then programs: it says nothing, and is lawful.
-orderly_clears : (t : Tables) (p : ℕ) (done : Bool) (a : Story) → Clears p done a
-    → (pieces a ≡ []) × IsLawfulAfter (IsCountedClean t) a
-orderly_clears t p done a did =
-    (did.silent, record { lawful = λ base is clean. did.lawful base is })
-
-orderly_refills : (t : Tables) (p : ℕ) (Spot : ℕ → Type 0) (a : Story) → Refills p Spot a
-    → (pieces a ≡ []) × IsLawfulAfter (IsCountedClean t) a
-orderly_refills t p Spot a did =
-    (did.silent, record { lawful = λ base is clean. did.lawful base is })
-
-orderly_rewrites : (t : Tables) (p from : ℕ) (done : Bool) (a : Story) → Rewrites p from done a
-    → (pieces a ≡ []) × IsLawfulAfter (IsCountedClean t) a
-orderly_rewrites t p from done a did =
-    (did.silent, record { lawful = λ base is clean. did.lawful base is })
+-- ---- both calls
 
 module _ (places : ℕ) (status : Status) (next p : ℕ) (kept : List ℕ) (within : p < places)
-    (each : AreLong kept) (most : length kept ≤ 3840) (old mid1 mid2 new : Told) where
-  abbrev Holds : Layout → Tables → Map → Unit {0} → History → Type 0
-  Holds it after m done k = RestsSwitched places m it after p next kept k
+    (each : AreLong kept) (most : length kept ≤ 3840) (old mid new : Told) (h : History)
+    (it : Layout) (t after : Tables) (m : Map) (steady : IsSteady h old)
+    (has : HasStatus t status next) (ready : IsReadyToSwitch places h it t m p kept)
+    (switched : IsSwitched t after p next kept) where
+  abbrev Holds : Unit {0} → History → Type 0
+  Holds done k = RestsSwitched places m it after p next kept k
 
-  pub erase_failed : (e f : ChipFault) → LeadsErase places p old (Err e) mid1
-      → IsStopped e old mid1 → SwitchesInSteps places status next p kept (Err f) old mid1
-  erase_failed e f begin stopped h it t after m steady has ready switched =
-      failed_writes_are_steps (Unit {0}) (Unit {0}) (EachStands places m) (Clears p)
-      (λ done k. StoryRests places m k × IsCleared p (now h) (now k)) (Holds it after m) t after
-      h old mid1 e f
-      (begin m it h steady ready.rests ready.agrees.mirrors.laid ready.taken.idle) stopped
-      (orderly_clears t p false)
+  -- the place holds the numbers
+  pub record IsKept (k : History) : Type 0 where
+    pub rests : StoryRests places m k
+    pub parts : HasParts p next (next + 1) kept (parts_of kept) (now h) (now k)
 
-  module _ (begin : LeadsErase places p old (Ok tt) mid1) (h : History) (it : Layout)
-      (t after : Tables) (m : Map) (steady : IsSteady h old) (has : HasStatus t status next)
-      (ready : IsReadyToSwitch places h it t m p kept)
-      (switched : IsSwitched t after p next kept) where
-    first : KeepsMap {T = Unit {0}} {E = ChipFault} places m (Clears p) (λ done. IsCleared p) h
-        old (Ok tt) mid1
-    first = begin m it h steady ready.rests ready.agrees.mirrors.laid ready.taken.idle
+  prepared : (k : History) (head : Sector) → IsKept k → IsStatusHead (places - 4) next head
+      → IsPrepared places (now h) (now k) it t p kept head
+  prepared k head is is_head = record {
+    mirrors = ready.agrees.mirrors;
+    taken = ready.taken;
+    within = within;
+    may = ready.may;
+    each = each;
+    most = most;
+    parts = subst (λ (g : ℕ). HasParts p g (g + 1) kept (parts_of kept) (now h) (now k))
+        (sym has.next_is) is.parts;
+    is_head = subst (λ (g : ℕ). IsStatusHead (places - 4) g head) (sym has.next_is) is_head;
+  }
 
-    -- the place was erased, and holds the numbers
-    pub record IsKept (k : History) : Type 0 where
+  one : (result : Result (Unit {0}) ChipFault)
+      → LeadsParts places p next (next + 1) kept old result mid
+      → KeepsParts places p next (next + 1) kept (parts_of kept) m h old result mid
+  one result say = say m h steady ready.rests (ready.taken.bare 0) (λ s spot. ready.clean s)
+
+  pub parts_failed : (e f : ChipFault) → LeadsParts places p next (next + 1) kept old (Err e) mid
+      → IsStopped f old mid → StepsSwitching places it after m p next kept h (Err f) old mid
+  parts_failed e f say stopped =
+      outcome_written (Unit {0}) (EachStands places m) (Programs p (IsStatusSpot (parts_of kept)))
+      Holds NoOtherEnd h old mid (Err f)
+      (leads_failed (EachStands places m) (Programs p (IsPartSpot (parts_of kept)))
+      (Programs p (IsStatusSpot (parts_of kept)))
+      (λ (done : Unit {0}) k. StoryRests places m k
+      × HasParts p next (next + 1) kept (parts_of kept) (now h) (now k)) Holds h e f old mid
+      (one (Err e) say)
+      (λ a. programs_wider p (IsPartSpot (parts_of kept)) (IsStatusSpot (parts_of kept)) false false
+      a (λ s is. is.1))) stopped
+
+  module _ (say : LeadsParts places p next (next + 1) kept old (Ok tt) mid) where
+    first : KeepsParts places p next (next + 1) kept (parts_of kept) m h old (Ok tt) mid
+    first = one (Ok tt) say
+
+    -- the header stands there too
+    pub record IsSealed (k : History) : Type 0 where
       pub rests : StoryRests places m k
-      pub bare : Chart
-      pub cleared : IsCleared p (now h) bare
-      pub parts : HasParts p next (next + 1) kept (parts_of kept) bare (now k)
-
-    prepared : (k : History) (head : Sector) → IsKept k → IsStatusHead (places - 4) next head
-        → IsPrepared places (now h) (now k) it t p kept head
-    prepared k head is is_head = record {
-      mirrors = ready.agrees.mirrors;
-      taken = ready.taken;
-      within = within;
-      may = ready.may;
-      each = each;
-      most = most;
-      bare = is.bare;
-      cleared = is.cleared;
-      parts = subst (λ (g : ℕ). HasParts p g (g + 1) kept (parts_of kept) is.bare (now k))
-          (sym has.next_is) is.parts;
-      is_head = subst (λ (g : ℕ). IsStatusHead (places - 4) g head) (sym has.next_is) is_head;
-    }
+      pub head : Sector
+      pub is_head : IsStatusHead (places - 4) next head
+      pub before : History
+      pub kept_there : IsKept before
+      pub gains : Gains p 0 head (now before) (now k)
 
     two : (result : Result (Unit {0}) ChipFault)
-        → LeadsParts places p next (next + 1) kept mid1 result mid2
-        → Leads (EachStands places m) (λ done a. Refills p (IsPartSpot (parts_of kept)) a)
-        (λ done k. IsKept k) h old result mid2
+        → LeadsHeader places p (places - 4) next mid result new
+        → Leads (EachStands places m) (Programs p (IsStatusSpot (parts_of kept)))
+        (λ done k. IsSealed k) h old result new
     unfolding first
-    two result say =
-        leads_then (EachStands places m) (Clears p) (Programs p (IsPartSpot (parts_of kept)))
-        (λ done a. Refills p (IsPartSpot (parts_of kept)) a)
-        (λ done k. StoryRests places m k × IsCleared p (now h) (now k))
-        (λ done k. StoryRests places m k × HasParts p next (next + 1) kept (parts_of kept)
-        (now (adds_all first.added h)) (now k))
-        (λ done k. IsKept k) h tt old mid1 mid2 result first
-        (say m (adds_all first.added h) first.ends.0 first.ends.1.0 (first.ends.1.1.bare 0) (λ s spot. first.does.fresh refl h.story s))
-        (λ a b one then. refills_from p (IsPartSpot (parts_of kept)) (is_ok result) b a one then)
-        (λ done k is. record {
+    two result seals =
+        let k = adds_all first.added h in
+        let there : IsKept k = record { rests = first.ends.1.0; parts = first.ends.1.1 } in
+        let clean : age k.story p 0 ≡ Clean =
+        first.does.others h.story p 0 (λ _ spot. omega (arith, spot.0)) (ready.clean 0) in
+        leads_then (EachStands places m) (Programs p (IsPartSpot (parts_of kept)))
+        (Programs p (IsSpot 0)) (Programs p (IsStatusSpot (parts_of kept)))
+        (λ done then. StoryRests places m then
+        × HasParts p next (next + 1) kept (parts_of kept) (now h) (now then))
+        (λ done then. StoryRests places m then × IsHeaded p (places - 4) next (now k) (now then))
+        (λ done then. IsSealed then) h tt old mid new result first
+        (seals m k first.ends.0 first.ends.1.0 clean (λ head is_head.
+        let so = prepared k head there is_head in (
+          stands_then places (now h) (now k) it t p kept head so m ready.says ready.keeps,
+          worn_then places (now h) (now k) it t p kept head so k.story first.ends.1.0.worn
+              (clean_lasting k.story p 0 clean),
+        )))
+        (λ a b did then. programs_then p (IsPartSpot (parts_of kept)) (IsSpot 0)
+        (IsStatusSpot (parts_of kept)) true (is_ok result) b a
+        (λ s spot at. omega (arith, at, spot.0)) (λ s spot. spot.1) (λ s at. omega (arith, at)) did
+        then)
+        (λ done j is. record {
           rests = is.0;
-          bare = now (adds_all first.added h);
-          cleared = first.ends.1.1;
-          parts = is.1;
+          head = is.1.0;
+          is_head = is.1.1;
+          before = k;
+          kept_there = there;
+          gains = is.1.2;
         })
 
-    pub parts_failed : (e f : ChipFault)
-        → LeadsParts places p next (next + 1) kept mid1 (Err e) mid2 → IsStopped e old mid2
-        → StepsSwitching places it t after m p next kept h (Err f) old mid2
-    parts_failed e f say stopped =
-        failed_writes_are_steps (Unit {0}) (Unit {0}) (EachStands places m)
-        (λ done a. Refills p (IsPartSpot (parts_of kept)) a) (λ done k. IsKept k)
-        (Holds it after m) t after h old mid2 e f (two (Err e) say) stopped
-        (orderly_refills t p (IsPartSpot (parts_of kept)))
+    -- the numbers are those that the tables drew
+    renewed : IsSwitched t after p t.next kept
+    renewed = subst (λ (g : ℕ). IsSwitched t after p g kept) (sym has.next_is) switched
 
-    module _ (say : LeadsParts places p next (next + 1) kept mid1 (Ok tt) mid2) where
-      -- the header stands there too
-      pub record IsSealed (k : History) : Type 0 where
-        pub rests : StoryRests places m k
-        pub head : Sector
-        pub is_head : IsStatusHead (places - 4) next head
-        pub before : History
-        pub kept_there : IsKept before
-        pub gains : Gains p 0 head (now before) (now k)
+    clean_then : (a : Story) → Programs p (IsStatusSpot (parts_of kept)) true a
+        → AreClean (IsCountedClean after) (a ++ h.story)
+    clean_then a programs q s counted =
+        elim (counted_apart places (now h) it t after p next (1 + parts_of kept)
+        ready.agrees.mirrors ready.taken switched.renewed q s counted) [
+          | inl was ↦ programs.others h.story q s (λ same. absurd (was.1 same))
+              (ready.agrees.tidy q s was.0)
+          | inr here ↦ programs.others h.story q s (λ same spot. omega (arith, spot, here.1))
+              (subst (λ (z : ℕ). age h.story z s ≡ Clean) (sym here.0) (ready.clean s))
+        ]
 
-      three : (result : Result (Unit {0}) ChipFault)
-          → LeadsHeader places p (places - 4) next mid2 result new
-          → Leads (EachStands places m) (Rewrites p (1 + parts_of kept)) (λ done k. IsSealed k)
-          h old result new
-      three result seals =
-          let so = two (Ok tt) say in
-          let k = adds_all so.added h in
-          leads_then (EachStands places m) (λ done a. Refills p (IsPartSpot (parts_of kept)) a)
-          (Programs p (IsSpot 0)) (Rewrites p (1 + parts_of kept)) (λ done then. IsKept then)
-          (λ done then. StoryRests places m then × IsHeaded p (places - 4) next (now k) (now then))
-          (λ done then. IsSealed then) h tt old mid2 new result so
-          (seals m k so.ends.0 so.ends.1.rests
-          (so.does.fresh h.story 0 (λ spot. omega (arith, spot.0)))
-          (λ head is_head. stands_then places (now h) (now k) it t p kept head
-          (prepared k head so.ends.1 is_head) m ready.says ready.keeps))
-          (λ a b one then. rewrites_then p (1 + parts_of kept) (IsPartSpot (parts_of kept))
-          (IsSpot 0) (is_ok result) (is_ok result) b a (λ s at spot. omega (arith, at, spot.0))
-          (λ s high spot. omega (arith, high, spot.1)) (λ s high at. omega (arith, high, at))
-          one then)
-          (λ done j is. record {
-            rests = is.0;
-            head = is.1.0;
-            is_head = is.1.1;
-            before = k;
-            kept_there = so.ends.1;
-            gains = is.1.2;
-          })
+    rests_switched : (a : Story) → Programs p (IsStatusSpot (parts_of kept)) true a
+        → IsSealed (adds_all a h) → Holds tt (adds_all a h)
+    unfolding renewed
+    rests_switched a programs is = record {
+      head = is.head;
+      is_head = is.is_head;
+      stands = record {
+        rests = is.rests;
+        agrees = record {
+          mirrors = subst (λ (c : Chart). Mirrors places c (with_status it p is.head (among kept)) after)
+              (sym is.gains)
+              (mirrors_then places (now h) (now is.before) it t p kept is.head
+              (prepared is.before is.head is.kept_there is.is_head) after renewed);
+          tidy = clean_then a programs;
+        };
+      };
+    }
 
-      -- what is counted as clean then was before, or is one of the new place
-      clean_then : (k : History) → IsSealed k → (a base : Story)
-          → Rewrites p (1 + parts_of kept) true a → AreClean (IsCountedClean t) base
-          → AreClean (IsCountedClean after) (a ++ base)
-      clean_then k is a base rewrites clean q s counted =
-          let so : IsSwitched t after p t.next kept =
-          subst (λ (g : ℕ). IsSwitched t after p g kept) (sym has.next_is) switched in
-          let (was, other) = counted_then places (now h) (now is.before) it t p kept is.head
-          (prepared is.before is.head is.kept_there is.is_head) after so q s counted in
-          elim was [
-            | inl before ↦ rewrites.others base q s
-                (λ same. not_counted places (now h) it t p s ready.agrees.mirrors ready.taken
-                (subst (λ (z : ℕ). IsCountedClean t z s) same before)) (clean q s before)
-            | inr (at, high, small) ↦ subst (λ (z : ℕ). age (a ++ base) z s ≡ Clean) (sym at)
-                (rewrites.fresh refl base s high)
-          ]
-
-      mirrors_sealed : (k : History) → (is : IsSealed k)
-          → Mirrors places (now k) (with_status it p is.head (among kept)) after
-      mirrors_sealed k is =
-          let so : IsSwitched t after p t.next kept =
-          subst (λ (g : ℕ). IsSwitched t after p g kept) (sym has.next_is) switched in
-          subst (λ (c : Chart). Mirrors places c (with_status it p is.head (among kept)) after)
-          (sym is.gains)
-          (mirrors_then places (now h) (now is.before) it t p kept is.head
-          (prepared is.before is.head is.kept_there is.is_head) after so)
-
-      pub switched_in_steps : (result : Result (Unit {0}) ChipFault)
-          → LeadsHeader places p (places - 4) next mid2 result new
-          → IfErr result (λ fault. IsStopped fault old new)
-          → StepsSwitching places it t after m p next kept h result old new
-      switched_in_steps result seals stopped =
-          writes_are_steps (Unit {0}) (EachStands places m) (Rewrites p (1 + parts_of kept))
-          (λ done k. IsSealed k) (Holds it after m) t after h old new result (three result seals)
-          stopped (orderly_rewrites t p (1 + parts_of kept))
-          (λ done a rewrites is base clean. clean_then (adds_all a h) is a base rewrites clean)
-          (λ done a rewrites is. record {
-            head = is.head;
-            is_head = is.is_head;
-            stands = record {
-              rests = is.rests;
-              agrees = record {
-                mirrors = mirrors_sealed (adds_all a h) is;
-                tidy = clean_then (adds_all a h) is a h.story rewrites ready.agrees.tidy;
-              };
-            };
-          })
+    pub switched_in_steps : (result : Result (Unit {0}) ChipFault)
+        → LeadsHeader places p (places - 4) next mid result new
+        → IfErr result (λ fault. IsStopped fault old new)
+        → StepsSwitching places it after m p next kept h result old new
+    switched_in_steps result seals stopped =
+        outcome_written (Unit {0}) (EachStands places m)
+        (Programs p (IsStatusSpot (parts_of kept))) Holds NoOtherEnd h old new result
+        (leads_and (EachStands places m) (Programs p (IsStatusSpot (parts_of kept)))
+        (λ done k. IsSealed k) Holds h old result new
+        (λ done a programs is. rests_switched a programs is) (two result seals)) stopped
 
 -- ---- what is told of the contents
 
 pub switches_told : (places : ℕ) (status : Status) (next p : ℕ) (kept : List ℕ) → p < places
-    → AreLong kept → length kept ≤ 3840 → (old mid1 mid2 new : Told)
-    → Charts (IsCleared p) old mid1 → Charts
-    (HasParts p next (next + 1) kept (parts_of kept)) mid1 mid2
-    → Charts (IsHeaded p (places - 4) next) mid2 new
+    → AreLong kept → length kept ≤ 3840 → (old mid new : Told)
+    → Charts (HasParts p next (next + 1) kept (parts_of kept)) old mid
+    → Charts (IsHeaded p (places - 4) next) mid new
     → Charts (Switches places status next p kept) old new
-switches_told places status next p kept within each most old mid1 mid2 new begin parts seal =
-    λ x told.
-    let (x1, told1, cleared) = begin x told in
-    let (x2, told2, there) = parts x1 told1 in
-    let (x3, told3, sealed) = seal x2 told2 in (
-      x3,
-      told3,
+switches_told places status next p kept within each most old mid new parts seal = λ x told.
+    let (y, told_y, there) = parts x told in
+    let (z, told_z, sealed) = seal y told_y in (
+      z,
+      told_z,
       λ it t after mirrors has taken may switched.
-          let is : IsPrepared places (chart_of x) (chart_of x2) it t p kept sealed.0 = record {
+          let is : IsPrepared places (chart_of x) (chart_of y) it t p kept sealed.0 = record {
             mirrors = mirrors;
             taken = taken;
             within = within;
             may = may;
             each = each;
             most = most;
-            bare = chart_of x1;
-            cleared = cleared;
-            parts = subst (λ (g : ℕ). HasParts p g (g + 1) kept (parts_of kept) (chart_of x1)
-                (chart_of x2)) (sym has.next_is) there;
+            parts = subst (λ (g : ℕ). HasParts p g (g + 1) kept (parts_of kept) (chart_of x)
+                (chart_of y)) (sym has.next_is) there;
             is_head = subst (λ (g : ℕ). IsStatusHead (places - 4) g sealed.0)
                 (sym has.next_is) sealed.1;
           } in
           subst (λ (c : Chart). Switched places (chart_of x) c it after p next kept) (sym sealed.2)
           (subst (λ (g : ℕ). Switched places (chart_of x)
-          (with_sector (chart_of x2) p 0 sealed.0) it after p g kept) has.next_is
-          (switched_then places (chart_of x) (chart_of x2) it t p kept sealed.0 is after
+          (with_sector (chart_of y) p 0 sealed.0) it after p g kept) has.next_is
+          (switched_then places (chart_of x) (chart_of y) it t p kept sealed.0 is after
           (subst (λ (g : ℕ). IsSwitched t after p g kept) (sym has.next_is) switched))),
     )

@@ -1,5 +1,6 @@
 -- What a new status place makes of a chart, of the tables, and of what a power cut leaves.
-use Rattle.std.specs.Prelude.{ℕ, ◌≡◌, ◌<◌, ◌≤◌, ◌+◌, ◌-◌, List, Some, All, Contains, Result}
+use Rattle.std.specs.Prelude.{ℕ, ◌≡◌, ◌<◌, ◌≤◌, ◌+◌, ◌-◌, List, Some, None, All, Contains, Result, is_ok}
+use Rattle.chip_trait.specs.Lawful.{Clean, age}
 use Rattle.ipl_base.specs.declared.limits.TheConstants.{RESERVED_PLACES}
 use Rattle.chip_trait.specs.Told.{History, Told}
 use Rattle.ipl_base.specs.declared.fault.ChipFault.{ChipFault}
@@ -16,7 +17,8 @@ use Rattle.ipl_meaning.specs.TableSteps.{IsRenewed}
 use Rattle.ipl_meaning.specs.Mirrors.{Mirrors}
 use Rattle.ipl_meaning.specs.Agrees.{Agrees}
 use Rattle.unit_io.specs.Leads.{IsSteady}
-use Rattle.steps.specs.Steps.{NoOtherEnd, Steps, RestsAgreeing}
+use Rattle.unit_io.specs.Spots.{Programs}
+use Rattle.steps.specs.Steps.{Settled, NoOtherEnd, EndsWith, Outcome, RestsAgreeing}
 use Rattle.number_set.specs.Numbers.{among}
 use Rattle.txn_status.specs.Commits.{commit_sector, part_of}
 use Rattle.txn_status.specs.Status.{parts_of, switched_to}
@@ -36,6 +38,10 @@ pub record HasParts (p generation serial : ℕ) (numbers : List ℕ) (n : ℕ)
 abbrev pub IsPartSpot : ℕ → ℕ → Type 0
 IsPartSpot n s = (1 ≤ s) × (s < 1 + n)
 
+-- these spots, and that of the header
+abbrev pub IsStatusSpot : ℕ → ℕ → Type 0
+IsStatusSpot n s = s < 1 + n
+
 -- a status header for so many units
 pub record IsStatusHead (units generation : ℕ) (head : Sector) : Type 0 where
   pub kind : head.kind ≡ 2
@@ -45,11 +51,12 @@ pub record IsStatusHead (units generation : ℕ) (head : Sector) : Type 0 where
 
 -- ---- tables
 
--- the place was taken for this: it isn't free, and nothing that counts stands there
+-- the place was taken for this: it isn't free, nothing that counts stands there, and nothing checks
 pub record IsTaken (places : ℕ) (c : Chart) (it : Layout) (t : Tables) (p : ℕ) : Type 0 where
   pub idle : IsIdle places c it p
   pub not_overflow : ¬ Contains (overflow_places t) p
   pub in_use : ¬ IsFree t.places p
+  pub bare : (s : ℕ) → c p s ≡ None
 
 -- the numbers may be kept: they were drawn, and none is of an open session
 pub record MayKeep (t : Tables) (kept : List ℕ) : Type 0 where
@@ -82,13 +89,15 @@ Switches places status next p kept c y = (it : Layout) (t after : Tables)
 
 -- ---- what a power cut leaves
 
--- the tables agree with a chip whose story rests on a map, and the place may take these numbers
+-- the tables agree with a chip whose story rests on a map, each sector of the place is clean, and the
+-- place may take these numbers
 pub record IsReadyToSwitch (places : ℕ) (h : History) (it : Layout) (t : Tables) (m : Map)
     (p : ℕ) (kept : List ℕ) : Type 0 where
   pub rests : StoryRests places m h
   pub agrees : Agrees places h it t
   pub says : Says places (now h) it m
   pub taken : IsTaken places (now h) it t p
+  pub clean : (s : ℕ) → age h.story p s ≡ Clean
   pub may : MayKeep t kept
   pub keeps : KeepsNumbers places it (among kept)
 
@@ -100,13 +109,15 @@ pub record RestsSwitched (places : ℕ) (m : Map) (it : Layout) (after : Tables)
   pub stands : RestsAgreeing places m (with_status it p head (among kept)) after k
 
 -- At each moment a power cut leaves the map, and done, the story rests on it and the tables with
--- the new status agree. It fails only where a write failed.
-abbrev pub StepsSwitching : ℕ → Layout → Tables → Tables → Map → ℕ → ℕ → List ℕ
+-- the new status agree. Sectors of the place are programmed, each once. It fails only where a write
+-- failed.
+abbrev pub StepsSwitching : ℕ → Layout → Tables → Map → ℕ → ℕ → List ℕ
     → History → Result (Unit {0}) ChipFault → Told → Told → Type 0
-StepsSwitching places it t after m p generation kept h result old new =
-    Steps (EachStands places m) t after
-    (λ done k. RestsSwitched places m it after p generation kept k)
-    NoOtherEnd h result old new
+StepsSwitching places it after m p generation kept h result old new =
+    Outcome (EachStands places m) (Programs p (IsStatusSpot (parts_of kept)) (is_ok result))
+    (Settled result old new)
+    (EndsWith result (λ done k. RestsSwitched places m it after p generation kept k) NoOtherEnd)
+    h old new
 
 -- whatever layout, tables and map it began with
 abbrev pub SwitchesInSteps : ℕ → Status → ℕ → ℕ → List ℕ → Result (Unit {0}) ChipFault
@@ -115,4 +126,4 @@ SwitchesInSteps places status next p kept result old new =
     (h : History) (it : Layout) (t after : Tables) (m : Map)
     → IsSteady h old → HasStatus t status next → IsReadyToSwitch places h it t m p kept
     → IsSwitched t after p next kept
-    → StepsSwitching places it t after m p next kept h result old new
+    → StepsSwitching places it after m p next kept h result old new

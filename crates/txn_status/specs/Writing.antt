@@ -9,7 +9,7 @@ use Rattle.ipl_format.specs.Sector.{Sector}
 use Rattle.ipl_rules.specs.State.{Map}
 use Rattle.ipl_meaning.specs.Chart.{Chart}
 use Rattle.ipl_meaning.specs.Stands.{Stands}
-use Rattle.ipl_meaning.specs.Rests.{now, StoryRests}
+use Rattle.ipl_meaning.specs.Rests.{now, WornAreIdle, StoryRests}
 use Rattle.unit_io.specs.Leads.{IsSteady, KeepsMap, SwitchesMap}
 use Rattle.unit_io.specs.Spots.{Programs, IsSpot}
 use Rattle.unit_io.specs.Charts.{Gains}
@@ -22,6 +22,7 @@ abbrev pub LeadsCommit : ℕ → ℕ → ℕ → Sector
 LeadsCommit places p s sector old result new = (m n : Map) (h : History)
     → IsSteady h old → StoryRests places m h → IsClosed h.story → age h.story p s ≡ Clean
     → Stands places (with_sector (now h) p s sector) n
+    → WornAreIdle places h.story (with_sector (now h) p s sector)
     → SwitchesMap places m n (Programs p (IsSpot s)) (λ done. Gains p s sector) h old result new
 
 -- a commit sector in a place without a header: it keeps the map
@@ -57,6 +58,6 @@ abbrev pub LeadsHeader : ℕ → ℕ → ℕ → ℕ → Told → Result (Unit {
 LeadsHeader places p units generation old result new = (m : Map) (h : History)
     → IsSteady h old → StoryRests places m h → age h.story p 0 ≡ Clean
     → ((head : Sector) → IsStatusHead units generation head
-    → Stands places (with_sector (now h) p 0 head) m)
+    → Stands places (with_sector (now h) p 0 head) m × WornAreIdle places h.story (with_sector (now h) p 0 head))
     → KeepsMap places m (Programs p (IsSpot 0)) (λ done. IsHeaded p units generation)
     h old result new

@@ -6,9 +6,9 @@ ghost use Rattle.ipl_format.specs.Sector.{Sector};
 ghost use Rattle.ipl_meaning.specs.Chart.{chart_of};
 ghost use Rattle.unit_io.specs.Accounts.{Accounts};
 ghost use Rattle.unit_io.specs.Leads.{IsStopped};
-ghost use Rattle.unit_io.specs.Costs.{ProgramsAt, ErasesOnce, Spends};
+ghost use Rattle.unit_io.specs.Costs.{ProgramsAt, Spends};
 ghost use Rattle.unit_io.specs.Charts.{Charts};
-ghost use Rattle.unit_io.specs.Spots.{Programs, Rewrites, IsSpot};
+ghost use Rattle.unit_io.specs.Spots.{Programs, IsSpot};
 ghost use Rattle.unit_io.specs.Unread.{ReadsNothing};
 ghost use Rattle.unit_io.specs.Reads.{OfContents};
 ghost use Rattle.unit_io.specs.ReadsAt.{ReadsAt, ReadsOnce, IsCauseAt};
@@ -17,7 +17,8 @@ ghost use Rattle.number_set.specs.Numbers.{AreRising};
 ghost use Rattle.txn_status.specs.ReadingIn.{IsReadIn, IsCommitSpot, IsOfPlace, IsStatusAt};
 ghost use Rattle.txn_status.specs.Status.{empty_status, room_of, after_add, parts_of, switched_to, IsSoundStatus};
 ghost use Rattle.txn_status.specs.Adding.{Adds, AddsInSteps};
-ghost use Rattle.txn_status.specs.Switching.{Switches, SwitchesInSteps};
+ghost use Rattle.place_taking.specs.Fills.{FillsAt};
+ghost use Rattle.txn_status.specs.Switching.{IsStatusSpot, Switches, SwitchesInSteps};
 
 use crate::commits::write_commit;
 use crate::parts::{part_count, seal_status, write_parts};
@@ -27,7 +28,6 @@ use ipl_base::{ChipFault, Counter, Geometry, OutOfMemory, SECTORS, STATUS_NUMBER
 use number_set::NumberSet;
 use std::alloc::Global;
 use std::marker::Model;
-use unit_io::begin_unit;
 
 /// The committed numbers, the status place with its generation, and the first of its sectors that
 /// is known clean (1 to 255, or 256 where none is). A contract sees the numbers as a list in rising
@@ -223,10 +223,11 @@ impl Status {
         Ok(())
     }
 
-    /// Writes a new status place with exactly these numbers, at most 3,840, in rising order: a
-    /// generation is drawn, the place is erased, the numbers are programmed, 60 to a commit sector
-    /// and with a serial drawn for each sector, and the status header makes them count. That the
-    /// place was taken for this, and 65 numbers are left to draw, are conditions.
+    /// Writes a new status place with exactly these numbers, at most 3,840, in rising order: the
+    /// numbers are programmed, 60 to a commit sector and with a serial drawn for each sector, and the
+    /// status header of this generation makes them count. That the generation is the number that was
+    /// drawn last, that 64 are left to draw, and that the place was taken and erased for this, are
+    /// conditions.
     ///
     /// Where of the numbers in live log sectors exactly the committed ones are kept, whatever a
     /// power cut leaves at any moment stands for the map on which the story rested. It fails only
@@ -236,37 +237,36 @@ impl Status {
         chip: &mut C,
         counter: &mut Counter,
         place: u32,
+        generation: u64,
         kept: &[u64],
     ) -> Result<(), ChipFault>
         requires size { IsGeometry (C.told chip.old).places }
         requires place { place < (C.told chip.old).places }
         requires rising { AreRising kept.now }
         requires few { length kept.now ≤ KEPT_NUMBERS }
-        requires left { counter.old + 65 < 2 ^ 64 }
-        ensures switched { OnOk result (self.new ≡ switched_to place counter.old kept.now) }
+        requires last { counter.old ≡ generation + 1 }
+        requires left { counter.old + 64 < 2 ^ 64 }
+        ensures switched { OnOk result (self.new ≡ switched_to place generation kept.now) }
         ensures same { OnErr result (self.new ≡ self.old) }
-        ensures drawn { OnOk result (counter.new ≡ counter.old + 1 + parts_of kept.now) }
-        ensures draws { (counter.old < counter.new) × (counter.new ≤ counter.old + 65) }
+        ensures drawn { OnOk result (counter.new ≡ counter.old + parts_of kept.now) }
+        ensures draws { (counter.old ≤ counter.new) × (counter.new ≤ counter.old + 64) }
 
         // What the chip holds then, and what a power cut leaves.
         ensures switches { OnOk result (Charts
-            (Switches (C.told chip.old).places self.old counter.old place kept.now)
+            (Switches (C.told chip.old).places self.old generation place kept.now)
             (C.told chip.old) (C.told chip.new)) }
-        ensures steps { SwitchesInSteps (C.told chip.old).places self.old counter.old place kept.now
+        ensures steps { SwitchesInSteps (C.told chip.old).places self.old generation place kept.now
             result (C.told chip.old) (C.told chip.new) }
-        // One erase, then programs of the place alone, and three barriers.
-        ensures costs { Spends (ErasesOnce place 3 (is_ok result))
-            (C.told chip.old) (C.told chip.new) }
-        // Whatever the chip holds, each sector is programmed once, and those behind are clean then.
-        ensures tidy { Spends (Rewrites place (1 + parts_of kept.now) (is_ok result))
+        // Programs of the place alone, and two barriers.
+        ensures costs { Spends (FillsAt place 2) (C.told chip.old) (C.told chip.new) }
+        // Whatever the chip holds, each sector is programmed once, and none of those behind.
+        ensures tidy { Spends (Programs place (IsStatusSpot (parts_of kept.now)) (is_ok result))
             (C.told chip.old) (C.told chip.new) }
         // It reads nothing.
         ensures unread { Spends ReadsNothing (C.told chip.old) (C.told chip.new) }
         ensures accounts { Accounts IsStopped result (C.told chip.old) (C.told chip.new) }
     {
-        let generation = counter.draw();
         let units = chip.units() - 4;
-        begin_unit(chip, place)?;
         write_parts(chip, counter, place, generation, kept)?;
         seal_status(chip, place, generation, units)?;
         // Only now: until the header is made sure of, the old place counts.

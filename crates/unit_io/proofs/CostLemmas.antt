@@ -6,14 +6,14 @@ use Rattle.std.specs.List.{All}
 use Rattle.std.proofs.lemmas.Bool.{cases_Bool, eqb-true, eq-eqb, false≢true}
 use Rattle.std.proofs.lemmas.List.Elements.{All-head, All-tail}
 use Rattle.chip_trait.specs.declared.event.Event.{Event}
-use Rattle.chip_trait.specs.declared.event.Event.TheVariants.{Read, Program, Erase, Barrier, Said}
+use Rattle.chip_trait.specs.declared.event.Event.TheVariants.{Read, Program, Erase, Worn, Barrier, Said}
 use Rattle.chip_trait.specs.Story.{Story}
 use Rattle.chip_trait.specs.Told.{History, Told, adds, adds_all}
 use Rattle.ipl_base.specs.declared.fault.ChipFault.{ChipFault}
 use Rattle.ipl_format.specs.Sector.{Sector, sector_in}
 use Rattle.unit_io.specs.Leads.{Did, Waited}
 use Rattle.unit_io.specs.ReadsAt.{IsReadAt, ReadsAt}
-use Rattle.unit_io.specs.Costs.{erases, barriers, programs, is_erased, programs_outside, OutsideAre, AreAt, Costs, ProgramsAt, ErasesOnce, Spends}
+use Rattle.unit_io.specs.Costs.{erases, barriers, programs, is_erased, is_tried, programs_outside, OutsideAre, AreAt, Costs, ProgramsAt, ErasesOnce, Spends}
 use Rattle.unit_io.proofs.ReadsAtLemmas.{none_added, history_then}
 
 -- ---- counts of events, joined
@@ -24,6 +24,7 @@ erases_joined (Read p s ∷ later) earlier = erases_joined later earlier
 erases_joined (Program p s bytes ∷ later) earlier = erases_joined later earlier
 erases_joined (Erase p ∷ later) earlier = let e = erases_joined later earlier in omega (arith, e)
 erases_joined (Barrier ∷ later) earlier = erases_joined later earlier
+erases_joined (Worn q ∷ later) earlier = let e = erases_joined later earlier in omega (arith, e)
 erases_joined (Said piece ∷ later) earlier = erases_joined later earlier
 
 pub barriers_joined : (later earlier : Story) → barriers (later ++ earlier) ≡ barriers later + barriers earlier
@@ -32,6 +33,7 @@ barriers_joined (Read p s ∷ later) earlier = barriers_joined later earlier
 barriers_joined (Program p s bytes ∷ later) earlier = barriers_joined later earlier
 barriers_joined (Erase p ∷ later) earlier = barriers_joined later earlier
 barriers_joined (Barrier ∷ later) earlier = let e = barriers_joined later earlier in omega (arith, e)
+barriers_joined (Worn q ∷ later) earlier = barriers_joined later earlier
 barriers_joined (Said piece ∷ later) earlier = barriers_joined later earlier
 
 pub programs_joined : (later earlier : Story) → programs (later ++ earlier) ≡ programs later + programs earlier
@@ -40,6 +42,7 @@ programs_joined (Read p s ∷ later) earlier = programs_joined later earlier
 programs_joined (Program p s bytes ∷ later) earlier = let e = programs_joined later earlier in omega (arith, e)
 programs_joined (Erase p ∷ later) earlier = programs_joined later earlier
 programs_joined (Barrier ∷ later) earlier = programs_joined later earlier
+programs_joined (Worn q ∷ later) earlier = programs_joined later earlier
 programs_joined (Said piece ∷ later) earlier = programs_joined later earlier
 
 or_assoc : (a b c : Bool) → (a || (b || c)) ≡ ((a || b) || c)
@@ -54,7 +57,20 @@ erased_joined (Program q s bytes ∷ later) earlier p = erased_joined later earl
 erased_joined (Erase q ∷ later) earlier p =
     ap (λ (b : Bool). (q == p) || b) (erased_joined later earlier p) ∙ or_assoc (q == p) (is_erased later p) (is_erased earlier p)
 erased_joined (Barrier ∷ later) earlier p = erased_joined later earlier p
+erased_joined (Worn q ∷ later) earlier p = erased_joined later earlier p
 erased_joined (Said piece ∷ later) earlier p = erased_joined later earlier p
+
+pub tried_joined : (later earlier : Story) (p : ℕ)
+    → is_tried (later ++ earlier) p ≡ (is_tried later p || is_tried earlier p)
+tried_joined [] earlier p = refl
+tried_joined (Read q s ∷ later) earlier p = tried_joined later earlier p
+tried_joined (Program q s bytes ∷ later) earlier p = tried_joined later earlier p
+tried_joined (Erase q ∷ later) earlier p =
+    ap (λ (b : Bool). (q == p) || b) (tried_joined later earlier p) ∙ or_assoc (q == p) (is_tried later p) (is_tried earlier p)
+tried_joined (Worn q ∷ later) earlier p =
+    ap (λ (b : Bool). (q == p) || b) (tried_joined later earlier p) ∙ or_assoc (q == p) (is_tried later p) (is_tried earlier p)
+tried_joined (Barrier ∷ later) earlier p = tried_joined later earlier p
+tried_joined (Said piece ∷ later) earlier p = tried_joined later earlier p
 
 -- a place that is erased in neither part isn't in both
 parts_of_or : (a b : Bool) → (a || b) ≡ false → (a ≡ false) × (b ≡ false)
@@ -88,6 +104,7 @@ outside_joined (Program p s bytes ∷ later) earlier =
         rw (whole, apart) (omega (arith, rest))
 outside_joined (Erase p ∷ later) earlier = outside_joined later earlier
 outside_joined (Barrier ∷ later) earlier = outside_joined later earlier
+outside_joined (Worn q ∷ later) earlier = outside_joined later earlier
 outside_joined (Said piece ∷ later) earlier = outside_joined later earlier
 
 pub kinds_joined : (kinds : List ℕ) (later earlier : Story) → OutsideAre kinds later → OutsideAre kinds earlier
@@ -100,6 +117,7 @@ kinds_joined kinds (Program p s bytes ∷ later) earlier one other = (
 )
 kinds_joined kinds (Erase p ∷ later) earlier one other = kinds_joined kinds later earlier one other
 kinds_joined kinds (Barrier ∷ later) earlier one other = kinds_joined kinds later earlier one other
+kinds_joined kinds (Worn q ∷ later) earlier one other = kinds_joined kinds later earlier one other
 kinds_joined kinds (Said piece ∷ later) earlier one other = kinds_joined kinds later earlier one other
 
 kinds_wider : (few more : List ℕ) → ((kind : ℕ) → Contains few kind → Contains more kind) → (added : Story)
@@ -110,6 +128,7 @@ kinds_wider few more wider (Program p s bytes ∷ older) are =
     (λ outside. let (sector, says, kind) = are.0 outside in (sector, says, wider sector.kind kind), kinds_wider few more wider older are.1)
 kinds_wider few more wider (Erase p ∷ older) are = kinds_wider few more wider older are
 kinds_wider few more wider (Barrier ∷ older) are = kinds_wider few more wider older are
+kinds_wider few more wider (Worn q ∷ older) are = kinds_wider few more wider older are
 kinds_wider few more wider (Said piece ∷ older) are = kinds_wider few more wider older are
 
 -- ---- programs of one place
@@ -120,6 +139,7 @@ at_joined place kind (Read p s ∷ later) earlier one other = at_joined place ki
 at_joined place kind (Program p s bytes ∷ later) earlier one other = (one.0, one.1, at_joined place kind later earlier one.2 other)
 at_joined place kind (Erase p ∷ later) earlier one other = absurd one
 at_joined place kind (Barrier ∷ later) earlier one other = at_joined place kind later earlier one other
+at_joined place kind (Worn q ∷ later) earlier one other = absurd one
 at_joined place kind (Said piece ∷ later) earlier one other = at_joined place kind later earlier one other
 
 -- nothing is erased, and each program counts
@@ -129,6 +149,7 @@ at_erases place kind (Read p s ∷ older) are = at_erases place kind older are
 at_erases place kind (Program p s bytes ∷ older) are = at_erases place kind older are.2
 at_erases place kind (Erase p ∷ older) are = absurd are
 at_erases place kind (Barrier ∷ older) are = at_erases place kind older are
+at_erases place kind (Worn q ∷ older) are = absurd are
 at_erases place kind (Said piece ∷ older) are = at_erases place kind older are
 
 at_erased : (place kind p : ℕ) (added : Story) → AreAt place kind added → is_erased added p ≡ false
@@ -137,7 +158,17 @@ at_erased place kind p (Read q s ∷ older) are = at_erased place kind p older a
 at_erased place kind p (Program q s bytes ∷ older) are = at_erased place kind p older are.2
 at_erased place kind p (Erase q ∷ older) are = absurd are
 at_erased place kind p (Barrier ∷ older) are = at_erased place kind p older are
+at_erased place kind p (Worn q ∷ older) are = absurd are
 at_erased place kind p (Said piece ∷ older) are = at_erased place kind p older are
+
+pub at_tried : (place kind p : ℕ) (added : Story) → AreAt place kind added → is_tried added p ≡ false
+at_tried place kind p [] are = refl
+at_tried place kind p (Read q s ∷ older) are = at_tried place kind p older are
+at_tried place kind p (Program q s bytes ∷ older) are = at_tried place kind p older are.2
+at_tried place kind p (Erase q ∷ older) are = absurd are
+at_tried place kind p (Worn q ∷ older) are = absurd are
+at_tried place kind p (Barrier ∷ older) are = at_tried place kind p older are
+at_tried place kind p (Said piece ∷ older) are = at_tried place kind p older are
 
 at_outside : (place kind : ℕ) (added : Story) → AreAt place kind added → programs_outside added ≤ programs added
 at_outside place kind [] are = omega arith
@@ -146,6 +177,7 @@ at_outside place kind (Program p s bytes ∷ older) are =
     let rest = at_outside place kind older are.2 in rw (at_erased place kind p older are.2) (omega (arith, rest))
 at_outside place kind (Erase p ∷ older) are = absurd are
 at_outside place kind (Barrier ∷ older) are = at_outside place kind older are
+at_outside place kind (Worn q ∷ older) are = absurd are
 at_outside place kind (Said piece ∷ older) are = at_outside place kind older are
 
 at_kinds : (place kind : ℕ) (added : Story) → AreAt place kind added → OutsideAre (kind ∷ []) added
@@ -154,6 +186,7 @@ at_kinds place kind (Read p s ∷ older) are = at_kinds place kind older are
 at_kinds place kind (Program p s bytes ∷ older) are = (λ outside. are.1, at_kinds place kind older are.2)
 at_kinds place kind (Erase p ∷ older) are = absurd are
 at_kinds place kind (Barrier ∷ older) are = at_kinds place kind older are
+at_kinds place kind (Worn q ∷ older) are = absurd are
 at_kinds place kind (Said piece ∷ older) are = at_kinds place kind older are
 
 -- programs of a place that was erased before don't count
@@ -168,6 +201,7 @@ free_outside place kind (Program p s bytes ∷ later) earlier are erased =
     still_erased later earlier p is = erased_joined later earlier p ∙ or_right (is_erased later p) (is_erased earlier p) is
 free_outside place kind (Erase p ∷ later) earlier are erased = absurd are
 free_outside place kind (Barrier ∷ later) earlier are erased = free_outside place kind later earlier are erased
+free_outside place kind (Worn q ∷ later) earlier are erased = absurd are
 free_outside place kind (Said piece ∷ later) earlier are erased = free_outside place kind later earlier are erased
 
 free_kinds : (place kind : ℕ) (kinds : List ℕ) (later earlier : Story) → AreAt place kind later → is_erased earlier place ≡ true
@@ -180,6 +214,7 @@ free_kinds place kind kinds (Program p s bytes ∷ later) earlier are erased oth
 )
 free_kinds place kind kinds (Erase p ∷ later) earlier are erased other = absurd are
 free_kinds place kind kinds (Barrier ∷ later) earlier are erased other = free_kinds place kind kinds later earlier are erased other
+free_kinds place kind kinds (Worn q ∷ later) earlier are erased other = absurd are
 free_kinds place kind kinds (Said piece ∷ later) earlier are erased other = free_kinds place kind kinds later earlier are erased other
 
 pub programs_at_then : (place n m a b kind : ℕ) (later earlier : Story) → ProgramsAt place n a kind earlier → ProgramsAt place m b kind later
@@ -238,6 +273,7 @@ costs_reads At kinds (e ∷ older) reads = by_event e (All-head (IsReadAt At) e 
     by_event (Program p s bytes) is rest = absurd is
     by_event (Erase p) is rest = absurd is
     by_event Barrier is rest = absurd is
+    by_event (Worn q) is rest = absurd is
     by_event (Said piece) is rest = absurd is
 
 -- ---- a place that is erased once
@@ -251,8 +287,8 @@ once_then place n a b kind done later earlier first second = record {
     barred = let is = barriers_joined later earlier in let one = first.costs.barred in let two = second.barred in omega (arith, is, one, two);
     only = free_kinds place kind [] later earlier second.only there first.costs.only;
   };
-  alone = λ p is. first.alone p (elim (or_either (is_erased later p) (is_erased earlier p) (sym (erased_joined later earlier p) ∙ is)) [
-    | inl later_is ↦ absurd (false≢true (sym (at_erased place kind p later second.only) ∙ later_is))
+  alone = λ p is. first.alone p (elim (or_either (is_tried later p) (is_tried earlier p) (sym (tried_joined later earlier p) ∙ is)) [
+    | inl later_is ↦ absurd (false≢true (sym (at_tried place kind p later second.only) ∙ later_is))
     | inr earlier_is ↦ earlier_is
   ]);
   erased = λ done_is. erased_joined later earlier place ∙ or_right (is_erased later place) (is_erased earlier place) there;
@@ -336,6 +372,16 @@ pub once_nothing : (place b : ℕ) → ErasesOnce place b false []
 once_nothing place b = record {
   costs = record { erased = omega arith; programmed = omega arith; barred = omega arith; only = tt };
   alone = λ p is. absurd (false≢true is);
+  erased = λ is. absurd (false≢true is);
+}
+
+pub once_worn : (place b : ℕ) → ErasesOnce place b false (Worn place ∷ [])
+once_worn place b = record {
+  costs = record { erased = omega arith; programmed = omega arith; barred = omega arith; only = tt };
+  alone = λ p is. elim (or_either (place == p) false is) [
+    | inl same ↦ sym (eqb-true place p same)
+    | inr never ↦ absurd (false≢true never)
+  ];
   erased = λ is. absurd (false≢true is);
 }
 

@@ -5,7 +5,7 @@ use Rattle.std.specs.List.{All}
 use Rattle.std.proofs.lemmas.Bool.{cases_Bool, and_parts, eqb-true}
 use Rattle.std.proofs.lemmas.List.Elements.{All-nil, All-cons, All-head, All-tail, All-append, All-weaker}
 use Rattle.chip_trait.specs.declared.event.Event.{Event}
-use Rattle.chip_trait.specs.declared.event.Event.TheVariants.{Read, Program, Erase, Barrier, Said}
+use Rattle.chip_trait.specs.declared.event.Event.TheVariants.{Read, Program, Erase, Worn, Barrier, Said}
 use Rattle.chip_trait.specs.Story.{Story}
 use Rattle.chip_trait.specs.Told.{Told, adds_all}
 use Rattle.ipl_base.specs.declared.fault.ChipFault.{ChipFault}
@@ -26,6 +26,7 @@ reads_joined (Read q t ∷ later) earlier p s =
 reads_joined (Program q t bytes ∷ later) earlier p s = reads_joined later earlier p s
 reads_joined (Erase q ∷ later) earlier p s = reads_joined later earlier p s
 reads_joined (Barrier ∷ later) earlier p s = reads_joined later earlier p s
+reads_joined (Worn q ∷ later) earlier p s = reads_joined later earlier p s
 reads_joined (Said piece ∷ later) earlier p s = reads_joined later earlier p s
 
 -- a sector that was read is one of these
@@ -45,6 +46,8 @@ was_read At (Program q t bytes ∷ added) p s each some =
     absurd (All-head (IsReadAt At) (Program q t bytes) added each)
 was_read At (Erase q ∷ added) p s each some = absurd (All-head (IsReadAt At) (Erase q) added each)
 was_read At (Barrier ∷ added) p s each some = absurd (All-head (IsReadAt At) Barrier added each)
+was_read At (Worn q ∷ added) p s each some =
+    absurd (All-head (IsReadAt At) (Worn q) added each)
 was_read At (Said piece ∷ added) p s each some =
     absurd (All-head (IsReadAt At) (Said piece) added each)
 
@@ -80,6 +83,7 @@ still_at At More wider (Read p s) is = wider p s is
 still_at At More wider (Program p s bytes) is = is
 still_at At More wider (Erase p) is = is
 still_at At More wider Barrier is = is
+still_at At More wider (Worn q) is = is
 still_at At More wider (Said piece) is = is
 
 pub once_wider : (At More : ℕ → ℕ → Type 0) (old new : Told) → ((p s : ℕ) → At p s → More p s)

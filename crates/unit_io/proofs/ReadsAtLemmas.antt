@@ -5,7 +5,7 @@ use Rattle.std.specs.List.{All}
 use Rattle.std.proofs.lemmas.Iterator.Adapters.{option_map_id}
 use Rattle.std.proofs.lemmas.List.Elements.{All-nil, All-cons, All-head, All-tail, All-append, All-weaker}
 use Rattle.chip_trait.specs.declared.event.Event.{Event}
-use Rattle.chip_trait.specs.declared.event.Event.TheVariants.{Read, Program, Erase, Barrier, Said}
+use Rattle.chip_trait.specs.declared.event.Event.TheVariants.{Read, Program, Erase, Worn, Barrier, Said}
 use Rattle.chip_trait.specs.Story.{Story, held}
 use Rattle.chip_trait.specs.Told.{History, Told, Counts, adds, adds_all}
 use Rattle.ipl_base.specs.declared.fault.ChipFault.{ChipFault}
@@ -57,6 +57,7 @@ still_at At More wider (Read p s) is = wider p s is
 still_at At More wider (Program p s bytes) is = is
 still_at At More wider (Erase p) is = is
 still_at At More wider Barrier is = is
+still_at At More wider (Worn q) is = is
 still_at At More wider (Said piece) is = is
 
 pub at_wider : (At More : ℕ → ℕ → Type 0) (old new : Told) → ((p s : ℕ) → At p s → More p s) → ReadsAt At old new → ReadsAt More old new
@@ -110,6 +111,7 @@ at_held At h (e ∷ added) each = go e (All-head (IsReadAt At) e added each) (at
     go (Program p s bytes) is before = absurd is
     go (Erase p) is before = absurd is
     go Barrier is before = absurd is
+    go (Worn q) is before = absurd is
     go (Said piece) is before = absurd is
 
 -- so it goes on holding what its history leaves
@@ -128,6 +130,7 @@ at_rests At places m h (e ∷ added) each rests = go e (All-head (IsReadAt At) e
     go (Program p s bytes) is before = absurd is
     go (Erase p) is before = absurd is
     go Barrier is before = absurd is
+    go (Worn q) is before = absurd is
     go (Said piece) is before = absurd is
 
 pub at_agrees : (At : ℕ → ℕ → Type 0) (places : ℕ) (h : History) (it : Layout) (t : Tables) (added : Story) → All (IsReadAt At) added → Agrees places h it t → Agrees places (adds_all added h) it t
@@ -139,6 +142,7 @@ at_agrees At places h it t (e ∷ added) each agrees = go e (All-head (IsReadAt 
     go (Program p s bytes) is before = absurd is
     go (Erase p) is before = absurd is
     go Barrier is before = absurd is
+    go (Worn q) is before = absurd is
     go (Said piece) is before = absurd is
 
 pub at_now : (At : ℕ → ℕ → Type 0) (h : History) (added : Story) → All (IsReadAt At) added → now (adds_all added h) ≡ now h
@@ -150,4 +154,5 @@ at_now At h (e ∷ added) each = go e (All-head (IsReadAt At) e added each) (at_
     go (Program p s bytes) is before = absurd is
     go (Erase p) is before = absurd is
     go Barrier is before = absurd is
+    go (Worn q) is before = absurd is
     go (Said piece) is before = absurd is

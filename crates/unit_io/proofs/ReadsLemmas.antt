@@ -4,7 +4,7 @@ use Rattle.std.specs.Option.{option_map}
 use Rattle.std.proofs.lemmas.Iterator.Adapters.{option_map_id}
 use Rattle.std.proofs.lemmas.List.Elements.{All-cons}
 use Rattle.chip_trait.specs.declared.event.Event.{Event}
-use Rattle.chip_trait.specs.declared.event.Event.TheVariants.{Read, Program, Erase, Barrier, Said}
+use Rattle.chip_trait.specs.declared.event.Event.TheVariants.{Read, Program, Erase, Worn, Barrier, Said}
 use Rattle.chip_trait.specs.Story.{Story}
 use Rattle.chip_trait.specs.Told.{Told, Appends, Misses, adds}
 use Rattle.chip_trait.proofs.HistoryLemmas.{same_history, history_then}
@@ -61,6 +61,7 @@ wider place page n (Read p s) (here, at) = (here, (at.0, omega (arith, at.1)))
 wider place page n (Program p s bytes) none = absurd none
 wider place page n (Erase p) none = absurd none
 wider place page n Barrier none = absurd none
+wider place page n (Worn q) none = absurd none
 wider place page n (Said piece) none = absurd none
 
 pub page_reads_of : PageReadsAreOfThePage

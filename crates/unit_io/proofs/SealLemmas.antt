@@ -1,5 +1,5 @@
 -- A header put on a place.
-use Rattle.std.proofs.Common.{◌≡◌, ℕ, List, Bool, true, false, ◌++◌, Some, Result, Ok, Err, OnOk, is_ok, inl, refl, sym, ◌∙◌, ap, subst}
+use Rattle.std.proofs.Common.{◌≡◌, ℕ, List, Bool, true, false, ◌∷◌, ◌++◌, Some, Result, Ok, Err, OnOk, is_ok, inl, refl, sym, ◌∙◌, ap, subst}
 use Rattle.std.specs.Option.{option_map}
 use Rattle.chip_trait.specs.declared.event.Event.TheVariants.{Program, Barrier}
 use Rattle.chip_trait.specs.Story.{Story, after}
@@ -13,7 +13,9 @@ use Rattle.ipl_base.specs.declared.fault.ChipFault.TheVariants.{Stopped}
 use Rattle.ipl_rules.specs.State.{Map}
 use Rattle.ipl_format.specs.Sector.{Sector, sector_in}
 use Rattle.ipl_meaning.specs.Stands.{Stands}
-use Rattle.ipl_meaning.specs.Rests.{now, EachStandsEither, StoryRests}
+use Rattle.ipl_meaning.specs.Rests.{now, EachStandsEither, WornAreIdle, StoryRests}
+use Rattle.ipl_meaning.specs.Chart.{Chart}
+use Rattle.std.proofs.lemmas.Bool.{and_parts}
 use Rattle.ipl_meaning.proofs.StoryLemmas.{held_stands, barriers_rest, barriers_keep_either, programs_lead}
 use Rattle.unit_io.specs.Leads.{IsSteady, Leads, RestsWith, SwitchesMap, Did, Waited}
 use Rattle.unit_io.specs.Spots.{Programs, IsSpot}
@@ -30,7 +32,8 @@ programs_before : (p : ℕ) (Spot : ℕ → Type 0) (done then : Bool) (later ea
 programs_before p Spot done then later earlier first second = programs_then p Spot (λ s. ⊥) Spot done then later earlier (λ s is none. none) (λ s is. is) (λ s none. absurd none) first second
 
 module _ (places : ℕ) (m n : Map) (h : History) (p t : ℕ) (bytes : List ℕ) (head : Sector) (says : sector_in bytes ≡ Some head) (rests : StoryRests places m h)
-    (clean : age h.story p t ≡ Clean) (stands : Stands places (with_sector (now h) p t head) n) where
+    (clean : age h.story p t ≡ Clean) (stands : Stands places (with_sector (now h) p t head) n)
+    (worn : WornAreIdle places h.story (with_sector (now h) p t head)) where
   Sealed : Unit {0} → History → Type 0
   Sealed done then = StoryRests places n then × Gains p t head (now h) (now then)
 
@@ -39,7 +42,7 @@ module _ (places : ℕ) (m n : Map) (h : History) (p t : ℕ) (bytes : List ℕ)
         → Leads (EachStandsEither places m n) (Programs p (IsSpot t)) (λ done then. then ≡ adds (Program p t bytes) h) h old result mid
     header_leads old mid result steady did =
         leads_did (EachStandsEither places m n) (Programs p (IsSpot t)) h old mid steady (λ done then. then ≡ adds (Program p t bytes) h) (Program p t bytes) result did
-        (λ x is. inl (rests.each x is)) (programs_lead places m n h p t bytes head rests closed (untouched h p t clean) says stands).0
+        (λ x is. inl (rests.each x is)) (programs_lead places m n h p t bytes head rests closed (untouched h p t clean) says stands worn).0
         (programs_one p t bytes) (programs_none p (IsSpot t) false) refl
 
     -- the header and the barrier behind it
@@ -48,7 +51,7 @@ module _ (places : ℕ) (m n : Map) (h : History) (p t : ℕ) (bytes : List ℕ)
     added_leads old mid new result steady program wait =
         let k : History = adds (Program p t bytes) h in
         let first = header_leads old mid (Ok tt) steady program in
-        let (either, after_it) = programs_lead places m n h p t bytes head rests closed (untouched h p t clean) says stands in
+        let (either, after_it, worn_then) = programs_lead places m n h p t bytes head rests closed (untouched h p t clean) says stands worn in
         let at : adds_all first.added h ≡ k = first.ends.1 in
         let here : IsSteady k mid = subst (λ (j : History). IsSteady j mid) at (steady_after (EachStandsEither places m n) (Programs p (IsSpot t)) (λ done then. then ≡ adds (Program p t bytes) h) h tt old mid first) in
         let second : Leads (EachStandsEither places m n) (Programs p (λ s. ⊥)) (λ done then. then ≡ adds Barrier k) k mid result new =
@@ -59,7 +62,7 @@ module _ (places : ℕ) (m n : Map) (h : History) (p t : ℕ) (bytes : List ℕ)
         (subst (λ (j : History). Leads (EachStandsEither places m n) (Programs p (λ s. ⊥)) (λ done then. then ≡ adds Barrier k) j mid result new) (sym at) second)
         (λ a b one two. programs_before p (IsSpot t) true (is_ok result) b a one two)
         (λ w j is. subst (λ (i : History). StoryRests places n i × Gains p t head (now h) (now i)) (sym is)
-        (barriers_rest places n k after_it, held_program sector_in h.start h.story p t bytes head says))
+        (barriers_rest places n k after_it worn_then, held_program sector_in h.start h.story p t bytes head says))
 
     -- the header failed
     pub added_fails : {F : Type 0} (old new : Told) (f : F) → IsSteady h old → Breaks (Program p t bytes) old new
@@ -70,7 +73,11 @@ module _ (places : ℕ) (m n : Map) (h : History) (p t : ℕ) (bytes : List ℕ)
 
 -- the barrier before the header, and what is known of the story behind it
 pub settled_rests : (places : ℕ) (m : Map) (h : History) → StoryRests places m h → StoryRests places m (adds Barrier h)
-settled_rests places m h rests = barriers_rest places m h (held_stands places m h rests.each)
+settled_rests places m h rests = barriers_rest places m h (held_stands places m h rests.each) rests.worn
+
+-- worn places are no more of them behind a barrier
+pub worn_settled : (places : ℕ) (story : Story) (c : Chart) → WornAreIdle places story c → WornAreIdle places (Barrier ∷ story) c
+worn_settled places story c worn it laid p is = worn it laid p (and_parts _ _ is).0
 
 -- and where the chip stands
 pub steady_settled : (h : History) (old mid : Told) → IsSteady h old → Waited (Ok tt) old mid → IsSteady (adds Barrier h) mid

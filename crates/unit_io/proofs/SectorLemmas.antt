@@ -5,7 +5,7 @@ use Rattle.chip_trait.specs.declared.event.Event.TheVariants.{Program}
 use Rattle.chip_trait.specs.Story.{Contents, after}
 use Rattle.chip_trait.specs.Lawful.{Clean, age}
 use Rattle.chip_trait.specs.Told.{History, Told, adds}
-use Rattle.chip_trait.proofs.AgeLemmas.{clean_blank, clean_closed}
+use Rattle.chip_trait.proofs.AgeLemmas.{clean_blank, clean_closed, clean_lasting}
 use Rattle.chip_trait.proofs.ClosedLemmas.{held_program}
 use Rattle.ipl_base.specs.declared.fault.ChipFault.{ChipFault}
 use Rattle.ipl_rules.specs.State.{Map}
@@ -25,7 +25,7 @@ use Rattle.unit_io.proofs.SpotLemmas.{programs_none, programs_one}
 
 -- a clean sector may be programmed
 pub untouched : (h : History) (p s : ℕ) → age h.story p s ≡ Clean → IsUntouched h p s
-untouched h p s clean = (clean_blank h.start h.story p s clean, clean_closed h.story p s clean)
+untouched h p s clean = (clean_blank h.start h.story p s clean, clean_closed h.story p s clean, clean_lasting h.story p s clean)
 
 -- what a program makes of a chart
 pub programmed_chart : (p s : ℕ) (bytes : List ℕ) (sector : Sector) (x : Contents) → sector_in bytes ≡ Some sector → Gains p s sector (chart_of x) (chart_of (after (Program p s bytes) x))

@@ -1,7 +1,7 @@
 -- Programs and erases, one after another.
 use Rattle.std.proofs.Common.{◌≡◌, ◌≢◌, ◌≤◌, ℕ, List, Bool, true, false, [], ◌∷◌, ◌++◌, ◌&&◌, eqb, inl, inr, refl, sym, ◌∙◌, ap, subst, append_assoc}
 use Rattle.std.proofs.lemmas.Bool.{cases_Bool, and_parts, eqb-true, eq-eqb, ne_eqb, false≢true}
-use Rattle.chip_trait.specs.declared.event.Event.TheVariants.{Program, Erase, Barrier}
+use Rattle.chip_trait.specs.declared.event.Event.TheVariants.{Program, Erase, Barrier, Worn}
 use Rattle.chip_trait.specs.Story.{Story, pieces}
 use Rattle.chip_trait.specs.Lawful.{Clean, settled, age, IsLawful}
 use Rattle.chip_trait.proofs.AgeLemmas.{age_apart}
@@ -59,6 +59,14 @@ clears_none p = record { silent = refl; lawful = λ base lawful. lawful; others 
 
 pub clears_erase : (p : ℕ) → Clears p false (Erase p ∷ [])
 clears_erase p = record {
+  silent = refl;
+  lawful = λ base lawful. lawful;
+  others = λ base q s apart clean. rw (ne_eqb p q (λ same. apart (sym same))) clean;
+  fresh = λ done. absurd (false≢true done);
+}
+
+pub clears_worn : (p : ℕ) → Clears p false (Worn p ∷ [])
+clears_worn p = record {
   silent = refl;
   lawful = λ base lawful. lawful;
   others = λ base q s apart clean. rw (ne_eqb p q (λ same. apart (sym same))) clean;

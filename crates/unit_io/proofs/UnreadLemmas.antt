@@ -1,13 +1,16 @@
 -- Calls that read nothing, and calls that read each sector at most once.
-use Rattle.std.proofs.Common.{ℕ, List, Result, refl, arith}
-use Rattle.chip_trait.specs.declared.event.Event.TheVariants.{Program, Erase}
-use Rattle.chip_trait.specs.Told.{Told}
+use Rattle.std.proofs.Common.{ℕ, List, [], ◌∷◌, Result, Err, refl, ◌∙◌, arith}
+use Rattle.chip_trait.specs.declared.event.Event.TheVariants.{Program, Erase, Worn}
+use Rattle.chip_trait.specs.declared.wear.Wear.{Wear}
+use Rattle.chip_trait.specs.declared.wear.Wear.TheVariants.{Done, Worn as Found}
+use Rattle.chip_trait.specs.Wears.{Wears}
+use Rattle.chip_trait.specs.Told.{Told, Breaks}
 use Rattle.ipl_base.specs.declared.fault.ChipFault.{ChipFault}
 use Rattle.unit_io.specs.Leads.{Did, Waited}
 use Rattle.unit_io.specs.ReadsAt.{ReadsOnce}
 use Rattle.unit_io.specs.Costs.{Spends}
 use Rattle.unit_io.specs.Unread.{ReadsNothing, ReadsEachOnce}
-use Rattle.unit_io.proofs.CostLemmas.{spends_none, spends_then, spends_did, spends_waited}
+use Rattle.unit_io.proofs.CostLemmas.{one_added, spends_none, spends_then, spends_did, spends_waited}
 use Rattle.unit_io.proofs.OnceLemmas.{reads_joined}
 
 -- ---- nothing
@@ -31,6 +34,24 @@ pub unread_erased : (place : ℕ) (result : Result (Unit {0}) ChipFault) (old ne
     → Did (Erase place) result old new → Spends ReadsNothing old new
 unread_erased place result old new =
     spends_did ReadsNothing (Erase place) old new result (λ p s. refl) (λ p s. refl)
+
+-- an erase that was answered, done or not
+pub unread_wears : (wear : Wear) (place : ℕ) (old new : Told) → Wears wear place old new → Spends ReadsNothing old new
+unread_wears Done place old new wears = record {
+  added = Erase place ∷ [];
+  does = λ p s. refl;
+  history = wears.appends.history ∙ one_added (Erase place) old.history;
+}
+unread_wears Found place old new wears = record {
+  added = Worn place ∷ [];
+  does = λ p s. refl;
+  history = wears.appends.history ∙ one_added (Worn place) old.history;
+}
+
+-- an erase that may have broken
+pub unread_broken : (place : ℕ) (fault : ChipFault) (old new : Told) → Breaks (Erase place) old new → Spends ReadsNothing old new
+unread_broken place fault old new broken =
+    unread_erased place (Err fault) old new broken
 
 pub unread_waited : (result : Result (Unit {0}) ChipFault) (old new : Told)
     → Waited result old new → Spends ReadsNothing old new

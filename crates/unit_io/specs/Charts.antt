@@ -1,6 +1,8 @@
 -- What a call makes of the chart of a chip.
 use Rattle.std.specs.Prelude.{ℕ, ◌≡◌, ◌≢◌, ◌<◌, List, Some, None}
 use Rattle.chip_trait.specs.Story.{Contents}
+use Rattle.chip_trait.specs.declared.wear.Wear.{Wear}
+use Rattle.chip_trait.specs.declared.wear.Wear.TheVariants.{Done, Worn}
 use Rattle.chip_trait.specs.Told.{Told}
 use Rattle.ipl_base.specs.declared.limits.TheConstants.{VERSION}
 use Rattle.chip_trait.specs.Chart.{with_sector}
@@ -25,6 +27,11 @@ Spares p old new = (x : Contents) → old.contents ≡ Some x
 pub record IsCleared (p : ℕ) (c y : Chart) : Type 0 where
   pub bare : (s : ℕ) → y p s ≡ None
   pub others : SameBut p c y
+
+-- an erased place is cleared, and a worn one is as it was
+abbrev pub Begun : ℕ → Wear → Chart → Chart → Type 0
+Begun p Done c y = IsCleared p c y
+Begun p Worn c y = y ≡ c
 
 -- the first n pieces of a page's text stand in the base sectors of the page, in the version that is
 -- written, and elsewhere the chart is as it was

@@ -7,7 +7,7 @@ use Rattle.chip_trait.specs.Story.{Contents}
 use Rattle.chip_trait.specs.Told.{Told, Rose}
 use Rattle.ipl_base.specs.First.{first_below}
 use Rattle.ipl_base.specs.declared.fault.ChipFault.{ChipFault}
-use Rattle.ipl_base.specs.declared.fault.ChipFault.TheVariants.{ReadFault, Stopped, Damaged, Malformed}
+use Rattle.ipl_base.specs.declared.fault.ChipFault.TheVariants.{ReadFault, Stopped, Damaged, Malformed, WornOut}
 use Rattle.ipl_format.specs.Sector.{Sector, stored_sum, computed_sum, sector_in}
 use Rattle.ipl_format.specs.Page.{Slots, IsPage, IsCutInto, page_text}
 use Rattle.ipl_format.specs.Place.{base_sector_of}
@@ -110,6 +110,7 @@ IsPageCause place page ReadFault old new = Rose old.read_faults new.read_faults
 IsPageCause place page Stopped old new = ⊥
 IsPageCause place page (Damaged p s stored computed) old new = (p ≡ place) × IsPieceSpot page PAGE_SECTORS s × (stored ≢ computed)
 IsPageCause place page (Malformed p s) old new = (p ≡ place) × IsPieceSpot page PAGE_SECTORS s
+IsPageCause place page (WornOut n) old new = ⊥
 
 -- the page's base sectors read well: they hold the text of these slots, cut into so many pieces
 pub record HoldsPage (c : Chart) (place version u generation page pieces : ℕ) (slots : Slots)

@@ -1,13 +1,16 @@
 -- What a call leaves that writes to a chip.
-use Rattle.std.specs.Prelude.{ℕ, ◌≡◌, Bool, true, Result, MatchResult, IfOk, is_ok, Some}
+use Rattle.std.specs.Prelude.{ℕ, ◌≡◌, ◌⊎◌, Bool, true, false, Result, Ok, Err, MatchResult, IfOk, is_ok, Some}
 use Rattle.std.specs.Option.{option_map}
 use Rattle.chip_trait.specs.declared.event.Event.{Event}
-use Rattle.chip_trait.specs.declared.event.Event.TheVariants.{Barrier}
+use Rattle.chip_trait.specs.declared.event.Event.TheVariants.{Erase, Barrier}
+use Rattle.chip_trait.specs.declared.wear.Wear.{Wear}
+use Rattle.chip_trait.specs.declared.wear.Wear.TheVariants.{Done, Worn}
+use Rattle.chip_trait.specs.Wears.{Wears}
 use Rattle.chip_trait.specs.Story.{Story, held}
 use Rattle.chip_trait.specs.Moment.{AtEachMoment}
 use Rattle.chip_trait.specs.Told.{History, Told, Appends, Breaks, Halts, Rose, adds_all}
 use Rattle.ipl_base.specs.declared.fault.ChipFault.{ChipFault}
-use Rattle.ipl_base.specs.declared.fault.ChipFault.TheVariants.{Stopped}
+use Rattle.ipl_base.specs.declared.fault.ChipFault.TheVariants.{Stopped, WornOut}
 use Rattle.ipl_rules.specs.State.{Map}
 use Rattle.ipl_meaning.specs.Chart.{Chart}
 use Rattle.ipl_meaning.specs.Rests.{now, EachStands, EachStandsEither, StoryRests}
@@ -49,6 +52,20 @@ SwitchesMap places m n Does F h old result new =
 abbrev pub Did : Event → Result (Unit {0}) ChipFault → Told → Told → Type 0
 Did e result old new = MatchResult result (λ _. Appends e old new) (λ _. Breaks e old new)
 
+-- an erase was answered, or it broke
+abbrev pub Wore : ℕ → Result Wear ChipFault → Told → Told → Type 0
+Wore p result old new = MatchResult result (λ wear. Wears wear p old new) (λ _. Breaks (Erase p) old new)
+
+-- the place was erased
+abbrev pub is_done : Result Wear ChipFault → Bool
+is_done (Ok Done) = true
+is_done (Ok Worn) = false
+is_done (Err fault) = false
+
+-- where the place is worn, the count of such erases rose
+abbrev pub FindsWorn : Result Wear ChipFault → Told → Told → Type 0
+FindsWorn result old new = IfOk result (λ wear. wear ≡ Worn → Rose old.worn_erases new.worn_erases)
+
 -- a barrier was passed, or it wasn't
 abbrev pub Waited : Result (Unit {0}) ChipFault → Told → Told → Type 0
 Waited result old new = MatchResult result (λ _. Appends Barrier old new) (λ _. Halts old new)
@@ -56,3 +73,11 @@ Waited result old new = MatchResult result (λ _. Appends Barrier old new) (λ _
 -- a write failed, and its count rose
 abbrev pub IsStopped : ChipFault → Told → Told → Type 0
 IsStopped fault old new = (fault ≡ Stopped) × Rose old.write_faults new.write_faults
+
+-- an erase found its place worn where no other one may be taken, and the count of such erases rose
+abbrev pub IsWornOut : ChipFault → Told → Told → Type 0
+IsWornOut fault old new = (fault ≡ WornOut 1) × Rose old.worn_erases new.worn_erases
+
+-- a place couldn't be taken: a write failed, or it is worn
+abbrev pub IsNotTaken : ChipFault → Told → Told → Type 0
+IsNotTaken fault old new = IsStopped fault old new ⊎ IsWornOut fault old new

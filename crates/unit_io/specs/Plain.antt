@@ -1,7 +1,7 @@
 -- Events that program no log sector and no commit sector.
 use Rattle.std.specs.Prelude.{ℕ, ◌≡◌, ◌≢◌, List, [], ◌∷◌, Some}
 use Rattle.chip_trait.specs.declared.event.Event.{Event}
-use Rattle.chip_trait.specs.declared.event.Event.TheVariants.{Read, Program, Erase, Barrier, Said}
+use Rattle.chip_trait.specs.declared.event.Event.TheVariants.{Read, Program, Erase, Worn, Barrier, Said}
 use Rattle.chip_trait.specs.Story.{Story}
 use Rattle.chip_trait.specs.Told.{History, Told, adds_all}
 use Rattle.ipl_format.specs.Sector.{Sector, sector_in}
@@ -21,6 +21,7 @@ IsPlainEvent (Read p s) = Unit {0}
 IsPlainEvent (Program p s bytes) = IsPlain bytes
 IsPlainEvent (Erase p) = Unit {0}
 IsPlainEvent Barrier = Unit {0}
+IsPlainEvent (Worn q) = Unit {0}
 IsPlainEvent (Said piece) = Unit {0}
 
 -- none of these events does

@@ -2,7 +2,7 @@
 use Rattle.std.specs.Prelude.{ℕ, zero, suc, ◌≡◌, ◌≤◌, [], ◌∷◌, Result, MatchResult, Some}
 use Rattle.std.specs.Option.{option_map}
 use Rattle.chip_trait.specs.declared.event.Event.{Event}
-use Rattle.chip_trait.specs.declared.event.Event.TheVariants.{Read, Program, Erase, Barrier, Said}
+use Rattle.chip_trait.specs.declared.event.Event.TheVariants.{Read, Program, Erase, Worn, Barrier, Said}
 use Rattle.chip_trait.specs.Story.{Story, Contents}
 use Rattle.chip_trait.specs.Told.{Told, Appends, Misses, Rose, adds_all}
 use Rattle.ipl_base.specs.declared.fault.ChipFault.{ChipFault}
@@ -46,4 +46,5 @@ IsPageRead place page n (Read p s) = (p ≡ place) × IsPieceSpot page n s
 IsPageRead place page n (Program p s bytes) = ⊥
 IsPageRead place page n (Erase p) = ⊥
 IsPageRead place page n Barrier = ⊥
+IsPageRead place page n (Worn q) = ⊥
 IsPageRead place page n (Said piece) = ⊥

@@ -2,11 +2,11 @@
 use Rattle.std.specs.Prelude.{ℕ, suc, ◌≡◌, ◌≤◌, ◌==◌, ◌&&◌, All, [], ◌∷◌, if◌then◌else◌}
 use Rattle.std.specs.Option.{option_map}
 use Rattle.chip_trait.specs.declared.event.Event.{Event}
-use Rattle.chip_trait.specs.declared.event.Event.TheVariants.{Read, Program, Erase, Barrier, Said}
+use Rattle.chip_trait.specs.declared.event.Event.TheVariants.{Read, Program, Erase, Worn, Barrier, Said}
 use Rattle.chip_trait.specs.Story.{Story}
 use Rattle.chip_trait.specs.Told.{Told, Counts, Rose, adds_all}
 use Rattle.ipl_base.specs.declared.fault.ChipFault.{ChipFault}
-use Rattle.ipl_base.specs.declared.fault.ChipFault.TheVariants.{ReadFault, Stopped, Damaged, Malformed}
+use Rattle.ipl_base.specs.declared.fault.ChipFault.TheVariants.{ReadFault, Stopped, Damaged, Malformed, WornOut}
 
 -- any sector
 abbrev pub Anywhere : ℕ → ℕ → Type 0
@@ -18,6 +18,7 @@ IsReadAt At (Read p s) = At p s
 IsReadAt At (Program p s bytes) = ⊥
 IsReadAt At (Erase p) = ⊥
 IsReadAt At Barrier = ⊥
+IsReadAt At (Worn q) = ⊥
 IsReadAt At (Said piece) = ⊥
 
 -- nothing but reads of these sectors was added, and no count fell
@@ -36,6 +37,7 @@ reads_of (Read q t ∷ older) p s = if q == p && t == s then suc (reads_of older
 reads_of (Program q t bytes ∷ older) p s = reads_of older p s
 reads_of (Erase q ∷ older) p s = reads_of older p s
 reads_of (Barrier ∷ older) p s = reads_of older p s
+reads_of (Worn q ∷ older) p s = reads_of older p s
 reads_of (Said piece ∷ older) p s = reads_of older p s
 
 -- nothing but reads of these sectors was added, and of each at most one
@@ -52,3 +54,4 @@ IsCauseAt At ReadFault old new = Rose old.read_faults new.read_faults
 IsCauseAt At Stopped old new = ⊥
 IsCauseAt At (Damaged p s stored computed) old new = ⊥
 IsCauseAt At (Malformed p s) old new = At p s
+IsCauseAt At (WornOut n) old new = ⊥

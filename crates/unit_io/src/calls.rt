@@ -1,23 +1,23 @@
 //! The calls of a chip, with the faults of this crate.
 ghost use Rattle.std.specs.Prelude.{◌≡◌, ◌<◌, [], OnOk};
-ghost use Rattle.chip_trait.specs.declared.event.Event.TheVariants.{Read, Program, Erase};
+ghost use Rattle.chip_trait.specs.declared.event.Event.TheVariants.{Read, Program};
 ghost use Rattle.chip_trait.specs.Told.{Told};
 ghost use Rattle.unit_io.specs.Accounts.{Accounts};
-ghost use Rattle.unit_io.specs.Leads.{Did, Waited, IsStopped};
+ghost use Rattle.unit_io.specs.Leads.{Did, Wore, Waited, IsStopped};
 ghost use Rattle.unit_io.specs.Costs.{Costs, Spends};
 ghost use Rattle.unit_io.specs.Reads.{Asked, OfContents, IsReadFault};
 
-use chip_trait::Chip;
+use chip_trait::{Chip, Wear};
 use ipl_base::ChipFault;
 
-/// Erases a place.
-pub(crate) fn erase<C: Chip>(chip: &mut C, place: u32) -> Result<(), ChipFault>
+/// Erases a place, or finds it worn.
+pub(crate) fn erase<C: Chip>(chip: &mut C, place: u32) -> Result<Wear, ChipFault>
     requires { place < (C.told chip.old).places }
-    ensures did { Did (Erase place) result (C.told chip.old) (C.told chip.new) }
+    ensures did { Wore place result (C.told chip.old) (C.told chip.new) }
     ensures accounts { Accounts IsStopped result (C.told chip.old) (C.told chip.new) }
 {
     match chip.erase(place) {
-        Ok(()) => Ok(()),
+        Ok(wear) => Ok(wear),
         Err(_) => Err(ChipFault::Stopped),
     }
 }

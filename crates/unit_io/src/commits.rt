@@ -8,7 +8,7 @@ ghost use Rattle.chip_trait.specs.Told.{Told, History};
 ghost use Rattle.ipl_rules.specs.State.{Map};
 ghost use Rattle.sector_format.specs.Decode.{sector_of};
 ghost use Rattle.ipl_meaning.specs.Stands.{Stands};
-ghost use Rattle.ipl_meaning.specs.Rests.{now, StoryRests};
+ghost use Rattle.ipl_meaning.specs.Rests.{now, WornAreIdle, StoryRests};
 ghost use Rattle.unit_io.specs.Accounts.{Accounts};
 ghost use Rattle.unit_io.specs.Leads.{IsSteady, KeepsMap, SwitchesMap, IsStopped};
 ghost use Rattle.unit_io.specs.Unread.{ReadsNothing};
@@ -67,6 +67,7 @@ pub fn add_commit<C: Chip>(
     ensures leads { (m n : Map) (h : History) → IsSteady h (C.told chip.old)
         → StoryRests (C.told chip.old).places m h → IsClosed h.story → age h.story spot.place spot.sector ≡ Clean
         → Stands (C.told chip.old).places (with_sector (now h) spot.place spot.sector (sector_of head.now payload.now)) n
+        → WornAreIdle (C.told chip.old).places h.story (with_sector (now h) spot.place spot.sector (sector_of head.now payload.now))
         → SwitchesMap (C.told chip.old).places m n (Programs spot.place (IsSpot spot.sector))
         (λ done. Gains spot.place spot.sector (sector_of head.now payload.now)) h (C.told chip.old) result (C.told chip.new) }
     ensures tells { OnOk result (Charts (Gains spot.place spot.sector (sector_of head.now payload.now)) (C.told chip.old) (C.told chip.new)) }

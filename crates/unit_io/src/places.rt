@@ -1,5 +1,5 @@
 //! A place taken, and sealed with a header.
-ghost use Rattle.std.specs.Prelude.{◌≡◌, ◌<◌, ◌≤◌, ℕ, length, OnOk, is_ok, Some};
+ghost use Rattle.std.specs.Prelude.{◌≡◌, ◌<◌, ◌≤◌, ℕ, length, OnOk, IfOk, is_ok, Some};
 ghost use Rattle.ipl_base.specs.declared.limits.TheConstants.{PAYLOAD_LEN, VERSION};
 ghost use Rattle.chip_trait.specs.Image.{IsClosed};
 ghost use Rattle.chip_trait.specs.Lawful.{Clean, age};
@@ -10,41 +10,48 @@ ghost use Rattle.ipl_format.specs.Sector.{Sector, IsKind, sector_in};
 ghost use Rattle.sector_format.specs.Decode.{sector_of};
 ghost use Rattle.ipl_meaning.specs.Stands.{Stands};
 ghost use Rattle.ipl_meaning.specs.Layout.{Layout, Laid};
-ghost use Rattle.ipl_meaning.specs.Rests.{now, StoryRests};
+ghost use Rattle.ipl_meaning.specs.Rests.{now, EachStands, WornAreIdle, StoryRests};
 ghost use Rattle.ipl_meaning.specs.Steps.{IsIdle};
 ghost use Rattle.unit_io.specs.Accounts.{Accounts};
-ghost use Rattle.unit_io.specs.Leads.{IsSteady, KeepsMap, SwitchesMap, IsStopped};
+ghost use Rattle.unit_io.specs.Leads.{IsSteady, Leads, RestsWith, SwitchesMap, IsStopped, is_done, FindsWorn};
 ghost use Rattle.unit_io.specs.Unread.{ReadsNothing};
 ghost use Rattle.unit_io.specs.Spots.{Clears, Programs, IsSpot};
 ghost use Rattle.unit_io.specs.Costs.{ErasesOnce, ProgramsAt, Spends};
-ghost use Rattle.unit_io.specs.Charts.{Charts, Spares, IsCleared, Gains};
+ghost use Rattle.unit_io.specs.Charts.{Charts, Spares, Begun, Gains};
 ghost use Rattle.unit_io.specs.Plain.{AddsPlain, IsPlain, IsPlainSector};
 
 use crate::calls::{barrier, erase, program};
-use chip_trait::Chip;
+use chip_trait::{Chip, Wear};
 use ipl_base::ChipFault;
 use sector_format::{Head, encode};
 
-/// Erases a place at which nothing counts, and makes sure of it.
+/// Erases a place at which nothing counts, and makes sure of it; or finds it worn.
 ///
-/// Whatever a power cut leaves at any moment stands for the map on which the story rested, and done, it rests on that map.
-pub fn begin_unit<C: Chip>(chip: &mut C, place: u32) -> Result<(), ChipFault>
+/// Whatever a power cut leaves at any moment stands for the map on which the story rested, and done, it rests on that map,
+/// also where the place is worn: nothing has changed then, and none of the place is clean.
+pub fn begin_unit<C: Chip>(chip: &mut C, place: u32) -> Result<Wear, ChipFault>
     requires { place < (C.told chip.old).places }
     ensures keeps { (m : Map) (it : Layout) (h : History) → IsSteady h (C.told chip.old) → StoryRests (C.told chip.old).places m h
         → Laid (C.told chip.old).places (now h) it → IsIdle (C.told chip.old).places (now h) it place
-        → KeepsMap (C.told chip.old).places m (Clears place) (λ done. IsCleared place)
-        h (C.told chip.old) result (C.told chip.new) }
-    ensures tells { OnOk result (Charts (IsCleared place) (C.told chip.old) (C.told chip.new)) }
+        → Leads (EachStands (C.told chip.old).places m) (λ ok. Clears place (is_done result))
+        (RestsWith (C.told chip.old).places m (Begun place) h) h (C.told chip.old) result (C.told chip.new) }
+    ensures tells { IfOk result (λ wear. Charts (Begun place wear) (C.told chip.old) (C.told chip.new)) }
     ensures plain { AddsPlain (C.told chip.old) (C.told chip.new) }
     ensures spares { OnOk result (Spares place (C.told chip.old) (C.told chip.new)) }
-    ensures costs { Spends (ErasesOnce place 1 (is_ok result)) (C.told chip.old) (C.told chip.new) }
-    ensures tidy { Spends (Clears place (is_ok result)) (C.told chip.old) (C.told chip.new) }
+    ensures costs { Spends (ErasesOnce place 1 (is_done result)) (C.told chip.old) (C.told chip.new) }
+    ensures tidy { Spends (Clears place (is_done result)) (C.told chip.old) (C.told chip.new) }
     ensures unread { Spends ReadsNothing (C.told chip.old) (C.told chip.new) }
+    ensures worn { FindsWorn result (C.told chip.old) (C.told chip.new) }
     ensures accounts { Accounts IsStopped result (C.told chip.old) (C.told chip.new) }
 {
-    erase(chip, place)?;
-    // The erase has to last before the first program: else a sector could hold both.
-    barrier(chip)
+    match erase(chip, place)? {
+        Wear::Done => {
+            // The erase has to last before the first program: else a sector could hold both.
+            barrier(chip)?;
+            Ok(Wear::Done)
+        }
+        Wear::Worn => Ok(Wear::Worn),
+    }
 }
 
 /// Programs a header where nothing is open, and makes sure of it.
@@ -53,6 +60,7 @@ fn add_header<C: Chip>(chip: &mut C, place: u32, bytes: &[u8; 512]) -> Result<()
     ensures leads { (m n : Map) (h : History) (said : Sector) → sector_in bytes.now ≡ Some said → IsSteady h (C.told chip.old)
         → StoryRests (C.told chip.old).places m h → IsClosed h.story → age h.story place 0 ≡ Clean
         → Stands (C.told chip.old).places (with_sector (now h) place 0 said) n
+        → WornAreIdle (C.told chip.old).places h.story (with_sector (now h) place 0 said)
         → SwitchesMap (C.told chip.old).places m n (Programs place (IsSpot 0))
         (λ done. Gains place 0 said) h (C.told chip.old) result (C.told chip.new) }
     ensures tells { (said : Sector) → sector_in bytes.now ≡ Some said → OnOk result (Charts (Gains place 0 said) (C.told chip.old) (C.told chip.new)) }
@@ -81,6 +89,7 @@ pub fn seal<C: Chip>(chip: &mut C, place: u32, head: &Head, payload: &[u8]) -> R
     ensures leads { (m n : Map) (h : History) → IsSteady h (C.told chip.old)
         → StoryRests (C.told chip.old).places m h → age h.story place 0 ≡ Clean
         → Stands (C.told chip.old).places (with_sector (now h) place 0 (sector_of head.now payload.now)) n
+        → WornAreIdle (C.told chip.old).places h.story (with_sector (now h) place 0 (sector_of head.now payload.now))
         → SwitchesMap (C.told chip.old).places m n (Programs place (IsSpot 0))
         (λ done. Gains place 0 (sector_of head.now payload.now)) h (C.told chip.old) result (C.told chip.new) }
     ensures tells { OnOk result (Charts (Gains place 0 (sector_of head.now payload.now)) (C.told chip.old) (C.told chip.new)) }

@@ -4,7 +4,7 @@ use Rattle.std.specs.List.{Contains}
 use Rattle.chip_trait.specs.declared.event.Event.TheVariants.{Read}
 use Rattle.chip_trait.specs.Told.{Told, Rose}
 use Rattle.ipl_base.specs.declared.fault.ChipFault.{ChipFault}
-use Rattle.ipl_base.specs.declared.fault.ChipFault.TheVariants.{ReadFault, Stopped, Damaged, Malformed}
+use Rattle.ipl_base.specs.declared.fault.ChipFault.TheVariants.{ReadFault, Stopped, Damaged, Malformed, WornOut}
 use Rattle.unit_io.specs.Accounts.{Accounts}
 use Rattle.unit_io.specs.Reads.{Asked, IsReadFault}
 use Rattle.unit_io.specs.ReadsAt.{ReadsAt, IsCauseAt}
@@ -20,6 +20,7 @@ read_fault At ReadFault old new is rose = rose
 read_fault At Stopped old new is rose = absurd (cc is)
 read_fault At (Damaged p s stored computed) old new is rose = absurd (cc is)
 read_fault At (Malformed p s) old new is rose = absurd (cc is)
+read_fault At (WornOut n) old new is rose = absurd (cc is)
 
 malformed : (At : ℕ → ℕ → Type 0) (p s : ℕ) (fault : ChipFault) (old new : Told)
     → fault ≡ Malformed p s → At p s → IsCauseAt At fault old new
@@ -60,6 +61,7 @@ cause_wider At More ReadFault old mid new later wider rose = omega (arith, later
 cause_wider At More Stopped old mid new later wider none = none
 cause_wider At More (Damaged p s stored computed) old mid new later wider none = none
 cause_wider At More (Malformed p s) old mid new later wider is = wider p s is
+cause_wider At More (WornOut n) old mid new later wider none = none
 
 module _ (At More : ℕ → ℕ → Type 0) (wider : (p s : ℕ) → At p s → More p s) where
   -- after such reads

@@ -38,6 +38,7 @@ fn chip_fault(words: &[&str]) -> Result<ChipFault> {
     Ok(match words {
         ["read"] => ChipFault::ReadFault,
         ["write"] => ChipFault::Stopped,
+        ["worn", places] => ChipFault::WornOut(number(*places)?),
         ["malformed", place, sector] => ChipFault::Malformed {
             place: number(*place)?,
             sector: number(*sector)?,

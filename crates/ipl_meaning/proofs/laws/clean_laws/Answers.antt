@@ -1,4 +1,4 @@
-use Rattle.ipl_meaning.proofs.AgreeLemmas.{counted_are_untouched, counted_may_be_programmed, tidy_after_programs, tidy_after_moves, tidy_after_barriers, tidy_after_erases}
+use Rattle.ipl_meaning.proofs.AgreeLemmas.{counted_are_untouched, counted_may_be_programmed, tidy_after_programs, tidy_after_moves, tidy_after_barriers, tidy_after_erases, tidy_after_worns}
 use Rattle.ipl_meaning.proofs.laws.clean_laws.Goals as goal
 
 pub returns : goal.returns
@@ -9,4 +9,5 @@ returns c = record {
   moves = tidy_after_moves;
   barriers = tidy_after_barriers;
   erases = tidy_after_erases;
+  worns = tidy_after_worns;
 }

@@ -39,7 +39,7 @@ returns-clause-few g c =
     few_packed c.args.home.now.place _ c.merge_packed.result c.merge_packed.ensures.few
 
 pub returns-then-not-pack_carried-clause-fault : goal.returns-then-not-pack_carried-clause-fault
-returns-then-not-pack_carried-clause-fault g c = λ x told read stopped.
+returns-then-not-pack_carried-clause-fault g c = λ x told alone.
     fault_with_many x (from_home c.args.home.now c.args.parts.now.status.numbers
     c.args.parts.now.scratch.log) _ c.if-not-pack_carried.ensures.full
 

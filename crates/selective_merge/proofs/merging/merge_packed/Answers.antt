@@ -1,24 +1,55 @@
-use Rattle.std.proofs.Common.{◌≡◌, ◌<◌, ◌≤◌, ◌+◌, ℕ, true, false, length, slice_index, Ok, Err, refl, sym, ◌∙◌, ap, subst, arith}
+use Rattle.std.proofs.Common.{◌≡◌, ◌≢◌, ◌<◌, ◌≤◌, ◌+◌, ℕ, List, true, false, length, slice_index, Option, Result, Ok, Err, refl, sym, ◌∙◌, ap, subst, arith}
 use Rattle.std.proofs.lemmas.List.{length-set}
+use Rattle.std.proofs.lemmas.Result.{err_from_is_err_and}
+use Rattle.chip_trait.specs.Told.{Told, Counts}
+use Rattle.log_records.specs.View.{Versioned}
+use Rattle.ipl_base.specs.declared.fault.ChipFault.{ChipFault}
 use Rattle.ipl_meaning.specs.Chart.{chart_of}
 use Rattle.ipl_meaning.specs.Mirrors.{NoneIsLost}
 use Rattle.ipl_meaning.specs.Rests.{now}
 use Rattle.ipl_meaning.specs.Tables.{Places, IsFree, Tables, with_use}
 use Rattle.ipl_meaning.specs.TableSteps.{IsMoved, taken, with_next}
 use Rattle.unit_directory.specs.Free.{free_count}
+use Rattle.unit_io.specs.Charts.{Charts, IsCleared}
+use Rattle.unit_io.proofs.SparesLemmas.{spares_then}
+use Rattle.place_taking.proofs.JoinLemmas.{costs_of_filled, tidy_taken}
+use Rattle.merge_rules.specs.Faults.{IsTheFault}
+use Rattle.merge_rules.specs.Known.{KnowsPlaces}
+use Rattle.merge_rules.specs.Moved.{Source, IsAside, IsUnsealed}
+use Rattle.merge_rules.proofs.FaultLemmas.{fault_as, fault_not_taken, pages_from_alike}
 use Rattle.selective_merge.specs.Homes.{from_home}
+use Rattle.selective_merge.specs.Merging.{RestsMerged}
 use Rattle.selective_merge.specs.Moving.{tables_of, NoneIsLostBut}
+use Rattle.selective_merge.specs.Throughout.{ChartsThroughout}
+use Rattle.selective_merge.specs.Writing.{IsUnitSpot, TellsWritten}
 use Rattle.selective_merge.proofs.FewLemmas.{packs_few}
-use Rattle.selective_merge.proofs.SpendLemmas.{for_unit, for_nobody}
+use Rattle.selective_merge.proofs.SpendLemmas.{for_unit, for_nobody, for_untaken}
 use Rattle.selective_merge.proofs.MovingLemmas.{moved_from}
 use Rattle.selective_merge.proofs.HeldLemmas.{given_back, taken_but, held_back, held_moved, home_used, more_free}
 use Rattle.selective_merge.proofs.MergedLemmas.{to_merge, many_packs, tells_packs, merged_there, merged_steps, merge_failed, stays_mirrored}
 use Rattle.selective_merge.proofs.CompleteLemmas.{used_spared}
-use Rattle.selective_merge.proofs.TidyLemmas.{moves_tidily, gives_back_tidily}
+use Rattle.selective_merge.proofs.TakenLemmas.{WasWritten, untaken_tables, moves_not, same_tables, steps_not, told_not, unit_joined, unit_told}
+use Rattle.selective_merge.proofs.TidyLemmas.{moves_tidily, gives_back_tidily, untaken_tidily}
 use Rattle.selective_merge.proofs.merging.merge_packed.Goals as goal
 
-pub take_free-place-requires : goal.take_free-place-requires
-take_free-place-requires g c =
+-- what the chip tells once the place was taken and the unit written there
+written_told : (old mid new : Told) (p generation serial : ℕ) (from : Source)
+    (payloads : List Versioned) (result : Result (Unit {0}) ChipFault) → Counts old mid
+    → Charts (IsCleared p) old mid
+    → ChartsThroughout (λ done. TellsWritten mid.places from p generation serial payloads) (IsAside p)
+    result mid new
+    → ChartsThroughout (λ done. WasWritten old.places p generation serial from payloads) (IsUnsealed p)
+    result old new
+written_told old mid new p generation serial from payloads result counts first second =
+    unit_told old.places p generation serial from payloads old mid new result first
+    (subst (λ (q : ℕ). ChartsThroughout (λ done. TellsWritten q from p generation serial payloads)
+    (IsAside p) result mid new) counts.places second)
+
+pub take_place-requires-clause-places : goal.take_place-requires-clause-places
+take_place-requires-clause-places g c = c.requires.known.suits.all
+
+pub take_place-requires-clause-free : goal.take_place-requires-clause-free
+take_place-requires-clause-free g c =
     c.known_laws.ensures.free _ (tables_of c.args.parts.now) c.requires.known
 
 pub write_unit-requires-clause-home : goal.write_unit-requires-clause-home
@@ -28,11 +59,23 @@ write_unit-requires-clause-home g c =
     let within = c.facts.ensures.within c.args.unit low in
     omega (arith, c.requires.place, within, c.requires.known.suits.all)
 
+-- the place that was taken isn't where the unit stands
+home_apart : (places : ℕ) (t : Tables) (u place p : ℕ) → KnowsPlaces places t → u + 4 < places
+    → place ≡ slice_index t.places.current u → IsFree t.places p → place ≢ p
+home_apart places t u place p known low at free same =
+    home_used places t u known low (subst (IsFree t.places) (sym same ∙ at) free)
+
 pub write_unit-requires-clause-another : goal.write_unit-requires-clause-another
-write_unit-requires-clause-another g c = λ same.
+write_unit-requires-clause-another g c =
+    home_apart _ (tables_of c.args.parts.now) c.args.unit c.args.home.now.place c.in_ok-place.place
+    c.requires.known c.requires.unit c.requires.place c.in_ok-place.ensures.taken.free
+
+pub move_unit-requires-clause-another : goal.move_unit-requires-clause-another
+move_unit-requires-clause-another g c = λ same.
     home_used _ (tables_of c.args.parts.now) c.args.unit c.requires.known c.requires.unit
-    (subst (IsFree c.args.parts.now.directory) (sym same ∙ c.requires.place)
-    c.take_free-place.ensures.free)
+    (subst (IsFree c.args.parts.now.directory)
+    (same ∙ ap (λ (d : Places). slice_index d.current c.args.unit)
+    c.in_ok-place.ensures.taken.places_is) c.in_ok-place.ensures.taken.free)
 
 pub move_unit-requires-clause-overflow : goal.move_unit-requires-clause-overflow
 move_unit-requires-clause-overflow g c =
@@ -40,8 +83,8 @@ move_unit-requires-clause-overflow g c =
       arith,
       c.requires.known.suits.overflow,
       c.requires.known.suits.all,
-      length-set c.args.parts.now.directory.in_use c.take_free-place.result true,
-      ap (λ (d : Places). length d.in_use) c.take_free-place.ensures.taken,
+      length-set c.args.parts.now.directory.in_use c.in_ok-place.place true,
+      ap (λ (d : Places). length d.in_use) c.in_ok-place.ensures.taken.places_is,
     )
 
 pub returns-in-Ok-clause-steps : goal.returns-in-Ok-clause-steps
@@ -51,7 +94,7 @@ returns-in-Ok-clause-steps g c = λ m it h steady rests agrees source.
     let old = g.C.Chip.told c.args.chip.now in
     let places = old.places in
     let u = c.args.unit in
-    let p = c.take_free-place.result in
+    let p = c.in_ok-place.place in
     let drawn = c.draw-generation.result in
     let serial = c.draw-generation.new.self in
     let next = c.write_unit.new.counter in
@@ -60,8 +103,8 @@ returns-in-Ok-clause-steps g c = λ m it h steady rests agrees source.
     c.args.parts.now.scratch.log in
     let what = to_merge places (now h) it t u p drawn serial from payloads
     c.args.parts.now.scratch.packs.closed.items c.args.parts.now.active
-    c.args.parts.now.scratch.log agrees.mirrors c.requires.unit c.take_free-place.ensures.free
-    (omega (arith, c.take_free-place.ensures.in_range, c.requires.known.suits.all)) source
+    c.args.parts.now.scratch.log agrees.mirrors c.requires.unit c.in_ok-place.ensures.taken.free
+    (omega (arith, c.in_ok-place.ensures.taken.within, c.requires.known.suits.all)) source
     (omega (arith, c.draw-generation.ensures.drawn))
     (omega (arith, c.draw-generation.ensures.drawn, c.draw-generation.ensures.next))
     c.payloads-payloads.ensures.all c.requires.packed refl refl c.payloads-payloads.ensures.few in
@@ -72,11 +115,11 @@ returns-in-Ok-clause-steps g c = λ m it h steady rests agrees source.
       status = t.status;
       next = next;
       active = t.active;
-    }) after u p (length payloads)) c.take_free-place.ensures.taken
+    }) after u p (length payloads)) c.in_ok-place.ensures.taken.places_is
     (c.move_unit.ensures.moved agrees.mirrors.overflow.apart) in
     merged_steps places m it t u p drawn serial (length payloads) h old
     (g.C.Chip.told c.write_unit.new.chip) agrees.mirrors agrees.tidy
-    c.take_free-place.ensures.free after what.low
+    c.in_ok-place.ensures.taken.free after what.low
     (many_packs places (now h) it t u p drawn serial from payloads what)
     (moved_from (taken t p) after u p (length payloads) drawn next
     (omega (
@@ -86,13 +129,21 @@ returns-in-Ok-clause-steps g c = λ m it h steady rests agrees source.
       c.in-Ok.ensures.draws.0,
     )) moved)
     (tells_packs places (now h) it t _ after u p drawn serial from payloads c.masks_of-masks.result what
-    c.masks_of-masks.ensures c.move_unit.ensures.told c.take_free-place.ensures.taken refl)
+    c.masks_of-masks.ensures c.move_unit.ensures.told c.in_ok-place.ensures.taken.places_is refl)
     (omega (arith, c.in-Ok.ensures.drawn, c.move_unit.ensures.counter))
-    (c.in-Ok.ensures.writes m it t u h steady rests what)
+    (unit_joined it t u p drawn serial from payloads m h old (g.C.Chip.told c.take_place.new.chip)
+    (g.C.Chip.told c.write_unit.new.chip) c.in_ok-place.ensures.taken.lowest steady
+    (record { rests = rests; agrees = agrees }) c.in_ok-place.ensures.takes
+    c.in_ok-place.ensures.accounts.counts what (Ok tt) c.in-Ok.ensures.writes)
 
 pub returns-in-Ok-clause-tells : goal.returns-in-Ok-clause-tells
 returns-in-Ok-clause-tells g c = λ x told.
-    let (y, told_y, written) = c.in-Ok.ensures.tells x told in (
+    let (y, told_y, written) =
+    written_told (g.C.Chip.told c.args.chip.now) (g.C.Chip.told c.take_place.new.chip)
+    (g.C.Chip.told c.write_unit.new.chip) c.in_ok-place.place c.draw-generation.result
+    c.draw-generation.new.self (from_home c.args.home.now c.args.parts.now.status.numbers
+    c.args.parts.now.scratch.log) c.payloads-payloads.result.now (Ok tt)
+    c.in_ok-place.ensures.accounts.counts c.in_ok-place.ensures.tells c.in-Ok.ensures.tells x told in (
       y,
       told_y,
       λ it mirrors source.
@@ -100,7 +151,7 @@ returns-in-Ok-clause-tells g c = λ x told.
           let after = tables_of c.move_unit.new.parts in
           let places = (g.C.Chip.told c.args.chip.now).places in
           let u = c.args.unit in
-          let p = c.take_free-place.result in
+          let p = c.in_ok-place.place in
           let drawn = c.draw-generation.result in
           let serial = c.draw-generation.new.self in
           let next = c.write_unit.new.counter in
@@ -109,8 +160,8 @@ returns-in-Ok-clause-tells g c = λ x told.
           c.args.parts.now.scratch.log in
           let what = to_merge places (chart_of x) it t u p drawn serial from payloads
           c.args.parts.now.scratch.packs.closed.items c.args.parts.now.active
-          c.args.parts.now.scratch.log mirrors c.requires.unit c.take_free-place.ensures.free
-          (omega (arith, c.take_free-place.ensures.in_range, c.requires.known.suits.all)) source
+          c.args.parts.now.scratch.log mirrors c.requires.unit c.in_ok-place.ensures.taken.free
+          (omega (arith, c.in_ok-place.ensures.taken.within, c.requires.known.suits.all)) source
           (omega (arith, c.draw-generation.ensures.drawn))
           (omega (arith, c.draw-generation.ensures.drawn, c.draw-generation.ensures.next))
           c.payloads-payloads.ensures.all c.requires.packed refl refl c.payloads-payloads.ensures.few in
@@ -121,7 +172,7 @@ returns-in-Ok-clause-tells g c = λ x told.
             status = t.status;
             next = next;
             active = t.active;
-          }) after u p (length payloads)) c.take_free-place.ensures.taken
+          }) after u p (length payloads)) c.in_ok-place.ensures.taken.places_is
           (c.move_unit.ensures.moved mirrors.overflow.apart) in
           merged_there places it t u p drawn serial (length payloads) after (chart_of x) (chart_of y)
           (many_packs places (chart_of x) it t u p drawn serial from payloads what)
@@ -133,7 +184,7 @@ returns-in-Ok-clause-tells g c = λ x told.
             c.in-Ok.ensures.draws.0,
           )) moved)
           (tells_packs places (chart_of x) it t _ after u p drawn serial from payloads c.masks_of-masks.result what
-          c.masks_of-masks.ensures c.move_unit.ensures.told c.take_free-place.ensures.taken refl)
+          c.masks_of-masks.ensures c.move_unit.ensures.told c.in_ok-place.ensures.taken.places_is refl)
           (omega (arith, c.in-Ok.ensures.drawn, c.move_unit.ensures.counter))
           (written it t u what),
     )
@@ -144,7 +195,7 @@ returns-in-Ok-clause-holds g c =
     let after = tables_of c.move_unit.new.parts in
     let places = (g.C.Chip.told c.args.chip.now).places in
     let u = c.args.unit in
-    let p = c.take_free-place.result in
+    let p = c.in_ok-place.place in
     let next = c.write_unit.new.counter in
     let used = length c.payloads-payloads.result.now in
     let taken_in : Places → Tables = λ d. record {
@@ -156,27 +207,27 @@ returns-in-Ok-clause-holds g c =
     } in
     held_moved c.known_laws.ensures.moves places t after u p used next c.requires.known
     c.requires.unit
-    (omega (arith, c.take_free-place.ensures.in_range, c.requires.known.suits.all))
-    c.take_free-place.ensures.free
-    (subst (λ (d : Places). IsMoved (taken_in d) after u p used) c.take_free-place.ensures.taken
+    (omega (arith, c.in_ok-place.ensures.taken.within, c.requires.known.suits.all))
+    c.in_ok-place.ensures.taken.free
+    (subst (λ (d : Places). IsMoved (taken_in d) after u p used) c.in_ok-place.ensures.taken.places_is
     (c.move_unit.ensures.moved c.requires.known.overflows_apart))
-    (subst (λ (n : ℕ). NoneIsLostBut p n (taken_in c.take_free-place.new.self)
+    (subst (λ (n : ℕ). NoneIsLostBut p n (taken_in c.take_place.new.directory)
     → NoneIsLost n after)
-    (ap (λ (d : Places). length d.in_use) c.take_free-place.ensures.taken
+    (ap (λ (d : Places). length d.in_use) c.in_ok-place.ensures.taken.places_is
     ∙ length-set t.places.in_use p true ∙ c.requires.known.suits.all) c.move_unit.ensures.lost
     (subst (λ (d : Places). NoneIsLostBut p places (taken_in d))
-    (sym c.take_free-place.ensures.taken) (taken_but t p next places c.requires.known)))
+    (sym c.in_ok-place.ensures.taken.places_is) (taken_but t p next places c.requires.known)))
 
 pub returns-in-Ok-clause-free : goal.returns-in-Ok-clause-free
 returns-in-Ok-clause-free g c =
     let t = tables_of c.args.parts.now in
     let u = c.args.unit in
-    let p = c.take_free-place.result in
+    let p = c.in_ok-place.place in
     more_free _ t (tables_of c.move_unit.new.parts).places u p c.requires.known c.requires.unit
-    c.take_free-place.ensures.free c.directory_laws.ensures.takes
+    c.in_ok-place.ensures.taken.free c.directory_laws.ensures.takes
     (subst (λ (d : Places). ¬ IsFree d (slice_index d.current u)
     → free_count d.in_use + 1 ≤ free_count c.move_unit.new.parts.directory.in_use)
-    c.take_free-place.ensures.taken c.move_unit.ensures.free)
+    c.in_ok-place.ensures.taken.places_is c.move_unit.ensures.free)
 
 pub returns-in-Err-clause-steps : goal.returns-in-Err-clause-steps
 returns-in-Err-clause-steps g c = λ m it h steady rests agrees source.
@@ -184,7 +235,7 @@ returns-in-Err-clause-steps g c = λ m it h steady rests agrees source.
     let old = g.C.Chip.told c.args.chip.now in
     let places = old.places in
     let u = c.args.unit in
-    let p = c.take_free-place.result in
+    let p = c.in_ok-place.place in
     let drawn = c.draw-generation.result in
     let serial = c.draw-generation.new.self in
     let next = c.write_unit.new.counter in
@@ -193,17 +244,17 @@ returns-in-Err-clause-steps g c = λ m it h steady rests agrees source.
     c.args.parts.now.scratch.log in
     let what = to_merge places (now h) it t u p drawn serial from payloads
     c.args.parts.now.scratch.packs.closed.items c.args.parts.now.active
-    c.args.parts.now.scratch.log agrees.mirrors c.requires.unit c.take_free-place.ensures.free
-    (omega (arith, c.take_free-place.ensures.in_range, c.requires.known.suits.all)) source
+    c.args.parts.now.scratch.log agrees.mirrors c.requires.unit c.in_ok-place.ensures.taken.free
+    (omega (arith, c.in_ok-place.ensures.taken.within, c.requires.known.suits.all)) source
     (omega (arith, c.draw-generation.ensures.drawn))
     (omega (arith, c.draw-generation.ensures.drawn, c.draw-generation.ensures.next))
     c.payloads-payloads.ensures.all c.requires.packed refl refl c.payloads-payloads.ensures.few in
     let back : c.give_back.new.self ≡ t.places =
-    c.give_back.ensures ∙ (ap (λ (d : Places). with_use d p false) c.take_free-place.ensures.taken
-    ∙ given_back t.places p c.take_free-place.ensures.in_range c.take_free-place.ensures.free) in
+    c.give_back.ensures ∙ (ap (λ (d : Places). with_use d p false) c.in_ok-place.ensures.taken.places_is
+    ∙ given_back t.places p c.in_ok-place.ensures.taken.within c.in_ok-place.ensures.taken.free) in
     merge_failed places m it t u p drawn serial (length payloads) h old
     (g.C.Chip.told c.write_unit.new.chip) agrees.mirrors agrees.tidy
-    c.take_free-place.ensures.free _ next c.in-Err.fault c.in-Err.fault
+    c.in_ok-place.ensures.taken.free _ next c.in-Err.fault c.in-Err.fault
     (ap (λ (d : Places). record {
       places = d;
       overflow = t.overflow;
@@ -217,21 +268,30 @@ returns-in-Err-clause-steps g c = λ m it h steady rests agrees source.
       c.draw-generation.ensures.next,
       c.in-Err.ensures.draws.0,
     ))
-    (c.in-Err.ensures.writes m it t u h steady rests what)
+    (unit_joined it t u p drawn serial from payloads m h old (g.C.Chip.told c.take_place.new.chip)
+    (g.C.Chip.told c.write_unit.new.chip) c.in_ok-place.ensures.taken.lowest steady
+    (record { rests = rests; agrees = agrees }) c.in_ok-place.ensures.takes
+    c.in_ok-place.ensures.accounts.counts what (Err c.in-Err.fault) c.in-Err.ensures.writes)
 
 pub returns-in-Err-clause-tells : goal.returns-in-Err-clause-tells
 returns-in-Err-clause-tells g c = λ soft x told.
-    let (y, told_y, left) = c.in-Err.ensures.tells soft x told in
+    let (y, told_y, left) =
+    written_told (g.C.Chip.told c.args.chip.now) (g.C.Chip.told c.take_place.new.chip)
+    (g.C.Chip.told c.write_unit.new.chip) c.in_ok-place.place c.draw-generation.result
+    c.draw-generation.new.self (from_home c.args.home.now c.args.parts.now.status.numbers
+    c.args.parts.now.scratch.log) c.payloads-payloads.result.now (Err c.in-Err.fault)
+    c.in_ok-place.ensures.accounts.counts c.in_ok-place.ensures.tells c.in-Err.ensures.tells soft x
+    told in
     let t = tables_of c.args.parts.now in
-    let p = c.take_free-place.result in
+    let p = c.in_ok-place.place in
     let next = c.write_unit.new.counter in
     let back : c.give_back.new.self ≡ t.places =
-    c.give_back.ensures ∙ (ap (λ (d : Places). with_use d p false) c.take_free-place.ensures.taken
-    ∙ given_back t.places p c.take_free-place.ensures.in_range c.take_free-place.ensures.free) in (
+    c.give_back.ensures ∙ (ap (λ (d : Places). with_use d p false) c.in_ok-place.ensures.taken.places_is
+    ∙ given_back t.places p c.in_ok-place.ensures.taken.within c.in_ok-place.ensures.taken.free) in (
       y,
       told_y,
       λ it mirrors. stays_mirrored _ (chart_of x) (chart_of y) it t _ p next
-          c.take_free-place.ensures.free
+          c.in_ok-place.ensures.taken.free
           (ap (λ (d : Places). record {
             places = d;
             overflow = t.overflow;
@@ -250,11 +310,11 @@ returns-in-Err-clause-tells g c = λ soft x told.
 pub returns-in-Err-clause-holds : goal.returns-in-Err-clause-holds
 returns-in-Err-clause-holds g c =
     let t = tables_of c.args.parts.now in
-    let p = c.take_free-place.result in
+    let p = c.in_ok-place.place in
     let next = c.write_unit.new.counter in
     let back : c.give_back.new.self ≡ t.places =
-    c.give_back.ensures ∙ (ap (λ (d : Places). with_use d p false) c.take_free-place.ensures.taken
-    ∙ given_back t.places p c.take_free-place.ensures.in_range c.take_free-place.ensures.free) in
+    c.give_back.ensures ∙ (ap (λ (d : Places). with_use d p false) c.in_ok-place.ensures.taken.places_is
+    ∙ given_back t.places p c.in_ok-place.ensures.taken.within c.in_ok-place.ensures.taken.free) in
     held_back _ t _ next (ap (λ (d : Places). record {
       places = d;
       overflow = t.overflow;
@@ -266,23 +326,31 @@ returns-in-Err-clause-holds g c =
 pub returns-in-Err-clause-free : goal.returns-in-Err-clause-free
 returns-in-Err-clause-free g c =
     let t = tables_of c.args.parts.now in
-    let p = c.take_free-place.result in
+    let p = c.in_ok-place.place in
     let back : c.give_back.new.self ≡ t.places =
-    c.give_back.ensures ∙ (ap (λ (d : Places). with_use d p false) c.take_free-place.ensures.taken
-    ∙ given_back t.places p c.take_free-place.ensures.in_range c.take_free-place.ensures.free) in
+    c.give_back.ensures ∙ (ap (λ (d : Places). with_use d p false) c.in_ok-place.ensures.taken.places_is
+    ∙ given_back t.places p c.in_ok-place.ensures.taken.within c.in_ok-place.ensures.taken.free) in
     omega (arith, ap (λ (d : Places). free_count d.in_use) back)
 
 pub returns-in-Ok-clause-costs : goal.returns-in-Ok-clause-costs
 returns-in-Ok-clause-costs g c =
-    for_unit (tables_of c.args.parts.now).places c.take_free-place.result _
+    for_unit (tables_of c.args.parts.now).places c.in_ok-place.place _
     (g.C.Chip.told c.args.chip.now) (g.C.Chip.told c.write_unit.new.chip)
-    c.take_free-place.ensures.lowest c.move_unit.ensures.stands c.in-Ok.ensures.costs
+    c.in_ok-place.ensures.taken.lowest c.move_unit.ensures.stands
+    (costs_of_filled (tables_of c.args.parts.now).places c.in_ok-place.place 2 true
+    (g.C.Chip.told c.args.chip.now) (g.C.Chip.told c.take_place.new.chip)
+    (g.C.Chip.told c.write_unit.new.chip) c.in_ok-place.ensures.taken.lowest
+    c.in_ok-place.ensures.costs c.in-Ok.ensures.costs)
 
 pub returns-in-Err-clause-costs : goal.returns-in-Err-clause-costs
 returns-in-Err-clause-costs g c =
-    for_nobody (tables_of c.args.parts.now).places c.take_free-place.result _
+    for_nobody (tables_of c.args.parts.now).places c.in_ok-place.place _
     (g.C.Chip.told c.args.chip.now) (g.C.Chip.told c.write_unit.new.chip)
-    c.take_free-place.ensures.lowest c.in-Err.ensures.costs
+    c.in_ok-place.ensures.taken.lowest
+    (costs_of_filled (tables_of c.args.parts.now).places c.in_ok-place.place 2 false
+    (g.C.Chip.told c.args.chip.now) (g.C.Chip.told c.take_place.new.chip)
+    (g.C.Chip.told c.write_unit.new.chip) c.in_ok-place.ensures.taken.lowest
+    c.in_ok-place.ensures.costs c.in-Err.ensures.costs)
 
 pub returns-in-Ok-clause-few : goal.returns-in-Ok-clause-few
 returns-in-Ok-clause-few g c =
@@ -297,16 +365,36 @@ returns-in-Err-clause-few g c =
     c.payloads-payloads.ensures.few
 
 pub returns-in-Ok-clause-fault : goal.returns-in-Ok-clause-fault
-returns-in-Ok-clause-fault g c = λ x told. c.in-Ok.ensures.fault x told
+returns-in-Ok-clause-fault g c = λ x told.
+    let from = from_home c.args.home.now c.args.parts.now.status.numbers
+    c.args.parts.now.scratch.log in
+    let (y, told_y, same) = c.in_ok-place.ensures.spares x told in
+    let apart = home_apart _ (tables_of c.args.parts.now) c.args.unit c.args.home.now.place
+    c.in_ok-place.place c.requires.known c.requires.unit c.requires.place
+    c.in_ok-place.ensures.taken.free in
+    sym (pages_from_alike x y from c.in_ok-place.place apart same)
+    ∙ c.in-Ok.ensures.fault y told_y
 
 pub returns-in-Err-clause-fault : goal.returns-in-Err-clause-fault
-returns-in-Err-clause-fault g c = λ x told. c.in-Err.ensures.fault x told
+returns-in-Err-clause-fault g c = λ x told.
+    let from = from_home c.args.home.now c.args.parts.now.status.numbers
+    c.args.parts.now.scratch.log in
+    let (y, told_y, same) = c.in_ok-place.ensures.spares x told in
+    let apart = home_apart _ (tables_of c.args.parts.now) c.args.unit c.args.home.now.place
+    c.in_ok-place.place c.requires.known c.requires.unit c.requires.place
+    c.in_ok-place.ensures.taken.free in
+    subst (λ (o : Option ChipFault). IsTheFault o c.in-Err.fault)
+    (pages_from_alike x y from c.in_ok-place.place apart same)
+    (c.in-Err.ensures.fault y told_y)
 
 pub returns-in-Ok-clause-spares : goal.returns-in-Ok-clause-spares
 returns-in-Ok-clause-spares g c =
-    used_spared (tables_of c.args.parts.now).places c.take_free-place.result
+    used_spared (tables_of c.args.parts.now).places c.in_ok-place.place
     (g.C.Chip.told c.args.chip.now) (g.C.Chip.told c.write_unit.new.chip)
-    c.take_free-place.ensures.free c.in-Ok.ensures.spares
+    c.in_ok-place.ensures.taken.free
+    (spares_then c.in_ok-place.place (g.C.Chip.told c.args.chip.now)
+    (g.C.Chip.told c.take_place.new.chip) (g.C.Chip.told c.write_unit.new.chip)
+    c.in_ok-place.ensures.spares c.in-Ok.ensures.spares)
 
 pub returns-in-Ok-clause-drawn : goal.returns-in-Ok-clause-drawn
 returns-in-Ok-clause-drawn g c =
@@ -323,11 +411,11 @@ returns-in-Ok-clause-tidy g c =
     let t = tables_of c.args.parts.now in
     let after = tables_of c.move_unit.new.parts in
     let u = c.args.unit in
-    let p = c.take_free-place.result in
+    let p = c.in_ok-place.place in
     let next = c.write_unit.new.counter in
     let used = length c.payloads-payloads.result.now in
     moves_tidily (g.C.Chip.told c.args.chip.now).places t c.requires.known p
-    c.take_free-place.ensures.free (Unit {0}) after u used next (Ok tt)
+    c.in_ok-place.ensures.taken.free (Unit {0}) after u used next (Ok tt)
     (g.C.Chip.told c.args.chip.now) (g.C.Chip.told c.write_unit.new.chip) c.requires.unit c.facts.ensures.logs
     (subst (λ (d : Places). IsMoved (record {
       places = d;
@@ -335,19 +423,24 @@ returns-in-Ok-clause-tidy g c =
       status = t.status;
       next = next;
       active = t.active;
-    }) after u p used) c.take_free-place.ensures.taken
-    (c.move_unit.ensures.moved c.requires.known.overflows_apart)) c.in-Ok.ensures.tidy
+    }) after u p used) c.in_ok-place.ensures.taken.places_is
+    (c.move_unit.ensures.moved c.requires.known.overflows_apart))
+    (tidy_taken t.places p (241 + used) (IsUnitSpot used) true true (g.C.Chip.told c.args.chip.now)
+    (g.C.Chip.told c.take_place.new.chip) (g.C.Chip.told c.write_unit.new.chip)
+    c.in_ok-place.ensures.taken.lowest (λ s above spot. omega (arith, above, spot))
+    c.in_ok-place.ensures.tidy c.in-Ok.ensures.tidy)
 
 pub returns-in-Err-clause-tidy : goal.returns-in-Err-clause-tidy
 returns-in-Err-clause-tidy g c =
     let t = tables_of c.args.parts.now in
-    let p = c.take_free-place.result in
+    let p = c.in_ok-place.place in
     let next = c.write_unit.new.counter in
+    let used = length c.payloads-payloads.result.now in
     let back : c.give_back.new.self ≡ t.places =
-    c.give_back.ensures ∙ (ap (λ (d : Places). with_use d p false) c.take_free-place.ensures.taken
-    ∙ given_back t.places p c.take_free-place.ensures.in_range c.take_free-place.ensures.free) in
+    c.give_back.ensures ∙ (ap (λ (d : Places). with_use d p false) c.in_ok-place.ensures.taken.places_is
+    ∙ given_back t.places p c.in_ok-place.ensures.taken.within c.in_ok-place.ensures.taken.free) in
     gives_back_tidily (g.C.Chip.told c.args.chip.now).places t c.requires.known p
-    c.take_free-place.ensures.free (Unit {0}) _ _ next (Err c.in-Err.fault)
+    c.in_ok-place.ensures.taken.free (Unit {0}) _ _ next (Err c.in-Err.fault)
     (g.C.Chip.told c.args.chip.now) (g.C.Chip.told c.write_unit.new.chip)
     (ap (λ (d : Places). record {
       places = d;
@@ -355,4 +448,82 @@ returns-in-Err-clause-tidy g c =
       status = t.status;
       next = next;
       active = t.active;
-    }) back) c.in-Err.ensures.tidy
+    }) back)
+    (tidy_taken t.places p (241 + used) (IsUnitSpot used) false false (g.C.Chip.told c.args.chip.now)
+    (g.C.Chip.told c.take_place.new.chip) (g.C.Chip.told c.write_unit.new.chip)
+    c.in_ok-place.ensures.taken.lowest (λ s above spot. omega (arith, above, spot))
+    c.in_ok-place.ensures.tidy c.in-Err.ensures.tidy)
+
+-- ---- no place was taken
+
+pub returns-in_err-place-clause-steps : goal.returns-in_err-place-clause-steps
+returns-in_err-place-clause-steps g c = λ m it h steady rests agrees source.
+    let t = tables_of c.args.parts.now in
+    let next = c.draw-generation.new.self in
+    let old = g.C.Chip.told c.args.chip.now in
+    let e = err_from_is_err_and c.from_residual.result c.from_residual.ensures.1 in
+    let after = untaken_tables t c.take_place.new.directory next in
+    rw e.1 (steps_not (λ (done : Unit {0}) k. RestsMerged old.places m (now h) it t c.args.unit after k) m
+    it t after next h c.in_err-place.field-0.0 e.0 old (g.C.Chip.told c.take_place.new.chip)
+    (same_tables t c.take_place.new.directory next c.in_err-place.ensures.same)
+    (omega (arith, c.draw-generation.ensures.drawn, c.draw-generation.ensures.next)) steady rests
+    agrees c.in_err-place.ensures.takes)
+
+pub returns-in_err-place-clause-tells : goal.returns-in_err-place-clause-tells
+returns-in_err-place-clause-tells g c =
+    let t = tables_of c.args.parts.now in
+    let next = c.draw-generation.new.self in
+    let old = g.C.Chip.told c.args.chip.now in
+    let e = err_from_is_err_and c.from_residual.result c.from_residual.ensures.1 in
+    rw e.1 (λ soft. told_not old.places t _ next old (g.C.Chip.told c.take_place.new.chip)
+    (same_tables t c.take_place.new.directory next c.in_err-place.ensures.same)
+    (omega (arith, c.draw-generation.ensures.drawn, c.draw-generation.ensures.next))
+    (c.in_err-place.ensures.tells (λ is. soft (e.2 ∙ is))))
+
+pub returns-in_err-place-clause-fault : goal.returns-in_err-place-clause-fault
+returns-in_err-place-clause-fault g c = λ x told.
+    let e = err_from_is_err_and c.from_residual.result c.from_residual.ensures.1 in
+    rw e.1 (fault_as _ e.0 c.in_err-place.field-0.0 e.2 (fault_not_taken _ c.in_err-place.field-0.0
+    (g.C.Chip.told c.args.chip.now) (g.C.Chip.told c.take_place.new.chip)
+    c.in_err-place.ensures.accounts.cause))
+
+pub returns-in_err-place-clause-few : goal.returns-in_err-place-clause-few
+returns-in_err-place-clause-few g c =
+    packs_few c.args.parts.now.active c.args.parts.now.scratch.log
+    c.args.parts.now.scratch.packs.closed.items _ c.payloads-payloads.ensures.all c.requires.packed
+    c.payloads-payloads.ensures.few
+
+pub returns-in_err-place-clause-holds : goal.returns-in_err-place-clause-holds
+returns-in_err-place-clause-holds g c =
+    let t = tables_of c.args.parts.now in
+    let next = c.draw-generation.new.self in
+    held_back _ t _ next
+    (same_tables t c.take_place.new.directory next c.in_err-place.ensures.same) c.requires.known
+
+pub returns-in_err-place-clause-free : goal.returns-in_err-place-clause-free
+returns-in_err-place-clause-free g c =
+    omega (arith, ap (λ (d : Places). free_count d.in_use) c.in_err-place.ensures.same)
+
+pub returns-in_err-place-clause-costs : goal.returns-in_err-place-clause-costs
+returns-in_err-place-clause-costs g c =
+    let e = err_from_is_err_and c.from_residual.result c.from_residual.ensures.1 in
+    rw e.1 (for_untaken (tables_of c.args.parts.now).places _ (g.C.Chip.told c.args.chip.now)
+    (g.C.Chip.told c.take_place.new.chip) c.in_err-place.ensures.costs)
+
+pub returns-in_err-place-clause-tidy : goal.returns-in_err-place-clause-tidy
+returns-in_err-place-clause-tidy g c =
+    let t = tables_of c.args.parts.now in
+    let next = c.draw-generation.new.self in
+    let e = err_from_is_err_and c.from_residual.result c.from_residual.ensures.1 in
+    rw e.1 (untaken_tidily (g.C.Chip.told c.args.chip.now).places t c.requires.known (Unit {0}) _ next
+    (Err e.0) (g.C.Chip.told c.args.chip.now) (g.C.Chip.told c.take_place.new.chip)
+    (same_tables t c.take_place.new.directory next c.in_err-place.ensures.same)
+    c.in_err-place.ensures.tidy)
+
+pub returns-in_err-place-clause-accounts : goal.returns-in_err-place-clause-accounts
+returns-in_err-place-clause-accounts g c =
+    let e = err_from_is_err_and c.from_residual.result c.from_residual.ensures.1 in record {
+      counts = c.in_err-place.ensures.accounts.counts;
+      cause = rw e.1 (moves_not _ c.in_err-place.field-0.0 e.0 (g.C.Chip.told c.args.chip.now)
+          (g.C.Chip.told c.take_place.new.chip) e.2 c.in_err-place.ensures.accounts.cause);
+    }

@@ -118,7 +118,7 @@ returns-then-not-make_anew-clause-tells g c =
     )
 
 pub returns-then-not-make_anew-clause-fault : goal.returns-then-not-make_anew-clause-fault
-returns-then-not-make_anew-clause-fault g c = λ x told read stopped.
+returns-then-not-make_anew-clause-fault g c = λ x told alone.
     page_full x (from_home c.args.home.now c.args.status.now.numbers c.args.log.now) c.args.page
     c.from-count.result c.read_page.new.into c.from-count.ensures
     (c.in_ok-read_page.ensures.page x told) c.if-not-make_anew.ensures.full

@@ -1,32 +1,29 @@
-use Rattle.std.proofs.Common.{ℕ, false, length, Ok, OnOk, arith, subst}
+use Rattle.std.proofs.Common.{ℕ, length, Ok, OnOk, arith, subst}
 use Rattle.std.proofs.lemmas.Result.{err_from_is_err_and}
 use Rattle.std.specs.Prelude.{is_ok}
-use Rattle.ipl_meaning.proofs.MirrorLemmas.{free_places_are_idle}
-use Rattle.unit_io.proofs.CostLemmas.{spends_once_at_most, spends_once_then}
+use Rattle.place_taking.proofs.JoinLemmas.{fills_at_most, fills_programs, fills_then}
 use Rattle.selective_merge.specs.Homes.{from_home}
 use Rattle.sector_format.specs.declared.sector.Head.{Head}
 use Rattle.unit_io.specs.Charts.{Charts}
-use Rattle.merge_rules.specs.Merged.{IsFilled}
-use Rattle.selective_merge.specs.Writing.{FillsPlace, IsSealed, SealsUnit}
+use Rattle.selective_merge.specs.Writing.{FillsPlace, GainsUnit, IsSealed, SealsUnit}
 use Rattle.selective_merge.proofs.SealLemmas.{unit_written, written_told, fill_failed}
 use Rattle.merge_rules.specs.Faults.{pages_fault}
 use Rattle.merge_rules.proofs.FaultLemmas.{fault_as, tells_written}
 use Rattle.unit_io.proofs.SparesLemmas.{spares_behind}
-use Rattle.selective_merge.proofs.TidyLemmas.{tidy_sealed}
+use Rattle.selective_merge.proofs.TidyLemmas.{tidy_sealed, tidy_unsealed}
 use Rattle.selective_merge.proofs.places.write_unit.Goals as goal
 
 pub returns-in_err-pieces-clause-writes : goal.returns-in_err-pieces-clause-writes
-returns-in_err-pieces-clause-writes g c = λ m it t u h steady rests what.
+returns-in_err-pieces-clause-writes g c = λ m it t u h steady rests clean what.
     let old = g.C.Chip.told c.args.chip.now in
     let from = from_home c.args.home.now c.args.status.now.numbers c.args.log.now in
     let e = err_from_is_err_and c.from_residual.result c.from_residual.ensures.1 in
     rw e.1 (fill_failed old.places c.args.place c.args.generation c.args.counter.now from
     c.args.payloads.now m it t u h old (g.C.Chip.told c.fill.new.chip) c.in_err-pieces.field-0.0
-    e.0 (c.in_err-pieces.ensures.fills m it h steady rests what.mirrors.laid
-    (free_places_are_idle _ _ it t c.args.place what.mirrors what.free)))
+    e.0 (c.in_err-pieces.ensures.fills m h steady rests clean))
 
 pub returns-clause-writes : goal.returns-clause-writes
-returns-clause-writes g c = λ m it t u h steady rests what.
+returns-clause-writes g c = λ m it t u h steady rests clean what.
     let old = g.C.Chip.told c.args.chip.now in
     let mid = g.C.Chip.told c.fill.new.chip in
     let new = g.C.Chip.told c.seal_unit.new.chip in
@@ -41,10 +38,8 @@ returns-clause-writes g c = λ m it t u h steady rests what.
     c.written-head.ensures c.seal_unit.ensures.seals in
     unit_written old.places c.args.units c.args.place c.args.generation c.args.counter.now
     c.count_of-carried.result from c.args.payloads.now pieces c.requires.sized filled.few
-    c.count_of-carried.ensures m it t u h old mid new c.seal_unit.result what rests
-    filled.accounts.counts
-    (fills m it h steady rests what.mirrors.laid
-    (free_places_are_idle _ _ it t c.args.place what.mirrors what.free))
+    c.count_of-carried.ensures m it t u h old mid new c.seal_unit.result what rests clean
+    filled.accounts.counts (fills m h steady rests clean)
     (subst (λ (q : ℕ). SealsUnit q c.args.place c.args.units from.unit c.args.generation pieces
     c.count_of-carried.result mid c.seal_unit.result new) filled.accounts.counts.places seals)
     c.seal_unit.ensures.accounts.cause
@@ -60,7 +55,7 @@ returns-clause-tells g c =
     written_told old.places c.args.units c.args.place c.args.generation c.args.counter.now
     c.count_of-carried.result from c.args.payloads.now pieces c.requires.sized filled.few
     c.count_of-carried.ensures old mid new c.seal_unit.result
-    (subst (λ (w : Head). Charts (IsFilled from c.args.place w.generation c.args.counter.now pieces
+    (subst (λ (w : Head). Charts (GainsUnit from c.args.place w.generation c.args.counter.now pieces
     c.args.payloads.now) old mid) c.written-head.ensures filled.tells)
     (subst (λ (w : Head). OnOk c.seal_unit.result (Charts (IsSealed c.args.place c.args.units w.unit
     w.generation pieces c.count_of-carried.result) mid new)) c.written-head.ensures
@@ -69,15 +64,15 @@ returns-clause-tells g c =
 
 pub returns-in_err-pieces-clause-costs : goal.returns-in_err-pieces-clause-costs
 returns-in_err-pieces-clause-costs g c =
-    let e = err_from_is_err_and c.from_residual.result c.from_residual.ensures.1 in
-    rw e.1 (spends_once_at_most c.args.place 1 3 false (g.C.Chip.told c.args.chip.now)
-    (g.C.Chip.told c.fill.new.chip) (omega arith) c.in_err-pieces.ensures.costs)
+    fills_at_most c.args.place 0 2 (g.C.Chip.told c.args.chip.now) (g.C.Chip.told c.fill.new.chip)
+    (omega arith) c.in_err-pieces.ensures.costs
 
 pub returns-clause-costs : goal.returns-clause-costs
 returns-clause-costs g c =
-    spends_once_then c.args.place 1 1 2 1 (is_ok c.seal_unit.result) (g.C.Chip.told c.args.chip.now)
-    (g.C.Chip.told c.fill.new.chip) (g.C.Chip.told c.seal_unit.new.chip)
-    c.in_ok-pieces.ensures.costs c.seal_unit.ensures.costs
+    let mid = g.C.Chip.told c.fill.new.chip in
+    let new = g.C.Chip.told c.seal_unit.new.chip in
+    fills_then c.args.place 0 2 (g.C.Chip.told c.args.chip.now) mid new c.in_ok-pieces.ensures.costs
+    (fills_programs c.args.place 1 2 1 mid new c.seal_unit.ensures.costs)
 
 pub returns-in_err-pieces-clause-fault : goal.returns-in_err-pieces-clause-fault
 returns-in_err-pieces-clause-fault g c = λ x told.
@@ -96,6 +91,12 @@ returns-clause-spares g c =
     spares_behind c.args.place (g.C.Chip.told c.args.chip.now) (g.C.Chip.told c.fill.new.chip)
     (g.C.Chip.told c.seal_unit.new.chip) c.seal_unit.result c.in_ok-pieces.ensures.spares
     c.seal_unit.ensures.spares
+
+pub returns-in_err-pieces-clause-tidy : goal.returns-in_err-pieces-clause-tidy
+returns-in_err-pieces-clause-tidy g c =
+    let e = err_from_is_err_and c.from_residual.result c.from_residual.ensures.1 in
+    rw e.1 (tidy_unsealed c.args.place (length c.args.payloads.now)
+    (g.C.Chip.told c.args.chip.now) (g.C.Chip.told c.fill.new.chip) c.in_err-pieces.ensures.tidy)
 
 pub returns-clause-tidy : goal.returns-clause-tidy
 returns-clause-tidy g c =

@@ -4,7 +4,7 @@ use Rattle.selective_merge.specs.Placing.{IsElsewhere}
 use Rattle.selective_merge.proofs.PlacingLemmas.{new_spot, elsewhere_clean, elsewhere_opened, elsewhere_merged}
 use Rattle.selective_merge.proofs.SpendLemmas.{frees_none}
 use Rattle.selective_merge.proofs.RoomLemmas.{if_ok, makes_none, told_none, makes_by_merge, told_by_merge, makes_by_opening, told_by_opening}
-use Rattle.merge_rules.proofs.FaultLemmas.{written_alone}
+use Rattle.selective_merge.proofs.TakenLemmas.{opened_alone, opened_cause}
 use Rattle.selective_merge.proofs.placing.elsewhere.Goals as goal
 
 pub returns-in-Clean-clause-steps : goal.returns-in-Clean-clause-steps
@@ -44,7 +44,6 @@ returns-in-NewPlace-clause-tells g c =
     let after = tables_of c.open_overflow.new.parts in
     told_by_opening IsElsewhere old.places c.args.unit t after old
     (g.C.Chip.told c.open_overflow.new.chip) c.open_overflow.result c.open_overflow.ensures.tells
-    c.open_overflow.ensures.accounts.cause
     (if_ok _ _ c.open_overflow.result
     (λ spot opened x y it mirrors keeps. elsewhere_opened old.places x y it t after c.args.unit
     spot.place spot.sector _ c.in-NewPlace.ensures opened mirrors keeps)
@@ -86,8 +85,15 @@ returns-in-Clean-clause-costs g c =
 
 pub returns-in-NewPlace-clause-fault : goal.returns-in-NewPlace-clause-fault
 returns-in-NewPlace-clause-fault g c = λ x told it mirrors.
-    written_alone _ (g.C.Chip.told c.args.chip.now) (g.C.Chip.told c.open_overflow.new.chip)
+    opened_alone _ (g.C.Chip.told c.args.chip.now) (g.C.Chip.told c.open_overflow.new.chip)
     c.open_overflow.result c.open_overflow.ensures.accounts.cause
+
+pub returns-in-NewPlace-clause-accounts : goal.returns-in-NewPlace-clause-accounts
+returns-in-NewPlace-clause-accounts g c = record {
+  counts = c.open_overflow.ensures.accounts.counts;
+  cause = opened_cause _ _ (g.C.Chip.told c.args.chip.now) (g.C.Chip.told c.open_overflow.new.chip)
+      c.open_overflow.result c.open_overflow.ensures.accounts.cause;
+}
 
 pub returns-in-Nothing-clause-fault : goal.returns-in-Nothing-clause-fault
 returns-in-Nothing-clause-fault g c = c.merged_spot.ensures.fault

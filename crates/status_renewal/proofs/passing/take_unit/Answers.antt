@@ -1,5 +1,6 @@
-use Rattle.std.proofs.Common.{◌≡◌, ◌<◌, ◌+◌, ◌-◌, ◌∙◌, ℕ, List, Ok, Err, length, inl, refl, sym, ap, subst, arith}
+use Rattle.std.proofs.Common.{◌≡◌, ◌<◌, ◌+◌, ◌-◌, ◌∙◌, ℕ, List, Ok, Err, length, refl, sym, ap, subst, arith}
 use Rattle.std.proofs.lemmas.Result.{err_from_is_err_and}
+use Rattle.ipl_base.specs.Calls.{IsFailedCall}
 use Rattle.ipl_meaning.specs.Chart.{chart_of}
 use Rattle.ipl_meaning.specs.Layout.{records_of}
 use Rattle.ipl_meaning.specs.Mirrors.{Mirrors}
@@ -192,12 +193,12 @@ pub returns-in_err-read_live-clause-complete : goal.returns-in_err-read_live-cla
 returns-in_err-read_live-clause-complete g c = λ places chart it t same holds was all.
     let parts = tables_of c.args.parts.now in
     let e = err_from_is_err_and c.from_residual.result c.from_residual.ensures.1 in
-    rw (e.1 ∙ ap Err e.2) (inl (c.in_err-read_live.ensures.exact was.contents was.told was.now parts
-    (record {
+    rw (e.1 ∙ ap Err e.2) (subst IsFailedCall (sym (c.in_err-read_live.ensures.exact was.contents
+    was.told was.now parts (record {
       mirrors = subst (λ n. Mirrors n (chart_of was.contents) was.now parts) (sym same) was.mirrors;
       directory_is = refl;
       overflow_is = refl;
-    })))
+    }))) tt)
 
 pub returns-clause-complete : goal.returns-clause-complete
 returns-clause-complete g c = λ places chart it t same holds was all.
@@ -211,13 +212,13 @@ pub returns-in_err-read_live-clause-stays : goal.returns-in_err-read_live-clause
 returns-in_err-read_live-clause-stays g c = λ places x it t same holds was spared.
     let parts = tables_of c.args.parts.now in
     let e = err_from_is_err_and c.from_residual.result c.from_residual.ensures.1 in
-    rw (e.1 ∙ ap Err e.2) (λ read stopped. absurd (read
-    (c.in_err-read_live.ensures.exact was.contents was.told was.now parts
+    rw (e.1 ∙ ap Err e.2) (λ unfailed. absurd (unfailed (subst IsFailedCall
+    (sym (c.in_err-read_live.ensures.exact was.contents was.told was.now parts
     (record {
       mirrors = subst (λ n. Mirrors n (chart_of was.contents) was.now parts) (sym same) was.mirrors;
       directory_is = refl;
       overflow_is = refl;
-    }))))
+    }))) tt)))
 
 pub returns-in_err-read_live-clause-fault : goal.returns-in_err-read_live-clause-fault
 returns-in_err-read_live-clause-fault g c = λ places x it t same holds was spared.

@@ -1,14 +1,66 @@
-use Rattle.std.proofs.Common.{◌<◌, ◌+◌, ◌∙◌, false, sym, ap, arith}
-use Rattle.ipl_meaning.specs.Tables.{Places, with_use}
+use Rattle.std.proofs.Common.{◌≡◌, ◌<◌, ◌+◌, ◌∙◌, ℕ, List, true, false, Result, Ok, Err, refl, sym, ap, subst, arith}
+use Rattle.std.proofs.lemmas.Result.{err_from_is_err_and}
+use Rattle.chip_trait.specs.Told.{Told}
+use Rattle.ipl_base.specs.declared.fault.ChipFault.{ChipFault}
+use Rattle.ipl_meaning.specs.Tables.{Places, Status, with_use}
+use Rattle.place_taking.proofs.TakeLemmas.{given_back}
+use Rattle.place_taking.proofs.JoinLemmas.{costs_of_filled, costs_of_untaken, tidy_taken}
+use Rattle.txn_status.specs.Status.{parts_of, switched_to}
+use Rattle.txn_status.specs.Switching.{IsStatusSpot, Switches, SwitchesInSteps}
+use Rattle.unit_io.specs.Charts.{Charts}
+use Rattle.unit_io.proofs.UnreadLemmas.{unread_then}
 use Rattle.status_renewal.proofs.KnownLemmas.{known_renewed, known_same}
-use Rattle.status_renewal.proofs.PlaceLemmas.{moved_to, given_back, renews_in_steps, renews_told, failed_in_steps}
-use Rattle.status_renewal.proofs.TidyLemmas.{tidy_renewed, tidy_unrenewed}
-use Rattle.txn_status.specs.Status.{parts_of}
+use Rattle.status_renewal.proofs.PlaceLemmas.{moved_to, renews_told}
+use Rattle.status_renewal.proofs.PlaceStepLemmas.{renews_in_steps, failed_in_steps, untaken_in_steps}
+use Rattle.status_renewal.proofs.TidyLemmas.{tidy_renewed, tidy_unrenewed, tidy_not_taken}
 use Rattle.status_renewal.proofs.place.renew_place.Goals as goal
+
+-- what a switch leaves, at the places of the first chip and the number that was drawn
+switch_leaves : (places q generation next p : ℕ) (status : Status) (kept : List ℕ)
+    (result : Result (Unit {0}) ChipFault) (mid told : Told) → q ≡ places → generation ≡ next
+    → SwitchesInSteps q status generation p kept result mid told
+    → SwitchesInSteps places status next p kept result mid told
+switch_leaves places q generation next p status kept result mid told at drawn says =
+    subst (λ (n : ℕ). SwitchesInSteps places status n p kept result mid told) drawn
+    (subst (λ (n : ℕ). SwitchesInSteps n status generation p kept result mid told) at says)
+
+-- ---- no place was taken
+
+pub returns-in_err-place-clause-steps : goal.returns-in_err-place-clause-steps
+returns-in_err-place-clause-steps g c =
+    let old = g.C.Chip.told c.args.chip.now in
+    let fault = c.in_err-place.field-0.0 in
+    let e = err_from_is_err_and c.from_residual.result c.from_residual.ensures.1 in
+    rw e.1 (untaken_in_steps c.args.directory.now c.args.status.now c.args.counter.now
+    c.args.kept.now c.take_place.new.directory c.args.status.now c.draw-generation.new.self fault e.0 old
+    (g.C.Chip.told c.take_place.new.chip) c.in_err-place.ensures.same refl
+    (omega (arith, c.draw-generation.ensures.next)) c.in_err-place.ensures.takes)
+
+pub returns-in_err-place-clause-known : goal.returns-in_err-place-clause-known
+returns-in_err-place-clause-known g c = λ t has known.
+    known_same (g.C.Chip.told c.args.chip.now).places t c.take_place.new.directory c.args.status.now
+    c.draw-generation.new.self (c.in_err-place.ensures.same ∙ sym has.places_is) (sym has.status_is)
+    known
+
+pub returns-in_err-place-clause-costs : goal.returns-in_err-place-clause-costs
+returns-in_err-place-clause-costs g c =
+    let e = err_from_is_err_and c.from_residual.result c.from_residual.ensures.1 in
+    rw e.1 (costs_of_untaken c.args.directory.now 3 (g.C.Chip.told c.args.chip.now)
+    (g.C.Chip.told c.take_place.new.chip) (omega arith) c.in_err-place.ensures.costs)
+
+pub returns-in_err-place-clause-tidy : goal.returns-in_err-place-clause-tidy
+returns-in_err-place-clause-tidy g c = λ t has known.
+    let e = err_from_is_err_and c.from_residual.result c.from_residual.ensures.1 in
+    rw e.1 (tidy_not_taken (g.C.Chip.told c.args.chip.now).places t known c.take_place.new.directory
+    c.args.status.now c.draw-generation.new.self e.0 (g.C.Chip.told c.args.chip.now)
+    (g.C.Chip.told c.take_place.new.chip) (c.in_err-place.ensures.same ∙ sym has.places_is)
+    (sym has.status_is) (rw has.places_is c.in_err-place.ensures.tidy))
+
+-- ---- it was written
 
 pub returns-in-Ok-clause-tells : goal.returns-in-Ok-clause-tells
 returns-in-Ok-clause-tells g c =
-    let p = c.take_free-place.result in
+    let p = c.in_ok-place.place in
     let d = c.args.directory.now in
     let status = c.args.status.now in
     let next = c.args.counter.now in
@@ -17,18 +69,25 @@ returns-in-Ok-clause-tells g c =
     let after = c.give_back.new.self in
     let new = c.switch.new.self in
     let drawn = c.switch.new.counter in
-    let low : p < old.places =
-    omega (arith, c.take_free-place.ensures.in_range, c.requires.size) in
-    let is = moved_to p c.place-old.result d c.take_free-place.new.self after status new next drawn
-    kept c.take_free-place.ensures.taken c.place-old.ensures c.give_back.ensures
-    c.in-Ok.ensures.switched c.in-Ok.ensures.drawn in
+    let from = c.in_ok-place.ensures.taken in
+    let low : p < old.places = omega (arith, from.within, c.requires.size) in
+    let is = moved_to p c.place-old.result d c.take_place.new.directory after status new next drawn
+    kept from.places_is c.place-old.ensures c.give_back.ensures
+    (c.in-Ok.ensures.switched ∙ ap (λ (n : ℕ). switched_to p n kept) c.draw-generation.ensures.drawn)
+    (omega (arith, c.in-Ok.ensures.drawn, c.draw-generation.ensures.next)) in
+    let mid = g.C.Chip.told c.take_place.new.chip in
+    let told = g.C.Chip.told c.switch.new.chip in
+    let switches = subst (λ (n : ℕ). Charts (Switches old.places status n p kept) mid told)
+    c.draw-generation.ensures.drawn
+    (subst (λ (n : ℕ). Charts (Switches n status c.draw-generation.result p kept) mid told)
+    c.in_ok-place.ensures.accounts.counts.places c.in-Ok.ensures.switches) in
     renews_told c.directory_laws.ensures.takes c.directory_laws.ensures.gives_back old.places p d
-    status next kept c.requires.size c.take_free-place.ensures.free low after new drawn is old
-    (g.C.Chip.told c.switch.new.chip) c.in-Ok.ensures.switches
+    status next kept c.requires.size from.free low after new drawn is old mid told
+    c.in_ok-place.ensures.tells switches
 
 pub returns-in-Ok-clause-steps : goal.returns-in-Ok-clause-steps
 returns-in-Ok-clause-steps g c =
-    let p = c.take_free-place.result in
+    let p = c.in_ok-place.place in
     let d = c.args.directory.now in
     let status = c.args.status.now in
     let next = c.args.counter.now in
@@ -37,41 +96,24 @@ returns-in-Ok-clause-steps g c =
     let after = c.give_back.new.self in
     let new = c.switch.new.self in
     let drawn = c.switch.new.counter in
-    let low : p < old.places =
-    omega (arith, c.take_free-place.ensures.in_range, c.requires.size) in
-    let is = moved_to p c.place-old.result d c.take_free-place.new.self after status new next drawn
-    kept c.take_free-place.ensures.taken c.place-old.ensures c.give_back.ensures
-    c.in-Ok.ensures.switched c.in-Ok.ensures.drawn in
-    renews_in_steps c.directory_laws.ensures.takes c.directory_laws.ensures.gives_back old.places p
-    d status next kept c.requires.size c.take_free-place.ensures.free low after new drawn is old
-    (g.C.Chip.told c.switch.new.chip) c.in-Ok.ensures.steps
-
-pub returns-in-Err-clause-same : goal.returns-in-Err-clause-same
-returns-in-Err-clause-same g c =
-    let p = c.take_free-place.result in
-    let d = c.args.directory.now in (
-      c.give_back-in-Err.ensures
-          ∙ ap (λ (e : Places). with_use e p false) c.take_free-place.ensures.taken
-          ∙ given_back d p c.take_free-place.ensures.free,
-      c.in-Err.ensures.same,
-    )
-
-pub returns-in-Err-clause-steps : goal.returns-in-Err-clause-steps
-returns-in-Err-clause-steps g c =
-    let p = c.take_free-place.result in
-    let d = c.args.directory.now in
-    let status = c.args.status.now in
-    let old = g.C.Chip.told c.args.chip.now in
-    let low : p < old.places =
-    omega (arith, c.take_free-place.ensures.in_range, c.requires.size) in
-    failed_in_steps c.directory_laws.ensures.takes c.directory_laws.ensures.gives_back old.places p
-    d status c.args.counter.now c.args.kept.now c.requires.size c.take_free-place.ensures.free low
-    c.give_back-in-Err.new.self c.switch.new.self c.switch.new.counter c.in-Err.fault c.in-Err.fault
-    old (g.C.Chip.told c.switch.new.chip) c.in-Err.ensures.steps
+    let from = c.in_ok-place.ensures.taken in
+    let low : p < old.places = omega (arith, from.within, c.requires.size) in
+    let is = moved_to p c.place-old.result d c.take_place.new.directory after status new next drawn
+    kept from.places_is c.place-old.ensures c.give_back.ensures
+    (c.in-Ok.ensures.switched ∙ ap (λ (n : ℕ). switched_to p n kept) c.draw-generation.ensures.drawn)
+    (omega (arith, c.in-Ok.ensures.drawn, c.draw-generation.ensures.next)) in
+    let mid = g.C.Chip.told c.take_place.new.chip in
+    let told = g.C.Chip.told c.switch.new.chip in
+    let counts = c.in_ok-place.ensures.accounts.counts in
+    renews_in_steps c.directory_laws.ensures.takes c.directory_laws.ensures.gives_back p d status next
+    kept old mid told c.requires.size from.lowest from.free from.within counts
+    c.in_ok-place.ensures.takes after new drawn is
+    (switch_leaves old.places mid.places c.draw-generation.result next p status kept (Ok tt) mid told
+    counts.places c.draw-generation.ensures.drawn c.in-Ok.ensures.steps)
 
 pub returns-in-Ok-clause-known : goal.returns-in-Ok-clause-known
 returns-in-Ok-clause-known g c =
-    let p = c.take_free-place.result in
+    let p = c.in_ok-place.place in
     let d = c.args.directory.now in
     let status = c.args.status.now in
     let next = c.args.counter.now in
@@ -80,57 +122,123 @@ returns-in-Ok-clause-known g c =
     let after = c.give_back.new.self in
     let new = c.switch.new.self in
     let drawn = c.switch.new.counter in
-    let low : p < old.places =
-    omega (arith, c.take_free-place.ensures.in_range, c.requires.size) in
-    let is = moved_to p c.place-old.result d c.take_free-place.new.self after status new next drawn
-    kept c.take_free-place.ensures.taken c.place-old.ensures c.give_back.ensures
-    c.in-Ok.ensures.switched c.in-Ok.ensures.drawn in
+    let from = c.in_ok-place.ensures.taken in
+    let low : p < old.places = omega (arith, from.within, c.requires.size) in
+    let is = moved_to p c.place-old.result d c.take_place.new.directory after status new next drawn
+    kept from.places_is c.place-old.ensures c.give_back.ensures
+    (c.in-Ok.ensures.switched ∙ ap (λ (n : ℕ). switched_to p n kept) c.draw-generation.ensures.drawn)
+    (omega (arith, c.in-Ok.ensures.drawn, c.draw-generation.ensures.next)) in
     known_renewed c.directory_laws.ensures.takes c.directory_laws.ensures.gives_back old.places p d
-    status next kept c.requires.size c.take_free-place.ensures.free low after new drawn is
+    status next kept c.requires.size from.free low after new drawn is
+
+pub returns-in-Ok-clause-tidy : goal.returns-in-Ok-clause-tidy
+returns-in-Ok-clause-tidy g c = λ t has known.
+    let p = c.in_ok-place.place in
+    let d = c.args.directory.now in
+    let status = c.args.status.now in
+    let next = c.args.counter.now in
+    let kept = c.args.kept.now in
+    let old = g.C.Chip.told c.args.chip.now in
+    let after = c.give_back.new.self in
+    let new = c.switch.new.self in
+    let drawn = c.switch.new.counter in
+    let from = c.in_ok-place.ensures.taken in
+    let low : p < old.places = omega (arith, from.within, c.requires.size) in
+    let is = moved_to p c.place-old.result d c.take_place.new.directory after status new next drawn
+    kept from.places_is c.place-old.ensures c.give_back.ensures
+    (c.in-Ok.ensures.switched ∙ ap (λ (n : ℕ). switched_to p n kept) c.draw-generation.ensures.drawn)
+    (omega (arith, c.in-Ok.ensures.drawn, c.draw-generation.ensures.next)) in
+    let mid = g.C.Chip.told c.take_place.new.chip in
+    let told = g.C.Chip.told c.switch.new.chip in
+    tidy_renewed c.directory_laws.ensures.takes c.directory_laws.ensures.gives_back old.places p d
+    status next kept c.requires.size from.free low after new drawn t has known is old told
+    (tidy_taken d p (1 + parts_of kept) (IsStatusSpot (parts_of kept)) true true old mid told
+    from.lowest (λ s high spot. omega (arith, high, spot)) c.in_ok-place.ensures.tidy
+    c.in-Ok.ensures.tidy)
+
+pub returns-in-Ok-clause-costs : goal.returns-in-Ok-clause-costs
+returns-in-Ok-clause-costs g c =
+    let from = c.in_ok-place.ensures.taken in (
+      c.in_ok-place.place,
+      from.lowest,
+      costs_of_filled c.args.directory.now c.in_ok-place.place 2 true (g.C.Chip.told c.args.chip.now)
+          (g.C.Chip.told c.take_place.new.chip) (g.C.Chip.told c.switch.new.chip) from.lowest
+          c.in_ok-place.ensures.costs c.in-Ok.ensures.costs,
+    )
+
+pub returns-in-Ok-clause-unread : goal.returns-in-Ok-clause-unread
+returns-in-Ok-clause-unread g c =
+    unread_then (g.C.Chip.told c.args.chip.now) (g.C.Chip.told c.take_place.new.chip)
+    (g.C.Chip.told c.switch.new.chip) c.in_ok-place.ensures.unread c.in-Ok.ensures.unread
+
+-- ---- a write failed
+
+pub returns-in-Err-clause-same : goal.returns-in-Err-clause-same
+returns-in-Err-clause-same g c =
+    let from = c.in_ok-place.ensures.taken in
+    let back = c.give_back-in-Err.ensures
+    ∙ ap (λ (e : Places). with_use e c.in_ok-place.place false) from.places_is
+    ∙ given_back c.args.directory.now c.in_ok-place.place from.free in
+    (back, c.in-Err.ensures.same)
+
+pub returns-in-Err-clause-steps : goal.returns-in-Err-clause-steps
+returns-in-Err-clause-steps g c =
+    let p = c.in_ok-place.place in
+    let old = g.C.Chip.told c.args.chip.now in
+    let mid = g.C.Chip.told c.take_place.new.chip in
+    let told = g.C.Chip.told c.switch.new.chip in
+    let from = c.in_ok-place.ensures.taken in
+    let counts = c.in_ok-place.ensures.accounts.counts in
+    failed_in_steps c.directory_laws.ensures.takes c.directory_laws.ensures.gives_back p
+    c.args.directory.now c.args.status.now c.args.counter.now c.args.kept.now old mid told
+    c.requires.size from.lowest from.free from.within counts c.in_ok-place.ensures.takes
+    c.give_back-in-Err.new.self c.switch.new.self c.switch.new.counter c.in-Err.fault c.in-Err.fault
+    (switch_leaves old.places mid.places c.draw-generation.result c.args.counter.now p
+    c.args.status.now c.args.kept.now (Err c.in-Err.fault) mid told counts.places
+    c.draw-generation.ensures.drawn c.in-Err.ensures.steps)
 
 pub returns-in-Err-clause-known : goal.returns-in-Err-clause-known
 returns-in-Err-clause-known g c = λ t has known.
-    let p = c.take_free-place.result in
+    let from = c.in_ok-place.ensures.taken in
     let back = c.give_back-in-Err.ensures
-    ∙ ap (λ (e : Places). with_use e p false) c.take_free-place.ensures.taken
-    ∙ given_back c.args.directory.now p c.take_free-place.ensures.free in
+    ∙ ap (λ (e : Places). with_use e c.in_ok-place.place false) from.places_is
+    ∙ given_back c.args.directory.now c.in_ok-place.place from.free in
     known_same (g.C.Chip.told c.args.chip.now).places t c.give_back-in-Err.new.self
     c.switch.new.self c.switch.new.counter (back ∙ sym has.places_is)
     (c.in-Err.ensures.same ∙ sym has.status_is) known
 
-pub returns-in-Ok-clause-tidy : goal.returns-in-Ok-clause-tidy
-returns-in-Ok-clause-tidy g c = λ t has known.
-    let p = c.take_free-place.result in
-    let d = c.args.directory.now in
-    let status = c.args.status.now in
-    let next = c.args.counter.now in
-    let kept = c.args.kept.now in
-    let old = g.C.Chip.told c.args.chip.now in
-    let after = c.give_back.new.self in
-    let new = c.switch.new.self in
-    let drawn = c.switch.new.counter in
-    let low : p < old.places =
-    omega (arith, c.take_free-place.ensures.in_range, c.requires.size) in
-    let is = moved_to p c.place-old.result d c.take_free-place.new.self after status new next drawn
-    kept c.take_free-place.ensures.taken c.place-old.ensures c.give_back.ensures
-    c.in-Ok.ensures.switched c.in-Ok.ensures.drawn in
-    tidy_renewed c.directory_laws.ensures.takes c.directory_laws.ensures.gives_back old.places p d
-    status next kept c.requires.size c.take_free-place.ensures.free low after new drawn t has known
-    is old (g.C.Chip.told c.switch.new.chip) c.in-Ok.ensures.tidy
-
 pub returns-in-Err-clause-tidy : goal.returns-in-Err-clause-tidy
 returns-in-Err-clause-tidy g c = λ t has known.
-    let p = c.take_free-place.result in
+    let p = c.in_ok-place.place in
     let d = c.args.directory.now in
     let kept = c.args.kept.now in
     let old = g.C.Chip.told c.args.chip.now in
-    let low : p < old.places =
-    omega (arith, c.take_free-place.ensures.in_range, c.requires.size) in
+    let told = g.C.Chip.told c.switch.new.chip in
+    let from = c.in_ok-place.ensures.taken in
     let back = c.give_back-in-Err.ensures
-    ∙ ap (λ (e : Places). with_use e p false) c.take_free-place.ensures.taken
-    ∙ given_back d p c.take_free-place.ensures.free in
+    ∙ ap (λ (e : Places). with_use e c.in_ok-place.place false) from.places_is
+    ∙ given_back c.args.directory.now c.in_ok-place.place from.free in
+    let low : p < old.places = omega (arith, from.within, c.requires.size) in
     tidy_unrenewed c.directory_laws.ensures.takes c.directory_laws.ensures.gives_back old.places p d
-    c.args.status.now c.args.counter.now kept c.requires.size c.take_free-place.ensures.free low
+    c.args.status.now c.args.counter.now kept c.requires.size from.free low
     c.give_back-in-Err.new.self c.switch.new.self c.switch.new.counter t has known
-    (1 + parts_of kept) c.in-Err.fault old (g.C.Chip.told c.switch.new.chip)
-    (back ∙ sym has.places_is) (c.in-Err.ensures.same ∙ sym has.status_is) c.in-Err.ensures.tidy
+    (1 + parts_of kept) c.in-Err.fault old told (back ∙ sym has.places_is)
+    (c.in-Err.ensures.same ∙ sym has.status_is)
+    (tidy_taken d p (1 + parts_of kept) (IsStatusSpot (parts_of kept)) false false old
+    (g.C.Chip.told c.take_place.new.chip) told from.lowest (λ s high spot. omega (arith, high, spot))
+    c.in_ok-place.ensures.tidy c.in-Err.ensures.tidy)
+
+pub returns-in-Err-clause-costs : goal.returns-in-Err-clause-costs
+returns-in-Err-clause-costs g c =
+    let from = c.in_ok-place.ensures.taken in (
+      c.in_ok-place.place,
+      from.lowest,
+      costs_of_filled c.args.directory.now c.in_ok-place.place 2 false (g.C.Chip.told c.args.chip.now)
+          (g.C.Chip.told c.take_place.new.chip) (g.C.Chip.told c.switch.new.chip) from.lowest
+          c.in_ok-place.ensures.costs c.in-Err.ensures.costs,
+    )
+
+pub returns-in-Err-clause-unread : goal.returns-in-Err-clause-unread
+returns-in-Err-clause-unread g c =
+    unread_then (g.C.Chip.told c.args.chip.now) (g.C.Chip.told c.take_place.new.chip)
+    (g.C.Chip.told c.switch.new.chip) c.in_ok-place.ensures.unread c.in-Err.ensures.unread

@@ -9,9 +9,8 @@ use Rattle.unit_io.specs.ReadsAt.{Anywhere}
 use Rattle.unit_io.proofs.UnreadLemmas.{once_alone}
 use Rattle.status_renewal.specs.Passes.{KeepsAll, RenewsTold, KeepsInSteps, FailsAsRenewal, CompletesRenewal, ErasesAtMost}
 use Rattle.status_renewal.proofs.CostLemmas.{reads_erase, reads_then_erase, reads_then_renewed}
-use Rattle.status_renewal.proofs.RecoverLemmas.{of_parts, opened_parts, opens_told, opens_done, sound_looks, reads_recover, recovers_done, recovers_failed}
+use Rattle.status_renewal.proofs.RecoverLemmas.{of_parts, opened_parts, opens_told, opens_done, fault_looks, sound_looks, reads_recover, recovers_done, recovers_failed}
 use Rattle.status_renewal.proofs.CompleteLemmas.{all_mergeable, call_failed, reading_failed}
-use Rattle.ipl_base.specs.declared.fault.ImageFault.TheVariants.{Chip}
 use Rattle.status_renewal.proofs.FaultLemmas.{opening_fault}
 use Rattle.status_renewal.proofs.FoundLemmas.{all_kept, once_where_fit}
 use Rattle.status_renewal.proofs.TidyLemmas.{tidy_only_reads, tidy_opened}
@@ -21,12 +20,19 @@ pub returns-in_err-found-clause-tells : goal.returns-in_err-found-clause-tells
 returns-in_err-found-clause-tells g c = λ x told.
     let old = g.C.Chip.told c.args.chip.now in
     let e = err_from_is_err_and c.from_residual.result c.from_residual.ensures.1 in
-    rw (e.1 ∙ ap Err e.2) (λ no_read no_stop. opens_told old.places x
+    rw (e.1 ∙ ap Err e.2) (λ unfailed. opens_told old.places x
     c.in_err-found.field-0.0 old (g.C.Chip.told c.recover.new.chip)
-    (c.in_err-found.ensures.fault x told) c.in_err-found.ensures.looks.cause no_read)
+    (c.in_err-found.ensures.fault x told) c.in_err-found.ensures.looks.cause unfailed)
 
 pub returns-in_err-found-clause-looks : goal.returns-in_err-found-clause-looks
-returns-in_err-found-clause-looks g c = λ x told e is. c.recover.ensures.looks.reads
+returns-in_err-found-clause-looks g c = λ x told first is.
+    let old = g.C.Chip.told c.args.chip.now in
+    let e = err_from_is_err_and c.from_residual.result c.from_residual.ensures.1 in
+    rw (e.1 ∙ ap Err e.2) (
+      c.recover.ensures.looks.reads,
+      fault_looks old.places x c.in_err-found.field-0.0 first old (g.C.Chip.told c.recover.new.chip)
+          (c.in_err-found.ensures.fault x told) c.in_err-found.ensures.looks.cause is,
+    )
 
 pub returns-in_err-found-clause-steps : goal.returns-in_err-found-clause-steps
 returns-in_err-found-clause-steps g c =
@@ -47,7 +53,8 @@ returns-in_err-found-clause-costs g c =
 pub returns-in_err-renew_with-clause-looks : goal.returns-in_err-renew_with-clause-looks
 returns-in_err-renew_with-clause-looks g c =
     let old = g.C.Chip.told c.args.chip.now in
-    sound_looks old.places old (g.C.Chip.told c.renew_with.new.chip) c.in_ok-found.ensures.fault
+    sound_looks old.places old c.from_residual-in_err-renew_with.result (g.C.Chip.told c.renew_with.new.chip)
+    c.in_ok-found.ensures.fault
 
 pub returns-in_err-renew_with-clause-steps : goal.returns-in_err-renew_with-clause-steps
 returns-in_err-renew_with-clause-steps g c =
@@ -105,7 +112,7 @@ returns-clause-tells g c = λ x told.
 pub returns-clause-looks : goal.returns-clause-looks
 returns-clause-looks g c =
     let old = g.C.Chip.told c.args.chip.now in
-    sound_looks old.places old (g.C.Chip.told c.renew_with.new.chip) c.in_ok-found.ensures.fault
+    sound_looks old.places old (Ok tt) (g.C.Chip.told c.renew_with.new.chip) c.in_ok-found.ensures.fault
 
 pub returns-clause-number : goal.returns-clause-number
 returns-clause-number g c = λ x told.
@@ -191,11 +198,11 @@ returns-in_err-renew_with-clause-tells g c = λ x told.
     let parts = opened_parts old.places (chart_of x) c.recover.new.directory
     c.recover.new.overflow c.recover.new.status c.recover.new.counter active c.requires.active
     (c.in_ok-found.ensures.opened x told) (c.in_ok-found.ensures.mirrors x told) in
-    rw (e.1 ∙ ap Err e.2) (λ no_read no_stop. opening_fault old.places x t fault c.requires.active
+    rw (e.1 ∙ ap Err e.2) (λ unfailed. opening_fault old.places x t fault c.requires.active
     parts.1.status (c.in_ok-found.ensures.fault x told)
     (subst (λ n. FailsAsRenewal n t (Err fault) mid) reads.counts.places
     c.in_err-renew_with.ensures.fault x (reads.contents ∙ told) it parts.1
-    (λ is. no_read (ap Chip is)) (λ is. no_stop (ap Chip is))))
+    (λ failed. unfailed (call_failed fault failed))))
 
 pub returns-in_err-found-clause-bytes : goal.returns-in_err-found-clause-bytes
 returns-in_err-found-clause-bytes g c = λ x told.

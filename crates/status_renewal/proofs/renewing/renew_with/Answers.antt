@@ -1,4 +1,4 @@
-use Rattle.std.proofs.Common.{◌+◌, ◌-◌, ◌∙◌, ℕ, List, Some, Err, OnOk, refl, sym, ap, subst, arith}
+use Rattle.std.proofs.Common.{◌≡◌, ◌+◌, ◌-◌, ◌∙◌, ℕ, List, Some, Err, refl, sym, ap, subst, arith}
 use Rattle.std.proofs.lemmas.Result.{err_from_is_err_and, on_ok_weaker}
 use Rattle.ipl_meaning.specs.Chart.{chart_of}
 use Rattle.ipl_meaning.specs.Rests.{now}
@@ -6,16 +6,16 @@ use Rattle.ipl_meaning.specs.Tables.{Status}
 use Rattle.unit_directory.specs.Free.{first_free}
 use Rattle.merge_rules.specs.Known.{KnowsPlaces}
 use Rattle.selective_merge.specs.Moving.{tables_of}
-use Rattle.steps.specs.Steps.{NoOtherEnd}
+use Rattle.selective_merge.specs.Throughout.{ChartsThroughout}
+use Rattle.steps.specs.Steps.{RestsAgreeing}
 use Rattle.txn_status.specs.Switching.{RestsSwitched}
-use Rattle.unit_io.specs.Charts.{Charts}
 use Rattle.status_renewal.specs.Passes.{HasPassed, ErasesAtMost}
 use Rattle.status_renewal.specs.Renewed.{with_tables, Renews, RenewsInSteps}
 use Rattle.status_renewal.proofs.CostLemmas.{erases_more, erases_then, place_erases, renewed_then}
 use Rattle.status_renewal.proofs.PreserveLemmas.{passed_then, steps_preserve}
 use Rattle.status_renewal.proofs.RenewLemmas.{may_renew, renew_ends, status_ends}
 use Rattle.status_renewal.proofs.CompleteLemmas.{written_alone}
-use Rattle.status_renewal.proofs.TellingLemmas.{goes_on_then, goes_on_where, renews_told}
+use Rattle.status_renewal.proofs.TellingLemmas.{goes_on_from, goes_on_then, renews_told}
 use Rattle.status_renewal.proofs.FaultLemmas.{pass_written, place_written}
 use Rattle.status_renewal.proofs.TidyLemmas.{tidies_then}
 use Rattle.status_renewal.proofs.FoundLemmas.{unread_both}
@@ -52,20 +52,20 @@ returns-clause-tells g c =
     let directory = c.renew_place.new.directory in
     let status = c.renew_place.new.status in
     let drawn = c.renew_place.new.counter in
-    let renews = subst (λ n. OnOk c.renew_place.result (Charts (Renews n between.places
-    between.status between.next kept directory status drawn) mid new))
-    c.find_numbers.ensures.accounts.counts.places c.renew_place.ensures.tells in
-    let cause = c.renew_place.ensures.accounts.cause in
+    let renews = subst (λ n. ChartsThroughout (λ (done : Unit {0}). Renews n between.places
+    between.status between.next kept directory status drawn) (λ d y. y ≡ d) c.renew_place.result mid
+    new) c.find_numbers.ensures.accounts.counts.places c.renew_place.ensures.tells in
     renews_told old.places t (with_tables between directory status drawn) old c.renew_place.result
     new
     (goes_on_then c.renew_place.result old mid new c.in_ok-find_numbers.ensures.goes_on
-    (goes_on_where (Renews old.places between.places between.status between.next kept directory
-    status drawn) c.renew_place.result mid new renews cause))
+    (goes_on_from (λ done. Renews old.places between.places between.status between.next kept directory
+    status drawn) (λ d y. y ≡ d) c.renew_place.result mid new renews))
     (λ x it told mirrors. renew_ends old.places (chart_of x) it t kept mid between
     (subst (λ (k : List ℕ). HasPassed old.places (old.places - 4) (chart_of x) it t k mid between)
     (sym c.as_slice.ensures.numbers)
     (c.in_ok-find_numbers.ensures.passes old.places x it refl told mirrors))
-    directory status drawn new c.renew_place.result renews cause)
+    directory status drawn new c.renew_place.result renews c.renew_place.ensures.same
+    (omega (arith, c.renew_place.ensures.draws)))
 
 pub returns-clause-steps : goal.returns-clause-steps
 returns-clause-steps g c = λ m it h steady rests agrees.
@@ -88,7 +88,8 @@ returns-clause-steps g c = λ m it h steady rests agrees.
     (c.in_ok-find_numbers.ensures.steps old.places refl m it h steady rests agrees)
     (λ k was there resting agreeing. steps_preserve old.places m k between after
     (λ done j. RestsSwitched old.places m was.now after status.place between.next kept j)
-    NoOtherEnd c.renew_place.result mid new (λ v j is. is.stands.rests) (λ j none. absurd none)
+    (λ j. RestsAgreeing old.places m was.now after j) c.renew_place.result mid new
+    (λ v j is. is.stands.rests) (λ j is. is.rests)
     (subst (λ n. RenewsInSteps n between.places between.status between.next kept directory status
     drawn c.renew_place.result mid new) c.find_numbers.ensures.accounts.counts.places
     c.renew_place.ensures.steps m was.now between k there

@@ -1,71 +1,149 @@
 use Rattle.std.proofs.lemmas.Result.{err_from_is_err_and}
-use Rattle.unit_io.proofs.PlaceLemmas.{begin_leads, begin_fails, begin_tells}
+use Rattle.std.proofs.Common.{Ok, Err, refl, sym, ◌∙◌, ap, option_map, [], ◌∷◌, true, false, arith}
+use Rattle.chip_trait.specs.declared.event.Event.TheVariants.{Erase, Worn, Barrier}
+use Rattle.chip_trait.specs.Story.{after}
+use Rattle.ipl_base.specs.declared.fault.ChipFault.TheVariants.{Stopped}
+use Rattle.unit_io.specs.Spots.{Clears}
+use Rattle.unit_io.specs.Costs.{ErasesOnce}
+use Rattle.unit_io.proofs.PlaceLemmas.{begin_worn, begin_tells, begun_failed, begun_halted, begun_done, wears_worn, wears_done, worn_tells}
 use Rattle.unit_io.proofs.PlainLemmas.{plain_then, plain_did, plain_waited}
-use Rattle.std.proofs.Common.{Ok, Err, false, arith}
-use Rattle.std.specs.Prelude.{is_ok}
-use Rattle.unit_io.proofs.CostLemmas.{spends_once_at_most, spends_once_then, spends_erased, spends_barred}
-use Rattle.unit_io.proofs.SparesLemmas.{spares_behind, spares_erased, spares_waited}
+use Rattle.unit_io.proofs.CostLemmas.{one_added, once_worn, spends_once_at_most, spends_once_then, spends_erased, spends_barred}
+use Rattle.unit_io.proofs.SparesLemmas.{spares_then, spares_erased, spares_waited}
+use Rattle.unit_io.proofs.SpotLemmas.{clears_worn}
 use Rattle.unit_io.proofs.TidyLemmas.{tidy_broken, tidy_begun}
-use Rattle.unit_io.proofs.UnreadLemmas.{unread_erased, unread_waited, unread_then}
+use Rattle.unit_io.proofs.UnreadLemmas.{unread_broken, unread_wears, unread_waited, unread_then}
 use Rattle.unit_io.proofs.places.begin_unit.Goals as goal
+
+-- ---- the erase failed
 
 pub returns-in_err-erase-clause-keeps : goal.returns-in_err-erase-clause-keeps
 returns-in_err-erase-clause-keeps g c = λ m it h steady rests laid idle.
     let e = err_from_is_err_and c.from_residual.result c.from_residual.ensures.1 in
-    rw e.1 (begin_fails _ m it h c.args.place rests laid c.requires idle _ _ e.0 steady c.in_err-erase.ensures.did)
-
-pub returns-clause-keeps : goal.returns-clause-keeps
-returns-clause-keeps g c = λ m it h steady rests laid idle.
-    begin_leads _ m it h c.args.place rests laid c.requires idle _ _ _ _ steady c.in_ok-erase.ensures.did c.barrier.ensures.did
-
-pub returns-clause-tells : goal.returns-clause-tells
-returns-clause-tells g c = begin_tells c.args.place _ _ _ _ c.in_ok-erase.ensures.did c.barrier.ensures.did
+    rw e.1 (begun_failed _ m it h c.args.place rests laid c.requires idle _ _ e.0 steady c.in_err-erase.ensures.did)
 
 pub returns-in_err-erase-clause-plain : goal.returns-in_err-erase-clause-plain
-returns-in_err-erase-clause-plain g c = plain_did _ (g.C.Chip.told c.args.chip.now) (g.C.Chip.told c.erase.new.chip) tt c.erase.result c.erase.ensures.did
-
-pub returns-clause-plain : goal.returns-clause-plain
-returns-clause-plain g c =
-    plain_then (g.C.Chip.told c.args.chip.now) (g.C.Chip.told c.erase.new.chip) (g.C.Chip.told c.barrier.new.chip)
-    (plain_did _ (g.C.Chip.told c.args.chip.now) (g.C.Chip.told c.erase.new.chip) tt c.erase.result c.erase.ensures.did)
-    (plain_waited (g.C.Chip.told c.erase.new.chip) (g.C.Chip.told c.barrier.new.chip) c.barrier.result c.barrier.ensures.did)
+returns-in_err-erase-clause-plain g c = plain_did (Erase c.args.place) (g.C.Chip.told c.args.chip.now) (g.C.Chip.told c.erase.new.chip) tt (Err Stopped) c.in_err-erase.ensures.did
 
 pub returns-in_err-erase-clause-costs : goal.returns-in_err-erase-clause-costs
 returns-in_err-erase-clause-costs g c =
     let e = err_from_is_err_and c.from_residual.result c.from_residual.ensures.1 in
     rw e.1 (spends_once_at_most c.args.place 0 1 false _ _ (omega arith) (spends_erased c.args.place (g.C.Chip.told c.args.chip.now) (g.C.Chip.told c.erase.new.chip) (Err e.0) c.in_err-erase.ensures.did))
 
-pub returns-clause-costs : goal.returns-clause-costs
-returns-clause-costs g c =
-    spends_once_then c.args.place 0 0 1 0 (is_ok c.barrier.result) _ (g.C.Chip.told c.erase.new.chip) _
-    (spends_erased c.args.place (g.C.Chip.told c.args.chip.now) (g.C.Chip.told c.erase.new.chip) (Ok tt) c.in_ok-erase.ensures.did)
-    (spends_barred c.args.place 0 _ _ _ c.barrier.ensures.did)
-
-pub returns-clause-spares : goal.returns-clause-spares
-returns-clause-spares g c =
-    let old = g.C.Chip.told c.args.chip.now in
-    let mid = g.C.Chip.told c.erase.new.chip in
-    let new = g.C.Chip.told c.barrier.new.chip in
-    spares_behind c.args.place old mid new c.barrier.result
-    (spares_erased c.args.place old mid (Ok tt) c.in_ok-erase.ensures.did)
-    (spares_waited c.args.place mid new c.barrier.result c.barrier.ensures.did)
-
 pub returns-in_err-erase-clause-tidy : goal.returns-in_err-erase-clause-tidy
 returns-in_err-erase-clause-tidy g c =
     let e = err_from_is_err_and c.from_residual.result c.from_residual.ensures.1 in
     rw e.1 (tidy_broken c.args.place e.0 (g.C.Chip.told c.args.chip.now) (g.C.Chip.told c.erase.new.chip) c.in_err-erase.ensures.did)
 
-pub returns-clause-tidy : goal.returns-clause-tidy
-returns-clause-tidy g c = tidy_begun c.args.place _ (g.C.Chip.told c.erase.new.chip) _ c.barrier.result c.in_ok-erase.ensures.did c.barrier.ensures.did
+-- ---- the place is worn
 
-pub returns-in_err-erase-clause-unread : goal.returns-in_err-erase-clause-unread
-returns-in_err-erase-clause-unread g c =
-    unread_erased c.args.place c.erase.result (g.C.Chip.told c.args.chip.now) (g.C.Chip.told c.erase.new.chip) c.erase.ensures.did
+pub returns-in-Worn-clause-keeps : goal.returns-in-Worn-clause-keeps
+returns-in-Worn-clause-keeps g c = λ m it h steady rests laid idle.
+    begin_worn _ m it h c.args.place rests laid c.requires idle _ _ steady (wears_worn c.args.place _ _ _ c.in-Worn.is c.in_ok-erase.ensures.did)
 
-pub returns-clause-unread : goal.returns-clause-unread
-returns-clause-unread g c =
+pub returns-in-Worn-clause-tells : goal.returns-in-Worn-clause-tells
+returns-in-Worn-clause-tells g c = worn_tells c.args.place _ _ (wears_worn c.args.place _ _ _ c.in-Worn.is c.in_ok-erase.ensures.did)
+
+pub returns-in-Worn-clause-plain : goal.returns-in-Worn-clause-plain
+returns-in-Worn-clause-plain g c = plain_did (Worn c.args.place) (g.C.Chip.told c.args.chip.now) (g.C.Chip.told c.erase.new.chip) tt (Ok tt) (wears_worn c.args.place _ _ _ c.in-Worn.is c.in_ok-erase.ensures.did)
+
+pub returns-in-Worn-clause-spares : goal.returns-in-Worn-clause-spares
+returns-in-Worn-clause-spares g c = λ x told. (x, (wears_worn c.args.place _ _ _ c.in-Worn.is c.in_ok-erase.ensures.did).contents ∙ ap (option_map (after (Worn c.args.place))) told, λ q s apart. refl)
+
+pub returns-in-Worn-clause-costs : goal.returns-in-Worn-clause-costs
+returns-in-Worn-clause-costs g c = record {
+  added = Worn c.args.place ∷ [];
+  does = once_worn c.args.place 1;
+  history = (wears_worn c.args.place _ _ _ c.in-Worn.is c.in_ok-erase.ensures.did).history ∙ one_added (Worn c.args.place) (g.C.Chip.told c.args.chip.now).history;
+}
+
+pub returns-in-Worn-clause-tidy : goal.returns-in-Worn-clause-tidy
+returns-in-Worn-clause-tidy g c = record {
+  added = Worn c.args.place ∷ [];
+  does = clears_worn c.args.place;
+  history = (wears_worn c.args.place _ _ _ c.in-Worn.is c.in_ok-erase.ensures.did).history ∙ one_added (Worn c.args.place) (g.C.Chip.told c.args.chip.now).history;
+}
+
+pub returns-in-Worn-clause-worn : goal.returns-in-Worn-clause-worn
+returns-in-Worn-clause-worn g c is = c.in_ok-erase.ensures.did.rose c.in-Worn.is
+
+-- ---- the barrier failed
+
+pub returns-in_err-barrier-in-Done-clause-keeps : goal.returns-in_err-barrier-in-Done-clause-keeps
+returns-in_err-barrier-in-Done-clause-keeps g c = λ m it h steady rests laid idle.
+    let e = err_from_is_err_and c.from_residual-in_err-barrier-in-Done.result c.from_residual-in_err-barrier-in-Done.ensures.1 in
+    rw e.1 (begun_halted _ m it h c.args.place rests laid c.requires idle _ _ _ e.0 steady (wears_done c.args.place _ _ _ c.in-Done.is c.in_ok-erase.ensures.did) c.in_err-barrier-in-Done.ensures.did)
+
+pub returns-in_err-barrier-in-Done-clause-plain : goal.returns-in_err-barrier-in-Done-clause-plain
+returns-in_err-barrier-in-Done-clause-plain g c =
+    plain_then (g.C.Chip.told c.args.chip.now) (g.C.Chip.told c.erase.new.chip) (g.C.Chip.told c.barrier.new.chip)
+    (plain_did (Erase c.args.place) (g.C.Chip.told c.args.chip.now) (g.C.Chip.told c.erase.new.chip) tt (Ok tt) (wears_done c.args.place _ _ _ c.in-Done.is c.in_ok-erase.ensures.did))
+    (plain_waited (g.C.Chip.told c.erase.new.chip) (g.C.Chip.told c.barrier.new.chip) (Err Stopped) c.in_err-barrier-in-Done.ensures.did)
+
+pub returns-in_err-barrier-in-Done-clause-costs : goal.returns-in_err-barrier-in-Done-clause-costs
+returns-in_err-barrier-in-Done-clause-costs g c =
+    let e = err_from_is_err_and c.from_residual-in_err-barrier-in-Done.result c.from_residual-in_err-barrier-in-Done.ensures.1 in
+    rw e.1 (spends_once_then c.args.place 0 0 1 0 false (g.C.Chip.told c.args.chip.now) (g.C.Chip.told c.erase.new.chip) (g.C.Chip.told c.barrier.new.chip)
+    (spends_erased c.args.place _ _ (Ok tt) (wears_done c.args.place _ _ _ c.in-Done.is c.in_ok-erase.ensures.did))
+    (spends_barred c.args.place 0 _ _ (Err Stopped) c.in_err-barrier-in-Done.ensures.did))
+
+pub returns-in_err-barrier-in-Done-clause-tidy : goal.returns-in_err-barrier-in-Done-clause-tidy
+returns-in_err-barrier-in-Done-clause-tidy g c =
+    let e = err_from_is_err_and c.from_residual-in_err-barrier-in-Done.result c.from_residual-in_err-barrier-in-Done.ensures.1 in
+    rw e.1 (tidy_begun c.args.place (g.C.Chip.told c.args.chip.now) (g.C.Chip.told c.erase.new.chip) (g.C.Chip.told c.barrier.new.chip) (Err Stopped) (wears_done c.args.place _ _ _ c.in-Done.is c.in_ok-erase.ensures.did) c.in_err-barrier-in-Done.ensures.did)
+
+-- ---- both were done
+
+pub returns-in_ok-barrier-in-Done-clause-keeps : goal.returns-in_ok-barrier-in-Done-clause-keeps
+returns-in_ok-barrier-in-Done-clause-keeps g c = λ m it h steady rests laid idle.
+    begun_done _ m it h c.args.place rests laid c.requires idle _ _ _ steady (wears_done c.args.place _ _ _ c.in-Done.is c.in_ok-erase.ensures.did) c.in_ok-barrier-in-Done.ensures.did
+
+pub returns-in_ok-barrier-in-Done-clause-tells : goal.returns-in_ok-barrier-in-Done-clause-tells
+returns-in_ok-barrier-in-Done-clause-tells g c = begin_tells c.args.place _ _ _ (Ok tt) (wears_done c.args.place _ _ _ c.in-Done.is c.in_ok-erase.ensures.did) c.in_ok-barrier-in-Done.ensures.did
+
+pub returns-in_ok-barrier-in-Done-clause-plain : goal.returns-in_ok-barrier-in-Done-clause-plain
+returns-in_ok-barrier-in-Done-clause-plain g c =
+    plain_then (g.C.Chip.told c.args.chip.now) (g.C.Chip.told c.erase.new.chip) (g.C.Chip.told c.barrier.new.chip)
+    (plain_did (Erase c.args.place) (g.C.Chip.told c.args.chip.now) (g.C.Chip.told c.erase.new.chip) tt (Ok tt) (wears_done c.args.place _ _ _ c.in-Done.is c.in_ok-erase.ensures.did))
+    (plain_waited (g.C.Chip.told c.erase.new.chip) (g.C.Chip.told c.barrier.new.chip) (Ok tt) c.in_ok-barrier-in-Done.ensures.did)
+
+pub returns-in_ok-barrier-in-Done-clause-costs : goal.returns-in_ok-barrier-in-Done-clause-costs
+returns-in_ok-barrier-in-Done-clause-costs g c =
+    spends_once_then c.args.place 0 0 1 0 true (g.C.Chip.told c.args.chip.now) (g.C.Chip.told c.erase.new.chip) (g.C.Chip.told c.barrier.new.chip)
+    (spends_erased c.args.place _ _ (Ok tt) (wears_done c.args.place _ _ _ c.in-Done.is c.in_ok-erase.ensures.did))
+    (spends_barred c.args.place 0 _ _ (Ok tt) c.in_ok-barrier-in-Done.ensures.did)
+
+pub returns-in_ok-barrier-in-Done-clause-spares : goal.returns-in_ok-barrier-in-Done-clause-spares
+returns-in_ok-barrier-in-Done-clause-spares g c =
     let old = g.C.Chip.told c.args.chip.now in
     let mid = g.C.Chip.told c.erase.new.chip in
     let new = g.C.Chip.told c.barrier.new.chip in
-    unread_then old mid new (unread_erased c.args.place c.erase.result old mid c.erase.ensures.did)
-    (unread_waited c.barrier.result mid new c.barrier.ensures.did)
+    spares_then c.args.place old mid new
+    (spares_erased c.args.place old mid (Ok tt) (wears_done c.args.place _ old mid c.in-Done.is c.in_ok-erase.ensures.did))
+    (spares_waited c.args.place mid new (Ok tt) c.in_ok-barrier-in-Done.ensures.did)
+
+pub returns-in_ok-barrier-in-Done-clause-tidy : goal.returns-in_ok-barrier-in-Done-clause-tidy
+returns-in_ok-barrier-in-Done-clause-tidy g c =
+    tidy_begun c.args.place (g.C.Chip.told c.args.chip.now) (g.C.Chip.told c.erase.new.chip) (g.C.Chip.told c.barrier.new.chip) (Ok tt) (wears_done c.args.place _ _ _ c.in-Done.is c.in_ok-erase.ensures.did) c.in_ok-barrier-in-Done.ensures.did
+
+-- ---- nothing is read
+
+pub returns-in_err-erase-clause-unread : goal.returns-in_err-erase-clause-unread
+returns-in_err-erase-clause-unread g c =
+    let e = err_from_is_err_and c.from_residual.result c.from_residual.ensures.1 in
+    unread_broken c.args.place e.0 (g.C.Chip.told c.args.chip.now) (g.C.Chip.told c.erase.new.chip) c.in_err-erase.ensures.did
+
+pub returns-in-Worn-clause-unread : goal.returns-in-Worn-clause-unread
+returns-in-Worn-clause-unread g c =
+    unread_wears _ c.args.place (g.C.Chip.told c.args.chip.now) (g.C.Chip.told c.erase.new.chip) c.in_ok-erase.ensures.did
+
+pub returns-in_err-barrier-in-Done-clause-unread : goal.returns-in_err-barrier-in-Done-clause-unread
+returns-in_err-barrier-in-Done-clause-unread g c =
+    unread_then (g.C.Chip.told c.args.chip.now) (g.C.Chip.told c.erase.new.chip) (g.C.Chip.told c.barrier.new.chip)
+    (unread_wears _ c.args.place (g.C.Chip.told c.args.chip.now) (g.C.Chip.told c.erase.new.chip) c.in_ok-erase.ensures.did)
+    (unread_waited (Err Stopped) (g.C.Chip.told c.erase.new.chip) (g.C.Chip.told c.barrier.new.chip) c.in_err-barrier-in-Done.ensures.did)
+
+pub returns-in_ok-barrier-in-Done-clause-unread : goal.returns-in_ok-barrier-in-Done-clause-unread
+returns-in_ok-barrier-in-Done-clause-unread g c =
+    unread_then (g.C.Chip.told c.args.chip.now) (g.C.Chip.told c.erase.new.chip) (g.C.Chip.told c.barrier.new.chip)
+    (unread_wears _ c.args.place (g.C.Chip.told c.args.chip.now) (g.C.Chip.told c.erase.new.chip) c.in_ok-erase.ensures.did)
+    (unread_waited (Ok tt) (g.C.Chip.told c.erase.new.chip) (g.C.Chip.told c.barrier.new.chip) c.in_ok-barrier-in-Done.ensures.did)

@@ -1,4 +1,5 @@
 use Rattle.std.proofs.Common.{◌≡◌, true, false, refl, sym, ◌∙◌}
+use Rattle.std.proofs.lemmas.Result.{err_from_is_err_and}
 use Rattle.ipl_store.specs.Calls.{memory_of_store, IsMade}
 use Rattle.ipl_store.specs.Openings.{IsFresh}
 use Rattle.ipl_store.proofs.OpeningLemmas.{recovered, made_recovered, fresh_sound, fresh_opens, fresh_restarts}
@@ -14,6 +15,22 @@ returns-in_err-recover-clause-sound g c =
       order = λ up.
           let no : true ≡ false = sym c.forget.ensures.down ∙ up in absurd (cc no);
     }
+
+pub returns-in_err-recover-clause-tries : goal.returns-in_err-recover-clause-tries
+returns-in_err-recover-clause-tries g c =
+    let says = c.in_err-recover.ensures in
+    let e = err_from_is_err_and c.from_residual.result c.from_residual.ensures.1 in
+    rw (e.1, e.2) (record {
+      tells = says.tells;
+      steps = says.steps;
+      looks = says.looks;
+      complete = says.complete;
+      bytes = says.bytes;
+      tidy = says.tidy;
+      costs = says.costs;
+      renewed = says.renewed;
+      accounts = says.accounts;
+    })
 
 pub returns-clause-sound : goal.returns-clause-sound
 returns-clause-sound g c =

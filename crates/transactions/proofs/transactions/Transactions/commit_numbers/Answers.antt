@@ -1,5 +1,6 @@
-use Rattle.std.proofs.Common.{inr, refl, ◌∙◌, ap}
+use Rattle.std.proofs.Common.{refl, sym, ◌∙◌, ap, subst}
 use Rattle.std.proofs.lemmas.Result.{err_from_is_err_and}
+use Rattle.ipl_base.specs.Calls.{IsFailedCall}
 use Rattle.record_locks.specs.Held.{Slots, after_batch}
 use Rattle.selective_merge.specs.declared.parts.Parts.{Parts}
 use Rattle.transactions.proofs.CommitLemmas.{numbers_added, numbers_not_added}
@@ -45,7 +46,8 @@ returns-clause-turns g c =
 pub returns-in_err-add_numbers-clause-complete : goal.returns-in_err-add_numbers-clause-complete
 returns-in_err-add_numbers-clause-complete g c =
     let e = err_from_is_err_and c.from_residual.result c.from_residual.ensures.1 in
-    rw (e.1, e.2) (inr c.in_err-add_numbers.ensures.accounts.cause.0)
+    rw (e.1, e.2)
+    (subst IsFailedCall (sym c.in_err-add_numbers.ensures.accounts.cause.0) tt)
 
 pub returns-in_err-add_numbers-clause-framed : goal.returns-in_err-add_numbers-clause-framed
 returns-in_err-add_numbers-clause-framed g c = λ u page is. is

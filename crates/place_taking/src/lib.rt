@@ -1,0 +1,12 @@
+//! A free place is taken and erased, or is found worn: the one call that erases for a new writing of
+//! a unit, of an overflow place or of the status place. It stands on the directory
+//! (`unit_directory`) and on a place's erase (`unit_io`).
+//!
+//! Proved, by `take_place`: the lowest free place is taken, each sector of it clean; whatever a power
+//! cut leaves at any moment stands for the map on which the story rested, and where no write failed
+//! the story rests on it still. Where the place is worn, the directory is as it was.
+#![tactic(auto)]
+
+mod taking;
+
+pub use taking::take_place;
