@@ -109,7 +109,7 @@ word_looked_up k r w word held low_r low_w value long all parts =
     )
 
 -- what the register held is shifted for itself
-apart : (r : ℕ) (bytes : List ℕ)
+pub apart : (r : ℕ) (bytes : List ℕ)
     → register_after r bytes ≡ shifted_bytes (length bytes) r ⊕ register_after 0 bytes
 unfolding shifted_bytes with_byte
 apart r [] = sym (xor_zero_r r)

@@ -7,6 +7,7 @@ use Rattle.crc_sum.specs.Crc.{shifted, shifted_8}
 use Rattle.crc_sum.specs.Tables.{shifted_bytes}
 use Rattle.crc_sum.specs.declared.tables.TheConstants.{TABLES}
 use Rattle.crc_sum.specs.declared.zero_tables.TheConstants.{ZERO_TABLES}
+use Rattle.crc_sum.specs.declared.tail_tables.TheConstants.{TAIL_TABLES}
 
 -- so many tables, each of them the numbers before it, shifted by a byte
 tables_from : ℕ → List ℕ → List (List ℕ)
@@ -54,4 +55,21 @@ zeros_looked_up k i d none h l =
     ∙ ap (λ (table : List ℕ). get_or table i d) (get_or-drop 60 (tables_from 64 (range_with_len 0 256)) k none)
     ∙ held 64 (60 + k) i d (range_with_len 0 256) none (omega (arith, h)) l
     ∙ ap (shifted_bytes (suc (60 + k))) byte
+    ∙ ap (λ (n : ℕ). shifted_bytes n i) count
+
+-- the entries for tails of zeros, computed by the definition of the register
+computed_tail : TAIL_TABLES ≡ drop 476 (tables_from 480 (range_with_len 0 256))
+unfolding tables_from shifted_8 shifted
+computed_tail = refl
+
+-- what is looked up there
+pub tail_looked_up : (k i d : ℕ) (none : List ℕ) → k < 4 → i < 256
+    → get_or (get_or TAIL_TABLES k none) i d ≡ shifted_bytes (k + 477) i
+tail_looked_up k i d none h l =
+    let byte : get_or (range_with_len 0 256) i d ≡ i = omega (arith, get_or-range_with_len 0 256 i d l) in
+    let count : suc (476 + k) ≡ k + 477 = omega arith in
+    ap (λ (tables : List (List ℕ)). get_or (get_or tables k none) i d) computed_tail
+    ∙ ap (λ (table : List ℕ). get_or table i d) (get_or-drop 476 (tables_from 480 (range_with_len 0 256)) k none)
+    ∙ held 480 (476 + k) i d (range_with_len 0 256) none (omega (arith, h)) l
+    ∙ ap (shifted_bytes (suc (476 + k))) byte
     ∙ ap (λ (n : ℕ). shifted_bytes n i) count

@@ -8,7 +8,7 @@ use crate::zero_tables::zero_entry;
 use std::marker::Model;
 
 // What the register holds before the first byte, and what turns it into the sum after the last.
-const ONES: u32 = 0xFFFF_FFFF;
+pub(crate) const ONES: u32 = 0xFFFF_FFFF;
 
 fn with_byte(register: u32, byte: u8) -> u32
     ensures { result ≡ with_byte register byte }
@@ -114,7 +114,7 @@ fn after_blocks(register: u32, blocks: &[[u8; 64]]) -> u32
         .fold(register, |r, block| with_block(r, block))
 }
 
-fn register_after(register: u32, bytes: &[u8]) -> u32
+pub(crate) fn register_after(register: u32, bytes: &[u8]) -> u32
     ensures { result ≡ register_after register bytes.now }
 {
     let (blocks, rest) = bytes.as_chunks::<64>();

@@ -1,9 +1,9 @@
 -- A page that is made anew, record by record.
-use Rattle.std.proofs.Common.{◌≡◌, ◌≢◌, ◌≤◌, ◌<◌, ◌+◌, ◌-◌, ℕ, zero, suc, Bool, true, false, not, List, [], ◌∷◌, ◌++◌, length, Option, None, refl, sym, ◌∙◌, ap, subst, inl, inr, arith, append_assoc, ◌&&◌, ◌||◌}
+use Rattle.std.proofs.Common.{◌≡◌, ◌≢◌, ◌≤◌, ◌<◌, ◌+◌, ◌-◌, ℕ, zero, suc, Bool, true, false, not, List, [], ◌∷◌, ◌++◌, length, replicate, Option, None, refl, sym, ◌∙◌, ap, subst, inl, inr, arith, append_assoc, ◌&&◌, ◌||◌}
 use Rattle.std.specs.Prelude.{◌==◌, if◌then◌else◌, slice_index, slice_set}
 use Rattle.std.specs.List.{count_by, sum_by, list_any, range_with_len}
 use Rattle.std.proofs.lemmas.Bool.{cases_Bool, cases_eq, eq-eqb, ne_eqb}
-use Rattle.std.proofs.lemmas.List.{get_or-set_same, get_or-set_other, length-set}
+use Rattle.std.proofs.lemmas.List.{get_or-replicate, get_or-set_same, get_or-set_other, length-set}
 use Rattle.std.proofs.lemmas.List.Sums.{sum_by-cons, sum_by-append}
 use Rattle.ipl_base.specs.declared.limits.TheConstants.{PAGE_LEN, VERSION}
 use Rattle.ipl_base.specs.Sizes.{size_in_page, size_of_values}
@@ -123,6 +123,19 @@ none_counts committed page slot (r ∷ records) value none =
           rw other at none in
           rw other (none_counts committed page slot records value later)
     ]
+
+-- nor where none is to come on any slot
+pub none_comes : (committed : ℕ → Bool) (page : ℕ) (records : List Record) (counts : List ℕ)
+    (values : Values) → AreComing committed page records counts → counts ≡ replicate 64 0
+    → (slot : ℕ) → slot < 64 → values slot ≡ with_records committed page records values slot
+none_comes committed page records counts values coming none slot low =
+    let test = counts_for committed page slot in
+    let here : slice_index counts slot ≡ 0 =
+    ap (λ (l : List ℕ). slice_index l slot) none ∙ get_or-replicate 64 slot 0 0 low in
+    let counted : true ≡ not (list_any test records) =
+    sym (ap (λ (n : ℕ). n == 0) here)
+    ∙ ap (λ (n : ℕ). n == 0) (coming slot low) ∙ any_count test records in
+    sym (none_counts committed page slot records (values slot) (none_to_come _ counted))
 
 -- the last one that counts gives the value
 pub last_gives : (committed : ℕ → Bool) (page slot : ℕ) (before after : List Record) (r : Record)

@@ -5,9 +5,9 @@
 //! is emptied, and of the records on a slot only the last one is put. So at each moment a slot is empty
 //! or has its value for good, and where one value has no room, the page has none for all.
 //!
-//! Proved, by `Coming`, `apply_where_room`: a count of records on each slot, and which of them is the
-//! last; slots emptied; a record that sets or empties its slot and no other, exactly where the text has
-//! room for the values then.
+//! Proved, by `Coming`, `apply_where_room`: a count of records on each slot, whether there are none,
+//! and which of them is the last; slots emptied; a record that sets or empties its slot and no other,
+//! exactly where the text has room for the values then.
 //!
 //! Proved, by `text_laws`: a page's text says of each slot what the page holds there.
 //!

@@ -1,5 +1,5 @@
 //! A page, made anew: of the records on a slot only the last one is put.
-ghost use Rattle.std.specs.Prelude.{◌≡◌, ◌≤◌, ◌<◌, ◌+◌, ◌-◌, ◌==◌, ℕ, Some, None, length, replicate, slice_index, slice_set, if◌then◌else◌};
+ghost use Rattle.std.specs.Prelude.{◌≡◌, ◌≤◌, ◌<◌, ◌+◌, ◌-◌, ◌==◌, ◌↔◌, ℕ, IsTrue, Some, None, length, replicate, slice_index, slice_set, if◌then◌else◌};
 ghost use Rattle.std.specs.Bool.{OnTrue, OnFalse};
 ghost use Rattle.ipl_base.specs.declared.limits.TheConstants.{LIVE_RECORDS, PAGE_LEN, SLOTS, VALUE_LEN, VERSION};
 ghost use Rattle.ipl_base.specs.Sizes.{size_of_values};
@@ -33,6 +33,13 @@ impl Coming {
         ensures { result ≡ replicate SLOTS 0 }
     {
         Coming { counts: [0; 64] }
+    }
+
+    /// Whether there are none on any slot.
+    pub fn is_none(&self) -> bool
+        ensures { IsTrue result ↔ (self.now ≡ replicate SLOTS 0) }
+    {
+        are_zero(&self.counts)
     }
 
     /// One more on a slot (0 to 63), on which there are fewer than 1240.
@@ -70,6 +77,12 @@ impl Coming {
             }
         }
     }
+}
+
+fn are_zero(counts: &[u16]) -> bool
+    ensures { IsTrue result ↔ (counts.now ≡ replicate (length counts.now) 0) }
+{
+    counts.iter().all(|n| *n == 0)
 }
 
 /// Puts a value into a slot (0 to 63) of a page, where the text has room for it, and answers whether

@@ -64,7 +64,17 @@ fn read_base<C: Chip>(
         serial: header.generation,
     };
     let pieces = u32::from(header.pieces[page as usize]);
-    read_page(chip, place, &head, page, pieces, frame.committed_mut())
+    // What is loaded isn't written as it was read, so nobody asks what it brings into sums.
+    let mut tails = [0; 16];
+    read_page(
+        chip,
+        place,
+        &head,
+        page,
+        pieces,
+        frame.committed_mut(),
+        &mut tails,
+    )
 }
 
 /// Loads a page (0 to 14) into a frame. The unit's header is read, those of its live log sectors that

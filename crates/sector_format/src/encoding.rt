@@ -2,12 +2,13 @@
 ghost use Rattle.std.specs.Prelude.{◌≡◌, ◌≢◌, ◌≤◌, ◌+◌, ◌-◌, ◌++◌, Some, drop, length, replicate, take};
 ghost use Rattle.ipl_base.specs.declared.limits.TheConstants.{PAYLOAD_LEN};
 ghost use Rattle.chip_trait.specs.Story.{blank};
+ghost use Rattle.crc_sum.specs.Crc.{tail_sum};
 ghost use Rattle.ipl_format.specs.Version.{IsVersion};
 ghost use Rattle.ipl_format.specs.Sector.{IsKind, filled, sector_bytes, sector_in};
 ghost use Rattle.sector_format.specs.Decode.{HasRange, head_bytes, sector_of};
 
 use crate::Head;
-use crate::reading::sum_of;
+use crate::reading::{sum_by, tail_of};
 use byteorder::{BigEndian, ByteOrder};
 
 // Writes the first 28 bytes.
@@ -54,10 +55,41 @@ fn clear_from(start: usize, out: &mut [u8; 512])
 // Writes the payload, and zeros after it.
 fn write_payload(payload: &[u8], out: &mut [u8; 512])
     requires { length payload.now ≤ PAYLOAD_LEN }
-    ensures { out.new ≡ take 32 out.old ++ filled payload.now }
+    ensures { drop 32 out.new ≡ filled payload.now }
 {
     copy_payload(payload, out);
     clear_from(32 + payload.len(), out);
+}
+
+// Writes the head and its sum, before a payload that stands there and brings so much into the sum.
+fn write_head(head: &Head, payload: &[u8], tail: u32, out: &mut [u8; 512])
+    requires fits { length payload.now ≤ PAYLOAD_LEN }
+    requires known { IsKind head.now.kind }
+    requires version { IsVersion head.now.version }
+    requires tail { tail ≡ tail_sum (drop 32 out.old) }
+    requires there { drop 32 out.old ≡ filled payload.now }
+    ensures bytes { out.new ≡ sector_bytes (sector_of head.now payload.now) }
+    ensures said { sector_in out.new ≡ Some (sector_of head.now payload.now) }
+    ensures written { out.new ≢ blank }
+{
+    write_front(head, payload.len() as u16, out);
+    let sum = sum_by(out, tail);
+    BigEndian::write_u32(&mut out[28..32], sum);
+}
+
+/// Writes a sector as `encode` does, where what the payload, filled up, brings into the sum was taken
+/// before.
+pub fn encode_by(head: &Head, payload: &[u8], tail: u32, out: &mut [u8; 512])
+    requires fits { length payload.now ≤ PAYLOAD_LEN }
+    requires known { IsKind head.now.kind }
+    requires version { IsVersion head.now.version }
+    requires tail { tail ≡ tail_sum (filled payload.now) }
+    ensures bytes { out.new ≡ sector_bytes (sector_of head.now payload.now) }
+    ensures said { sector_in out.new ≡ Some (sector_of head.now payload.now) }
+    ensures written { out.new ≢ blank }
+{
+    write_payload(payload, out);
+    write_head(head, payload, tail, out);
 }
 
 /// Writes the sector of this head (of a kind and a version that there are) and a payload of at most
@@ -70,8 +102,7 @@ pub fn encode(head: &Head, payload: &[u8], out: &mut [u8; 512])
     ensures said { sector_in out.new ≡ Some (sector_of head.now payload.now) }
     ensures written { out.new ≢ blank }
 {
-    write_front(head, payload.len() as u16, out);
     write_payload(payload, out);
-    let sum = sum_of(out);
-    BigEndian::write_u32(&mut out[28..32], sum);
+    let tail = tail_of(out);
+    write_head(head, payload, tail, out);
 }

@@ -4,7 +4,8 @@
 //! nothing.
 //!
 //! Proved, by `encode`, `decode`: encoding spells the sector; decoding says what the bytes say,
-//! and why not.
+//! and why not. By `encode_by`, `decode_by`, `tail_of`: the same, where what a payload brings into
+//! the sum is known, as of one that is moved.
 #![tactic(auto)]
 
 mod decoding;
@@ -13,8 +14,8 @@ mod laws;
 mod reading;
 mod sector;
 
-pub use decoding::decode;
-pub use encoding::encode;
+pub use decoding::{decode, decode_by};
+pub use encoding::{encode, encode_by};
 pub use laws::decode_laws;
-pub use reading::payload_in;
+pub use reading::{payload_in, tail_of};
 pub use sector::{Decoded, Head};

@@ -3,11 +3,12 @@ ghost use Rattle.std.specs.Prelude.{◌≡◌, ◌≤◌, ◌+◌, ◌↔◌, Is
 ghost use Rattle.std.specs.List.{list_all};
 ghost use Rattle.ipl_base.specs.declared.limits.TheConstants.{PAYLOAD_LEN};
 ghost use Rattle.chip_trait.specs.Story.{blank};
+ghost use Rattle.crc_sum.specs.Crc.{tail_sum};
 ghost use Rattle.ipl_format.specs.Sector.{computed_sum, is_formed, is_marked, is_zero, used_length};
 ghost use Rattle.sector_format.specs.Decode.{head_in};
 
 use crate::Head;
-use crc_sum::crc32_parts;
+use crc_sum::{crc32_before, crc32_tail};
 use ipl_base::{PAYLOAD_LEN, VERSION};
 use ipl_format::{half_at, long_at, word_at};
 
@@ -20,11 +21,19 @@ pub fn payload_in(bytes: &[u8; 512], used: usize) -> &[u8]
     &bytes[32..32 + used]
 }
 
-// The sum of all bytes but those of the sum itself.
-pub(crate) fn sum_of(bytes: &[u8; 512]) -> u32
+/// What the bytes behind the head bring into the sum of a sector, whatever its head is.
+pub fn tail_of(bytes: &[u8; 512]) -> u32
+    ensures { result ≡ tail_sum (drop 32 bytes.now) }
+{
+    crc32_tail(&bytes[32..])
+}
+
+// The sum of all bytes but those of the sum itself, of which those behind the head bring in so much.
+pub(crate) fn sum_by(bytes: &[u8; 512], tail: u32) -> u32
+    requires { tail ≡ tail_sum (drop 32 bytes.now) }
     ensures { result ≡ computed_sum bytes.now }
 {
-    crc32_parts(&bytes[..28], &bytes[32..])
+    crc32_before(&bytes[..28], tail)
 }
 
 fn is_all(bytes: &[u8], byte: u8) -> bool

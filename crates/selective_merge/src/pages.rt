@@ -1,8 +1,8 @@
 //! The pages of a unit, moved to another place with the committed records applied.
-ghost use Rattle.std.specs.Prelude.{◌≡◌, ◌≢◌, ◌<◌, ◌≤◌, ◌+◌, is_ok, length, take, drop, slice_index, IfOk, OnOk};
+ghost use Rattle.std.specs.Prelude.{◌≡◌, ◌≢◌, ◌<◌, ◌≤◌, ◌+◌, is_ok, length, take, drop, replicate, slice_index, IfOk, IfSome, OnOk};
 ghost use Rattle.std.specs.Bool.{OnTrue, OnFalse};
 ghost use Rattle.ipl_base.specs.Sizes.{size_of_values};
-ghost use Rattle.ipl_base.specs.declared.limits.TheConstants.{LIVE_RECORDS, PAGE_LEN, PAGE_SECTORS, VERSION};
+ghost use Rattle.ipl_base.specs.declared.limits.TheConstants.{LIVE_RECORDS, PAGE_LEN, PAGE_SECTORS, SLOTS, VERSION};
 ghost use Rattle.ipl_format.specs.Page.{IsPage, value_in};
 ghost use Rattle.ipl_meaning.specs.Values.{Values};
 ghost use Rattle.unit_io.specs.Accounts.{Accounts};
@@ -23,7 +23,7 @@ ghost use Rattle.selective_merge.specs.Writing.{MovesOnePage, MovesPages};
 use crate::home::Home;
 use crate::log::Log;
 use chip_trait::Chip;
-use ipl_base::{ChipFault, PAGES};
+use ipl_base::{ChipFault, PAGES, VERSION};
 use page_ops::{Coming, apply_where_room};
 use page_text::PageMap;
 use sector_format::Head;
@@ -101,25 +101,43 @@ fn take_record(
     apply_where_room(slots, &log.get(i))
 }
 
-/// Makes a page (0 to 14) anew with the records whose numbers are committed: each slot that has such
-/// records is emptied, and then its last one is done. False where the page has no room for all of them.
-fn make_anew(slots: &mut PageMap, page: u32, log: &Log, status: &Status) -> bool
+/// Makes a page (0 to 14) anew with the records whose numbers are committed, of which so many are to
+/// come: each slot that has such records is emptied, and then its last one is done. False where the
+/// page has no room for all of them. Where none is to come, the page stays as it is.
+fn make_anew(slots: &mut PageMap, mut coming: Coming, page: u32, log: &Log, status: &Status) -> bool
+    requires coming { AreComing (among status.now.numbers) page log.now coming }
+    ensures kept { coming ≡ replicate SLOTS 0 → slots.new ≡ slots.old }
     ensures rebased { OnTrue result
         (IsRebased (among status.now.numbers) log.now page slots.old slots.new) }
     ensures page { OnTrue result (IsPage VERSION slots.new) }
     ensures full { OnFalse result (PAGE_LEN < size_of_values
         (with_records (among status.now.numbers) page log.now (value_in slots.old))) }
 {
-    let mut coming = count_coming(page, log, status);
+    // What is kept in memory as a text has room for it.
+    let _ = slots.text();
+    if coming.is_none() {
+        return true;
+    }
     coming.clear(slots);
     for i in 0..log.len() {
         if !take_record(slots, &mut coming, page, log, i, status) {
             return false;
         }
     }
-    // What is kept in memory as a text has room for it.
     let _ = slots.text();
     true
+}
+
+/// What the pieces of a page bring into sums, where it is written as it was read: its text is of the
+/// version that is written, and no record is to come on any slot.
+fn known_tails<'a>(tails: &'a [u32; 16], version: u8, coming: &Coming) -> Option<&'a [u32; 16]>
+    ensures { IfSome result (λ all.
+        (all.now ≡ tails.now) × (version ≡ VERSION) × (coming.now ≡ replicate SLOTS 0)) }
+{
+    if version == VERSION && coming.is_none() {
+        return Some(tails);
+    }
+    None
 }
 
 /// Reads a page (0 to 14) where the unit stands into a page in memory, and programs it as the
@@ -157,14 +175,17 @@ fn move_page<C: Chip>(
         (C.told chip.old) (C.told chip.new) }
 {
     let count = u32::from(home.pieces[page as usize]);
-    read_page(chip, home.place, &home.head, page, count, slots)?;
-    if !make_anew(slots, page, log, status) {
+    let mut tails = [0; 16];
+    read_page(chip, home.place, &home.head, page, count, slots, &mut tails)?;
+    let coming = count_coming(page, log, status);
+    let known = known_tails(&tails, home.head.version, &coming);
+    if !make_anew(slots, coming, page, log, status) {
         return Err(ChipFault::Malformed {
             place: home.place,
             sector: 0,
         });
     }
-    program_page(chip, place, head, page, slots)
+    program_page(chip, place, head, page, slots, known)
 }
 
 /// Moves all pages of a unit to a place without a header, as the committed records leave them, and

@@ -46,7 +46,7 @@ short_of bytes s said =
     let size : length (take (used_length bytes) (drop 32 bytes)) ≡ length s.payload = ap (λ (t : Sector). length t.payload) parts.2 in
     omega (arith, sym size, length-take (used_length bytes) (drop 32 bytes), (formed_facts bytes parts.0).short)
 
-piece_in : (bytes : List ℕ) (o : Option Sector) (v u g serial : ℕ) (last : Bool) → sector_in bytes ≡ o → is_piece v u g serial last o ≡ true → IsPiece o v u g serial last
+pub piece_in : (bytes : List ℕ) (o : Option Sector) (v u g serial : ℕ) (last : Bool) → sector_in bytes ≡ o → is_piece v u g serial last o ≡ true → IsPiece o v u g serial last
 piece_in bytes None v u g serial last said test = absurd (false≢true test)
 piece_in bytes (Some s) v u g serial last said test =
     let both = both_true _ _ test in
@@ -60,6 +60,22 @@ piece_in bytes (Some s) v u g serial last said test =
       short = short_of bytes s said;
       filled = both.1;
     }
+
+-- ---- the pieces of a text in two parts
+
+-- a piece of a front is one of the whole
+pub piece_of_front : (n i : ℕ) (front back : List ℕ) → length front ≡ 480 * n → i < n
+    → piece_of (front ++ back) i ≡ piece_of front i
+piece_of_front n i front back long earlier =
+    ap (take 480) (drop-append-le (480 * i) front back (omega (arith, long, earlier)))
+    ∙ take-append-le 480 (drop (480 * i) front) back (omega (arith, length-drop (480 * i) front, long, earlier))
+
+-- and what follows it is the next one
+pub piece_behind : (n : ℕ) (front back : List ℕ) → length front ≡ 480 * n → length back ≤ 480
+    → piece_of (front ++ back) n ≡ back
+piece_behind n front back long short =
+    ap (λ (k : ℕ). take 480 (drop k (front ++ back))) (sym long)
+    ∙ (ap (take 480) (drop-append_seam front back) ∙ take_all 480 back short)
 
 -- ---- the text of sound pieces
 
@@ -111,14 +127,11 @@ module _ (c : Chart) (place v u g page pieces : ℕ) where
       let long : length front ≡ 480 * n = length_below n (fewer n each) (omega (arith, few)) in
       let size : length back ≤ 480 = omega (arith, size_of n it, it.short) in
       elim (cases_lt i n) [
-        | inl earlier ↦ ap (take 480) (drop-append-le (480 * i) front back (omega (arith, long, earlier)))
-            ∙ (take-append-le 480 (drop (480 * i) front) back (omega (arith, length-drop (480 * i) front, long, earlier))
-            ∙ piece_below n (fewer n each) (omega (arith, few)) i earlier)
+        | inl earlier ↦ piece_of_front n i front back long earlier ∙ piece_below n (fewer n each) (omega (arith, few)) i earlier
         | inr last ↦
             let same : i ≡ n = omega (arith, low, last) in
-            let at : 480 * i ≡ length front = omega (arith, long, same) in
-            ap (λ (k : ℕ). take 480 (drop k (front ++ back))) at ∙ (ap (take 480) (drop-append_seam front back) ∙ (take_all 480 back size
-            ∙ ap (λ (k : ℕ). payload_of (c place (base_sector_of page k))) (sym same)))
+            ap (λ (k : ℕ). piece_of (front ++ back) k) same ∙ piece_behind n front back long size
+            ∙ ap (λ (k : ℕ). payload_of (c place (base_sector_of page k))) (sym same)
       ]
 
   -- so the page is held whose text it is

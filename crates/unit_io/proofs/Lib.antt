@@ -16,3 +16,4 @@ pub mod SparesLemmas
 pub mod TidyLemmas
 pub mod OnceLemmas
 pub mod UnreadLemmas
+pub mod TailLemmas

@@ -10,3 +10,4 @@ pub mod Plain
 pub mod ReadsAt
 pub mod Unread
 pub mod Costs
+pub mod Tails

@@ -12,7 +12,8 @@
 //!
 //! Proved, by `read_head`, `read_log`, `read_commit`, `read_page`, `page_laws`: headers, log
 //! sectors, commit sectors and pages are read exactly as the chip holds them; the first fault of a
-//! page in order; which reads were asked.
+//! page in order; which reads were asked; and what the pieces of a page bring into sums, with which
+//! it is programmed at another place (`AreTails`).
 #![tactic(auto)]
 
 mod calls;

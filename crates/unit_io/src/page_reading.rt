@@ -1,24 +1,26 @@
 //! The base sectors of a page, read and tested one after another.
-ghost use Rattle.std.specs.Prelude.{◌≡◌, ◌<◌, ◌≤◌, ◌+◌, ◌*◌, ◌++◌, ℕ, List, length, take, drop, true, false, Some, IfErr, IfOk, OnOk, OnErr};
+ghost use Rattle.std.specs.Prelude.{◌≡◌, ◌≢◌, ◌<◌, ◌≤◌, ◌+◌, ◌*◌, ◌++◌, ℕ, List, length, take, drop, true, false, Some, IfErr, IfOk, OnOk, OnErr};
 ghost use Rattle.std.specs.Bool.{OnTrue};
-ghost use Rattle.ipl_base.specs.declared.limits.TheConstants.{PAGE_LEN, PAGE_SECTORS, PAYLOAD_LEN};
+ghost use Rattle.ipl_base.specs.declared.limits.TheConstants.{PAGE_LEN, PAGE_SECTORS, PAYLOAD_LEN, VERSION};
 ghost use Rattle.chip_trait.specs.declared.event.Event.TheVariants.{Read};
 ghost use Rattle.chip_trait.specs.Told.{Told};
 ghost use Rattle.ipl_format.specs.Sector.{sector_in};
-ghost use Rattle.ipl_format.specs.Page.{empty_page};
+ghost use Rattle.ipl_format.specs.Whole.{IsWhole};
+ghost use Rattle.ipl_format.specs.Page.{empty_page, page_text};
 ghost use Rattle.ipl_format.specs.Place.{base_sector_of};
 ghost use Rattle.sector_format.specs.Decode.{IsDecoded, sector_of, sector_read};
 ghost use Rattle.ipl_meaning.specs.Chart.{chart_of};
 ghost use Rattle.unit_io.specs.Accounts.{Accounts};
 ghost use Rattle.unit_io.specs.Reads.{Asked, OfContents, PageAsked};
+ghost use Rattle.unit_io.specs.Tails.{AreTails};
 ghost use Rattle.ipl_base.specs.First.{first_below};
 ghost use Rattle.unit_io.specs.Faults.{is_filled, is_piece, piece_fault, piece_fault_at, payload_of, text_below, page_fault, TellsChipFault, IsPageCause, HoldsPage};
 
-use crate::reading::read_decoded;
+use crate::calls::read;
 use chip_trait::Chip;
 use ipl_base::{ChipFault, PAGE_SECTORS, PAYLOAD_LEN};
 use page_text::{PageBytes, PageMap};
-use sector_format::{Decoded, Head, payload_in};
+use sector_format::{Decoded, Head, decode_by, payload_in, tail_of};
 use unit_layout::base_sector;
 
 /// Whether a piece may use so many bytes: all 480, or if it is the last one any number but 0.
@@ -97,12 +99,14 @@ fn put_piece(bytes: &[u8; 512], used: usize, text: &mut PageBytes, start: usize)
     ensures size { length text.old.bytes ≡ PAGE_LEN }
     ensures bytes { text.new.bytes
         ≡ take start text.old.bytes ++ take used (drop 32 bytes.now) ++ drop (start + used) text.old.bytes }
+    ensures whole { IsWhole bytes.now }
     ensures empty { text.new.page ≡ empty_page }
 {
     text.put(start, payload_in(bytes, used));
 }
 
 /// Reads a piece (0 to 15) of a page (0 to 14) into its part of a text, and answers where that ends.
+/// What the piece brings into a sum stands among the tails.
 fn read_piece<C: Chip>(
     chip: &mut C,
     place: u32,
@@ -111,6 +115,7 @@ fn read_piece<C: Chip>(
     piece: u32,
     is_last: bool,
     text: &mut PageBytes,
+    tails: &mut [u32; 16],
 ) -> Result<usize, ChipFault>
     requires place { place < (C.told chip.old).places }
     requires page { page < 15 }
@@ -120,6 +125,8 @@ fn read_piece<C: Chip>(
         head.now.version head.now.unit head.now.generation (page * PAGE_SECTORS + piece) is_last (x place (base_sector_of page piece))) result) }
     ensures text { IfOk result (λ end. OfContents (C.told chip.old) (λ x.
         take end text.new.bytes ≡ take (PAYLOAD_LEN * piece) text.old.bytes ++ payload_of (chart_of x place (base_sector_of page piece)))) }
+    ensures tails { AreTails (take (PAYLOAD_LEN * piece) text.old.bytes) tails.old
+        → IfOk result (λ end. AreTails (take end text.new.bytes) tails.new) }
     ensures empty { text.new.page ≡ empty_page }
     ensures within { IfOk result (λ end. end ≤ PAYLOAD_LEN * piece + PAYLOAD_LEN) }
     ensures whole { is_last ≡ false → IfOk result (λ end. end ≡ PAYLOAD_LEN * piece + PAYLOAD_LEN) }
@@ -127,14 +134,18 @@ fn read_piece<C: Chip>(
     ensures accounts { Accounts (IsPageCause place page) result (C.told chip.old) (C.told chip.new) }
 {
     let mut bytes = [0; 512];
-    let answer = read_decoded(chip, place, base_sector(page, piece), &mut bytes)?;
+    read(chip, place, base_sector(page, piece), &mut bytes)?;
+    let tail = tail_of(&bytes);
+    let answer = decode_by(&bytes, tail);
     let used = check_piece(answer, place, head, page, piece, is_last)?;
     let start = piece as usize * PAYLOAD_LEN;
     put_piece(&bytes, used, text, start);
+    tails[piece as usize] = tail;
     Ok(start + used)
 }
 
-/// Reads the pieces of a page (0 to 14), at most 16, into a text, and answers its length.
+/// Reads the pieces of a page (0 to 14), at most 16, into a text, and answers its length. What each
+/// brings into a sum stands among the tails.
 fn read_pieces<C: Chip>(
     chip: &mut C,
     place: u32,
@@ -142,6 +153,7 @@ fn read_pieces<C: Chip>(
     page: u32,
     pieces: u32,
     text: &mut PageBytes,
+    tails: &mut [u32; 16],
 ) -> Result<usize, ChipFault>
     requires place { place < (C.told chip.old).places }
     requires page { page < 15 }
@@ -151,6 +163,7 @@ fn read_pieces<C: Chip>(
         (piece_fault_at x place head.now.version head.now.unit head.now.generation page pieces) pieces) result) }
     ensures text { IfOk result (λ end. OfContents (C.told chip.old) (λ x.
         take end text.new.bytes ≡ text_below (chart_of x) place page pieces)) }
+    ensures tails { IfOk result (λ end. AreTails (take end text.new.bytes) tails.new) }
     ensures empty { text.new.page ≡ empty_page }
     ensures within { IfOk result (λ end. end ≤ PAGE_LEN) }
     ensures asks { PageAsked place page pieces result (C.told chip.old) (C.told chip.new) }
@@ -158,7 +171,8 @@ fn read_pieces<C: Chip>(
 {
     let mut end = 0;
     for piece in 0..pieces {
-        end = read_piece(chip, place, head, page, piece, piece + 1 == pieces, text)?;
+        let is_last = piece + 1 == pieces;
+        end = read_piece(chip, place, head, page, piece, is_last, text, tails)?;
     }
     Ok(end)
 }
@@ -188,7 +202,9 @@ fn read_first_page<C: Chip>(
     let mut beside = PageMap::empty();
     let text = beside.bytes_mut();
     text.reset();
-    let end = read_pieces(chip, place, head, page, pieces, text)?;
+    // The page is written in another version, of whose text nothing is known by these.
+    let mut tails = [0; 16];
+    let end = read_pieces(chip, place, head, page, pieces, text, &mut tails)?;
     if !page_text::read(text.front(end), into, 1) {
         let sector = base_sector(page, 0);
         return Err(ChipFault::Malformed { place, sector });
@@ -200,6 +216,9 @@ fn read_first_page<C: Chip>(
 /// sectors and the text are of the version of the header. The base sectors are read in their order, and the first that is
 /// at fault ends it: `Damaged` with its two sums where these differ, `Malformed` where it isn't that piece of the page. Where
 /// all are well and their text isn't a page's, the first of them is `Malformed`. After a fault the page is empty.
+///
+/// A text of a later version than the first is written as it was read. Then the tails are what its
+/// pieces bring into the sums of the sectors that hold them.
 pub fn read_page<C: Chip>(
     chip: &mut C,
     place: u32,
@@ -207,6 +226,7 @@ pub fn read_page<C: Chip>(
     page: u32,
     pieces: u32,
     into: &mut PageMap,
+    tails: &mut [u32; 16],
 ) -> Result<(), ChipFault>
     requires place { place < (C.told chip.old).places }
     requires page { page < 15 }
@@ -216,6 +236,8 @@ pub fn read_page<C: Chip>(
     ensures page { OnOk result (OfContents (C.told chip.old) (λ x.
         HoldsPage (chart_of x) place head.now.version head.now.unit head.now.generation page pieces into.new)) }
     ensures empty { OnErr result (into.new ≡ empty_page) }
+    ensures tails { head.now.version ≢ 1
+        → OnOk result (AreTails (page_text VERSION into.new) tails.new) }
     ensures asks { PageAsked place page pieces result (C.told chip.old) (C.told chip.new) }
     ensures accounts { Accounts (IsPageCause place page) result (C.told chip.old) (C.told chip.new) }
 {
@@ -224,7 +246,7 @@ pub fn read_page<C: Chip>(
     }
     let text = into.bytes_mut();
     text.reset();
-    let end = read_pieces(chip, place, head, page, pieces, text)?;
+    let end = read_pieces(chip, place, head, page, pieces, text, tails)?;
     if !text.read(end) {
         let sector = base_sector(page, 0);
         return Err(ChipFault::Malformed { place, sector });

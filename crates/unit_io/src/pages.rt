@@ -1,10 +1,13 @@
 //! The base sectors of a page.
-ghost use Rattle.std.specs.Prelude.{◌≡◌, ◌<◌, ◌≤◌, ◌+◌, ◌*◌, ℕ, length, None, IfOk, OnOk, is_ok};
+ghost use Rattle.std.specs.Prelude.{◌≡◌, ◌<◌, ◌≤◌, ◌+◌, ◌*◌, ℕ, List, length, Some, None, IfOk, IfSome, OnOk, is_ok};
 ghost use Rattle.ipl_base.specs.declared.limits.TheConstants.{PAGE_LEN, PAGE_SECTORS, PAYLOAD_LEN, VERSION};
 ghost use Rattle.chip_trait.specs.Lawful.{Clean, age};
 ghost use Rattle.chip_trait.specs.Told.{Told, History};
 ghost use Rattle.ipl_rules.specs.State.{Map};
-ghost use Rattle.ipl_format.specs.Page.{IsCutInto, piece_of};
+ghost use Rattle.crc_sum.specs.Crc.{tail_sum};
+ghost use Rattle.ipl_format.specs.Page.{IsCutInto, page_text, piece_of};
+ghost use Rattle.ipl_format.specs.Sector.{IsKind, filled, sector_in};
+ghost use Rattle.ipl_format.specs.Version.{IsVersion};
 ghost use Rattle.ipl_format.specs.Place.{base_sector_of};
 ghost use Rattle.ipl_meaning.specs.Layout.{base_sector};
 ghost use Rattle.ipl_meaning.specs.Rests.{now, StoryRests};
@@ -14,12 +17,14 @@ ghost use Rattle.unit_io.specs.Spots.{Programs, IsSpot, IsPieceSpot};
 ghost use Rattle.unit_io.specs.Costs.{ProgramsAt, Spends};
 ghost use Rattle.unit_io.specs.Charts.{Charts, Spares, Gains, HasPieces, HasPage};
 ghost use Rattle.unit_io.specs.Plain.{AddsPlain};
+ghost use Rattle.unit_io.specs.Tails.{AreTails};
+ghost use Rattle.sector_format.specs.Decode.{sector_of};
 
 use crate::sectors::program_aside;
 use chip_trait::Chip;
 use ipl_base::{ChipFault, PAGE_SECTORS, PAYLOAD_LEN};
 use page_text::PageMap;
-use sector_format::{Head, encode};
+use sector_format::{Head, encode, encode_by};
 use unit_layout::base_sector;
 
 /// A piece (0 to 15) of a text: 480 bytes, or what is left.
@@ -33,6 +38,31 @@ fn piece_of(text: &[u8], piece: u32) -> &[u8]
     &text[start..text.len().min(start + PAYLOAD_LEN)]
 }
 
+/// What a piece (0 to 15) brings into the sum of its sector, where that was taken before.
+fn tail_at(tails: Option<&[u32; 16]>, piece: u32) -> Option<u32>
+    requires { piece < PAGE_SECTORS }
+    ensures { (text : List ℕ) → IfSome tails.entry (λ all. AreTails text all.now)
+        → PAYLOAD_LEN * piece < length text
+        → IfSome result (λ tail. tail ≡ tail_sum (filled (piece_of text piece))) }
+{
+    Some(tails?[piece as usize])
+}
+
+/// Writes the sector of a head and a payload, by what the payload brings into the sum where that was
+/// taken before.
+fn encode_piece(base: &Head, payload: &[u8], tail: Option<u32>, out: &mut [u8; 512])
+    requires fits { length payload.now ≤ PAYLOAD_LEN }
+    requires known { IsKind base.now.kind }
+    requires version { IsVersion base.now.version }
+    requires tail { IfSome tail (λ sum. sum ≡ tail_sum (filled payload.now)) }
+    ensures said { sector_in out.new ≡ Some (sector_of base.now payload.now) }
+{
+    match tail {
+        Some(tail) => encode_by(base, payload, tail, out),
+        None => encode(base, payload, out),
+    }
+}
+
 /// Programs the base sector of a piece (0 to 15) of a page's text.
 fn program_piece<C: Chip>(
     chip: &mut C,
@@ -41,11 +71,13 @@ fn program_piece<C: Chip>(
     page: u32,
     piece: u32,
     text: &[u8],
+    tail: Option<u32>,
 ) -> Result<(), ChipFault>
     requires place { place < (C.told chip.old).places }
     requires page { page < 15 }
     requires few { piece < PAGE_SECTORS }
     requires within { PAYLOAD_LEN * piece ≤ length text.now }
+    requires tail { IfSome tail (λ sum. sum ≡ tail_sum (filled (piece_of text.now piece))) }
     ensures aside { (m : Map) (h : History) → IsSteady h (C.told chip.old) → StoryRests (C.told chip.old).places m h
         → now h place 0 ≡ None → age h.story place (base_sector_of page piece) ≡ Clean
         → KeepsMap (C.told chip.old).places m (Programs place (IsSpot (base_sector_of page piece)))
@@ -61,7 +93,7 @@ fn program_piece<C: Chip>(
     let serial = u64::from(page * PAGE_SECTORS + piece);
     let base = Head::written(Head::BASE, head.unit, head.generation, serial);
     let mut bytes = [0; 512];
-    encode(&base, piece_of(text, piece), &mut bytes);
+    encode_piece(&base, piece_of(text, piece), tail, &mut bytes);
     program_aside(chip, place, base_sector(page, piece), &bytes)
 }
 
@@ -81,10 +113,12 @@ fn program_pieces<C: Chip>(
     head: &Head,
     page: u32,
     text: &[u8],
+    tails: Option<&[u32; 16]>,
 ) -> Result<u32, ChipFault>
     requires place { place < (C.told chip.old).places }
     requires page { page < 15 }
     requires fits { length text.now ≤ PAGE_LEN }
+    requires tails { IfSome tails (λ all. AreTails text.now all.now) }
     ensures keeps { (m : Map) (h : History) → IsSteady h (C.told chip.old) → StoryRests (C.told chip.old).places m h
         → now h place 0 ≡ None → ((s : ℕ) → IsPieceSpot page PAGE_SECTORS s → age h.story place s ≡ Clean)
         → KeepsMap (C.told chip.old).places m (Programs place (IsPieceSpot page PAGE_SECTORS))
@@ -100,7 +134,8 @@ fn program_pieces<C: Chip>(
 {
     let count = piece_count(text);
     for piece in 0..count {
-        program_piece(chip, place, head, page, piece, text)?;
+        let tail = tail_at(tails, piece);
+        program_piece(chip, place, head, page, piece, text, tail)?;
     }
     Ok(count)
 }
@@ -110,15 +145,20 @@ fn program_pieces<C: Chip>(
 ///
 /// At a place without a header, whatever a power cut leaves stands for the map on which the story rested, and done, it rests
 /// on that map. Nothing makes sure of the sectors: that is for the barrier before the header.
+///
+/// Tails that are given are those of the page's text, as where it is moved as it was read. Then its
+/// pieces aren't summed again.
 pub fn program_page<C: Chip>(
     chip: &mut C,
     place: u32,
     head: &Head,
     page: u32,
     map: &PageMap,
+    tails: Option<&[u32; 16]>,
 ) -> Result<u32, ChipFault>
     requires place { place < (C.told chip.old).places }
     requires page { page < 15 }
+    requires tails { IfSome tails (λ all. AreTails (page_text VERSION map.now) all.now) }
     ensures keeps { (m : Map) (h : History) → IsSteady h (C.told chip.old) → StoryRests (C.told chip.old).places m h
         → now h place 0 ≡ None → ((s : ℕ) → IsPieceSpot page PAGE_SECTORS s → age h.story place s ≡ Clean)
         → KeepsMap (C.told chip.old).places m (Programs place (IsPieceSpot page PAGE_SECTORS))
@@ -131,5 +171,5 @@ pub fn program_page<C: Chip>(
     ensures tidy { Spends (Programs place (IsPieceSpot page PAGE_SECTORS) (is_ok result)) (C.told chip.old) (C.told chip.new) }
     ensures accounts { Accounts IsStopped result (C.told chip.old) (C.told chip.new) }
 {
-    program_pieces(chip, place, head, page, map.text())
+    program_pieces(chip, place, head, page, map.text(), tails)
 }

@@ -16,25 +16,6 @@ use chip_trait::Chip;
 use ipl_base::{ChipFault, Spot};
 use sector_format::{Decoded, Head, decode};
 
-/// Reads a sector (0 to 255) of a place, and what its bytes are.
-pub(crate) fn read_decoded<C: Chip>(
-    chip: &mut C,
-    place: u32,
-    sector: u32,
-    into: &mut [u8; 512],
-) -> Result<Decoded, ChipFault>
-    requires place { place < (C.told chip.old).places }
-    requires sector { sector < 256 }
-    ensures says { IfOk result (λ answer. sector_in into.new ≡ sector_read into.new answer) }
-    ensures decoded { IfOk result (λ answer. IsDecoded into.new answer) }
-    ensures bytes { OnOk result (OfContents (C.told chip.old) (λ x. into.new ≡ x place sector)) }
-    ensures asks { Asked (Read place sector) result (C.told chip.old) (C.told chip.new) }
-    ensures accounts { Accounts IsReadFault result (C.told chip.old) (C.told chip.new) }
-{
-    read(chip, place, sector, into)?;
-    Ok(decode(into))
-}
-
 /// The head and the used length of a sector, where it checks.
 fn named(bytes: &[u8; 512]) -> Option<(Head, usize)>
     ensures exact { sector_named bytes.now result ≡ sector_in bytes.now }

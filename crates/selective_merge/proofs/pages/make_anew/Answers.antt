@@ -1,15 +1,15 @@
-use Rattle.std.proofs.Common.{refl, arith}
+use Rattle.std.proofs.Common.{◌≡◌, replicate, refl, arith, rules}
 use Rattle.ipl_format.specs.Page.{value_in}
 use Rattle.merge_rules.specs.Packs.{among}
-use Rattle.page_ops.proofs.RebuildLemmas.{making_first}
+use Rattle.page_ops.proofs.RebuildLemmas.{making_first, none_comes}
 use Rattle.selective_merge.proofs.PageLemmas.{made_all}
 use Rattle.selective_merge.proofs.pages.make_anew.Goals as goal
 
 pub loop-i-init : goal.loop-i-init
 loop-i-init c = record {
   making = making_first (among c.args.status.now.numbers) c.args.page c.args.log.now
-      (value_in c.args.slots.now) c.count_coming-coming.result c.args.slots.now _
-      c.count_coming-coming.ensures (λ slot low. refl) c.clear.ensures.cleared;
+      (value_in c.args.slots.now) c.args.coming c.args.slots.now _
+      c.requires.coming (λ slot low. refl) c.clear.ensures.cleared;
 }
 
 pub returns-clause-rebased : goal.returns-clause-rebased
@@ -17,3 +17,9 @@ returns-clause-rebased c =
     made_all (among c.args.status.now.numbers) c.args.page c.args.log.now
     c.loop-i.i _ c.loop-i.coming c.loop-i.slots
     (omega arith) c.loop-i.invariant.making
+
+pub returns-then-is_none-clause-rebased : goal.returns-then-is_none-clause-rebased
+returns-then-is_none-clause-rebased c =
+    let none : c.args.coming ≡ replicate 64 0 = search rules in
+    none_comes (among c.args.status.now.numbers) c.args.page c.args.log.now c.args.coming
+    (value_in c.args.slots.now) c.requires.coming none

@@ -1,0 +1,11 @@
+-- What the pieces of a text bring into the sums of the sectors that hold them.
+use Rattle.std.specs.Prelude.{ℕ, ◌≡◌, ◌<◌, ◌*◌, List, length, slice_index}
+use Rattle.crc_sum.specs.Crc.{tail_sum}
+use Rattle.ipl_base.specs.declared.limits.TheConstants.{PAYLOAD_LEN}
+use Rattle.ipl_format.specs.Sector.{filled}
+use Rattle.ipl_format.specs.Page.{piece_of}
+
+-- for each piece that the text has, what it brings into a sum as the payload of a sector
+abbrev pub AreTails : List ℕ → List ℕ → Type 0
+AreTails text tails = (i : ℕ) → PAYLOAD_LEN * i < length text
+    → slice_index tails i ≡ tail_sum (filled (piece_of text i))
