@@ -1,52 +1,59 @@
 //! The size of a chip that can be used.
-ghost use Rattle.std.specs.Prelude.{◌≡◌, ◌+◌, ◌≤◌, ℕ, IfSome, IfNone};
-ghost use Rattle.ipl_base.specs.declared.limits.TheConstants.{LEAST_PLACES, MOST_PLACES, MOST_UNITS};
-ghost use Rattle.ipl_base.specs.Places.{IsGeometry};
+ghost use Rattle.std.specs.Prelude.{◌≡◌, ◌≤◌, IfSome, IfNone};
+ghost use Rattle.ipl_base.specs.declared.limits.TheConstants.{MOST_UNITS};
+ghost use Rattle.ipl_base.specs.Places.{Extent, IsGeometry, KeepsUnits};
 
 use crate::limits::{LEAST_PLACES, MOST_PLACES, RESERVED_PLACES};
 use std::marker::Model;
 
-/// The number of places of a chip that can be used, 5 to 1028, as a contract sees it.
+/// The size of a chip that can be used: its places, 5 to 1028, and the units that are kept on them.
+/// A contract sees both numbers.
 #[derive(Clone, Copy, Debug, PartialEq, Eq)]
 pub struct Geometry {
     places: u32,
+    units: u32,
 }
 
 impl Model for Geometry {
-    ghost Value = { ℕ };
+    ghost Value = { Extent };
 
-    ghost view = { λ g. g.places };
+    ghost view = { λ g. record { places = g.places; units = g.units } };
 
-    ghost invariant = { λ g. (LEAST_PLACES ≤ g.places) × (g.places ≤ MOST_PLACES) };
+    ghost invariant = { λ g. IsGeometry g.places × KeepsUnits g.places g.units };
 
-    ghost inverse = { λ n. record { places = n } };
+    ghost inverse = { λ g. record { places = g.places; units = g.units } };
 }
 
 impl Geometry {
     /// `None` exactly outside 5 to 1028.
     pub fn of(places: u32) -> Option<Geometry>
-        ensures some { IfSome result (λ g. IsGeometry places × (g ≡ places)) }
+        ensures some { IfSome result (λ g. IsGeometry places × (g.places ≡ places)) }
+        ensures units { IfSome result (λ g. KeepsUnits places g.units) }
         ensures none { IfNone result (IsGeometry places → ⊥) }
     {
         if places < LEAST_PLACES || places > MOST_PLACES {
             return None;
         }
-        Some(Geometry { places })
+        Some(Geometry {
+            places,
+            units: places - RESERVED_PLACES,
+        })
     }
 
     /// The places of the chip, its erase units.
     pub fn places(&self) -> u32
-        ensures places { result ≡ self.now }
+        ensures places { result ≡ self.now.places }
         ensures range { IsGeometry result }
     {
         self.places
     }
 
-    /// The logical units that such a chip holds: all places but four.
+    /// The logical units that are kept on such a chip: all places but four.
     pub fn units(&self) -> u32
-        ensures units { result + 4 ≡ self.now }
+        ensures units { result ≡ self.now.units }
+        ensures keeps { KeepsUnits self.now.places result }
         ensures range { (1 ≤ result) × (result ≤ MOST_UNITS) }
     {
-        self.places - RESERVED_PLACES
+        self.units
     }
 }

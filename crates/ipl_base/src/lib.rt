@@ -1,7 +1,7 @@
 //! The words that all crates share: the size of a chip, its limits, names of records and where they
 //! live, values, the counter of numbers, and the faults. It stands on no crate here. A contract
-//! sees a `Geometry` as its number of places, a `Name` and a `Counter` as their numbers, and a
-//! `Value` as its bytes.
+//! sees a `Geometry` as its numbers of places and of units, a `Name` and a `Counter` as their
+//! numbers, and a `Value` as its bytes.
 //!
 //! Proved, by its calls: values, names and their homes, geometry, counters.
 #![tactic(auto)]

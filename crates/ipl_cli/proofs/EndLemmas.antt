@@ -1,5 +1,5 @@
 -- What a format and a run leave, where they end.
-use Rattle.std.proofs.Common.{◌≡◌, ◌⊎◌, ◌≤◌, ◌-◌, ℕ, Bool, true, false, [], ◌∷◌, List, ◌++◌, Some, Result, Ok, Err, is_ok, inl, inr, refl, sym, ◌∙◌, ap, subst, arith, append_assoc}
+use Rattle.std.proofs.Common.{◌≡◌, ◌⊎◌, ◌≤◌, ℕ, Bool, true, false, [], ◌∷◌, List, ◌++◌, Some, Result, Ok, Err, is_ok, inl, inr, refl, sym, ◌∙◌, ap, subst, arith, append_assoc}
 use Rattle.std.proofs.lemmas.List.{append-nil}
 use Rattle.std.specs.Option.{option_map}
 use Rattle.std.specs.FinMap.{empty}
@@ -13,6 +13,7 @@ use Rattle.chip_trait.specs.Told.{History, Told, Beside, Counts, SayCounts, Appe
 use Rattle.chip_trait.proofs.HistoryLemmas.{same_history, history_then}
 use Rattle.chip_trait.proofs.MomentLemmas.{at_start, at_both, at_weaker}
 use Rattle.chip_trait.proofs.SaidLemmas.{pieces-append, said-append, silent-part}
+use Rattle.ipl_base.specs.Places.{units_on}
 use Rattle.ipl_base.specs.declared.fault.FormatFault.{FormatFault}
 use Rattle.ipl_base.specs.declared.fault.ImageFault.{ImageFault}
 use Rattle.ipl_rules.specs.State.{State, Limits, Map, at_rest}
@@ -137,9 +138,10 @@ pub record Kept (places : ℕ) (new : Told) (k : History) (s : State) : Type 0 w
   pub rests : StoryRests places s.map k
 
 pub kept : (places : ℕ) → 5 ≤ places → (then : ScriptStore) (new : Told) (s : State) (k : History)
-    → KeepsScript (limits_of (places - 4)) then new k s → Kept places new k s
+    → KeepsScript (limits_of (units_on places)) then new k s → Kept places new k s
 kept places least then new s k keeps =
-    let same : places - 4 ≡ then.store.units = ap (λ (l : Limits). l.units) keeps.kept.limits_are in
+    let same : units_on places ≡ then.store.units = ap (λ (l : Limits). l.units)
+    keeps.kept.limits_are in
     record {
       steady = keeps.kept.steady;
       rests = subst (λ (q : ℕ). StoryRests q s.map k) (omega (arith, same, least))
@@ -167,7 +169,7 @@ near_silent Q limits state (c ∷ commands) holds = rw (reply_shows limits state
 
 -- how a run ends, by its stop
 ends_by : (Q : State → Type 0) (places : ℕ) (m : Map) (script : List ℕ) (lines : List (List ℕ))
-    (result : Result (Unit {0}) Stop) → EndsAt result (limits_of (places - 4)) (at_rest m)
+    (result : Result (Unit {0}) Stop) → EndsAt result (limits_of (units_on places)) (at_rest m)
     (commands_of script) lines Q
     → EndsBy (ending_of result) Q places m script lines
 ends_by Q places m script lines (Ok u) e = e
@@ -223,7 +225,7 @@ module _ (places : ℕ) (m : Map) (script : List ℕ) (h : History) (first : Sto
     (each : AtEachMoment (λ e. EachStands places m (adds_all e h)) first)
     (lawful : (base : Story) → IsLawful base → IsLawful (first ++ base)) where
   abbrev limits : Limits
-  limits = limits_of (places - 4)
+  limits = limits_of (units_on places)
 
   abbrev Found : Story → Type 0
   Found e = Leaves (says sector_in) (StandsAbout places m script (said e)) h e
@@ -396,7 +398,7 @@ module _ (old mid : Told) (store : ScriptStore) (s : StartsOpened old store mid)
   -- the store keeps the records on which the history rested
   pub opened_keeps : (m : Map) (h : History) (steady : IsSteady h old)
       (rests : StoryRests old.places m h)
-      → KeepsScript (limits_of (old.places - 4)) store mid
+      → KeepsScript (limits_of (units_on old.places)) store mid
       (adds_all (s.tries.steps m h steady rests).added h) (at_rest m)
   opened_keeps m h steady rests =
       let made = s.running.sound.made in
@@ -420,7 +422,7 @@ module _ (old mid : Told) (store : ScriptStore) (s : StartsOpened old store mid)
         old mid new store then s.running.sound.made.geometry.0 s.tries.accounts.counts.writes
         did.history
         (λ base. did.does.clean refl base (λ p q nowhere. absurd nowhere))
-        (run (limits_of (old.places - 4)) (at_rest m) (adds_all did.added h) (opened_keeps m h
+        (run (limits_of (units_on old.places)) (at_rest m) (adds_all did.added h) (opened_keeps m h
         steady rests) script (left_counts old mid s.tries.accounts.counts ∙ left))
     opened_runs (Err e) run = λ h script steady left m rests.
         let did = s.tries.steps m h steady rests in
@@ -429,7 +431,7 @@ module _ (old mid : Told) (store : ScriptStore) (s : StartsOpened old store mid)
         old mid new store then s.running.sound.made.geometry.0 s.tries.accounts.counts.writes
         did.history
         (λ base. did.does.clean refl base (λ p q nowhere. absurd nowhere)) e
-        (run (limits_of (old.places - 4)) (at_rest m) (adds_all did.added h) (opened_keeps m h
+        (run (limits_of (units_on old.places)) (at_rest m) (adds_all did.added h) (opened_keeps m h
         steady rests) script (left_counts old mid s.tries.accounts.counts ∙ left))
 
 -- an opening that fails leaves the records

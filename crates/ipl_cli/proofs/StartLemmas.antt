@@ -1,5 +1,5 @@
 -- How the program starts a run, and why it doesn't.
-use Rattle.std.proofs.Common.{◌≡◌, ◌≤◌, ◌<◌, ◌-◌, ◌+◌, ◌^◌, ℕ, true, false, Some, None, Result, Ok, Err, inl, inr, refl, sym, ◌∙◌, ap, subst, arith}
+use Rattle.std.proofs.Common.{◌≡◌, ◌≤◌, ◌<◌, ◌+◌, ◌^◌, ℕ, true, false, Some, None, Result, Ok, Err, inl, inr, refl, sym, ◌∙◌, ap, subst, arith}
 use Rattle.std.specs.Prelude.{◌&&◌, nat_le, OnOk, IfErr, IsErrOf, is_ok}
 use Rattle.std.proofs.lemmas.Bool.{cases_Bool, cases_eq, and_parts}
 use Rattle.std.proofs.lemmas.Bool.Decides.{nat_tests}
@@ -7,7 +7,7 @@ use Rattle.std.specs.FinMap.{empty}
 use Rattle.chip_trait.specs.Story.{Story, Contents, held}
 use Rattle.chip_trait.specs.Told.{History, Told, Beside, Counts, Grew, Rose, adds_all}
 use Rattle.ipl_base.specs.Calls.{IsFailedCall}
-use Rattle.ipl_base.specs.Places.{IsGeometry}
+use Rattle.ipl_base.specs.Places.{IsGeometry, units_on}
 use Rattle.ipl_base.specs.declared.fault.ChipFault.{ChipFault}
 use Rattle.ipl_base.specs.declared.fault.ChipFault.TheVariants.{ReadFault, Stopped, Damaged, Malformed, WornOut}
 use Rattle.ipl_base.specs.declared.fault.FormatFault.{FormatFault}
@@ -266,7 +266,7 @@ module _ (old mid : Told) (store : ScriptStore) (s : StartsOpened old store mid)
     excused f completes sound =
         let did = s.tries.steps sound.map sound.history sound.steady sound.rests in
         let held = opened_keeps old mid store s sound.map sound.history sound.steady sound.rests in
-        let done = completes (limits_of (old.places - 4)) (record {
+        let done = completes (limits_of (units_on old.places)) (record {
           state = at_rest sound.map;
           history = adds_all did.added sound.history;
           holds = held;
@@ -432,8 +432,8 @@ fresh_number : (places : ℕ) (c : Chart) → IsGeometry places → IsFresh plac
 fresh_number places c fits fresh = elim (greatest_is_found c places (first_layout places)
     (fresh_bytes places c fits fresh) fresh.mirrors.laid) [
       | inl none ↦ omega (arith, none)
-      | inr found ↦ let low : greatest_found c places < places - 4 + 2 = fresh.mirrors.numbers.above
-          (greatest_found c places) found in omega (arith, low, fits.1)
+      | inr found ↦ let low : greatest_found c places < units_on places + 2 =
+          fresh.mirrors.numbers.above (greatest_found c places) found in omega (arith, low, fits.1)
     ]
 
 module _ (old mid : Told) (f : WasFormatted old mid) where

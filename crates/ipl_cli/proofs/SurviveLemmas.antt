@@ -1,5 +1,5 @@
 -- What a power cut leaves of a run, where the chip tells what it holds.
-use Rattle.std.proofs.Common.{◌≡◌, ◌<◌, ℕ, zero, suc, [], ◌++◌, List, Some, Ok, Err, inl, inr, sym, ◌∙◌, ap, subst, refl, arith, append_assoc, ◌≤◌, ◌-◌, length}
+use Rattle.std.proofs.Common.{◌≡◌, ◌<◌, ℕ, zero, suc, [], ◌++◌, List, Some, Ok, Err, inl, inr, sym, ◌∙◌, ap, subst, refl, arith, append_assoc, ◌≤◌, length}
 use Rattle.std.proofs.lemmas.List.{append-nil, append_cancel_right, length-append, nil_from_length}
 use Rattle.std.specs.Option.{option_map}
 use Rattle.std.specs.FinMap.{empty}
@@ -10,10 +10,9 @@ use Rattle.chip_trait.specs.declared.event.Event.{Event}
 use Rattle.chip_trait.specs.declared.event.Event.TheVariants.{Erase}
 use Rattle.chip_trait.specs.Told.{Told, IsConsistent, Rose, Unrisen, adds_all}
 use Rattle.chip_trait.proofs.HistoryLemmas.{same_history, history_then}
-use Rattle.ipl_base.specs.Places.{IsGeometry}
+use Rattle.ipl_base.specs.Places.{IsGeometry, units_on}
 use Rattle.ipl_base.specs.declared.fault.FormatFault.{FormatFault}
 use Rattle.ipl_base.specs.declared.fault.FormatFault.TheVariants as format
-use Rattle.ipl_base.specs.declared.limits.TheConstants.{RESERVED_PLACES}
 use Rattle.ipl_rules.specs.State.{State, at_rest}
 use Rattle.ipl_model.specs.Grammar.{commands_of}
 use Rattle.ipl_format.specs.Sector.{sector_in}
@@ -107,7 +106,7 @@ module _ (old new : Told) where
           none image) in
           subst (λ (s : Story). StandsAfterAnswered old.places empty script (said s) y) (sym none)
           (near_silent (λ (s : State). Stands old.places (chart_of y) s.map)
-          (limits_of (old.places - RESERVED_PLACES)) (at_rest empty) (commands_of script) stands);
+          (limits_of (units_on old.places)) (at_rest empty) (commands_of script) stands);
     }
 
     untouched_survives : old.contents ≡ Some x → IsUntouched old new → SurvivesFormat script x old new

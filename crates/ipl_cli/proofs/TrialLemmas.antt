@@ -1,5 +1,5 @@
 -- What a trial leaves, and why it ends.
-use Rattle.std.proofs.Common.{◌≡◌, ◌≤◌, ◌-◌, ◌+◌, ℕ, true, [], ◌∷◌, List, ◌++◌, Some, Result, Ok, Err, inl, inr, refl, sym, ◌∙◌, ap, subst, arith, append_assoc}
+use Rattle.std.proofs.Common.{◌≡◌, ◌≤◌, ℕ, true, [], ◌∷◌, List, ◌++◌, Some, Result, Ok, Err, inl, inr, refl, sym, ◌∙◌, ap, subst, arith, append_assoc}
 use Rattle.std.specs.Prelude.{IfErr, IsErrOf}
 use Rattle.std.specs.FinMap.{empty}
 use Rattle.std.specs.Option.{option_map}
@@ -12,6 +12,7 @@ use Rattle.chip_trait.specs.Told.{History, Told, Beside, IsPrefix, adds_all, Unr
 use Rattle.chip_trait.proofs.HistoryLemmas.{same_history, history_then}
 use Rattle.chip_trait.proofs.MomentLemmas.{at_both, at_weaker}
 use Rattle.chip_trait.proofs.SaidLemmas.{silent-part}
+use Rattle.ipl_base.specs.Places.{units_on, places_for}
 use Rattle.ipl_base.specs.declared.fault.ImageFault.{ImageFault}
 use Rattle.ipl_rules.specs.State.{State, Limits, Map, at_rest}
 use Rattle.ipl_model.specs.declared.command.Command.{Command}
@@ -34,7 +35,7 @@ use Rattle.script_run.specs.Goes.{Along, CompletesOver}
 use Rattle.script_run.specs.Run.{SaysLines, IsUnsaid}
 use Rattle.script_run.proofs.RunLemmas.{says_none, says_prefix}
 use Rattle.script_store.specs.declared.store.ScriptStore.{ScriptStore}
-use Rattle.script_store.specs.Keeps.{script_keeping, next_number}
+use Rattle.script_store.specs.Keeps.{IsRunning, script_keeping, next_number}
 use Rattle.store_trait.specs.Keeping.{FOUND_NUMBER}
 use Rattle.trial_commands.specs.Words.{trial_commands}
 use Rattle.trial_run.specs.Trial.{StandsBehind as StandsBehindOf, TrialLeaves as LeavesOf, TrialEnds, EndsInWork, RunsTrial, IsTrialStop}
@@ -51,13 +52,13 @@ use Rattle.ipl_cli.proofs.StartLemmas.{cause_anew, over_cause, not_started_cause
 -- ---- what the chip stands for
 
 module _ (places : ℕ) (least : 5 ≤ places) (commands : List Command) where
-  -- a store's number of units is four less than the chip's of places
-  stands_on : (x : Contents) (m : Map) → Stands (places - 4 + 4) (chart_of x) m
+  -- a store of the units that are kept on so many places is made for these places
+  stands_on : (x : Contents) (m : Map) → Stands (places_for (units_on places)) (chart_of x) m
       → Stands places (chart_of x) m
   stands_on x m stands = subst (λ (q : ℕ). Stands q (chart_of x) m) (omega (arith, least)) stands
 
   behind : (lines : List (List ℕ)) (x : Contents)
-      → StandsBehindOf script_keeping (limits_of (places - 4)) (at_rest empty) commands lines x
+      → StandsBehindOf script_keeping (limits_of (units_on places)) (at_rest empty) commands lines x
       → StandsBehind places commands lines x
   behind [] x (done, later, are, stands) = (
     done,
@@ -75,7 +76,7 @@ module _ (places : ℕ) (commands : List Command) (h : History) (first : Story)
     (each : AtEachMoment (λ e. EachStands places empty (adds_all e h)) first)
     (lawful : (base : Story) → IsLawful base → IsLawful (first ++ base)) where
   abbrev limits : Limits
-  limits = limits_of (places - 4)
+  limits = limits_of (units_on places)
 
   abbrev Found : Story → Type 0
   Found e = Leaves (says sector_in) (StandsBehind places commands (pieces e)) h e
@@ -244,9 +245,9 @@ module _ (old mid : Told) (store : ScriptStore) (s : StartsOpened old store mid)
       (λ base good. did.does.lawful.lawful base good (λ p q nowhere. absurd nowhere))
       old mid new store then s.running.sound.made.geometry.0 s.tries.accounts.counts.writes
       did.history (λ base. did.does.clean refl base (λ p q nowhere. absurd nowhere)) left_alone
-      (script_keeping.holds (limits_of (old.places - 4)) then new) (Ok tt) (λ k state held unrisen.
+      (script_keeping.holds (limits_of (units_on old.places)) then new) (Ok tt) (λ k state held unrisen.
       held)
-      (run (limits_of (old.places - 4)) (at_rest empty) (adds_all did.added h) (opened_keeps old mid
+      (run (limits_of (units_on old.places)) (at_rest empty) (adds_all did.added h) (opened_keeps old mid
       store s empty h steady rests))
   opened_trial (Err e) run = λ h steady rests.
       let did = s.tries.steps empty h steady rests in
@@ -254,9 +255,9 @@ module _ (old mid : Told) (store : ScriptStore) (s : StartsOpened old store mid)
       (λ base good. did.does.lawful.lawful base good (λ p q nowhere. absurd nowhere))
       old mid new store then s.running.sound.made.geometry.0 s.tries.accounts.counts.writes
       did.history (λ base. did.does.clean refl base (λ p q nowhere. absurd nowhere)) left_alone
-      (Stays script_keeping (limits_of (old.places - 4)) then mid new) (Err e)
+      (Stays script_keeping (limits_of (units_on old.places)) then mid new) (Err e)
       (λ k state stays. stays)
-      (run (limits_of (old.places - 4)) (at_rest empty) (adds_all did.added h) (opened_keeps old mid
+      (run (limits_of (units_on old.places)) (at_rest empty) (adds_all did.added h) (opened_keeps old mid
       store s empty h steady rests))
 
 -- an opening that fails leaves no records
@@ -457,8 +458,9 @@ module _ (old mid : Told) (store : ScriptStore) (s : StartsFormatted old store m
 -- ---- as the calls have it
 
 -- a trial over a store whose numbers last
-module _ (seed count units : ℕ) (before then : ScriptStore) (old new : Told) (units_are : units ≡
-    old.places - 4) (low : next_number before ≤ FOUND_NUMBER) where
+module _ (seed count units : ℕ) (before then : ScriptStore) (old new : Told)
+    (running : IsRunning old.places before) (units_are : units ≡ before.store.units)
+    (low : next_number before ≤ FOUND_NUMBER) where
   pub tries_over : (result : Result (Unit {0}) Stop)
       → RunsTrial script_keeping (trial_commands units seed count) before old result then new
       → Along script_keeping Onward SCRIPT_DRAWS before old result then new
@@ -468,7 +470,7 @@ module _ (seed count units : ℕ) (before then : ScriptStore) (old new : Told) (
     result = result;
     ending_is = refl;
     trial = subst (λ (n : ℕ). RunsTrial script_keeping (trial_commands n seed count) before old
-        result then new) units_are run;
+        result then new) (omega (arith, units_are, running.sound.made.units)) run;
     tidy = goes.tidy;
     completes = completes;
     cause = goes.cause;

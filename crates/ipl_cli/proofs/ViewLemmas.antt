@@ -1,9 +1,11 @@
 -- The view of a script: what its end leaves, and what a note leaves of that.
-use Rattle.std.proofs.Common.{◌≡◌, ◌-◌, ℕ, Bool, false, [], List, Option, Some, Result, Ok, Err, refl, ◌∙◌, ap, subst}
+use Rattle.std.proofs.Common.{◌≡◌, ℕ, Bool, false, [], List, Option, Some, Result, Ok, Err, refl, ◌∙◌, ap, subst}
 use Rattle.std.specs.Prelude.{IsErrOf, is_ok}
 use Rattle.chip_trait.specs.Story.{joined}
 use Rattle.chip_trait.specs.Told.{Told}
 use Rattle.chip_trait.proofs.HistoryLemmas.{same_history}
+use Rattle.ipl_base.specs.Places.{KeepsUnits, units_on}
+use Rattle.ipl_base.proofs.UnitLemmas.{count_is}
 use Rattle.ipl_model.specs.Plain.{limits_for}
 use Rattle.store_trait.proofs.OnwardLemmas.{further_none}
 use Rattle.script_run.proofs.RunLemmas.{says_none, says_prefix}
@@ -18,7 +20,7 @@ use Rattle.ipl_cli.specs.Views.{Views, ViewsTold, OnlyViews, OnlyHears, SerialLe
 
 module _ (old new : Told) where
   views_of : (script : List ℕ) (result : Result (Unit {0}) ViewStop)
-      → SaysView (limits_for (old.places - 4)) script old result new
+      → SaysView (limits_for (units_on old.places)) script old result new
       → Views old.places script old new (is_ok result)
   views_of script result v = record {
     said = v.says.said;
@@ -31,14 +33,14 @@ module _ (old new : Told) where
   }
 
   abbrev Says : ℕ → Result (Unit {0}) ViewStop → Type 0
-  Says places result = (script : List ℕ) → old.beside.left ≡ Some script
-      → SaysView (limits_for (places - 4)) script old result new
+  Says units result = (script : List ℕ) → old.beside.left ≡ Some script
+      → SaysView (limits_for units) script old result new
 
-  views_told : (places : ℕ) → places ≡ old.places → (result : Result (Unit {0}) ViewStop)
-      → Says places result → ViewsTold old new (is_ok result)
-  views_told places same result says = λ script left. views_of script result
-      (subst (λ (n : ℕ). SaysView (limits_for (n - 4)) script old result new) same
-      (says script left))
+  views_told : (units : ℕ) → KeepsUnits old.places units → (result : Result (Unit {0}) ViewStop)
+      → Says units result → ViewsTold old new (is_ok result)
+  views_told units keeps result says = λ script left. views_of script result
+      (subst (λ (n : ℕ). SaysView (limits_for n) script old result new)
+      (count_is old.places units keeps) (says script left))
 
   abbrev failed : ViewStop → Result (Unit {0}) ViewStop
   failed fault = Err fault
@@ -46,32 +48,32 @@ module _ (old new : Told) where
   only_viewed : OnlySays old new → OnlyViews old new
   only_viewed says = record { viewed = new; says = says; noted = refl }
 
-  pub said_view : (places : ℕ) → places ≡ old.places → Says places (Ok tt) → OnlySays old new
+  pub said_view : (units : ℕ) → KeepsUnits old.places units → Says units (Ok tt) → OnlySays old new
       → SerialLeaves (Ok tt) old new
-  said_view places same says only = (views_told places same (Ok tt) says, only_viewed only)
+  said_view units keeps says only = (views_told units keeps (Ok tt) says, only_viewed only)
 
-  pub failed_view : (places : ℕ) → places ≡ old.places → (fault : ViewStop)
-      → Says places (Err fault) → OnlySays old new
+  pub failed_view : (units : ℕ) → KeepsUnits old.places units → (fault : ViewStop)
+      → Says units (Err fault) → OnlySays old new
       → (IsErrOf (failed fault) stop.OutOfMemory → ReadsScript old new)
       → SerialLeaves (Err (view_end fault)) old new
-  failed_view places same stop.OutOfMemory says only early = record {
+  failed_view units keeps stop.OutOfMemory says only early = record {
     heard = new;
     reads = early
         refl;
     noted = refl;
   }
-  failed_view places same stop.Script says only early = (
-    views_told places same (Err stop.Script)
+  failed_view units keeps stop.Script says only early = (
+    views_told units keeps (Err stop.Script)
         says,
     only_viewed only,
   )
-  failed_view places same stop.TooLong says only early = (
-    views_told places same (Err stop.TooLong)
+  failed_view units keeps stop.TooLong says only early = (
+    views_told units keeps (Err stop.TooLong)
         says,
     only_viewed only,
   )
-  failed_view places same stop.Output says only early = (
-    views_told places same (Err stop.Output)
+  failed_view units keeps stop.Output says only early = (
+    views_told units keeps (Err stop.Output)
         says,
     only_viewed only,
   )

@@ -1,8 +1,8 @@
 -- What a power cut leaves of a run, over a chip that tells what it holds and a script that is told.
-use Rattle.std.specs.Prelude.{◌≡◌, ◌⊎◌, ◌++◌, ◌-◌, ℕ, suc, List, Some}
+use Rattle.std.specs.Prelude.{◌≡◌, ◌⊎◌, ◌++◌, ℕ, suc, List, Some}
 use Rattle.std.specs.Option.{option_map}
 use Rattle.std.specs.FinMap.{empty}
-use Rattle.ipl_base.specs.declared.limits.TheConstants.{RESERVED_PLACES}
+use Rattle.ipl_base.specs.Places.{units_on}
 use Rattle.chip_trait.specs.Chart.{says}
 use Rattle.chip_trait.specs.Story.{Story, Contents, held, said}
 use Rattle.chip_trait.specs.Image.{IsNoChanceImage}
@@ -20,7 +20,7 @@ use Rattle.store_steps.specs.Keeps.{limits_of}
 -- more: r is the greatest number of commands with whose replies the bytes begin.
 abbrev pub StandsAfterAnswered : ℕ → Map → List ℕ → List ℕ → Contents → Type 0
 StandsAfterAnswered places m script bytes y =
-    let limits = limits_of (places - RESERVED_PLACES) in
+    let limits = limits_of (units_on places) in
     let r = answered limits (at_rest m) (commands_of script) bytes in
     Stands places (chart_of y) (map_after limits m script r)
     ⊎ Stands places (chart_of y) (map_after limits m script (suc r))

@@ -2,14 +2,13 @@
 use Rattle.std.specs.Prelude.{◌≡◌, ◌≢◌, ◌⊎◌, ◌<◌, ◌≤◌, ℕ, ◌+◌, ◌-◌, ◌^◌, min, Bool, true, false, List, [], ◌∷◌, ◌++◌, codes, length, Some, None, Ok, Err}
 use Rattle.std.specs.Option.{option_map}
 use Rattle.std.specs.FinMap.{empty}
-use Rattle.ipl_base.specs.declared.limits.TheConstants.{RESERVED_PLACES}
 use Rattle.chip_trait.specs.declared.event.Event.TheVariants.{Said}
 use Rattle.chip_trait.specs.Chart.{says}
 use Rattle.chip_trait.specs.Story.{Story, Contents, pieces, said}
 use Rattle.chip_trait.specs.Moment.{AtEachMoment, Leaves}
 use Rattle.chip_trait.specs.Lawful.{IsLawful}
 use Rattle.chip_trait.specs.Told.{History, Told, Grew, IsPrefix, Rose, adds_all, Unrisen}
-use Rattle.ipl_base.specs.Places.{IsGeometry}
+use Rattle.ipl_base.specs.Places.{IsGeometry, units_on}
 use Rattle.ipl_base.specs.declared.fault.ChipFault.TheVariants.{ReadFault, Stopped, Damaged, Malformed, WornOut}
 use Rattle.ipl_base.specs.declared.fault.ImageFault.{ImageFault}
 use Rattle.ipl_base.specs.declared.fault.ImageFault.TheVariants as image
@@ -190,13 +189,13 @@ EndCause (Some request) (Err end) old new = RequestCause request end old new
 -- the lines that answer a script on so many places, from these records and no open session
 abbrev pub answers : ℕ → Map → List ℕ → List (List ℕ)
 answers places m script =
-    lines (limits_of (places - RESERVED_PLACES)) (at_rest m) (commands_of script)
+    lines (limits_of (units_on places)) (at_rest m) (commands_of script)
 
 -- this is so of the model's state after the commands of which the bytes have the whole replies, or
 -- after one more
 abbrev pub IsAbout : (State → Type 0) → ℕ → Map → List ℕ → List ℕ → Type 0
 IsAbout Q places m script bytes =
-    IsNear Q (limits_of (places - RESERVED_PLACES)) (at_rest m) (commands_of script) bytes
+    IsNear Q (limits_of (units_on places)) (at_rest m) (commands_of script) bytes
 
 -- the contents stand for the records of such a state
 abbrev pub StandsAbout : ℕ → Map → List ℕ → List ℕ → Contents → Type 0
@@ -207,19 +206,19 @@ StandsAbout places m script bytes x =
 -- state after them
 abbrev pub IsBetween : (State → Type 0) → ℕ → Map → List ℕ → List (List ℕ) → Type 0
 IsBetween Q places m script said =
-    EndsBetween (limits_of (places - RESERVED_PLACES)) (at_rest m) (commands_of script) said Q
+    EndsBetween (limits_of (units_on places)) (at_rest m) (commands_of script) said Q
 
 -- How far the script was answered, by the end: all of it; up to a line that couldn't be said, of a
 -- command that is done; or up to a command that isn't done. Q is so of the state then.
 abbrev pub EndsBy : Ending → (State → Type 0) → ℕ → Map → List ℕ → List (List ℕ) → Type 0
 EndsBy (Ok u) Q places m script said =
-    Q (after_all (limits_of (places - RESERVED_PLACES)) (at_rest m) (commands_of script))
+    Q (after_all (limits_of (units_on places)) (at_rest m) (commands_of script))
 EndsBy (Err Words) Q places m script said = IsBetween Q places m script said
 EndsBy (Err (Chip e)) Q places m script said = IsBetween Q places m script said
 EndsBy (Err OutOfMemory) Q places m script said = IsBetween Q places m script said
 EndsBy (Err Script) Q places m script said = IsBetween Q places m script said
 EndsBy (Err Output) Q places m script said =
-    EndsUnsaid (limits_of (places - RESERVED_PLACES)) (at_rest m) (commands_of script) said Q
+    EndsUnsaid (limits_of (units_on places)) (at_rest m) (commands_of script) said Q
 EndsBy (Err TooLong) Q places m script said = IsBetween Q places m script said
 
 -- What a run of a script leaves, from these records on, after these first events on a chip that
@@ -277,7 +276,7 @@ RunsFormatted old new ending = OverTold
 -- the records after all commands of a script, on so many places, from these records on
 abbrev pub records_after : ℕ → Map → List ℕ → Map
 records_after places m script =
-    (after_all (limits_of (places - RESERVED_PLACES)) (at_rest m) (commands_of script)).map
+    (after_all (limits_of (units_on places)) (at_rest m) (commands_of script)).map
 
 -- the chip tells what it holds, and that stands for these records
 pub record HoldsRecords (places : ℕ) (m : Map) (t : Told) : Type 0 where

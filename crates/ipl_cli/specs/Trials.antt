@@ -1,15 +1,14 @@
 -- What a trial leaves, wherever it ends.
 use Rattle.std.specs.Option.{option_map}
-use Rattle.std.specs.Prelude.{◌≡◌, ◌⊎◌, ℕ, ◌-◌, List, [], ◌∷◌, ◌++◌, Ok, Err}
+use Rattle.std.specs.Prelude.{◌≡◌, ◌⊎◌, ℕ, List, [], ◌∷◌, ◌++◌, Ok, Err}
 use Rattle.std.specs.FinMap.{empty}
 use Rattle.chip_trait.specs.Chart.{says}
 use Rattle.chip_trait.specs.Lawful.{IsLawful}
 use Rattle.chip_trait.specs.Moment.{AtEachMoment, Leaves}
 use Rattle.chip_trait.specs.Story.{Story, Contents, pieces, said}
 use Rattle.chip_trait.specs.Told.{History, Told, IsPrefix, adds_all, Unrisen}
-use Rattle.ipl_base.specs.Places.{IsGeometry}
+use Rattle.ipl_base.specs.Places.{IsGeometry, units_on}
 use Rattle.ipl_base.specs.declared.fault.ImageFault.TheVariants as image
-use Rattle.ipl_base.specs.declared.limits.TheConstants.{RESERVED_PLACES}
 use Rattle.ipl_rules.specs.State.{State, at_rest}
 use Rattle.ipl_model.specs.declared.command.Command.{Command}
 use Rattle.ipl_model.specs.Run.{joined, after_all}
@@ -28,17 +27,17 @@ use Rattle.ipl_cli.specs.Ending.{Ending, StopsEarly, IsUntouched}
 
 -- the commands of a seed, so many, on so many places
 abbrev pub commands_on : ℕ → ℕ → ℕ → List Command
-commands_on places seed count = trial_commands (places - RESERVED_PLACES) seed count
+commands_on places seed count = trial_commands (units_on places) seed count
 
 -- the model's state after commands, from no record and no session on
 abbrev pub state_after : ℕ → List Command → State
 state_after places commands =
-    after_all (limits_of (places - RESERVED_PLACES)) (at_rest empty) commands
+    after_all (limits_of (units_on places)) (at_rest empty) commands
 
 -- the lines of the summary of these commands, from no record and no session on
 abbrev pub summary : ℕ → List Command → List (List ℕ)
 summary places commands =
-    trial_lines (limits_of (places - RESERVED_PLACES)) (at_rest empty) commands
+    trial_lines (limits_of (units_on places)) (at_rest empty) commands
 
 -- the contents stand for the records after the first of these commands
 abbrev pub StandsAlong : ℕ → List Command → Contents → Type 0

@@ -1,10 +1,9 @@
 -- The view of a script: what is said, what is left, and how it ends.
-use Rattle.std.specs.Prelude.{◌≡◌, ℕ, ◌-◌, Bool, true, false, List, [], reverse, Some, Ok, Err}
+use Rattle.std.specs.Prelude.{◌≡◌, ℕ, Bool, true, false, List, [], reverse, Some, Ok, Err}
 use Rattle.std.specs.Option.{option_map}
-use Rattle.ipl_base.specs.declared.limits.TheConstants.{RESERVED_PLACES}
 use Rattle.chip_trait.specs.Story.{joined}
 use Rattle.chip_trait.specs.Told.{Told, IsPrefix, adds_all}
-use Rattle.ipl_base.specs.Places.{IsGeometry}
+use Rattle.ipl_base.specs.Places.{IsGeometry, units_on}
 use Rattle.ipl_base.specs.declared.fault.ImageFault.{ImageFault}
 use Rattle.ipl_base.specs.declared.fault.ImageFault.TheVariants as image
 use Rattle.ipl_model.specs.Plain.{limits_for}
@@ -30,7 +29,7 @@ ViewedCause e old new = (e ≡ image.Geometry) × ¬ IsGeometry old.places
 
 -- the lines of the serial view of a script, run from no records, on so many places
 abbrev pub view_on : ℕ → List ℕ → List (List ℕ)
-view_on places script = view_lines (limits_for (places - RESERVED_PLACES)) script
+view_on places script = view_lines (limits_for (units_on places)) script
 
 -- What the view of a script leaves. What is said is a beginning of its lines, one by one, and
 -- nothing else happened to the

@@ -25,7 +25,7 @@ ghost use Rattle.ipl_cli.specs.Runs.{StartsFormatted, StartsOpened, ClosesFor, F
 
 use chip_trait::Desk;
 use command_line::{Request, request};
-use ipl_base::{ChipFault, FormatFault, Geometry, ImageFault, RESERVED_PLACES};
+use ipl_base::{ChipFault, FormatFault, Geometry, ImageFault};
 use ipl_store::Store;
 use program_end::{End, NoteLine, status};
 use restart::format;
@@ -208,7 +208,7 @@ fn trial_over<D: Desk>(
     requires left { next_number store.old ≤ FOUND_NUMBER }
     ensures tries { TriesOver seed count result store.old (D.told desk.old) store.new (D.told desk.new) }
 {
-    let units = desk.units() - RESERVED_PLACES;
+    let units = store.units();
     match run_trial(store, desk, units, seed, count) {
         Ok(()) => Ok(()),
         Err(stop) => Err(end_of(stop)),

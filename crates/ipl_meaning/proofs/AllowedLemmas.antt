@@ -1,5 +1,5 @@
 -- A page is rebuilt from the allowed sectors alone.
-use Rattle.std.proofs.Common.{◌≡◌, ℕ, ◌-◌, ◌<◌, Some, inl, inr, refl, ◌∙◌, sym}
+use Rattle.std.proofs.Common.{◌≡◌, ℕ, ◌<◌, Some, inl, inr, refl, ◌∙◌, sym}
 use Rattle.std.specs.List.{Contains}
 use Rattle.std.proofs.lemmas.List.Elements.{All-contains}
 use Rattle.ipl_format.specs.Page.{value_in}
@@ -12,7 +12,7 @@ use Rattle.ipl_meaning.specs.Allowed.{IsAllowed}
 use Rattle.ipl_meaning.specs.Laws.{with_page_log, AllowedSectorsSuffice}
 use Rattle.ipl_meaning.proofs.MaskLemmas.{page_applied, page_has}
 
-module _ (places : ℕ) (c y : Chart) (it : Layout) (u page : ℕ) (laid : Laid places c it) (low : u < places - 4) (same : (p s : ℕ) → IsAllowed it u page p s → y p s ≡ c p s) where
+module _ (places : ℕ) (c y : Chart) (it : Layout) (u page : ℕ) (laid : Laid places c it) (low : u < it.count) (same : (p s : ℕ) → IsAllowed it u page p s → y p s ≡ c p s) where
   entry_there : (e : Entry) → Contains (of_page page (it.units u).log) e → y e.place e.number ≡ Some e.sector
   entry_there e listed =
       let (has, is) = page_has page (it.units u).log e listed in

@@ -1,5 +1,5 @@
 -- Places of one kind are not of another.
-use Rattle.std.proofs.Common.{◌≡◌, ◌≢◌, ℕ, ◌<◌, ◌-◌, Some, None, inl, inr, sym, ◌∙◌, ap, arith, eqb, ◌&&◌}
+use Rattle.std.proofs.Common.{◌≡◌, ◌≢◌, ℕ, ◌<◌, Some, None, inl, inr, sym, ◌∙◌, ap, arith, eqb, ◌&&◌}
 use Rattle.std.proofs.lemmas.Bool.{cases_Bool, and_parts, eqb-true}
 use Rattle.chip_trait.specs.Chart.{with_sector}
 use Rattle.ipl_format.specs.Sector.{Sector}
@@ -14,7 +14,7 @@ none_still c p s sector q t none apart = elim (cases_Bool (eqb p q && eqb s t)) 
 ]
 
 module _ (places : ℕ) (c : Chart) (it : Layout) (laid : Laid places c it) where
-  pub homes_apart : (u v : ℕ) → u < places - 4 → v < places - 4 → (it.units u).home ≡ (it.units v).home → u ≡ v
+  pub homes_apart : (u v : ℕ) → u < it.count → v < it.count → (it.units u).home ≡ (it.units v).home → u ≡ v
   homes_apart u v low less same =
       let one = (laid.each u low).chosen in
       let other = (laid.each v less).chosen in
@@ -22,14 +22,14 @@ module _ (places : ℕ) (c : Chart) (it : Layout) (laid : Laid places c it) wher
       let head : (it.units u).head ≡ (it.units v).head = cc both in
       sym one.fits.1 ∙ ap (λ (z : Sector). z.unit) head ∙ other.fits.1
 
-  pub home_not_over : (u : ℕ) → u < places - 4 → ¬ IsOverflow c (it.units u).home
+  pub home_not_over : (u : ℕ) → u < it.count → ¬ IsOverflow c (it.units u).home
   home_not_over u low over =
       let one = (laid.each u low).chosen in
       let both : Some (it.units u).head ≡ Some over.0 = sym one.here ∙ over.1 in
       let head : (it.units u).head ≡ over.0 = cc both in
       omega (arith, one.fits.0, over.2, ap (λ (z : Sector). z.kind) head)
 
-  pub home_not_status : (u : ℕ) → u < places - 4 → (it.units u).home ≢ it.status
+  pub home_not_status : (u : ℕ) → u < it.count → (it.units u).home ≢ it.status
   home_not_status u low same =
       let one = (laid.each u low).chosen in
       let both : Some (it.units u).head ≡ Some it.head = sym one.here ∙ ap (λ (p : ℕ). c p 0) same ∙ laid.chosen.here in

@@ -52,10 +52,11 @@ module _ (places : ℕ) (c : Chart) (it : Layout) (s : ℕ) (sector : Sector) (n
   added = record {
     least = laid.least;
     most = laid.most;
+    count = laid.count;
     chosen = chosen_still c it.status s sector may.free places IsStatusHeader it.status it.head (λ none. absurd (no_header none)) laid.chosen;
     counts = laid.counts;
     commits = record { spelled = spelled; told = λ tid is_so. told tid (may.no_more tid is_so); all_told = all_told };
-    each = λ u low. unit_still c it.status s sector may.free places u (it.units u) (λ none. absurd (no_header none))
+    each = λ u low. unit_still c it.status s sector may.free places it.count u (it.units u) (λ none. absurd (no_header none))
         (live_back c it.status s sector may.free (λ none. absurd (no_header none)) places u (it.units u).home (it.units u).head.generation (λ is _. omega (arith, is, may.kind))) (laid.each u low);
     overflows = laid.overflows;
     two = laid.two;

@@ -1,5 +1,5 @@
 -- What is counted as clean shrinks.
-use Rattle.std.proofs.Common.{◌≡◌, ℕ, ◌<◌, ◌≤◌, ◌+◌, ◌-◌, List, [], ◌∷◌, length, map, get_or, slice_index, inl, inr, refl, sym, ◌∙◌, ap, subst, arith, true, eqb}
+use Rattle.std.proofs.Common.{◌≡◌, ℕ, ◌<◌, ◌≤◌, ◌+◌, List, [], ◌∷◌, length, map, get_or, slice_index, inl, inr, refl, sym, ◌∙◌, ap, subst, arith, true, eqb}
 use Rattle.std.specs.List.{AllPairs, Contains}
 use Rattle.std.proofs.lemmas.Bool.{cases_Bool, cases_eq, cases_lt, eq-eqb}
 use Rattle.std.proofs.lemmas.List.{get_or-set_same, get_or-set_other, length-map, get_or-map, get_or_default}
@@ -64,10 +64,10 @@ module _ (places : ℕ) (c : Chart) (it : Layout) (t : Tables) (mirrors : Mirror
   overflow_headed : (q first : ℕ) → Contains t.overflow.in_use (q, first) → IsOverflow c q
   overflow_headed q first is = (mirrors.overflow.headed q (map_contains t.overflow.in_use q first is)).1
 
-  home_of : (v q : ℕ) → v < length t.places.current → q ≡ slice_index t.places.current v → (v < places - 4) × (q ≡ (it.units v).home)
-  home_of v q less is = let low : v < places - 4 = omega (arith, less, mirrors.directory.units) in (low, is ∙ mirrors.directory.current v low)
+  home_of : (v q : ℕ) → v < length t.places.current → q ≡ slice_index t.places.current v → (v < it.count) × (q ≡ (it.units v).home)
+  home_of v q less is = let low : v < it.count = omega (arith, less, mirrors.directory.units) in (low, is ∙ mirrors.directory.current v low)
 
-  pub home_counted : (u mask next : ℕ) → u < places - 4 → CountedShrink t (after_home_log t u mask next) (slice_index t.places.current u) (first_log t u)
+  pub home_counted : (u mask next : ℕ) → u < it.count → CountedShrink t (after_home_log t u mask next) (slice_index t.places.current u) (first_log t u)
   home_counted u mask next low q n (small, inl (v, less, is, first)) = elim (cases_eq v u) [
     | inl same ↦
         let mine : slice_index (after_home_log t u mask next).places.written u ≡ slice_index t.places.written u + 1 = get_or-set_same t.places.written u (slice_index t.places.written u + 1) 0 (omega (arith, low, mirrors.directory.logs)) in

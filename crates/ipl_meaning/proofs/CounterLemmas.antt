@@ -1,5 +1,5 @@
 -- What the counter draws is new, and it stays above all that is found.
-use Rattle.std.proofs.Common.{◌≡◌, ◌≢◌, ◌⊎◌, ℕ, ◌<◌, ◌-◌, Some, None, inl, inr, refl, sym, ◌∙◌, ap, arith, get_or}
+use Rattle.std.proofs.Common.{◌≡◌, ◌≢◌, ◌⊎◌, ℕ, ◌<◌, Some, None, inl, inr, refl, sym, ◌∙◌, ap, arith, get_or}
 use Rattle.std.proofs.lemmas.Bool.{cases_Bool, cases_eq, eq-eqb, ne_eqb}
 use Rattle.std.proofs.lemmas.List.Elements.{Contains-get_or}
 use Rattle.chip_trait.specs.Chart.{with_sector}
@@ -16,7 +16,7 @@ pub read_below : (places : ℕ) (c : Chart) (it : Layout) (next p s : ℕ) (sect
 read_below places c it next p s sector above read n mentions = above n (p, s, sector, read, mentions)
 
 -- a live sector is read
-live_is_read : (places : ℕ) (c : Chart) (it : Layout) (u q t : ℕ) (other : Sector) → u < places - 4 → IsLiveIn c places it u q t other → IsRead places c it q t other
+live_is_read : (places : ℕ) (c : Chart) (it : Layout) (u q t : ℕ) (other : Sector) → u < it.count → IsLiveIn c places it u q t other → IsRead places c it q t other
 live_is_read places c it u q t other low live = inr (inr (live.within.0, live.within.1, live.here, live.kind, elim live.counts [ inl at_home ↦ inl (u, low, at_home.0, at_home.1) | inr over ↦ inr over ]))
 
 pub new_generations_wake_nothing : NewGenerationsWakeNothing
@@ -62,7 +62,7 @@ above_by places c y it jt next each above n (q, t, x, read, mentions) = elim (ea
 
 -- a sector that is no header
 module _ (places : ℕ) (c : Chart) (it jt : Layout) (p s : ℕ) (sector : Sector) (free : c p s ≡ None) (no_header : s ≢ 0) (next : ℕ) (below : MentionsBelow next sector)
-    (status : jt.status ≡ it.status) (head : jt.head ≡ it.head) (homes : (u : ℕ) → (jt.units u).home ≡ (it.units u).home) where
+    (status : jt.status ≡ it.status) (head : jt.head ≡ it.head) (count : jt.count ≡ it.count) (homes : (u : ℕ) → (jt.units u).home ≡ (it.units u).home) where
   abbrev y : Chart
   y = with_sector c p s sector
 
@@ -72,8 +72,8 @@ module _ (places : ℕ) (c : Chart) (it jt : Layout) (p s : ℕ) (sector : Secto
   header_before : (q : ℕ) (x : Sector) → y q 0 ≡ Some x → c q 0 ≡ Some x
   header_before q x there = elim (new_or_old c p s sector free q 0 x there) [ inl new ↦ absurd (no_header (sym new.1)) | inr old ↦ old ]
 
-  spot_before : (q t : ℕ) → IsLogSpot places y jt q t → IsLogSpot places c it q t
-  spot_before q t (inl (u, low, at_home, region)) = inl (u, low, at_home ∙ homes u, region)
+  spot_before : (q t : ℕ) → IsLogSpot y jt q t → IsLogSpot c it q t
+  spot_before q t (inl (u, low, at_home, region)) = inl (u, rw count at low, at_home ∙ homes u, region)
   spot_before q t (inr (over, number)) = inr ((over.0, header_before q over.0 over.1, over.2), number)
 
   read_before : (q t : ℕ) (x : Sector) → IsRead places y jt q t x → MentionsBelow next x ⊎ IsRead places c it q t x
@@ -92,16 +92,16 @@ module _ (places : ℕ) (c : Chart) (it jt : Layout) (p s : ℕ) (sector : Secto
 
 pub log_sectors_keep_the_counter : LogSectorsKeepTheCounter
 log_sectors_keep_the_counter places c it u p s sector records next may below =
-    above_with places c it (with_log it u (record { place = p; number = s; sector = sector; records = records })) p s sector may.free (λ none. elim may.counts [ inl at_home ↦ omega (arith, at_home.1) | inr over ↦ omega (arith, over.1) ]) next below refl refl
+    above_with places c it (with_log it u (record { place = p; number = s; sector = sector; records = records })) p s sector may.free (λ none. elim may.counts [ inl at_home ↦ omega (arith, at_home.1) | inr over ↦ omega (arith, over.1) ]) next below refl refl refl
     (λ v. elim (cases_eq v u) [ inl same ↦ rw (same, eq-eqb u u refl) refl | inr apart ↦ rw (ne_eqb v u apart) refl ])
 
 pub commit_sectors_keep_the_counter : CommitSectorsKeepTheCounter
 commit_sectors_keep_the_counter places c it s sector numbers committed next may below =
-    above_with places c it (with_committed it committed) it.status s sector may.free (λ none. omega (arith, may.where_it_is.0)) next below refl refl (λ v. refl)
+    above_with places c it (with_committed it committed) it.status s sector may.free (λ none. omega (arith, may.where_it_is.0)) next below refl refl refl (λ v. refl)
 
 -- a header, after which homes and status are as before, or at the place
 module _ (places : ℕ) (c : Chart) (it jt : Layout) (p : ℕ) (head : Sector) (free : c p 0 ≡ None) (is_header : IsHeader head) (next : ℕ) (below : MentionsBelow next head) (all_below : IsPlaceBelow next c p)
-    (status : (jt.status ≡ p) ⊎ ((jt.status ≡ it.status) × (jt.head ≡ it.head))) (homes : (u : ℕ) → ((jt.units u).home ≡ p) ⊎ ((jt.units u).home ≡ (it.units u).home)) where
+    (status : (jt.status ≡ p) ⊎ ((jt.status ≡ it.status) × (jt.head ≡ it.head))) (count : jt.count ≡ it.count) (homes : (u : ℕ) → ((jt.units u).home ≡ p) ⊎ ((jt.units u).home ≡ (it.units u).home)) where
   abbrev z : Chart
   z = with_sector c p 0 head
 
@@ -115,8 +115,8 @@ module _ (places : ℕ) (c : Chart) (it jt : Layout) (p : ℕ) (head : Sector) (
   at_place : (q t : ℕ) (x : Sector) → q ≡ p → c q t ≡ Some x → (x.kind ≡ 5) ⊎ (x.kind ≡ 6) → MentionsBelow next x
   at_place q t x at there kind = all_below t x (rw at at there) kind
 
-  spot_or_place : (q t : ℕ) → IsLogSpot places z jt q t → (q ≡ p) ⊎ IsLogSpot places c it q t
-  spot_or_place q t (inl (u, low, at_home, region)) = elim (homes u) [ inl at ↦ inl (at_home ∙ at) | inr same ↦ inr (inl (u, low, at_home ∙ same, region)) ]
+  spot_or_place : (q t : ℕ) → IsLogSpot z jt q t → (q ≡ p) ⊎ IsLogSpot c it q t
+  spot_or_place q t (inl (u, low, at_home, region)) = elim (homes u) [ inl at ↦ inl (at_home ∙ at) | inr same ↦ inr (inl (u, rw count at low, at_home ∙ same, region)) ]
   spot_or_place q t (inr (over, number)) = elim (new_or_old c p 0 head free q 0 over.0 over.1) [ inl new ↦ inl new.0 | inr old ↦ inr (inr ((over.0, old, over.2), number)) ]
 
   read_then : (q t : ℕ) (x : Sector) → IsRead places z jt q t x → MentionsBelow next x ⊎ IsRead places c it q t x
@@ -142,10 +142,10 @@ module _ (places : ℕ) (c : Chart) (it jt : Layout) (p : ℕ) (head : Sector) (
 
 pub headers_keep_the_counter : HeadersKeepTheCounter
 headers_keep_the_counter places c it p head next free is_header below all_below above = (
-  λ u fresh home. above_then places c it (with_unit it u fresh) p head free is_header next below all_below (inr (refl, refl))
+  λ u fresh home. above_then places c it (with_unit it u fresh) p head free is_header next below all_below (inr (refl, refl)) refl
       (λ v. elim (cases_eq v u) [ inl same ↦ inl (rw (same, eq-eqb u u refl) home) | inr apart ↦ inr (rw (ne_eqb v u apart) refl) ]) above,
-  λ committed. above_then places c it (with_status it p head committed) p head free is_header next below all_below (inl refl) (λ v. inr refl) above,
-  λ over. above_then places c it it p head free is_header next below all_below (inr (refl, refl)) (λ v. inr refl) above,
+  λ committed. above_then places c it (with_status it p head committed) p head free is_header next below all_below (inl refl) refl (λ v. inr refl) above,
+  λ over. above_then places c it it p head free is_header next below all_below (inr (refl, refl)) refl (λ v. inr refl) above,
 )
 
 pub bare_places_keep_the_counter : BarePlacesKeepTheCounter
@@ -157,7 +157,7 @@ bare_places_keep_the_counter places c it p y next not_status not_home same bare 
     has_header : (q : ℕ) (x : Sector) → y q 0 ≡ Some x → q ≢ p
     has_header q x there at = let none : y q 0 ≡ None = rw at bare in cc (there, none)
 
-    spot_still : (q t : ℕ) → IsLogSpot places y it q t → (q ≢ p) × IsLogSpot places c it q t
+    spot_still : (q t : ℕ) → IsLogSpot y it q t → (q ≢ p) × IsLogSpot c it q t
     spot_still q t (inl (u, low, at_home, region)) = ((λ at. not_home u low (sym at_home ∙ at)), inl (u, low, at_home, region))
     spot_still q t (inr (over, number)) = let apart = has_header q over.0 over.1 in (apart, inr ((over.0, back q 0 over.0 apart over.1, over.2), number))
 

@@ -47,9 +47,9 @@ module _ (places : ℕ) (least : 5 ≤ places) (most : places ≤ 1028) where
   shape u = record { home = u; head = first_head places u; pieces = no_pieces; log = [] }
 
   abbrev it : Layout
-  it = record { status = places - 4; head = first_status places; committed = λ tid. false; units = shape }
+  it = record { status = places - 4; head = first_status places; committed = λ tid. false; count = places - 4; units = shape }
 
-  unit : (u : ℕ) → u < places - 4 → IsUnit c places u (shape u)
+  unit : (u : ℕ) → u < places - 4 → IsUnit c places (places - 4) u (shape u)
   unit u low = record {
     chosen = record {
       within = omega (arith, low);
@@ -77,6 +77,7 @@ module _ (places : ℕ) (least : 5 ≤ places) (most : places ≤ 1028) where
   laid = record {
     least = least;
     most = most;
+    count = omega (arith, least);
     chosen = record {
       within = omega (arith, least);
       here = status_here;

@@ -21,7 +21,7 @@ use Rattle.ipl_meaning.proofs.CountedLemmas.{home_counted}
 use Rattle.ipl_meaning.proofs.MaskLemmas.{NoneStands, mask_of_new, mask_of_others, stands_here, stands_away, map_same}
 use Rattle.ipl_meaning.proofs.LogFollowLemmas.{log_mine, log_other, none_stands, live_then, new_or_live, numbers_then, over_then, same_head, same_home}
 
-module _ (places : ℕ) (c : Chart) (it : Layout) (t : Tables) (u next : ℕ) (sector : Sector) (records : List Record) (mirrors : Mirrors places c it t) (low : u < places - 4)
+module _ (places : ℕ) (c : Chart) (it : Layout) (t : Tables) (u next : ℕ) (sector : Sector) (records : List Record) (mirrors : Mirrors places c it t) (low : u < it.count)
     (left : slice_index t.places.written u < 15) (fresh : IsFreshLog it t u sector records) (more : t.next ≤ next) (below : MentionsBelow next sector) where
   abbrev p : ℕ
   p = slice_index t.places.current u
@@ -74,7 +74,7 @@ module _ (places : ℕ) (c : Chart) (it : Layout) (t : Tables) (u next : ℕ) (s
   none_stood : NoneStands (it.units u).log p s
   none_stood = none_stands places c it u p s mirrors.laid low may.free
 
-  masks : MirrorsMasks places jt tables
+  masks : MirrorsMasks jt tables
   masks = let was = mirrors.masks in record {
     units = length-set t.places.masks u _ ∙ was.units;
     lists = was.lists;

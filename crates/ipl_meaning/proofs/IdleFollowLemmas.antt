@@ -1,5 +1,5 @@
 -- How the tables follow places that change, and places that are taken.
-use Rattle.std.proofs.Common.{◌≡◌, ◌≢◌, ℕ, ◌<◌, ◌≤◌, ◌-◌, get_or, set, None, inl, inr, sym, ◌∙◌, arith, true}
+use Rattle.std.proofs.Common.{◌≡◌, ◌≢◌, ℕ, ◌<◌, ◌≤◌, get_or, set, None, inl, inr, sym, ◌∙◌, arith, true}
 use Rattle.std.specs.List.{Contains}
 use Rattle.std.proofs.lemmas.Bool.{cases_eq}
 use Rattle.std.proofs.lemmas.List.{length-set, get_or-set_same, get_or-set_other}
@@ -17,7 +17,7 @@ use Rattle.ipl_meaning.proofs.MirrorLemmas.{map_contains}
 
 -- none of its sectors is counted as clean
 pub counted_apart : (places : ℕ) (c : Chart) (it : Layout) (t : Tables) (p : ℕ) → Mirrors places c it t → IsIdle places c it p → ¬ Contains (overflow_places t) p → (q n : ℕ) → IsCountedClean t q n → q ≢ p
-counted_apart places c it t p mirrors idle not_overflow q n (small, inl (v, less, is, first)) at = let low : v < places - 4 = omega (arith, less, mirrors.directory.units) in idle.not_home v low (sym (mirrors.directory.current v low) ∙ sym is ∙ at)
+counted_apart places c it t p mirrors idle not_overflow q n (small, inl (v, less, is, first)) at = let low : v < it.count = omega (arith, less, mirrors.directory.units) in idle.not_home v low (sym (mirrors.directory.current v low) ∙ sym is ∙ at)
 counted_apart places c it t p mirrors idle not_overflow q n (small, inr (inl (first, is, above))) at = not_overflow (rw at at (map_contains t.overflow.in_use q first is))
 counted_apart places c it t p mirrors idle not_overflow q n (small, inr (inr (is, above))) at = idle.not_status (sym mirrors.status.place ∙ sym is ∙ at)
 
@@ -33,10 +33,10 @@ module _ (places : ℕ) (c : Chart) (it : Layout) (t : Tables) (p : ℕ) (y : Ch
     ];
   }
 
-  live_apart : (v q s : ℕ) (x : Sector) → v < places - 4 → IsLiveIn y places it v q s x → q ≢ p
+  live_apart : (v q s : ℕ) (x : Sector) → v < it.count → IsLiveIn y places it v q s x → q ≢ p
   live_apart v q s x low live at = nothing.no_live v low s x (rw at at live)
 
-  was_apart : (v q s : ℕ) (x : Sector) → v < places - 4 → IsLiveIn c places it v q s x → q ≢ p
+  was_apart : (v q s : ℕ) (x : Sector) → v < it.count → IsLiveIn c places it v q s x → q ≢ p
   was_apart v q s x low live at = idle.no_live v low s x (rw at at live)
 
   live_then : (v q s : ℕ) (x : Sector) → q ≢ p → IsLiveIn c places it v q s x → IsLiveIn y places it v q s x

@@ -1,6 +1,5 @@
 -- A place at which nothing counts may change.
-use Rattle.std.proofs.Common.{◌≡◌, ◌≢◌, ℕ, Some, None, eqb, true, false, ◌<◌, ◌-◌, refl, inl, inr, sym, ◌∙◌, List, All, get_or, Bool}
-use Rattle.ipl_base.specs.declared.limits.TheConstants.{RESERVED_PLACES}
+use Rattle.std.proofs.Common.{◌≡◌, ◌≢◌, ℕ, Some, None, eqb, true, false, ◌<◌, refl, inl, inr, sym, ◌∙◌, List, All, get_or, Bool}
 use Rattle.std.proofs.lemmas.Bool.{cases_Bool, eqb-true, eq-eqb}
 use Rattle.ipl_format.specs.Sector.{Sector}
 use Rattle.ipl_meaning.specs.Chart.{Chart, Beats, IsChosen, IsDataHeader, IsStatusHeader, IsLive}
@@ -52,8 +51,8 @@ module _ (w : ℕ → Bool) (c y : Chart) (same : SameOff w c y) where
     entries_still log each = λ k d low. let e = get_or log k d in let was = each k d low in
         record { live = live_forth places u it.home it.head.generation e.place e.number e.sector (not_there e was) was.live; records = was.records }
 
-    unit_still : ((q : ℕ) (head : Sector) → w q ≡ true → q < places → y q 0 ≡ Some head → IsDataHeader u head → Beats it.head it.home head q) → IsUnit c places u it → IsUnit y places u it
-    unit_still beaten unit = record {
+    unit_still : (count : ℕ) → ((q : ℕ) (head : Sector) → w q ≡ true → q < places → y q 0 ≡ Some head → IsDataHeader u head → Beats it.head it.home head q) → IsUnit c places count u it → IsUnit y places count u it
+    unit_still count beaten unit = record {
       chosen = chosen_still places (IsDataHeader u) it.home it.head away unit.chosen beaten;
       counts = unit.counts;
       log = let log = unit.log in record {
@@ -89,7 +88,7 @@ module _ (w : ℕ → Bool) (c y : Chart) (same : SameOff w c y) where
     status_off : w it.status ≡ false
     status_off = elim (cases_Bool (w it.status)) [ inl at ↦ absurd ((idle it.status at).not_status refl) | inr off ↦ off ]
 
-    home_off : (u : ℕ) → u < places - RESERVED_PLACES → w (it.units u).home ≡ false
+    home_off : (u : ℕ) → u < it.count → w (it.units u).home ≡ false
     home_off u low = elim (cases_Bool (w (it.units u).home)) [ inl at ↦ absurd ((idle (it.units u).home at).not_home u low refl) | inr off ↦ off ]
 
     pub these_do_not_count : Laid places y it × KeepsPages places c it y it
@@ -97,12 +96,13 @@ module _ (w : ℕ → Bool) (c y : Chart) (same : SameOff w c y) where
       record {
         least = laid.least;
         most = laid.most;
+        count = laid.count;
         chosen = chosen_still places IsStatusHeader it.status it.head status_off laid.chosen (λ q other at low there fits. (nothing q at low).status other there fits);
         counts = laid.counts;
         commits = status_still it.status it.head.generation status_off it.committed laid.commits;
         each = λ u low. unit_still places u (it.units u) (home_off u low) (λ q s sector at live. (idle q at).no_live u low s sector live)
             (λ q s sector at live. (nothing q at live.within.0).no_live u low s sector live)
-            (λ q head at within there fits. (nothing q at within).unit_header u low head there fits) (laid.each u low);
+            it.count (λ q head at within there fits. (nothing q at within).unit_header u low head there fits) (laid.each u low);
         overflows = laid.overflows;
         two = laid.two;
         in_overflow = laid.in_overflow;

@@ -1,5 +1,5 @@
 -- A log sector more.
-use Rattle.std.proofs.Common.{◌≡◌, ◌≢◌, ◌⊎◌, ℕ, ◌<◌, ◌≤◌, ◌-◌, List, [], ◌∷◌, ◌++◌, Some, None, inl, inr, refl, sym, ◌∙◌, ap, ap₂, arith}
+use Rattle.std.proofs.Common.{◌≡◌, ◌≢◌, ◌⊎◌, ℕ, ◌<◌, ◌≤◌, List, [], ◌∷◌, ◌++◌, Some, None, inl, inr, refl, sym, ◌∙◌, ap, ap₂, arith}
 use Rattle.std.proofs.lemmas.List.Elements.{All-contains}
 use Rattle.std.proofs.lemmas.Bool.{cases_eq, eq-eqb, ne_eqb}
 use Rattle.chip_trait.specs.Chart.{with_sector}
@@ -16,7 +16,7 @@ use Rattle.ipl_meaning.proofs.MaskLemmas.{NoneStands, stands_away}
 use Rattle.ipl_meaning.proofs.CounterLemmas.{log_sectors_keep_the_counter}
 
 -- no live log sector stands where nothing checks
-pub none_stands : (places : ℕ) (c : Chart) (it : Layout) (u p s : ℕ) → Laid places c it → u < places - 4 → c p s ≡ None → NoneStands (it.units u).log p s
+pub none_stands : (places : ℕ) (c : Chart) (it : Layout) (u p s : ℕ) → Laid places c it → u < it.count → c p s ≡ None → NoneStands (it.units u).log p s
 none_stands places c it u p s laid low free e has = stands_away e p s (λ place number.
     let live = (All-contains (IsEntry c places u (it.units u).home (it.units u).head.generation) (it.units u).log e (laid.each u low).log.each has).live in
     let there : Some e.sector ≡ None = sym live.here ∙ ap₂ c place number ∙ free in cc there)

@@ -20,7 +20,7 @@ use Rattle.ipl_meaning.proofs.CounterLemmas.{headers_keep_the_counter}
 use Rattle.ipl_meaning.proofs.MirrorLemmas.{map_contains, headers_may_go}
 use Rattle.ipl_meaning.proofs.ApartLemmas.{home_not_over, home_not_status, homes_apart, none_still, status_not_over}
 
-module _ (places : ℕ) (c : Chart) (it : Layout) (t after : Tables) (u p used : ℕ) (fresh : Shape) (mirrors : Mirrors places c it t) (low : u < places - 4) (ready : IsReady places c t u p fresh)
+module _ (places : ℕ) (c : Chart) (it : Layout) (t after : Tables) (u p used : ℕ) (fresh : Shape) (mirrors : Mirrors places c it t) (low : u < it.count) (ready : IsReady places c t u p fresh)
     (in_use : ¬ IsFree t.places p) (moved : IsMoved t after u p used) (below : MentionsBelow after.next fresh.head) (all_below : IsPlaceBelow after.next c p) (clean : (s : ℕ) → 241 + used ≤ s → s < 256 → c p s ≡ None) where
   may : MaySeal places c it u p fresh
   may = headers_may_go places c it t u p fresh mirrors low ready
@@ -37,7 +37,7 @@ module _ (places : ℕ) (c : Chart) (it : Layout) (t after : Tables) (u p used :
   old_is : old ≡ (it.units u).home
   old_is = mirrors.directory.current u low
 
-  bare_not_home : (v : ℕ) → v < places - 4 → p ≢ (it.units v).home
+  bare_not_home : (v : ℕ) → v < it.count → p ≢ (it.units v).home
   bare_not_home v less at = let head = (mirrors.laid.each v less).chosen.here in let none : c (it.units v).home 0 ≡ None = rw at at ready.bare in cc (head, none)
 
   bare_not_over : ¬ IsOverflow c p
@@ -63,7 +63,7 @@ module _ (places : ℕ) (c : Chart) (it : Layout) (t after : Tables) (u p used :
       subst (Contains (overflow_places t)) same (map_contains t.overflow.in_use o.0 o.1 (moved.some k (q, 0) inside))
 
   -- a place that is free now is none of these
-  not_home : (q : ℕ) → IsFree after.places q → (v : ℕ) → v < places - 4 → (jt.units v).home ≢ q
+  not_home : (q : ℕ) → IsFree after.places q → (v : ℕ) → v < it.count → (jt.units v).home ≢ q
   not_home q free v less is = elim (moved.free q free) [
     | inl was ↦ elim (cases_eq v u) [
       | inl same ↦ in_use (rw (sym (sym home_mine ∙ ap (λ (w : ℕ). (jt.units w).home) (sym same) ∙ is)) at was)
@@ -95,20 +95,20 @@ module _ (places : ℕ) (c : Chart) (it : Layout) (t after : Tables) (u p used :
     | inr (inr (_, gone)) ↦ gone listed
   ]
 
-  current : (v : ℕ) → v < places - 4 → slice_index after.places.current v ≡ (jt.units v).home
+  current : (v : ℕ) → v < it.count → slice_index after.places.current v ≡ (jt.units v).home
   current v less = elim (cases_eq v u) [
     | inl same ↦ rw (same, moved.current) (get_or-set_same t.places.current u p 0 (omega (arith, low, mirrors.directory.units)) ∙ sym home_mine)
     | inr apart ↦ rw moved.current (get_or-set_other t.places.current u v p 0 apart ∙ mirrors.directory.current v less ∙ ap (λ (z : Shape). z.home) (sym (shape_other v apart)))
   ]
 
-  generation : TellsShape t after u fresh → (v : ℕ) → v < places - 4
+  generation : TellsShape t after u fresh → (v : ℕ) → v < it.count
       → slice_index after.places.generations v ≡ (jt.units v).head.generation
   generation told v less = elim (cases_eq v u) [
     | inl same ↦ rw (same, told.generation) (get_or-set_same t.places.generations u fresh.head.generation 0 (omega (arith, low, mirrors.directory.heads)) ∙ ap (λ (z : Shape). z.head.generation) (sym shape_mine))
     | inr apart ↦ rw told.generation (get_or-set_other t.places.generations u v fresh.head.generation 0 apart ∙ mirrors.directory.generation v less ∙ ap (λ (z : Shape). z.head.generation) (sym (shape_other v apart)))
   ]
 
-  units : length after.places.current ≡ places - 4
+  units : length after.places.current ≡ it.count
   units = ap (λ (l : List ℕ). length l) moved.current ∙ length-set t.places.current u p ∙ mirrors.directory.units
 
   directory : TellsShape t after u fresh → MirrorsPlaces places jt after
@@ -182,7 +182,7 @@ module _ (places : ℕ) (c : Chart) (it : Layout) (t after : Tables) (u p used :
   -- what is counted as clean now was so before, or stands behind the log sectors of the new place
   merge_counted : (q n : ℕ) → IsCountedClean after q n → (IsCountedClean t q n ⊎ ((q ≡ p) × (241 + used ≤ n) × (n < 256))) × (q ≡ p → n ≢ 0)
   merge_counted q n (small, inl (v, less, is, first)) =
-      let inside : v < places - 4 = omega (arith, less, units) in
+      let inside : v < it.count = omega (arith, less, units) in
       let number : n ≢ 0 = λ none. omega (arith, first, none) in
       elim (cases_eq v u) [
         | inl same ↦
@@ -209,7 +209,7 @@ module _ (places : ℕ) (c : Chart) (it : Layout) (t after : Tables) (u p used :
   counted_clean q n is = let (was, apart) = merge_counted q n is in
       none_still c p 0 fresh.head q n (elim was [ inl before ↦ mirrors.counted_clean q n before | inr (at, from, small) ↦ rw at (clean n from small) ]) apart
 
-  masks_there : TellsShape t after u fresh → MirrorsMasks places jt after
+  masks_there : TellsShape t after u fresh → MirrorsMasks jt after
   masks_there told = let was = mirrors.masks in record {
     units = ap (λ (l : List (List ℕ)). length l) told.home ∙ length-set t.places.masks u told.masks ∙ was.units;
     lists = ap (λ (l : List (List ℕ)). length l) told.elsewhere ∙ length-set t.overflow.masks u [] ∙ was.lists;

@@ -1,11 +1,12 @@
 -- What the tables give.
-use Rattle.std.proofs.Common.{◌≡◌, ◌≢◌, ◌⊎◌, ℕ, ◌<◌, ◌≤◌, ◌-◌, List, [], ◌∷◌, ◌++◌, length, map, get_or, inl, inr, refl, sym, ◌∙◌, ap, arith, false, length-append, slice_index}
+use Rattle.std.proofs.Common.{◌≡◌, ◌≢◌, ◌⊎◌, ℕ, ◌<◌, ◌≤◌, List, [], ◌∷◌, ◌++◌, length, map, get_or, inl, inr, refl, sym, ◌∙◌, ap, subst, arith, false, length-append, slice_index}
 use Rattle.std.proofs.lemmas.List.{length-map, get_or-map}
 use Rattle.std.specs.List.{All, Contains}
 use Rattle.std.proofs.lemmas.List.Elements.{All-contains, Contains-append_left, Contains-append_right}
 use Rattle.std.proofs.lemmas.Bool.{cases_eq}
 use Rattle.ipl_format.specs.Sector.{Sector}
 use Rattle.ipl_format.specs.Record.{Record}
+use Rattle.ipl_format.specs.Header.{SpellsDataHeader, SpellsUnits}
 use Rattle.ipl_meaning.specs.Chart.{Chart}
 use Rattle.ipl_meaning.specs.Layout.{Entry, Layout, IsLiveIn}
 use Rattle.ipl_meaning.specs.Steps.{IsIdle, MayLog}
@@ -20,7 +21,7 @@ map_contains l p s (k, within, is) = (k, omega (arith, within, length-map l plac
 
 module _ (places : ℕ) (c : Chart) (it : Layout) (t : Tables) (mirrors : Mirrors places c it t) where
   -- a live sector stands at home, or in an overflow place in use
-  home_or_overflow : (u p s : ℕ) (sector : Sector) → u < places - 4 → IsLiveIn c places it u p s sector → (p ≡ (it.units u).home) ⊎ (Contains (spots_of t u) (p, s) × Contains (overflow_places t) p)
+  home_or_overflow : (u p s : ℕ) (sector : Sector) → u < it.count → IsLiveIn c places it u p s sector → (p ≡ (it.units u).home) ⊎ (Contains (spots_of t u) (p, s) × Contains (overflow_places t) p)
   home_or_overflow u p s sector low live = elim (cases_eq p (it.units u).home) [
     | inl at ↦ inl at
     | inr away ↦ let listed = mirrors.overflow.listed u p s sector low live away in inr (listed, mirrors.overflow.in_overflow u p s low listed)
@@ -36,7 +37,7 @@ module _ (places : ℕ) (c : Chart) (it : Layout) (t : Tables) (mirrors : Mirror
     ];
   }
 
-  in_overflow : (v q number : ℕ) (other : Sector) → v < places - 4 → IsLiveIn c places it v q number other → q ≢ (it.units v).home → Contains (overflow_places t) q
+  in_overflow : (v q number : ℕ) (other : Sector) → v < it.count → IsLiveIn c places it v q number other → q ≢ (it.units v).home → Contains (overflow_places t) q
   in_overflow v q number other low live away = mirrors.overflow.in_overflow v q number low (mirrors.overflow.listed v q number other low live away)
 
   two : length (overflow_places t) ≤ 2
@@ -45,7 +46,7 @@ module _ (places : ℕ) (c : Chart) (it : Layout) (t : Tables) (mirrors : Mirror
   waits : (records : List Record) → All (λ r. Contains t.active r.tid) records → All (λ r. it.committed r.tid ≡ false) records
   waits records active k none low = All-contains (λ n. it.committed n ≡ false) t.active (get_or records k none).tid mirrors.numbers.waits (active k none low)
 
-  module _ (u : ℕ) (low : u < places - 4) (sector : Sector) (records : List Record) (fresh : IsFreshLog it t u sector records) where
+  module _ (u : ℕ) (low : u < it.count) (sector : Sector) (records : List Record) (fresh : IsFreshLog it t u sector records) where
     last : (q number : ℕ) (other : Sector) → IsLiveIn c places it u q number other → other.serial < sector.serial
     last q number other live = (new_serials_are_greatest places c it t.next sector.serial mirrors.numbers.above fresh.new).1 u q number other low live
 
@@ -124,7 +125,7 @@ headers_may_go places c it t u p fresh mirrors low ready = record {
   free = ready.bare;
   home = ready.home;
   fits = ready.fits;
-  counts = ready.counts;
+  counts = subst (λ (n : ℕ). SpellsDataHeader fresh.head.version n fresh.pieces fresh.head.payload) mirrors.directory.units ready.counts;
   newest = λ q other less there fits. (new_serials_are_greatest places c it t.next fresh.head.serial mirrors.numbers.above ready.new_serial).0 q other less there (omega (arith, fits.0), omega (arith, fits.0));
   log = record {
     each = ready.each;
@@ -145,7 +146,7 @@ status_headers_may_go places c it t p head committed mirrors within bare fits co
   within = within;
   free = bare;
   fits = fits;
-  counts = counts;
+  counts = subst (λ (n : ℕ). SpellsUnits head.version n head.payload) mirrors.directory.units counts;
   newest = λ q other less there it_fits. (new_serials_are_greatest places c it t.next head.serial mirrors.numbers.above new).0 q other less there (omega (arith, it_fits), omega (arith, it_fits));
   commits = commits;
 }

@@ -1,5 +1,5 @@
 -- A chart is laid out in one way, and stands for one map.
-use Rattle.std.proofs.Common.{slice_index, ◌≡◌, ◌⊎◌, ℕ, zero, suc, ◌<◌, ◌+◌, ◌-◌, ◌*◌, ◌/◌, ◌%◌, List, [], ◌∷◌, Some, inl, inr, refl, sym, ◌∙◌, ap, ap₂, subst, arith, Bool, true, false, IsTrue}
+use Rattle.std.proofs.Common.{slice_index, ◌≡◌, ◌⊎◌, ℕ, zero, suc, ◌<◌, ◌+◌, ◌*◌, ◌/◌, ◌%◌, List, [], ◌∷◌, Some, inl, inr, refl, sym, ◌∙◌, ap, ap₂, subst, arith, Bool, true, false, IsTrue}
 use Rattle.std.specs.List.{All, Contains}
 use Rattle.std.proofs.lemmas.Bool.{cases_lt}
 use Rattle.std.proofs.lemmas.List.Elements.{All-contains}
@@ -15,7 +15,7 @@ use Rattle.ipl_meaning.specs.Layout.{Shape, Entry, IsBelow, AllRise, IsEntry, Is
 use Rattle.ipl_meaning.specs.Stands.{Shows, Stands, page_in}
 use Rattle.ipl_meaning.specs.Laws.{StandsOnce, LaidOnce}
 use Rattle.ipl_format.proofs.RecordLemmas.{logs_spell_once}
-use Rattle.ipl_format.proofs.PayloadLemmas.{data_headers_spell_once}
+use Rattle.ipl_format.proofs.PayloadLemmas.{data_headers_spell_once, units_spell_once}
 use Rattle.ipl_format.proofs.PageLemmas.{pages_spell_once, pieces_say_once}
 use Rattle.ipl_meaning.proofs.SwitchLemmas.{same_applied}
 
@@ -105,12 +105,12 @@ log_is_one c places u home generation a b one other = logs_same a b one.rising o
 
 -- ---- One shape
 
-shape_once : (c : Chart) (places u : ℕ) (a b : Shape) → IsUnit c places u a → IsUnit c places u b → a ≡ b
-shape_once c places u a b one other =
+shape_once : (c : Chart) (places count u : ℕ) (a b : Shape) → IsUnit c places count u a → IsUnit c places count u b → a ≡ b
+shape_once c places count u a b one other =
     let (home, head) = chosen_once c places (IsDataHeader u) a.home b.home a.head b.head one.chosen other.chosen in
     let header =
-    data_headers_spell_once b.head.version b.head.payload (places - 4)
-    (places - 4) a.pieces b.pieces (rw head at one.counts) other.counts in
+    data_headers_spell_once b.head.version b.head.payload count
+    count a.pieces b.pieces (rw head at one.counts) other.counts in
     let pieces : a.pieces ≡ b.pieces = header.same_pieces in
     let log : a.log ≡ b.log = log_is_one c places u b.home b.head.generation a.log b.log (rw (home, head) at one.log) other.log in
     same_shape home head pieces log
@@ -129,19 +129,29 @@ module _ (places : ℕ) (c : Chart) (it jt : Layout) (one : Laid places c it) (o
   pub same_status : (it.status ≡ jt.status) × (it.head ≡ jt.head)
   same_status = chosen_once c places IsStatusHeader _ _ _ _ one.chosen other.chosen
 
+  -- the status header says how many units there are
+  pub same_count : it.count ≡ jt.count
+  same_count =
+      let mine = rw same_status.1 at one.counts in
+      units_spell_once jt.head.version jt.head.payload it.count jt.count mine other.counts
+
   same_committed : (tid : ℕ) → it.committed tid ≡ jt.committed tid
   same_committed tid =
       let mine : IsStatus c jt.status jt.head.generation it.committed = rw (same_status.0, same_status.1) at one.commits in
       same_truth (it.committed tid) (jt.committed tid) (λ is_so. other.commits.all_told tid (mine.told tid is_so)) (λ is_so. mine.all_told tid (other.commits.told tid is_so))
 
-  same_shape : (u : ℕ) → u < places - 4 → it.units u ≡ jt.units u
-  same_shape u low = shape_once c places u (it.units u) (jt.units u) (one.each u low) (other.each u low)
+  same_shape : (u : ℕ) → u < it.count → it.units u ≡ jt.units u
+  same_shape u low =
+      let theirs = rw same_count at low in
+      let there = other.each u theirs in
+      shape_once c places it.count u (it.units u) (jt.units u) (one.each u low) (rw (← same_count) at there)
 
 pub laid_once : LaidOnce
 laid_once places c it jt one other = record {
   status = (same_status places c it jt one other).0;
   head = (same_status places c it jt one other).1;
   committed = same_committed places c it jt one other;
+  count = same_count places c it jt one other;
   units = same_shape places c it jt one other;
 }
 
@@ -177,23 +187,26 @@ by_page : (n : ℕ) → n ≡ 960 * (n / 960) + 64 * ((n / 64) % 15) + n % 64
 by_page n = omega arith
 
 module _ (places : ℕ) (c : Chart) (m after : Map) (one : Stands places c m) (other : Stands places c after) where
-  same_within : (n : ℕ) → n < 960 * (places - 4) → get m n ≡ get after n
+  counts : one.layout.count ≡ other.layout.count
+  counts = same_count places c one.layout other.layout one.laid other.laid
+
+  same_within : (n : ℕ) → n < 960 * one.layout.count → get m n ≡ get after n
   same_within n low =
       let u = n / 960 in
       let page = (n / 64) % 15 in
-      let within : u < places - 4 = omega (arith, low) in
+      let within : u < one.layout.count = omega (arith, low) in
       let few : page < 15 = omega arith in
       let less : n % 64 < 64 = omega arith in
       let mine : Shows c one.layout.committed u (other.layout.units u) page (page_in m u page) = rw (same_shape places c one.layout other.layout one.laid other.laid u within) at (one.says.pages u page within few) in
       ap (λ (k : ℕ). get m k) (by_page n)
       ∙ shows_once c one.layout.committed other.layout.committed u (other.layout.units u) page (page_in m u page) (page_in after u page)
-      (same_committed places c one.layout other.layout one.laid other.laid) mine (other.says.pages u page within few) (n % 64) less
+      (same_committed places c one.layout other.layout one.laid other.laid) mine (other.says.pages u page (omega (arith, within, counts)) few) (n % 64) less
       ∙ ap (λ (k : ℕ). get after k) (sym (by_page n))
 
   same_value : (n : ℕ) → get m n ≡ get after n
-  same_value n = elim (cases_lt n (960 * (places - 4))) [
+  same_value n = elim (cases_lt n (960 * one.layout.count)) [
     | inl low ↦ same_within n low
-    | inr high ↦ one.says.nowhere_else n high ∙ sym (other.says.nowhere_else n high)
+    | inr high ↦ one.says.nowhere_else n high ∙ sym (other.says.nowhere_else n (omega (arith, high, counts)))
   ]
 
 pub stands_once : StandsOnce

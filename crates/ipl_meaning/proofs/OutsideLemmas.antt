@@ -37,8 +37,8 @@ module _ (places : ℕ) (c y : Chart) (same : SameWithin places c y) where
     counts = elim live.counts [ inl at_home ↦ inl at_home | inr over ↦ inr ((over.0.0, sym (same p 0 live.within.0 (omega arith)) ∙ over.0.1, over.0.2), over.1) ];
   }
 
-  unit_same : (u : ℕ) (it : Shape) → IsUnit c places u it → IsUnit y places u it
-  unit_same u it unit = record {
+  unit_same : (count u : ℕ) (it : Shape) → IsUnit c places count u it → IsUnit y places count u it
+  unit_same count u it unit = record {
     chosen = chosen_same (IsDataHeader u) it.home it.head unit.chosen;
     counts = unit.counts;
     log = let log = unit.log in record {
@@ -70,10 +70,11 @@ outside_does_not_count places c it y laid same = (
   record {
     least = laid.least;
     most = laid.most;
+    count = laid.count;
     chosen = chosen_same places c y same IsStatusHeader it.status it.head laid.chosen;
     counts = laid.counts;
     commits = status_same places c y same it.status it.head.generation laid.chosen.within it.committed laid.commits;
-    each = λ u low. unit_same places c y same u (it.units u) (laid.each u low);
+    each = λ u low. unit_same places c y same it.count u (it.units u) (laid.each u low);
     overflows = laid.overflows;
     two = laid.two;
     in_overflow = laid.in_overflow;

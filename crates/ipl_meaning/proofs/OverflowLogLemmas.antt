@@ -1,5 +1,5 @@
 -- How the tables follow a log sector in an overflow place.
-use Rattle.std.proofs.Common.{◌≡◌, ◌≢◌, ◌⊎◌, ℕ, ◌<◌, ◌≤◌, ◌-◌, List, [], ◌∷◌, ◌++◌, length, map, false, Some, inl, inr, refl, sym, ◌∙◌, ap, ap₂, arith, zero, suc}
+use Rattle.std.proofs.Common.{◌≡◌, ◌≢◌, ◌⊎◌, ℕ, ◌<◌, ◌≤◌, List, [], ◌∷◌, ◌++◌, length, map, false, Some, inl, inr, refl, sym, ◌∙◌, ap, ap₂, arith, zero, suc}
 use Rattle.std.specs.List.{Contains}
 use Rattle.std.proofs.lemmas.Bool.{cases_eq}
 use Rattle.std.proofs.lemmas.List.{length-set, get_or-set_same, get_or-set_other, length-map, length-append, map-append, get_or_default}
@@ -25,7 +25,7 @@ use Rattle.ipl_meaning.proofs.CountedLemmas.{same_places, overflow_counted}
 use Rattle.ipl_meaning.proofs.MaskLemmas.{NoneStands, mask_of_new, mask_of_others, stands_here, stands_away, map_same}
 use Rattle.ipl_meaning.proofs.LogFollowLemmas.{log_mine, log_other, none_stands, live_then, new_or_live, numbers_then, over_then, same_head, same_home}
 
-module _ (places : ℕ) (c : Chart) (it : Layout) (t : Tables) (u p s next : ℕ) (sector : Sector) (records : List Record) (mirrors : Mirrors places c it t) (low : u < places - 4)
+module _ (places : ℕ) (c : Chart) (it : Layout) (t : Tables) (u p s next : ℕ) (sector : Sector) (records : List Record) (mirrors : Mirrors places c it t) (low : u < it.count)
     (spot : Contains t.overflow.in_use (p, s)) (some : 1 ≤ s) (small : s < 256) (room : length (spots_of t u) < 16) (fresh : IsFreshLog it t u sector records) (more : t.next ≤ next) (below : MentionsBelow next sector) where
   may : MayLog places c it u p s sector records
   may = log_sectors_may_go_elsewhere places c it t u p s sector records mirrors low spot some small room fresh
@@ -88,7 +88,7 @@ module _ (places : ℕ) (c : Chart) (it : Layout) (t : Tables) (u p s next : ℕ
     counts = inr ((is_over.0, kept c p s sector may.free p 0 is_over.0 is_over.1, is_over.2), some);
   } in live)
 
-  stands_away_home : (v : ℕ) → v < places - 4 → p ≢ (it.units v).home
+  stands_away_home : (v : ℕ) → v < it.count → p ≢ (it.units v).home
   stands_away_home v less at = home_not_over places c it mirrors.laid v less (rw at at is_over)
 
   overflow : MirrorsOverflow places y jt tables
@@ -125,7 +125,7 @@ module _ (places : ℕ) (c : Chart) (it : Layout) (t : Tables) (u p s next : ℕ
   abbrev entry : Entry
   entry = entry_at p s sector records
 
-  masks : MirrorsMasks places jt tables
+  masks : MirrorsMasks jt tables
   masks = let was = mirrors.masks in record {
     units = was.units;
     lists = length-set t.overflow.masks u (masks_of t u ++ mask_of records ∷ []) ∙ was.lists;
@@ -141,7 +141,7 @@ module _ (places : ℕ) (c : Chart) (it : Layout) (t : Tables) (u p s next : ℕ
     ];
   }
     where
-      stands_away_from : (v : ℕ) → v < places - 4 → p ≢ (it.units v).home
+      stands_away_from : (v : ℕ) → v < it.count → p ≢ (it.units v).home
       stands_away_from = stands_away_home
 
       masks_mine : masks_of tables u ≡ masks_of t u ++ mask_of records ∷ []

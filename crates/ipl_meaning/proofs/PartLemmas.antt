@@ -1,8 +1,9 @@
 -- A chart that has lost some sectors, but no header, has the same units at the same places.
-use Rattle.std.proofs.Common.{◌≡◌, ℕ, ◌<◌, ◌-◌, Option, Some, None, inl, inr, refl, sym, ◌∙◌, ap, List, Bool, true, false}
+use Rattle.std.proofs.Common.{◌≡◌, ℕ, ◌<◌, Option, Some, None, inl, inr, refl, sym, ◌∙◌, ap, List, Bool, true, false}
 use Rattle.std.proofs.lemmas.Bool.{cases_Bool}
 use Rattle.ipl_format.specs.Sector.{Sector}
 use Rattle.ipl_format.specs.Record.{Record}
+use Rattle.ipl_format.proofs.PayloadLemmas.{units_spell_once}
 use Rattle.ipl_meaning.specs.Chart.{Chart, IsChosen, IsDataHeader, IsStatusHeader}
 use Rattle.ipl_meaning.specs.Layout.{IsCommitted, Layout, Laid, IsLiveIn}
 use Rattle.ipl_meaning.specs.Steps.{IsPart, SameOff, LeftAt, KeepsPages, IsIdle, ComesToNothing, MayLog}
@@ -22,11 +23,21 @@ module _ (places : ℕ) (c h : Chart) (part : IsPart c h) (jt it : Layout) (less
   pub same_status : (jt.status ≡ it.status) × (jt.head ≡ it.head)
   same_status = chosen_once h places IsStatusHeader _ _ _ _ (chosen_there IsStatusHeader jt.status jt.head less.chosen) whole.chosen
 
-  same_unit : (u : ℕ) → u < places - 4 → ((jt.units u).home ≡ (it.units u).home) × ((jt.units u).head ≡ (it.units u).head)
-  same_unit u low = chosen_once h places (IsDataHeader u) _ _ _ _ (chosen_there (IsDataHeader u) (jt.units u).home (jt.units u).head (less.each u low).chosen) (whole.each u low).chosen
+  -- the status header says how many units there are
+  pub same_count : jt.count ≡ it.count
+  same_count =
+      let mine = rw same_status.1 at less.counts in
+      units_spell_once it.head.version it.head.payload jt.count it.count mine whole.counts
+
+  -- a unit of the part is one of the whole
+  unit_there : (u : ℕ) → u < jt.count → u < it.count
+  unit_there u low = rw same_count at low
+
+  same_unit : (u : ℕ) → u < jt.count → ((jt.units u).home ≡ (it.units u).home) × ((jt.units u).head ≡ (it.units u).head)
+  same_unit u low = chosen_once h places (IsDataHeader u) _ _ _ _ (chosen_there (IsDataHeader u) (jt.units u).home (jt.units u).head (less.each u low).chosen) (whole.each u (unit_there u low)).chosen
 
   -- what is live in the part is live in the whole
-  live_there : (u : ℕ) → u < places - 4 → (p s : ℕ) (sector : Sector) → IsLiveIn c places jt u p s sector → IsLiveIn h places it u p s sector
+  live_there : (u : ℕ) → u < jt.count → (p s : ℕ) (sector : Sector) → IsLiveIn c places jt u p s sector → IsLiveIn h places it u p s sector
   live_there u low p s sector live = let unit = same_unit u low in record {
     here = part.each p s sector live.here;
     kind = live.kind;
@@ -68,15 +79,15 @@ module _ (places : ℕ) (c h : Chart) (part : IsPart c h) (jt it : Layout) (less
   pub idle_there : (p : ℕ) → IsIdle places h it p → IsIdle places c jt p
   idle_there p idle = record {
     not_status = λ is. idle.not_status (sym same_status.0 ∙ is);
-    not_home = λ u low is. idle.not_home u low (sym (same_unit u low).0 ∙ is);
-    no_live = λ u low s sector live. idle.no_live u low s sector (live_there u low p s sector live);
+    not_home = λ u low is. idle.not_home u (unit_there u low) (sym (same_unit u low).0 ∙ is);
+    no_live = λ u low s sector live. idle.no_live u (unit_there u low) s sector (live_there u low p s sector live);
   }
 
   -- nothing that an idle place has, or had, comes to count
   pub nothing_left : (p : ℕ) (y : Chart) → IsIdle places h it p → ((s : ℕ) (sector : Sector) → y p s ≡ Some sector → h p s ≡ Some sector) → p < places → ComesToNothing places y jt p
   nothing_left p y idle some within = record {
     unit_header = λ u low head there fits.
-        let beats = (whole.each u low).chosen.best p head within (some 0 head there) fits in
+        let beats = (whole.each u (unit_there u low)).chosen.best p head within (some 0 head there) fits in
         rw ((same_unit u low).0, (same_unit u low).1) beats;
     status = λ head there fits. rw (same_status.0, same_status.1) (whole.chosen.best p head within (some 0 head there) fits);
     no_live = λ u low s sector live.
@@ -88,13 +99,13 @@ module _ (places : ℕ) (c h : Chart) (part : IsPart c h) (jt it : Layout) (less
           within = live.within;
           counts = elim live.counts [ inl at_home ↦ inl (at_home.0 ∙ (same_unit u low).0, at_home.1) | inr over ↦ inr ((over.0.0, some 0 _ over.0.1, over.0.2), over.1) ];
         } in
-        idle.no_live u low s sector there;
+        idle.no_live u (unit_there u low) s sector there;
   }
 
   -- a log sector that may join the whole may join the part
   pub may_log_there : (u p s : ℕ) (sector : Sector) (records : List Record) → MayLog places h it u p s sector records → MayLog places c jt u p s sector records
-  may_log_there u p s sector records may = let unit = same_unit u may.unit in record {
-    unit = may.unit;
+  may_log_there u p s sector records may = let low = rw (← same_count) at may.unit in let unit = same_unit u low in record {
+    unit = low;
     free = none_there p s may.free;
     kind = may.kind;
     of_unit = may.of_unit;
@@ -102,15 +113,15 @@ module _ (places : ℕ) (c h : Chart) (part : IsPart c h) (jt it : Layout) (less
     within = may.within;
     counts = elim may.counts [ inl at_home ↦ inl (at_home.0 ∙ sym unit.0, at_home.1) | inr over ↦ inr ((over.0.0, part.headers p ∙ over.0.1, over.0.2), over.1) ];
     spelled = may.spelled;
-    waits = λ k none low. committed_there _ (may.waits k none low);
-    last = λ q t other live. may.last q t other (live_there u may.unit q t other live);
+    waits = λ k none within. committed_there _ (may.waits k none within);
+    last = λ q t other live. may.last q t other (live_there u low q t other live);
     spots = may.spots;
     few = may.few;
-    listed = λ q t other live away. may.listed q t other (live_there u may.unit q t other live) (λ at_home. away (at_home ∙ sym unit.0));
+    listed = λ q t other live away. may.listed q t other (live_there u low q t other live) (λ at_home. away (at_home ∙ sym unit.0));
     listed_here = λ away. may.listed_here (λ at_home. away (at_home ∙ sym unit.0));
     overflows = may.overflows;
     two = may.two;
-    in_overflow = λ v q t other low live away. may.in_overflow v q t other low (live_there v low q t other live) (λ at_home. away (at_home ∙ sym (same_unit v low).0));
+    in_overflow = λ v q t other low live away. may.in_overflow v q t other (unit_there v low) (live_there v low q t other live) (λ at_home. away (at_home ∙ sym (same_unit v low).0));
     in_overflow_here = λ away. may.in_overflow_here (λ at_home. away (at_home ∙ sym unit.0));
   }
 
@@ -133,11 +144,11 @@ still_laid places c y it w laid idle same left = losses_do_not_count places c c 
 
 -- an idle place stays so where nothing changes there, and the units and the status stay where they are
 pub idle_still : (places : ℕ) (c y : Chart) (it jt : Layout) (q : ℕ) → ((s : ℕ) → y q s ≡ c q s) → jt.status ≡ it.status
-    → ((u : ℕ) → u < places - 4 → ((jt.units u).home ≡ (it.units u).home) × ((jt.units u).head ≡ (it.units u).head)) → IsIdle places c it q → IsIdle places y jt q
-idle_still places c y it jt q same status units idle = record {
+    → jt.count ≡ it.count → ((u : ℕ) → u < jt.count → ((jt.units u).home ≡ (it.units u).home) × ((jt.units u).head ≡ (it.units u).head)) → IsIdle places c it q → IsIdle places y jt q
+idle_still places c y it jt q same status count units idle = record {
   not_status = λ is. idle.not_status (sym status ∙ is);
-  not_home = λ u low is. idle.not_home u low (sym (units u low).0 ∙ is);
-  no_live = λ u low s sector live. idle.no_live u low s sector (record {
+  not_home = λ u low is. idle.not_home u (rw count at low) (sym (units u low).0 ∙ is);
+  no_live = λ u low s sector live. idle.no_live u (rw count at low) s sector (record {
     here = sym (same s) ∙ live.here;
     kind = live.kind;
     of_unit = live.of_unit;

@@ -124,9 +124,9 @@ module _ (c : Chart) (p s : ℕ) (sector : Sector) (free : c p s ≡ None) where
   }
 
   -- a unit of which the new sector is neither the header nor a live sector
-  pub unit_still : (places u : ℕ) (it : Shape) → (s ≡ 0 → ¬ IsDataHeader u sector) → ((q t : ℕ) (x : Sector) → IsLive y places u it.home it.head.generation q t x → IsLive c places u it.home it.head.generation q t x)
-      → IsUnit c places u it → IsUnit y places u it
-  unit_still places u it unfit back unit = record {
+  pub unit_still : (places count u : ℕ) (it : Shape) → (s ≡ 0 → ¬ IsDataHeader u sector) → ((q t : ℕ) (x : Sector) → IsLive y places u it.home it.head.generation q t x → IsLive c places u it.home it.head.generation q t x)
+      → IsUnit c places count u it → IsUnit y places count u it
+  unit_still places count u it unfit back unit = record {
     chosen = chosen_still places (IsDataHeader u) it.home it.head unfit unit.chosen;
     counts = unit.counts;
     log = log_still places u it.home it.head.generation it.log back unit.log;

@@ -1,5 +1,5 @@
 -- How the tables follow the status to its new place.
-use Rattle.std.proofs.Common.{◌≡◌, ◌≢◌, ◌⊎◌, ◌↔◌, ℕ, List, ◌<◌, ◌≤◌, ◌-◌, [], length, map, get_or, slice_index, Some, None, inl, inr, sym, ◌∙◌, ap, arith, Bool, false, IsTrue}
+use Rattle.std.proofs.Common.{◌≡◌, ◌≢◌, ◌⊎◌, ◌↔◌, ℕ, List, ◌<◌, ◌≤◌, [], length, map, get_or, slice_index, Some, None, inl, inr, sym, ◌∙◌, ap, arith, Bool, false, IsTrue}
 use Rattle.std.specs.List.{All, Contains}
 use Rattle.chip_trait.specs.Chart.{with_sector}
 use Rattle.ipl_format.specs.Sector.{Sector}
@@ -17,7 +17,7 @@ use Rattle.ipl_meaning.proofs.CounterLemmas.{headers_keep_the_counter}
 use Rattle.ipl_meaning.proofs.MirrorLemmas.{map_contains}
 use Rattle.ipl_meaning.proofs.ApartLemmas.{home_not_status, none_still, status_not_over}
 
-module _ (places : ℕ) (c : Chart) (it : Layout) (t after : Tables) (p first : ℕ) (head : Sector) (committed : ℕ → Bool) (mirrors : Mirrors places c it t) (may : MaySwitch places c p head committed) (in_use : ¬ IsFree t.places p)
+module _ (places : ℕ) (c : Chart) (it : Layout) (t after : Tables) (p first : ℕ) (head : Sector) (committed : ℕ → Bool) (mirrors : Mirrors places c it t) (may : MaySwitch places it.count c p head committed) (in_use : ¬ IsFree t.places p)
     (renewed : IsRenewed t after p head.generation first) (numbers : (tid : ℕ) → IsTrue (committed tid) ↔ Contains after.status.numbers tid) (wait_still : All (λ n. committed n ≡ false) t.active)
     (below : MentionsBelow after.next head) (all_below : IsPlaceBelow after.next c p) (some : 1 ≤ first) (clean : (s : ℕ) → first ≤ s → s < 256 → c p s ≡ None) where
   abbrev y : Chart
@@ -65,7 +65,7 @@ module _ (places : ℕ) (c : Chart) (it : Layout) (t after : Tables) (p first : 
 
   renewal_counted : (q n : ℕ) → IsCountedClean after q n → (IsCountedClean t q n ⊎ ((q ≡ p) × (first ≤ n) × (n < 256))) × (q ≡ p → n ≢ 0)
   renewal_counted q n (small, inl (v, less, is, above)) =
-      let inside : v < places - 4 = omega (arith, less, directory.units) in
+      let inside : v < it.count = omega (arith, less, directory.units) in
       let home : q ≡ slice_index t.places.current v = rw renewed.current at is in
       let from : first_log t v ≤ n = rw renewed.written at above in
       (inl (small, inl (v, omega (arith, inside, mirrors.directory.units), home, from)), λ _ none. omega (arith, above, none))

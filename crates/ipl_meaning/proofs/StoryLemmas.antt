@@ -1,5 +1,5 @@
 -- From bytes to charts.
-use Rattle.std.proofs.Common.{Some, ◌≡◌, ◌≢◌, ℕ, None, inl, inr, refl, sym, ◌∙◌, ap, List, arith, eqb, ◌&&◌, ◌||◌, not, Bool, ◌∷◌, ◌<◌, ◌-◌, true, false}
+use Rattle.std.proofs.Common.{Some, ◌≡◌, ◌≢◌, ℕ, None, inl, inr, refl, sym, ◌∙◌, ap, List, arith, eqb, ◌&&◌, ◌||◌, not, Bool, ◌∷◌, ◌<◌, true, false}
 use Rattle.std.proofs.lemmas.Bool.{cases_Bool, cases_eq, and_parts, eqb-true, ne_eqb, eq-eqb}
 use Rattle.std.proofs.Math.Path.{fun_ext}
 use Rattle.chip_trait.specs.declared.event.Event.TheVariants.{Program, Erase, Worn, Barrier}
@@ -48,7 +48,7 @@ loses_keep : (places : ℕ) (m : Map) (h : History) (quiet : IsQuiet h.start h.s
     → Loses sector_in blank_says_nothing h.start h.story quiet (λ c. Stands places c m) w
 loses_keep places m h quiet w it laid idle c y part headers same left stands =
     let whole : IsPart c (now h) = record { each = part; headers = headers } in
-    stands_by places m c y stands.layout stands.layout (losses_do_not_count places (now h) c y it stands.layout w laid stands.laid whole idle same left) stands.says
+    stands_by places m c y stands.layout stands.layout (losses_do_not_count places (now h) c y it stands.layout w laid stands.laid whole idle same left) refl stands.says
 
 pub held_stands : HeldStands
 held_stands places m h each = each (held h.start h.story) (held_is_image _ h.start h.story)
@@ -126,7 +126,7 @@ module _ (places : ℕ) (h : History) (it : Layout) (laid : Laid places (now h) 
   erased_worn : WornAreIdle places (Erase p ∷ h.story) (now (adds (Erase p) h))
   erased_worn jt other q is = idle_once places (now (adds (Erase p) h)) it jt erased_laid other q (elim (cases_Bool (eqb p q)) [
     | inl here ↦ nothing_erased q here
-    | inr elsewhere ↦ idle_still places (now h) (now (adds (Erase p) h)) it it q (λ s. erased_elsewhere q s elsewhere) refl (λ u low. (refl, refl)) (worn it laid q is)
+    | inr elsewhere ↦ idle_still places (now h) (now (adds (Erase p) h)) it it q (λ s. erased_elsewhere q s elsewhere) refl refl (λ u low. (refl, refl)) (worn it laid q is)
   ])
 
 pub erases_keep : ErasesKeep
@@ -139,8 +139,8 @@ erases_keep places m h it p rests laid within idle = (
 no_header : (places : ℕ) (c : Chart) (it : Layout) (u p s : ℕ) (sector : Sector) (records : List Record) → MayLog places c it u p s sector records → s ≢ 0
 no_header places c it u p s sector records may none = elim may.counts [ inl at_home ↦ omega (arith, at_home.1) | inr over ↦ omega (arith, over.1) ]
 
-same_homes : (it : Layout) (u : ℕ) (e : Entry) (places v : ℕ) → v < places - 4 → (((with_log it u e).units v).home ≡ (it.units v).home) × (((with_log it u e).units v).head ≡ (it.units v).head)
-same_homes it u e places v low = elim (cases_Bool (eqb v u)) [
+same_homes : (it : Layout) (u : ℕ) (e : Entry) (v : ℕ) → v < it.count → (((with_log it u e).units v).home ≡ (it.units v).home) × (((with_log it u e).units v).head ≡ (it.units v).head)
+same_homes it u e v low = elim (cases_Bool (eqb v u)) [
   | inl here ↦ rw (eqb-true v u here, eq-eqb u u refl) (refl, refl)
   | inr elsewhere ↦ rw elsewhere (refl, refl)
 ]
@@ -158,14 +158,14 @@ put_left c d p s sector q t other left there = elim (cases_Bool (eqb p q && eqb 
 -- a sector is programmed at a place that isn't worn, and the layout then has all units and the status where they were
 module _ (places : ℕ) (h : History) (it : Layout) (laid : Laid places (now h) it) (p s : ℕ) (bytes : List ℕ) (sector : Sector) (spelled : sector_in bytes ≡ Some sector)
     (lasting : is_worn h.story p ≡ false) (worn : WornAreIdle places h.story (now h)) (jt : Layout) (then : Laid places (with_sector (now h) p s sector) jt) (status : jt.status ≡ it.status)
-    (units : (u : ℕ) → u < places - 4 → ((jt.units u).home ≡ (it.units u).home) × ((jt.units u).head ≡ (it.units u).head)) where
+    (count : jt.count ≡ it.count) (units : (u : ℕ) → u < jt.count → ((jt.units u).home ≡ (it.units u).home) × ((jt.units u).head ≡ (it.units u).head)) where
   not_here : (q : ℕ) → is_worn h.story q ≡ true → q ≢ p
   not_here q on at = let off = rw (← at) at lasting in cc (on, off)
 
   worn_then : WornAreIdle places h.story (with_sector (now h) p s sector)
   worn_then kt other q on =
       idle_once places (with_sector (now h) p s sector) jt kt then other q
-      (idle_still places (now h) (with_sector (now h) p s sector) it jt q (λ n. away (now h) p s sector q n (not_here q on)) status units (worn it laid q on))
+      (idle_still places (now h) (with_sector (now h) p s sector) it jt q (λ n. away (now h) p s sector q n (not_here q on)) status count units (worn it laid q on))
 
   programmed_worn : WornAreIdle places (Program p s bytes ∷ h.story) (now (adds (Program p s bytes) h))
   programmed_worn = rw (held_program sector_in h.start h.story p s bytes sector spelled) worn_then
@@ -184,7 +184,7 @@ log_sectors_keep places m h it u p s bytes sector records rests untouched spelle
     let quiet : IsQuiet h.start (Program p s bytes ∷ h.story) = (no_header places (now h) it u p s sector records may, untouched.0, untouched.1, rests.quiet) in
     let new = with_log it u (entry_at p s sector records) in
     let then : Laid places (with_sector (now h) p s sector) new = (log_sectors_wait places (now h) it u p s sector records laid may).0 in
-    let worn = programmed_worn places h it laid p s bytes sector spelled untouched.2 rests.worn new then refl (same_homes it u (entry_at p s sector records) places) in
+    let worn = programmed_worn places h it laid p s bytes sector spelled untouched.2 rests.worn new then refl refl (same_homes it u (entry_at p s sector records)) in
     record {
       quiet = quiet;
       each = by_whole places m h p s bytes sector spelled quiet new then worn
@@ -192,7 +192,7 @@ log_sectors_keep places m h it u p s bytes sector records rests untouched spelle
           (λ c part headers stands.
           let whole : IsPart c (now h) = record { each = part; headers = headers } in
           let may_too = may_log_there places c (now h) whole stands.layout it stands.laid laid u p s sector records may in
-          stands_by places m c (with_sector c p s sector) stands.layout _ (log_sectors_wait places c stands.layout u p s sector records stands.laid may_too) stands.says)
+          stands_by places m c (with_sector c p s sector) stands.layout _ (log_sectors_wait places c stands.layout u p s sector records stands.laid may_too) refl stands.says)
           rests.each);
       worn = worn;
     }
@@ -206,12 +206,12 @@ asides_keep places m h p s bytes sector rests untouched spelled bare other =
     let nothing = bare_comes_to_nothing places c it p laid bare_there (with_sector c p s sector) (apart_from c p s sector 0 other bare_there) in
     idle_places_do_not_count places c it p (with_sector c p s sector) laid idle (λ q t apart. away c p s sector q t apart) nothing in
     let then = (aside (now h) stands.layout stands.laid bare).0 in
-    let worn = programmed_worn places h stands.layout stands.laid p s bytes sector spelled untouched.2 rests.worn stands.layout then refl (λ u low. (refl, refl)) in
+    let worn = programmed_worn places h stands.layout stands.laid p s bytes sector spelled untouched.2 rests.worn stands.layout then refl refl (λ u low. (refl, refl)) in
     record {
       quiet = quiet;
       each = by_whole places m h p s bytes sector spelled quiet stands.layout then worn
           (program_keeps sector_in blank_says_nothing h.start h.story rests.quiet p s bytes sector untouched.1 untouched.0 spelled (λ c. Stands places c m)
-          (λ c part headers stood. stands_by places m c (with_sector c p s sector) stood.layout stood.layout (aside c stood.layout stood.laid (headers p ∙ bare)) stood.says)
+          (λ c part headers stood. stands_by places m c (with_sector c p s sector) stood.layout stood.layout (aside c stood.layout stood.laid (headers p ∙ bare)) refl stood.says)
           rests.each);
       worn = worn;
     }
@@ -223,7 +223,7 @@ programs_lead places m n h p s bytes sector rests closed untouched spelled after
           (λ c same left. stands_by places n new (with_sector c p s sector) after.layout after.layout
           (still_laid places new (with_sector c p s sector) after.layout (is_worn h.story) after.laid (worn after.layout after.laid)
           (λ q t off. put_same c (now h) p s sector q t (same q t off))
-          (λ q t other on. put_left c (now h) p s sector q t other (left q t other on))) after.says),
+          (λ q t other on. put_left c (now h) p s sector q t other (left q t other on))) refl after.says),
       rw (held_program sector_in h.start h.story p s bytes sector spelled) after,
       rw (held_program sector_in h.start h.story p s bytes sector spelled) worn,
     )

@@ -1,5 +1,5 @@
 -- Headers that switch a unit, or the status, to a new place at once, and headers of overflow places.
-use Rattle.std.proofs.Common.{◌≡◌, ◌≢◌, ℕ, ◌<◌, ◌-◌, inl, inr, refl, sym, ◌∙◌, ap, arith, All, List, [], ◌∷◌, suc, Option, Bool, ◌&&◌, eqb}
+use Rattle.std.proofs.Common.{◌≡◌, ◌≢◌, ℕ, ◌<◌, inl, inr, refl, sym, ◌∙◌, ap, arith, All, List, [], ◌∷◌, suc, Option, Bool, ◌&&◌, eqb}
 use Rattle.std.proofs.lemmas.Bool.{cases_eq, eq-eqb, ne_eqb}
 use Rattle.chip_trait.specs.Chart.{with_sector}
 use Rattle.ipl_format.specs.Sector.{Sector}
@@ -25,7 +25,7 @@ module _ (places : ℕ) (c : Chart) (it : Layout) (u p : ℕ) (fresh : Shape) (l
   back v home generation = live_back c p 0 fresh.head may.free no_overflow places v home generation (λ is _. omega (arith, may.fits.0, is))
 
   -- the unit at its new place
-  moved : IsUnit y places u fresh
+  moved : IsUnit y places it.count u fresh
   moved = record {
     chosen = rw may.home (chosen_new c p 0 fresh.head may.free places (IsDataHeader u) refl may.within may.fits may.newest);
     counts = may.counts;
@@ -35,13 +35,13 @@ module _ (places : ℕ) (c : Chart) (it : Layout) (u p : ℕ) (fresh : Shape) (l
   abbrev jt : Layout
   jt = with_unit it u fresh
 
-  each_unit : (v : ℕ) → v < places - 4 → IsUnit y places v (jt.units v)
+  each_unit : (v : ℕ) → v < it.count → IsUnit y places it.count v (jt.units v)
   each_unit v low = elim (cases_eq v u) [
     | inl same ↦ rw (same, eq-eqb u u refl) moved
-    | inr apart ↦ rw (ne_eqb v u apart) (unit_still c p 0 fresh.head may.free places v (it.units v) (λ _ fits. apart (sym fits.1 ∙ may.fits.1)) (back v (it.units v).home (it.units v).head.generation) (laid.each v low))
+    | inr apart ↦ rw (ne_eqb v u apart) (unit_still c p 0 fresh.head may.free places it.count v (it.units v) (λ _ fits. apart (sym fits.1 ∙ may.fits.1)) (back v (it.units v).home (it.units v).head.generation) (laid.each v low))
   ]
 
-  in_overflow : (v : ℕ) → v < places - 4 → All (IsInOverflow laid.overflows (jt.units v).home) (jt.units v).log
+  in_overflow : (v : ℕ) → v < it.count → All (IsInOverflow laid.overflows (jt.units v).home) (jt.units v).log
   in_overflow v low = elim (cases_eq v u) [
     | inl same ↦ rw (same, eq-eqb u u refl) (λ k none within away. absurd (away (may.gathered k none within ∙ sym may.home)))
     | inr apart ↦ rw (ne_eqb v u apart) (laid.in_overflow v low)
@@ -51,6 +51,7 @@ module _ (places : ℕ) (c : Chart) (it : Layout) (u p : ℕ) (fresh : Shape) (l
   switched = record {
     least = laid.least;
     most = laid.most;
+    count = laid.count;
     chosen = chosen_still c p 0 fresh.head may.free places IsStatusHeader it.status it.head (λ _ is. omega (arith, may.fits.0, is)) laid.chosen;
     counts = laid.counts;
     commits = status_still c p 0 fresh.head may.free (λ is. omega (arith, may.fits.0, is)) it.status it.head.generation it.committed laid.commits;
@@ -81,7 +82,7 @@ merges_keep_pages c it u fresh merged page now few was =
     }
 
 -- ---- Status headers
-module _ (places : ℕ) (c : Chart) (it : Layout) (p : ℕ) (head : Sector) (committed : ℕ → Bool) (laid : Laid places c it) (may : MaySwitch places c p head committed) where
+module _ (places : ℕ) (c : Chart) (it : Layout) (p : ℕ) (head : Sector) (committed : ℕ → Bool) (laid : Laid places c it) (may : MaySwitch places it.count c p head committed) where
   no_overflow_status : (zero_is : ◌≡◌ {A = ℕ} 0 0) → head.kind ≢ 3
   no_overflow_status zero_is is = omega (arith, may.fits, is)
 
@@ -89,10 +90,11 @@ module _ (places : ℕ) (c : Chart) (it : Layout) (p : ℕ) (head : Sector) (com
   renewed = record {
     least = laid.least;
     most = laid.most;
+    count = laid.count;
     chosen = chosen_new c p 0 head may.free places IsStatusHeader refl may.within may.fits may.newest;
     counts = may.counts;
     commits = status_still c p 0 head may.free (λ is. omega (arith, may.fits, is)) p head.generation committed may.commits;
-    each = λ v low. unit_still c p 0 head may.free places v (it.units v) (λ _ fits. omega (arith, may.fits, fits.0))
+    each = λ v low. unit_still c p 0 head may.free places it.count v (it.units v) (λ _ fits. omega (arith, may.fits, fits.0))
         (live_back c p 0 head may.free no_overflow_status places v (it.units v).home (it.units v).head.generation (λ is _. omega (arith, may.fits, is))) (laid.each v low);
     overflows = laid.overflows;
     two = laid.two;
@@ -124,7 +126,7 @@ module _ (places : ℕ) (c : Chart) (it : Layout) (p : ℕ) (head : Sector) (lai
   z = with_sector c p 0 head
 
   -- what is live with the new header was live before
-  pub live_before_overflow : (v : ℕ) → v < places - 4 → (q t : ℕ) (x : Sector) → IsLive z places v (it.units v).home (it.units v).head.generation q t x → IsLive c places v (it.units v).home (it.units v).head.generation q t x
+  pub live_before_overflow : (v : ℕ) → v < it.count → (q t : ℕ) (x : Sector) → IsLive z places v (it.units v).home (it.units v).head.generation q t x → IsLive c places v (it.units v).home (it.units v).head.generation q t x
   live_before_overflow v low q t x live = elim (new_or_old c p 0 head may.free q t x live.here) [
     | inl new ↦ absurd (omega (arith, may.kind, live.kind, ap (λ (s : Sector). s.kind) new.2))
     | inr old ↦ record {
@@ -147,10 +149,11 @@ module _ (places : ℕ) (c : Chart) (it : Layout) (p : ℕ) (head : Sector) (lai
   put_up = record {
     least = laid.least;
     most = laid.most;
+    count = laid.count;
     chosen = chosen_still c p 0 head may.free places IsStatusHeader it.status it.head (λ _ is. omega (arith, may.kind, is)) laid.chosen;
     counts = laid.counts;
     commits = status_still c p 0 head may.free (λ is. omega (arith, may.kind, is)) it.status it.head.generation it.committed laid.commits;
-    each = λ v low. unit_still c p 0 head may.free places v (it.units v) (λ _ fits. omega (arith, may.kind, fits.0)) (live_before_overflow v low) (laid.each v low);
+    each = λ v low. unit_still c p 0 head may.free places it.count v (it.units v) (λ _ fits. omega (arith, may.kind, fits.0)) (live_before_overflow v low) (laid.each v low);
     overflows = laid.overflows;
     two = laid.two;
     in_overflow = laid.in_overflow;

@@ -1,5 +1,5 @@
 -- A log sector none of whose records is committed may join those of its unit.
-use Rattle.std.proofs.Common.{◌≡◌, ◌≢◌, ℕ, suc, ◌<◌, ◌-◌, Option, inl, inr, refl, sym, ◌∙◌, arith, List, [], ◌∷◌, ◌++◌, All, get_or, Bool, true, false, eqb, ◌&&◌}
+use Rattle.std.proofs.Common.{◌≡◌, ◌≢◌, ℕ, suc, ◌<◌, Option, inl, inr, refl, sym, ◌∙◌, arith, List, [], ◌∷◌, ◌++◌, All, get_or, Bool, true, false, eqb, ◌&&◌}
 use Rattle.std.proofs.lemmas.Bool.{cases_eq, eq-eqb, ne_eqb}
 use Rattle.std.proofs.lemmas.List.Elements.{All-push, Contains-append_left, Contains-append_right}
 use Rattle.std.proofs.lemmas.List.Quantifiers.{all_pairs_push}
@@ -46,7 +46,7 @@ module _ (places : ℕ) (c : Chart) (it : Layout) (u p s : ℕ) (sector : Sector
   pub no_header : s ≢ 0
   no_header none = elim may.counts [ inl at_home ↦ omega (arith, at_home.1) | inr over ↦ omega (arith, over.1) ]
 
-  abbrev old : IsUnit c places u was
+  abbrev old : IsUnit c places it.count u was
   old = laid.each u may.unit
 
   joined : IsEntry after places u was.home was.head.generation entry
@@ -66,7 +66,7 @@ module _ (places : ℕ) (c : Chart) (it : Layout) (u p s : ℕ) (sector : Sector
   listed_still k none low away = may.listed _ _ _ (old.log.each k none low).live away
 
   -- the unit with the new sector
-  unit_grown : IsUnit after places u (grown was entry)
+  unit_grown : IsUnit after places it.count u (grown was entry)
   unit_grown = record {
     chosen = chosen_still c p s sector may.free places (IsDataHeader u) was.home was.head (λ none. absurd (no_header none)) old.chosen;
     counts = old.counts;
@@ -88,17 +88,17 @@ module _ (places : ℕ) (c : Chart) (it : Layout) (u p s : ℕ) (sector : Sector
   abbrev jt : Layout
   jt = with_log it u entry
 
-  each_unit : (v : ℕ) → v < places - 4 → IsUnit after places v (jt.units v)
+  each_unit : (v : ℕ) → v < it.count → IsUnit after places it.count v (jt.units v)
   each_unit v low = elim (cases_eq v u) [
     | inl same ↦ rw (same, eq-eqb u u refl) unit_grown
-    | inr apart ↦ rw (ne_eqb v u apart) (unit_still c p s sector may.free places v (it.units v) (λ none. absurd (no_header none))
+    | inr apart ↦ rw (ne_eqb v u apart) (unit_still c p s sector may.free places it.count v (it.units v) (λ none. absurd (no_header none))
         (live_back c p s sector may.free (λ none. absurd (no_header none)) places v (it.units v).home (it.units v).head.generation (λ _ is. apart (sym is ∙ may.of_unit))) (laid.each v low))
   ]
 
-  in_overflow_still : (v : ℕ) → v < places - 4 → All (IsInOverflow may.overflows (it.units v).home) (it.units v).log
+  in_overflow_still : (v : ℕ) → v < it.count → All (IsInOverflow may.overflows (it.units v).home) (it.units v).log
   in_overflow_still v low k none within away = let e = get_or (it.units v).log k none in may.in_overflow v e.place e.number e.sector low ((laid.each v low).log.each k none within).live away
 
-  in_overflow : (v : ℕ) → v < places - 4 → All (IsInOverflow may.overflows (jt.units v).home) (jt.units v).log
+  in_overflow : (v : ℕ) → v < it.count → All (IsInOverflow may.overflows (jt.units v).home) (jt.units v).log
   in_overflow v low = elim (cases_eq v u) [
     | inl same ↦ rw (same, eq-eqb u u refl) (All-push (IsInOverflow may.overflows was.home) was.log entry (in_overflow_still u may.unit) may.in_overflow_here)
     | inr apart ↦ rw (ne_eqb v u apart) (in_overflow_still v low)
@@ -113,6 +113,7 @@ module _ (places : ℕ) (c : Chart) (it : Layout) (u p s : ℕ) (sector : Sector
   laid_still = record {
     least = laid.least;
     most = laid.most;
+    count = laid.count;
     chosen = chosen_still c p s sector may.free places IsStatusHeader it.status it.head (λ none. absurd (no_header none)) laid.chosen;
     counts = laid.counts;
     commits = status_still c p s sector may.free (λ is. omega (arith, is, may.kind)) it.status it.head.generation it.committed laid.commits;

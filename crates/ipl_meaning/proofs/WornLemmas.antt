@@ -1,5 +1,5 @@
 -- Idle places stay idle, as units and the status move.
-use Rattle.std.proofs.Common.{◌≡◌, ◌≢◌, ℕ, ◌<◌, ◌-◌, eqb, ◌==◌, Bool, true, false, Some, inl, inr, refl, sym, ◌∙◌, ap}
+use Rattle.std.proofs.Common.{◌≡◌, ◌≢◌, ℕ, ◌<◌, eqb, ◌==◌, Bool, true, false, Some, inl, inr, refl, sym, ◌∙◌, ap}
 use Rattle.std.specs.List.{Contains}
 use Rattle.std.proofs.lemmas.Bool.{cases_Bool, eqb-true, eq-eqb, ne_eqb}
 use Rattle.std.proofs.lemmas.List.Elements.{All-contains}
@@ -20,10 +20,10 @@ elsewhere c p s sector q apart t = rw (ne_eqb p q (λ is. apart (sym is))) refl
 
 pub idle_after_commits : IdleAfterCommits
 idle_after_commits places c it s sector numbers committed q may idle =
-    idle_still places c (with_sector c it.status s sector) it (with_committed it committed) q (elsewhere c it.status s sector q (λ is. idle.not_status (sym is))) refl (λ u low. (refl, refl)) idle
+    idle_still places c (with_sector c it.status s sector) it (with_committed it committed) q (elsewhere c it.status s sector q (λ is. idle.not_status (sym is))) refl refl (λ u low. (refl, refl)) idle
 
 pub idle_after_overflows : IdleAfterOverflows
-idle_after_overflows places c it p head q apart idle = idle_still places c (with_sector c p 0 head) it it q (elsewhere c p 0 head q apart) refl (λ u low. (refl, refl)) idle
+idle_after_overflows places c it p head q apart idle = idle_still places c (with_sector c p 0 head) it it q (elsewhere c p 0 head q apart) refl refl (λ u low. (refl, refl)) idle
 
 pub idle_after_renewals : IdleAfterRenewals
 idle_after_renewals places c it p head committed q apart idle =
@@ -57,11 +57,11 @@ module _ (places : ℕ) (c : Chart) (it : Layout) (u p : ℕ) (fresh : Shape) (q
       let (e, there, place, number) = may.log.all q s x was in
       apart (sym place ∙ All-contains (λ (f : Entry). f.place ≡ p) fresh.log e may.gathered there)
 
-  by_unit : (v : ℕ) (b : Bool) → (v == u) ≡ b → v < places - 4 → (s : ℕ) (x : Sector) → ¬ IsLiveIn (with_sector c p 0 fresh.head) places (with_unit it u fresh) v q s x
+  by_unit : (v : ℕ) (b : Bool) → (v == u) ≡ b → v < it.count → (s : ℕ) (x : Sector) → ¬ IsLiveIn (with_sector c p 0 fresh.head) places (with_unit it u fresh) v q s x
   by_unit v true at low s x live = none_fresh s x (rw (at, eqb-true v u at) at live)
   by_unit v false off low s x live = (idle_after_overflows places c it p fresh.head q apart idle).no_live v low s x (rw off at live)
 
-  home_apart : (v : ℕ) (b : Bool) → (v == u) ≡ b → v < places - 4 → ((with_unit it u fresh).units v).home ≢ q
+  home_apart : (v : ℕ) (b : Bool) → (v == u) ≡ b → v < it.count → ((with_unit it u fresh).units v).home ≢ q
   home_apart v true at low is = let here = rw at at is in apart (sym here ∙ may.home)
   home_apart v false off low is = idle.not_home v low (rw off at is)
 

@@ -1,6 +1,6 @@
 -- Laws of the counter: what it draws is new, and it stays above all that is found.
-use Rattle.std.specs.Prelude.{ℕ, ◌≡◌, ◌≢◌, ◌<◌, ◌≤◌, ◌-◌, Bool, false, List, Some, None, All}
-use Rattle.ipl_base.specs.declared.limits.TheConstants.{RESERVED_PLACES, FIRST_LOG_SECTOR}
+use Rattle.std.specs.Prelude.{ℕ, ◌≡◌, ◌≢◌, ◌<◌, ◌≤◌, Bool, false, List, Some, None, All}
+use Rattle.ipl_base.specs.declared.limits.TheConstants.{FIRST_LOG_SECTOR}
 use Rattle.chip_trait.specs.Chart.{with_sector}
 use Rattle.ipl_format.specs.Sector.{Sector}
 use Rattle.ipl_format.specs.Record.{Record}
@@ -20,14 +20,14 @@ abbrev pub NewSerialsAreGreatest : Type 0
 NewSerialsAreGreatest =
     (places : ℕ) (c : Chart) (it : Layout) (next serial : ℕ) → IsAbove places c it next → next ≤ serial
     → ((q : ℕ) (other : Sector) → q < places → c q 0 ≡ Some other → IsHeader other → other.serial < serial)
-    × ((u q t : ℕ) (other : Sector) → u < places - RESERVED_PLACES → IsLiveIn c places it u q t other → other.serial < serial)
+    × ((u q t : ℕ) (other : Sector) → u < it.count → IsLiveIn c places it u q t other → other.serial < serial)
 
 -- a new transaction number is not committed, and no live sector has a record of it
 abbrev pub NewNumbersWait : Type 0
 NewNumbersWait =
     (places : ℕ) (c : Chart) (it : Layout) (next tid : ℕ) → Laid places c it → IsAbove places c it next → next ≤ tid
     → (it.committed tid ≡ false)
-    × ((u : ℕ) → u < places - RESERVED_PLACES
+    × ((u : ℕ) → u < it.count
     → All (λ e. All (λ r. r.tid ≢ tid) e.records) (it.units u).log)
 
 -- the counter is above all found numbers after a log sector that it is above
@@ -58,5 +58,5 @@ HeadersKeepTheCounter =
 abbrev pub BarePlacesKeepTheCounter : Type 0
 BarePlacesKeepTheCounter =
     (places : ℕ) (c : Chart) (it : Layout) (p : ℕ) (y : Chart) (next : ℕ)
-    → it.status ≢ p → ((u : ℕ) → u < places - RESERVED_PLACES → (it.units u).home ≢ p) → SameBut p c y → y p 0 ≡ None
+    → it.status ≢ p → ((u : ℕ) → u < it.count → (it.units u).home ≢ p) → SameBut p c y → y p 0 ≡ None
     → IsAbove places c it next → IsAbove places y it next

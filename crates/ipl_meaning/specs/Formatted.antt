@@ -1,6 +1,7 @@
 -- A chip that was just formatted.
-use Rattle.std.specs.Prelude.{ℕ, ◌+◌, ◌-◌, List, replicate, Option, Some, None, if◌then◌else◌, ◌==◌, nat_lt}
-use Rattle.ipl_base.specs.declared.limits.TheConstants.{RESERVED_PLACES, PAGES, VERSION}
+use Rattle.std.specs.Prelude.{ℕ, ◌+◌, List, replicate, Option, Some, None, if◌then◌else◌, ◌==◌, nat_lt}
+use Rattle.ipl_base.specs.declared.limits.TheConstants.{PAGES, VERSION}
+use Rattle.ipl_base.specs.Places.{units_on}
 use Rattle.ipl_format.specs.Numbers.{word}
 use Rattle.ipl_format.specs.Header.{data_header_bytes}
 use Rattle.ipl_format.specs.Sector.{Sector}
@@ -18,7 +19,7 @@ first_head places u = record {
   unit = u;
   generation = u + 1;
   serial = u + 1;
-  payload = data_header_bytes (places - RESERVED_PLACES) no_pieces 0;
+  payload = data_header_bytes (units_on places) no_pieces 0;
 }
 
 -- the status header, with the next number
@@ -27,15 +28,15 @@ first_status places = record {
   kind = 2;
   version = VERSION;
   unit = 0;
-  generation = places - RESERVED_PLACES + 1;
-  serial = places - RESERVED_PLACES + 1;
-  payload = word (places - RESERVED_PLACES);
+  generation = units_on places + 1;
+  serial = units_on places + 1;
+  payload = word (units_on places);
 }
 
 -- each unit's header stands at the place of its number, and the status header after them
 abbrev pub header_at : ℕ → ℕ → Option Sector
 header_at places p =
-    if nat_lt p (places - RESERVED_PLACES) then Some (first_head places p) else if p == places - RESERVED_PLACES then Some (first_status places) else None
+    if nat_lt p (units_on places) then Some (first_head places p) else if p == units_on places then Some (first_status places) else None
 
 -- and nothing else stands anywhere
 abbrev pub formatted : ℕ → Chart

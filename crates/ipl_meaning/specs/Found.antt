@@ -1,6 +1,6 @@
 -- The numbers that an opening finds, and a counter above them.
-use Rattle.std.specs.Prelude.{ℕ, ◌≡◌, ◌⊎◌, ◌<◌, ◌≤◌, ◌-◌, List, Some, Contains}
-use Rattle.ipl_base.specs.declared.limits.TheConstants.{SECTORS, RESERVED_PLACES, FIRST_LOG_SECTOR}
+use Rattle.std.specs.Prelude.{ℕ, ◌≡◌, ◌⊎◌, ◌<◌, ◌≤◌, List, Some, Contains}
+use Rattle.ipl_base.specs.declared.limits.TheConstants.{SECTORS, FIRST_LOG_SECTOR}
 use Rattle.ipl_format.specs.Sector.{Sector}
 use Rattle.ipl_format.specs.Record.{Record, SpellsLog}
 use Rattle.ipl_format.specs.Commit.{SpellsCommit}
@@ -8,8 +8,8 @@ use Rattle.ipl_meaning.specs.Chart.{Chart, IsHeader, IsOverflow}
 use Rattle.ipl_meaning.specs.Layout.{IsCommitSector, Layout}
 
 -- where a log sector may be read: in the log region of a unit's place, or in an overflow place
-abbrev pub IsLogSpot : ℕ → Chart → Layout → ℕ → ℕ → Type 0
-IsLogSpot places c it p s = ((u : ℕ) × (u < places - RESERVED_PLACES) × (p ≡ (it.units u).home) × (FIRST_LOG_SECTOR ≤ s)) ⊎ (IsOverflow c p × (1 ≤ s))
+abbrev pub IsLogSpot : Chart → Layout → ℕ → ℕ → Type 0
+IsLogSpot c it p s = ((u : ℕ) × (u < it.count) × (p ≡ (it.units u).home) × (FIRST_LOG_SECTOR ≤ s)) ⊎ (IsOverflow c p × (1 ≤ s))
 
 -- an opening reads this sector's numbers: it is a header, a commit sector of the status place and its generation, or a log
 -- sector, live or not
@@ -17,7 +17,7 @@ abbrev pub IsRead : ℕ → Chart → Layout → ℕ → ℕ → Sector → Type
 IsRead places c it p s sector =
     ((s ≡ 0) × (p < places) × (c p 0 ≡ Some sector) × IsHeader sector)
     ⊎ ((p ≡ it.status) × IsCommitSector c it.status it.head.generation s sector)
-    ⊎ ((p < places) × (s < SECTORS) × (c p s ≡ Some sector) × (sector.kind ≡ 5) × IsLogSpot places c it p s)
+    ⊎ ((p < places) × (s < SECTORS) × (c p s ≡ Some sector) × (sector.kind ≡ 5) × IsLogSpot c it p s)
 
 -- the number is the sector's own, or one of the numbers in it
 abbrev pub Mentions : Sector → ℕ → Type 0

@@ -1,7 +1,7 @@
 -- Laws of what stands.
-use Rattle.std.specs.Prelude.{ℕ, ◌≡◌, ◌<◌, ◌≤◌, ◌-◌, Some, Bool, true, List, Contains}
+use Rattle.std.specs.Prelude.{ℕ, ◌≡◌, ◌<◌, ◌≤◌, Some, Bool, true, List, Contains}
 use Rattle.std.specs.FinMap.{empty}
-use Rattle.ipl_base.specs.declared.limits.TheConstants.{LEAST_PLACES, MOST_PLACES, RESERVED_PLACES}
+use Rattle.ipl_base.specs.declared.limits.TheConstants.{LEAST_PLACES, MOST_PLACES}
 use Rattle.chip_trait.specs.Chart.{with_sector}
 use Rattle.ipl_rules.specs.State.{Map}
 use Rattle.ipl_format.specs.Sector.{Sector}
@@ -20,21 +20,22 @@ abbrev pub StandsOnce : Type 0
 StandsOnce = (places : ℕ) (c : Chart) (m n : Map) → Stands places c m → Stands places c n → m ≡ n
 
 -- two layouts with the same status place and committed numbers, and the same units
-pub record AreOneLayout (places : ℕ) (it other : Layout) : Type 0 where
+pub record AreOneLayout (it other : Layout) : Type 0 where
   pub status : it.status ≡ other.status
   pub head : it.head ≡ other.head
   pub committed : (tid : ℕ) → it.committed tid ≡ other.committed tid
-  pub units : (u : ℕ) → u < places - RESERVED_PLACES → it.units u ≡ other.units u
+  pub count : it.count ≡ other.count
+  pub units : (u : ℕ) → u < it.count → it.units u ≡ other.units u
 
 -- a chart is laid out in one way
 abbrev pub LaidOnce : Type 0
 LaidOnce = (places : ℕ) (c : Chart) (it other : Layout) → Laid places c it → Laid places c other
-    → AreOneLayout places it other
+    → AreOneLayout it other
 
--- what keeps the pages keeps the map
+-- what keeps the pages, and the number of units, keeps the map
 abbrev pub KeptPagesKeepTheMap : Type 0
 KeptPagesKeepTheMap = (places : ℕ) (c y : Chart) (it new : Layout) (m : Map) → KeepsPages places c it y new
-    → Says places c it m → Says places y new m
+    → new.count ≡ it.count → Says places c it m → Says places y new m
 
 -- the unit with those of its log sectors alone that have a record of the page
 abbrev pub with_page_log : Shape → ℕ → Shape
@@ -51,7 +52,7 @@ pub record IsRebuilt (y : Chart) (it : Layout) (u page : ℕ) (now : Values) : T
 abbrev pub AllowedSectorsSuffice : Type 0
 AllowedSectorsSuffice =
     (places : ℕ) (c y : Chart) (it : Layout) (u page : ℕ) (now : Values)
-    → Laid places c it → u < places - RESERVED_PLACES → ((p s : ℕ) → IsAllowed it u page p s → y p s ≡ c p s)
+    → Laid places c it → u < it.count → ((p s : ℕ) → IsAllowed it u page p s → y p s ≡ c p s)
     → Shows c it.committed u (it.units u) page now → IsRebuilt y it u page now
 
 -- a place at which nothing counts may change, where nothing there comes to count
@@ -111,7 +112,7 @@ SameUnitsKeepPages = (places : ℕ) (c : Chart) (it : Layout) (u : ℕ) (fresh :
 abbrev pub StatusHeadersSwitch : Type 0
 StatusHeadersSwitch =
     (places : ℕ) (c : Chart) (it : Layout) (p : ℕ) (head : Sector) (committed : ℕ → Bool)
-    → Laid places c it → MaySwitch places c p head committed
+    → Laid places c it → MaySwitch places it.count c p head committed
     → let new = with_status it p head committed in
     Laid places (with_sector c p 0 head) new × KeepsPages places c new (with_sector c p 0 head) new
 
@@ -119,7 +120,7 @@ StatusHeadersSwitch =
 abbrev pub KeptNumbersKeepPages : Type 0
 KeptNumbersKeepPages =
     (places : ℕ) (c : Chart) (it : Layout) (p : ℕ) (head : Sector) (committed : ℕ → Bool)
-    → KeepsNumbers places it committed → KeepsPages places c it c (with_status it p head committed)
+    → KeepsNumbers it committed → KeepsPages places c it c (with_status it p head committed)
 
 -- an overflow header changes nothing
 abbrev pub OverflowHeadersWait : Type 0

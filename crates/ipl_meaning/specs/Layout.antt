@@ -1,7 +1,8 @@
 -- How the sectors of a chip are laid out: one home for each unit, and one status place.
-use Rattle.std.specs.Prelude.{ℕ, ◌≡◌, ◌≢◌, ◌<◌, ◌≤◌, ◌+◌, ◌-◌, ◌*◌, List, length, slice_index, Some, Bool, IsTrue, All, AllPairs, Contains}
+use Rattle.std.specs.Prelude.{ℕ, ◌≡◌, ◌≢◌, ◌<◌, ◌≤◌, ◌+◌, ◌*◌, List, length, slice_index, Some, Bool, IsTrue, All, AllPairs, Contains}
 use Rattle.std.specs.List.{flat_map}
-use Rattle.ipl_base.specs.declared.limits.TheConstants.{SECTORS, LEAST_PLACES, MOST_PLACES, RESERVED_PLACES, PAGE_SECTORS, OVERFLOW_PLACES, OVERFLOW_SECTORS}
+use Rattle.ipl_base.specs.declared.limits.TheConstants.{SECTORS, LEAST_PLACES, MOST_PLACES, PAGE_SECTORS, OVERFLOW_PLACES, OVERFLOW_SECTORS}
+use Rattle.ipl_base.specs.Places.{KeepsUnits}
 use Rattle.ipl_format.specs.Sector.{Sector}
 use Rattle.ipl_format.specs.Record.{Record, SpellsLog}
 use Rattle.ipl_format.specs.Commit.{SpellsCommit}
@@ -27,11 +28,12 @@ pub record Shape : Type 0 where
   -- by rising serial
   pub log : List Entry
 
--- the status place and its header, the committed numbers, the units
+-- the status place and its header, the committed numbers, how many units there are, the units
 pub record Layout : Type 0 where
   pub status : ℕ
   pub head : Sector
   pub committed : ℕ → Bool
+  pub count : ℕ
   pub units : ℕ → Shape
 
 -- ---- the log of a unit
@@ -68,10 +70,11 @@ pub record IsLog (c : Chart) (places u home generation : ℕ) (log : List Entry)
   pub few : length spots ≤ OVERFLOW_SECTORS
   pub listed : All (IsListed spots home) log
 
--- the header of the unit that counts stands at its home, and the log is its log
-pub record IsUnit (c : Chart) (places u : ℕ) (it : Shape) : Type 0 where
+-- the header of the unit that counts stands at its home and says that there are so many units, and
+-- the log is its log
+pub record IsUnit (c : Chart) (places count u : ℕ) (it : Shape) : Type 0 where
   pub chosen : IsChosen c places (IsDataHeader u) it.home it.head
-  pub counts : SpellsDataHeader it.head.version (places - RESERVED_PLACES) it.pieces it.head.payload
+  pub counts : SpellsDataHeader it.head.version count it.pieces it.head.payload
   pub log : IsLog c places u it.home it.head.generation it.log
 
 -- ---- committed numbers
@@ -105,14 +108,15 @@ pub record IsStatus (c : Chart) (status generation : ℕ) (committed : ℕ → B
 pub record Laid (places : ℕ) (c : Chart) (it : Layout) : Type 0 where
   pub least : LEAST_PLACES ≤ places
   pub most : places ≤ MOST_PLACES
+  pub count : KeepsUnits places it.count
   pub chosen : IsChosen c places IsStatusHeader it.status it.head
-  pub counts : SpellsUnits it.head.version (places - RESERVED_PLACES) it.head.payload
+  pub counts : SpellsUnits it.head.version it.count it.head.payload
   pub commits : IsStatus c it.status it.head.generation it.committed
-  pub each : (u : ℕ) → u < places - RESERVED_PLACES → IsUnit c places u (it.units u)
+  pub each : (u : ℕ) → u < it.count → IsUnit c places it.count u (it.units u)
   -- at most two overflow places hold live sectors: these are all
   pub overflows : List ℕ
   pub two : length overflows ≤ OVERFLOW_PLACES
-  pub in_overflow : (u : ℕ) → u < places - RESERVED_PLACES → All (IsInOverflow overflows (it.units u).home) (it.units u).log
+  pub in_overflow : (u : ℕ) → u < it.count → All (IsInOverflow overflows (it.units u).home) (it.units u).log
 
 -- the sector is live for the unit, as it is laid out
 abbrev pub IsLiveIn : Chart → ℕ → Layout → ℕ → ℕ → ℕ → Sector → Type 0

@@ -1,6 +1,6 @@
 -- The tables in memory say what the chip's sectors say.
-use Rattle.std.specs.Prelude.{ℕ, ◌≡◌, ◌≢◌, ◌↔◌, ◌⊎◌, ◌<◌, ◌≤◌, ◌-◌, false, IsTrue, length, map, slice_index, None, All, AllPairs, Contains}
-use Rattle.ipl_base.specs.declared.limits.TheConstants.{SECTORS, RESERVED_PLACES, FIRST_LOG_SECTOR, LOG_SECTORS, OVERFLOW_PLACES, OVERFLOW_SECTORS}
+use Rattle.std.specs.Prelude.{ℕ, ◌≡◌, ◌≢◌, ◌↔◌, ◌⊎◌, ◌<◌, ◌≤◌, false, IsTrue, length, map, slice_index, None, All, AllPairs, Contains}
+use Rattle.ipl_base.specs.declared.limits.TheConstants.{SECTORS, FIRST_LOG_SECTOR, LOG_SECTORS, OVERFLOW_PLACES, OVERFLOW_SECTORS}
 use Rattle.ipl_format.specs.Sector.{Sector}
 use Rattle.ipl_meaning.specs.Chart.{Chart, IsOverflow}
 use Rattle.ipl_meaning.specs.Layout.{Layout, Laid, IsLiveIn}
@@ -14,30 +14,30 @@ AreApart x y = x ≢ y
 
 -- the directory has each unit's place and generation, and no place in use is free
 pub record MirrorsPlaces (places : ℕ) (it : Layout) (t : Tables) : Type 0 where
-  pub units : length t.places.current ≡ places - RESERVED_PLACES
-  pub logs : length t.places.written ≡ places - RESERVED_PLACES
+  pub units : length t.places.current ≡ it.count
+  pub logs : length t.places.written ≡ it.count
   pub all : length t.places.in_use ≡ places
-  pub current : (u : ℕ) → u < places - RESERVED_PLACES
+  pub current : (u : ℕ) → u < it.count
       → slice_index t.places.current u ≡ (it.units u).home
-  pub heads : length t.places.generations ≡ places - RESERVED_PLACES
-  pub generation : (u : ℕ) → u < places - RESERVED_PLACES
+  pub heads : length t.places.generations ≡ it.count
+  pub generation : (u : ℕ) → u < it.count
       → slice_index t.places.generations u ≡ (it.units u).head.generation
-  pub not_home : (p : ℕ) → IsFree t.places p → (u : ℕ) → u < places - RESERVED_PLACES
+  pub not_home : (p : ℕ) → IsFree t.places p → (u : ℕ) → u < it.count
       → (it.units u).home ≢ p
   pub not_status : (p : ℕ) → IsFree t.places p → it.status ≢ p
   pub not_overflow : (p : ℕ) → IsFree t.places p → ¬ Contains (overflow_places t) p
 
 -- the overflow lists have exactly the live sectors that stand elsewhere
 pub record MirrorsOverflow (places : ℕ) (c : Chart) (it : Layout) (t : Tables) : Type 0 where
-  pub units : length t.overflow.spots ≡ places - RESERVED_PLACES
-  pub listed : (u p s : ℕ) (sector : Sector) → u < places - RESERVED_PLACES
+  pub units : length t.overflow.spots ≡ it.count
+  pub listed : (u p s : ℕ) (sector : Sector) → u < it.count
       → IsLiveIn c places it u p s sector
       → p ≢ (it.units u).home → Contains (spots_of t u) (p, s)
-  pub only : (u p s : ℕ) → u < places - RESERVED_PLACES → Contains (spots_of t u) (p, s)
+  pub only : (u p s : ℕ) → u < it.count → Contains (spots_of t u) (p, s)
       → (p ≢ (it.units u).home) × (sector : Sector) × IsLiveIn c places it u p s sector
-  pub once : (u : ℕ) → u < places - RESERVED_PLACES → AllPairs AreApart (spots_of t u)
-  pub few : (u : ℕ) → u < places - RESERVED_PLACES → length (spots_of t u) ≤ OVERFLOW_SECTORS
-  pub in_overflow : (u p s : ℕ) → u < places - RESERVED_PLACES → Contains (spots_of t u) (p, s) → Contains (overflow_places t) p
+  pub once : (u : ℕ) → u < it.count → AllPairs AreApart (spots_of t u)
+  pub few : (u : ℕ) → u < it.count → length (spots_of t u) ≤ OVERFLOW_SECTORS
+  pub in_overflow : (u p s : ℕ) → u < it.count → Contains (spots_of t u) (p, s) → Contains (overflow_places t) p
   pub headed : (p : ℕ) → Contains (overflow_places t) p → (p < places) × IsOverflow c p
   pub two : length t.overflow.in_use ≤ OVERFLOW_PLACES
   pub apart : AllPairs AreApart (overflow_places t)
@@ -56,13 +56,13 @@ pub record MirrorsNumbers (places : ℕ) (c : Chart) (it : Layout) (t : Tables) 
   pub waits : All (λ n. it.committed n ≡ false) t.active
 
 -- each live log sector's mask has the pages that its records name, and every other sector's has none
-pub record MirrorsMasks (places : ℕ) (it : Layout) (t : Tables) : Type 0 where
-  pub units : length t.places.masks ≡ places - RESERVED_PLACES
-  pub lists : length t.overflow.masks ≡ places - RESERVED_PLACES
-  pub sectors : (u : ℕ) → u < places - RESERVED_PLACES → length (masks_in t.places u) ≡ LOG_SECTORS
-  pub home : (u s : ℕ) → u < places - RESERVED_PLACES → FIRST_LOG_SECTOR ≤ s → s < SECTORS
+pub record MirrorsMasks (it : Layout) (t : Tables) : Type 0 where
+  pub units : length t.places.masks ≡ it.count
+  pub lists : length t.overflow.masks ≡ it.count
+  pub sectors : (u : ℕ) → u < it.count → length (masks_in t.places u) ≡ LOG_SECTORS
+  pub home : (u s : ℕ) → u < it.count → FIRST_LOG_SECTOR ≤ s → s < SECTORS
       → home_mask t u s ≡ mask_at (it.units u).log (it.units u).home s
-  pub elsewhere : (u : ℕ) → u < places - RESERVED_PLACES
+  pub elsewhere : (u : ℕ) → u < it.count
       → masks_of t u ≡ map (mask_at_spot (it.units u).log) (spots_of t u)
 
 -- no place is lost: each that is in use is a unit's, the status place or an overflow place
@@ -77,6 +77,6 @@ pub record Mirrors (places : ℕ) (c : Chart) (it : Layout) (t : Tables) : Type 
   pub overflow : MirrorsOverflow places c it t
   pub status : MirrorsStatus it t
   pub numbers : MirrorsNumbers places c it t
-  pub masks : MirrorsMasks places it t
+  pub masks : MirrorsMasks it t
   -- no sector that is counted as clean checks
   pub counted_clean : (p s : ℕ) → IsCountedClean t p s → c p s ≡ None

@@ -1,6 +1,6 @@
 -- How the tables follow places that are taken, and units that move.
-use Rattle.std.specs.Prelude.{ℕ, ◌≡◌, ◌↔◌, ◌<◌, ◌≤◌, ◌+◌, ◌-◌, Bool, false, IsTrue, length, None, All, Contains}
-use Rattle.ipl_base.specs.declared.limits.TheConstants.{SECTORS, RESERVED_PLACES, FIRST_LOG_SECTOR, OVERFLOW_PLACES}
+use Rattle.std.specs.Prelude.{ℕ, ◌≡◌, ◌↔◌, ◌<◌, ◌≤◌, ◌+◌, Bool, false, IsTrue, length, None, All, Contains}
+use Rattle.ipl_base.specs.declared.limits.TheConstants.{SECTORS, FIRST_LOG_SECTOR, OVERFLOW_PLACES}
 use Rattle.chip_trait.specs.Chart.{with_sector}
 use Rattle.ipl_format.specs.Sector.{Sector}
 use Rattle.ipl_meaning.specs.Chart.{Chart}
@@ -27,7 +27,7 @@ PlacesMayBeTaken = (places : ℕ) (c : Chart) (it : Layout) (t : Tables) (p : �
 abbrev pub TablesFollowMerges : Type 0
 TablesFollowMerges =
     (places : ℕ) (c : Chart) (it : Layout) (t after : Tables) (u p used : ℕ) (fresh : Shape) → Mirrors places c it t
-    → u < places - RESERVED_PLACES → IsReady places c t u p fresh → ¬ IsFree t.places p
+    → u < it.count → IsReady places c t u p fresh → ¬ IsFree t.places p
     → IsMoved t after u p used → TellsShape t after u fresh → MentionsBelow after.next fresh.head → IsPlaceBelow after.next c p
     → ((s : ℕ) → FIRST_LOG_SECTOR + used ≤ s → s < SECTORS → c p s ≡ None)
     → Mirrors places (with_sector c p 0 fresh.head) (with_unit it u fresh) after
@@ -36,7 +36,7 @@ TablesFollowMerges =
 abbrev pub TablesFollowRenewals : Type 0
 TablesFollowRenewals =
     (places : ℕ) (c : Chart) (it : Layout) (t after : Tables) (p first : ℕ) (head : Sector) (committed : ℕ → Bool)
-    → Mirrors places c it t → MaySwitch places c p head committed → ¬ IsFree t.places p
+    → Mirrors places c it t → MaySwitch places it.count c p head committed → ¬ IsFree t.places p
     → IsRenewed t after p head.generation first
     → ((tid : ℕ) → IsTrue (committed tid) ↔ Contains after.status.numbers tid) → All (λ n. committed n ≡ false) t.active
     → MentionsBelow after.next head → IsPlaceBelow after.next c p → 1 ≤ first
@@ -55,7 +55,7 @@ TablesFollowOverflows =
 abbrev pub CountedFollowMerges : Type 0
 CountedFollowMerges =
     (places : ℕ) (c : Chart) (it : Layout) (t after : Tables) (u p used : ℕ) (fresh : Shape) → Mirrors places c it t
-    → u < places - RESERVED_PLACES → IsReady places c t u p fresh → ¬ IsFree t.places p
+    → u < it.count → IsReady places c t u p fresh → ¬ IsFree t.places p
     → IsMoved t after u p used → MentionsBelow after.next fresh.head → IsPlaceBelow after.next c p
     → ((s : ℕ) → FIRST_LOG_SECTOR + used ≤ s → s < SECTORS → c p s ≡ None)
     → CountedMove t after p 0 (FIRST_LOG_SECTOR + used)
@@ -64,7 +64,7 @@ CountedFollowMerges =
 abbrev pub CountedFollowRenewals : Type 0
 CountedFollowRenewals =
     (places : ℕ) (c : Chart) (it : Layout) (t after : Tables) (p first : ℕ) (head : Sector) (committed : ℕ → Bool)
-    → Mirrors places c it t → MaySwitch places c p head committed → ¬ IsFree t.places p
+    → Mirrors places c it t → MaySwitch places it.count c p head committed → ¬ IsFree t.places p
     → IsRenewed t after p head.generation first
     → ((tid : ℕ) → IsTrue (committed tid) ↔ Contains after.status.numbers tid) → All (λ n. committed n ≡ false) t.active
     → MentionsBelow after.next head → IsPlaceBelow after.next c p → 1 ≤ first

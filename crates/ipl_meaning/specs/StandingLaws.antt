@@ -45,7 +45,7 @@ StandsAfterMerges =
 abbrev pub StandsAfterRenewals : Type 0
 StandsAfterRenewals =
     (places : ℕ) (c : Chart) (it : Layout) (m : Map) (p : ℕ) (head : Sector) (committed : ℕ → Bool) → Laid places c it
-    → Says places c it m → MaySwitch places c p head committed → KeepsNumbers places it committed
+    → Says places c it m → MaySwitch places it.count c p head committed → KeepsNumbers it committed
     → Stands places (with_sector c p 0 head) m
 
 -- with an overflow header, for the same map

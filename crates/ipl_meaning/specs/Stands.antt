@@ -1,7 +1,7 @@
 -- When the sectors of a chip stand for a map.
-use Rattle.std.specs.Prelude.{ℕ, ◌≡◌, ◌<◌, ◌≤◌, ◌+◌, ◌-◌, ◌*◌, None, Bool}
+use Rattle.std.specs.Prelude.{ℕ, ◌≡◌, ◌<◌, ◌≤◌, ◌+◌, ◌*◌, None, Bool}
 use Rattle.std.specs.FinMap.{get}
-use Rattle.ipl_base.specs.declared.limits.TheConstants.{RESERVED_PLACES, PAGE_LEN, PAGES, SLOTS, UNIT_NAMES}
+use Rattle.ipl_base.specs.declared.limits.TheConstants.{PAGE_LEN, PAGES, SLOTS, UNIT_NAMES}
 use Rattle.ipl_rules.specs.State.{Map}
 use Rattle.ipl_base.specs.Sizes.{size_of_values}
 use Rattle.ipl_format.specs.Page.{Slots, value_in}
@@ -24,8 +24,8 @@ pub record Shows (c : Chart) (committed : ℕ → Bool) (u : ℕ) (it : Shape) (
 
 -- the map has the values that the pages show, and no others
 pub record Says (places : ℕ) (c : Chart) (it : Layout) (m : Map) : Type 0 where
-  pub pages : (u page : ℕ) → u < places - RESERVED_PLACES → page < PAGES → Shows c it.committed u (it.units u) page (page_in m u page)
-  pub nowhere_else : (n : ℕ) → UNIT_NAMES * (places - RESERVED_PLACES) ≤ n → get m n ≡ None
+  pub pages : (u page : ℕ) → u < it.count → page < PAGES → Shows c it.committed u (it.units u) page (page_in m u page)
+  pub nowhere_else : (n : ℕ) → UNIT_NAMES * it.count ≤ n → get m n ≡ None
 
 -- the chart is laid out rightly, and its pages show the map
 pub record Stands (places : ℕ) (c : Chart) (m : Map) : Type 0 where

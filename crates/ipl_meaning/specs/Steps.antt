@@ -1,6 +1,6 @@
 -- The steps from one chart to the next, and when each may be taken.
-use Rattle.std.specs.Prelude.{ℕ, ◌≡◌, ◌≢◌, ◌⊎◌, ◌<◌, ◌≤◌, ◌-◌, Bool, true, false, Some, None, All, Contains, IsTrue, List, [], ◌∷◌, ◌++◌, length, if◌then◌else◌, ◌==◌}
-use Rattle.ipl_base.specs.declared.limits.TheConstants.{SECTORS, RESERVED_PLACES, PAGES, SLOTS, FIRST_LOG_SECTOR, OVERFLOW_PLACES, OVERFLOW_SECTORS}
+use Rattle.std.specs.Prelude.{ℕ, ◌≡◌, ◌≢◌, ◌⊎◌, ◌<◌, ◌≤◌, Bool, true, false, Some, None, All, Contains, IsTrue, List, [], ◌∷◌, ◌++◌, length, if◌then◌else◌, ◌==◌}
+use Rattle.ipl_base.specs.declared.limits.TheConstants.{SECTORS, PAGES, SLOTS, FIRST_LOG_SECTOR, OVERFLOW_PLACES, OVERFLOW_SECTORS}
 use Rattle.chip_trait.specs.Chart.{IsPartOf}
 use Rattle.ipl_format.specs.Sector.{Sector}
 use Rattle.ipl_format.specs.Record.{Record, SpellsLog}
@@ -37,7 +37,7 @@ pub record IsPart (part whole : Chart) : Type 0 where
 
 -- each page that the one chart shows, laid out so, the other shows with the same values
 abbrev pub KeepsPages : ℕ → Chart → Layout → Chart → Layout → Type 0
-KeepsPages places c it y new = (u page : ℕ) (now : Values) → u < places - RESERVED_PLACES
+KeepsPages places c it y new = (u page : ℕ) (now : Values) → u < it.count
     → page < PAGES
     → Shows c it.committed u (it.units u) page now → Shows y new.committed u (new.units u) page now
 
@@ -53,6 +53,7 @@ with_unit it u shape = record {
   status = it.status;
   head = it.head;
   committed = it.committed;
+  count = it.count;
   units = λ v. if v == u then shape else it.units v;
 }
 
@@ -62,7 +63,13 @@ with_log it u e = with_unit it u (grown (it.units u) e)
 
 -- with another status place
 abbrev pub with_status : Layout → ℕ → Sector → (ℕ → Bool) → Layout
-with_status it p head committed = record { status = p; head = head; committed = committed; units = it.units }
+with_status it p head committed = record {
+  status = p;
+  head = head;
+  committed = committed;
+  count = it.count;
+  units = it.units;
+}
 
 -- with other committed numbers
 abbrev pub with_committed : Layout → (ℕ → Bool) → Layout
@@ -77,15 +84,15 @@ entry_at p s sector records = record { place = p; number = s; sector = sector; r
 -- nothing that counts stands at the place
 pub record IsIdle (places : ℕ) (c : Chart) (it : Layout) (p : ℕ) : Type 0 where
   pub not_status : it.status ≢ p
-  pub not_home : (u : ℕ) → u < places - RESERVED_PLACES → (it.units u).home ≢ p
-  pub no_live : (u : ℕ) → u < places - RESERVED_PLACES → (s : ℕ) (sector : Sector) → ¬ IsLiveIn c places it u p s sector
+  pub not_home : (u : ℕ) → u < it.count → (it.units u).home ≢ p
+  pub no_live : (u : ℕ) → u < it.count → (s : ℕ) (sector : Sector) → ¬ IsLiveIn c places it u p s sector
 
 -- what the chart has at the place does not come to count
 pub record ComesToNothing (places : ℕ) (y : Chart) (it : Layout) (p : ℕ) : Type 0 where
-  pub unit_header : (u : ℕ) → u < places - RESERVED_PLACES → (head : Sector) → y p 0 ≡ Some head → IsDataHeader u head
+  pub unit_header : (u : ℕ) → u < it.count → (head : Sector) → y p 0 ≡ Some head → IsDataHeader u head
       → Beats (it.units u).head (it.units u).home head p
   pub status : (head : Sector) → y p 0 ≡ Some head → IsStatusHeader head → Beats it.head it.status head p
-  pub no_live : (u : ℕ) → u < places - RESERVED_PLACES → (s : ℕ) (sector : Sector) → ¬ IsLiveIn y places it u p s sector
+  pub no_live : (u : ℕ) → u < it.count → (s : ℕ) (sector : Sector) → ¬ IsLiveIn y places it u p s sector
 
 -- ---- log sectors
 
@@ -95,7 +102,7 @@ AllWait committed records = All (λ r. committed r.tid ≡ false) records
 
 -- a log sector of the unit that may go to this spot: it comes last, and none of its records is committed
 pub record MayLog (places : ℕ) (c : Chart) (it : Layout) (u p s : ℕ) (sector : Sector) (records : List Record) : Type 0 where
-  pub unit : u < places - RESERVED_PLACES
+  pub unit : u < it.count
   pub free : c p s ≡ None
   pub kind : sector.kind ≡ 5
   pub of_unit : sector.unit ≡ u
@@ -114,7 +121,7 @@ pub record MayLog (places : ℕ) (c : Chart) (it : Layout) (u p s : ℕ) (sector
   -- and these places are all that hold live sectors elsewhere
   pub overflows : List ℕ
   pub two : length overflows ≤ OVERFLOW_PLACES
-  pub in_overflow : (v q t : ℕ) (other : Sector) → v < places - RESERVED_PLACES
+  pub in_overflow : (v q t : ℕ) (other : Sector) → v < it.count
       → IsLiveIn c places it v q t other
       → q ≢ (it.units v).home → Contains overflows q
   pub in_overflow_here : p ≢ (it.units u).home → Contains overflows p
@@ -136,12 +143,12 @@ pub record MayCommit (c : Chart) (it : Layout) (s : ℕ) (sector : Sector) (numb
 
 -- a header that may be put on the place: it beats the unit's others, and what stands there is ready
 pub record MaySeal (places : ℕ) (c : Chart) (it : Layout) (u p : ℕ) (fresh : Shape) : Type 0 where
-  pub unit : u < places - RESERVED_PLACES
+  pub unit : u < it.count
   pub within : p < places
   pub free : c p 0 ≡ None
   pub home : fresh.home ≡ p
   pub fits : IsDataHeader u fresh.head
-  pub counts : SpellsDataHeader fresh.head.version (places - RESERVED_PLACES) fresh.pieces
+  pub counts : SpellsDataHeader fresh.head.version it.count fresh.pieces
       fresh.head.payload
   pub newest : (q : ℕ) (other : Sector) → q < places → c q 0 ≡ Some other → IsDataHeader u other
       → other.serial < fresh.head.serial
@@ -167,19 +174,19 @@ pub record IsMerged (c : Chart) (it : Layout) (u : ℕ) (fresh : Shape) : Type 0
 
 -- ---- status headers
 
--- a status header that may be put on the place, and what is committed with it
-pub record MaySwitch (places : ℕ) (c : Chart) (p : ℕ) (head : Sector) (committed : ℕ → Bool) : Type 0 where
+-- a status header that may be put on the place, of so many units, and what is committed with it
+pub record MaySwitch (places count : ℕ) (c : Chart) (p : ℕ) (head : Sector) (committed : ℕ → Bool) : Type 0 where
   pub within : p < places
   pub free : c p 0 ≡ None
   pub fits : IsStatusHeader head
-  pub counts : SpellsUnits head.version (places - RESERVED_PLACES) head.payload
+  pub counts : SpellsUnits head.version count head.payload
   pub newest : (q : ℕ) (other : Sector) → q < places → c q 0 ≡ Some other → IsStatusHeader other
       → other.serial < head.serial
   pub commits : IsStatus c p head.generation committed
 
 -- exactly the committed numbers of the unit's live sectors are committed still
-abbrev pub KeepsNumbers : ℕ → Layout → (ℕ → Bool) → Type 0
-KeepsNumbers places it committed = (u : ℕ) → u < places - RESERVED_PLACES
+abbrev pub KeepsNumbers : Layout → (ℕ → Bool) → Type 0
+KeepsNumbers it committed = (u : ℕ) → u < it.count
     → All (λ r. committed r.tid ≡ it.committed r.tid) (records_of (it.units u).log)
 
 -- ---- overflow headers
@@ -188,5 +195,5 @@ KeepsNumbers places it committed = (u : ℕ) → u < places - RESERVED_PLACES
 pub record MayOpenOverflow (places : ℕ) (c : Chart) (it : Layout) (p : ℕ) (head : Sector) : Type 0 where
   pub free : c p 0 ≡ None
   pub kind : IsOverflowHeader head
-  pub no_log : (u s : ℕ) (sector : Sector) → u < places - RESERVED_PLACES → c p s ≡ Some sector → sector.kind ≡ 5 → sector.unit ≡ u
+  pub no_log : (u s : ℕ) (sector : Sector) → u < it.count → c p s ≡ Some sector → sector.kind ≡ 5 → sector.unit ≡ u
       → sector.generation ≢ (it.units u).head.generation

@@ -1,6 +1,6 @@
 -- What the tables give: the conditions of each step.
-use Rattle.std.specs.Prelude.{ℕ, ◌≡◌, ◌⊎◌, ◌<◌, ◌≤◌, ◌-◌, Bool, IsTrue, List, length, slice_index, None, Contains}
-use Rattle.ipl_base.specs.declared.limits.TheConstants.{SECTORS, LEAST_PLACES, MOST_PLACES, RESERVED_PLACES, LOG_SECTORS, OVERFLOW_SECTORS}
+use Rattle.std.specs.Prelude.{ℕ, ◌≡◌, ◌⊎◌, ◌<◌, ◌≤◌, Bool, IsTrue, List, length, slice_index, None, Contains}
+use Rattle.ipl_base.specs.declared.limits.TheConstants.{SECTORS, LEAST_PLACES, MOST_PLACES, LOG_SECTORS, OVERFLOW_SECTORS}
 use Rattle.ipl_format.specs.Sector.{Sector}
 use Rattle.ipl_format.specs.Record.{Record}
 use Rattle.ipl_format.specs.Commit.{SpellsCommit}
@@ -23,7 +23,7 @@ FreePlacesAreIdle = (places : ℕ) (c : Chart) (it : Layout) (t : Tables) (p : �
 abbrev pub LogSectorsMayGoHome : Type 0
 LogSectorsMayGoHome =
     (places : ℕ) (c : Chart) (it : Layout) (t : Tables) (u : ℕ) (sector : Sector) (records : List Record)
-    → Mirrors places c it t → u < places - RESERVED_PLACES
+    → Mirrors places c it t → u < it.count
     → slice_index t.places.written u < LOG_SECTORS → IsFreshLog it t u sector records
     → MayLog places c it u (slice_index t.places.current u) (first_log t u) sector records
 
@@ -31,7 +31,7 @@ LogSectorsMayGoHome =
 abbrev pub LogSectorsMayGoElsewhere : Type 0
 LogSectorsMayGoElsewhere =
     (places : ℕ) (c : Chart) (it : Layout) (t : Tables) (u p s : ℕ) (sector : Sector) (records : List Record)
-    → Mirrors places c it t → u < places - RESERVED_PLACES
+    → Mirrors places c it t → u < it.count
     → Contains t.overflow.in_use (p, s) → 1 ≤ s → s < SECTORS → length (spots_of t u) < OVERFLOW_SECTORS → IsFreshLog it t u sector records
     → MayLog places c it u p s sector records
 
@@ -50,7 +50,7 @@ CommitSectorsMayGo =
 abbrev pub HeadersMayGo : Type 0
 HeadersMayGo =
     (places : ℕ) (c : Chart) (it : Layout) (t : Tables) (u p : ℕ) (fresh : Shape) → Mirrors places c it t
-    → u < places - RESERVED_PLACES → IsReady places c t u p fresh → MaySeal places c it u p fresh
+    → u < it.count → IsReady places c t u p fresh → MaySeal places c it u p fresh
 
 -- a status header of a new serial
 abbrev pub StatusHeadersMayGo : Type 0
@@ -58,9 +58,9 @@ StatusHeadersMayGo =
     (places : ℕ) (c : Chart) (it : Layout) (t : Tables) (p : ℕ) (head : Sector) (committed : ℕ → Bool)
     → Mirrors places c it t
     → p < places → c p 0 ≡ None → IsStatusHeader head
-    → SpellsUnits head.version (places - RESERVED_PLACES) head.payload → t.next ≤ head.serial
+    → SpellsUnits head.version (length t.places.current) head.payload → t.next ≤ head.serial
     → IsStatus c p head.generation committed
-    → MaySwitch places c p head committed
+    → MaySwitch places it.count c p head committed
 
 -- an overflow header on a place where nothing checks
 abbrev pub OverflowHeadersMayGo : Type 0

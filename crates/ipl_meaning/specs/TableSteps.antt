@@ -1,6 +1,6 @@
 -- What each step makes of the tables, and what it asks of them.
 use Rattle.std.specs.Prelude.{ℕ, ◌≡◌, ◌≢◌, ◌⊎◌, ◌<◌, ◌≤◌, ◌+◌, ◌-◌, ◌==◌, true, List, [], ◌∷◌, ◌++◌, map, length, slice_index, slice_set, None, All, AllPairs, Contains, if◌then◌else◌}
-use Rattle.ipl_base.specs.declared.limits.TheConstants.{SECTORS, RESERVED_PLACES, FIRST_LOG_SECTOR, LOG_SECTORS, OVERFLOW_PLACES}
+use Rattle.ipl_base.specs.declared.limits.TheConstants.{SECTORS, FIRST_LOG_SECTOR, LOG_SECTORS, OVERFLOW_PLACES}
 use Rattle.ipl_format.specs.Sector.{Sector}
 use Rattle.ipl_format.specs.Record.{Record, SpellsLog}
 use Rattle.ipl_format.specs.Header.{SpellsDataHeader}
@@ -25,7 +25,7 @@ pub record IsReady (places : ℕ) (c : Chart) (t : Tables) (u p : ℕ) (fresh : 
   pub bare : c p 0 ≡ None
   pub home : fresh.home ≡ p
   pub fits : IsDataHeader u fresh.head
-  pub counts : SpellsDataHeader fresh.head.version (places - RESERVED_PLACES) fresh.pieces
+  pub counts : SpellsDataHeader fresh.head.version (length t.places.current) fresh.pieces
       fresh.head.payload
   pub new_generation : t.next ≤ fresh.head.generation
   pub new_serial : t.next ≤ fresh.head.serial

@@ -1,5 +1,5 @@
 //! The model as a program: the definitions, run on logs of writes. It is slow and plain.
-ghost use Rattle.std.specs.Prelude.{◌≡◌, ◌<◌, ◌∷◌, ◌-◌, ℕ, [], map, length, slice_index, IfOk, OnErr};
+ghost use Rattle.std.specs.Prelude.{◌≡◌, ◌<◌, ◌∷◌, ℕ, [], map, length, slice_index, IfOk, OnErr};
 ghost use Rattle.std.specs.FinMap.{empty};
 ghost use Rattle.std.specs.Option.{option_copied};
 ghost use Rattle.std.specs.FinMap.{get};
@@ -52,7 +52,7 @@ impl PlainModel {
     /// A model with no record, over such a chip.
     pub fn new(alloc: Global, geometry: Geometry) -> Result<PlainModel, OutOfMemory>
         ensures state { IfOk result (λ m. state_of m ≡ at_rest empty) }
-        ensures limits { IfOk result (λ m. limits_of m ≡ limits_for (geometry - 4)) }
+        ensures limits { IfOk result (λ m. limits_of m ≡ limits_for geometry.units) }
     {
         Ok(PlainModel {
             alloc,

@@ -1,5 +1,5 @@
 -- A page that was brought into a frame, and then a call that leads on.
-use Rattle.std.proofs.Common.{◌≡◌, ℕ, ◌≤◌, ◌+◌, [], Bool, List, Some, None, Result, Ok, Err, IfErr, OnOk, refl, sym, ◌∙◌, ap, subst}
+use Rattle.std.proofs.Common.{◌≡◌, ℕ, ◌<◌, ◌≤◌, ◌+◌, [], Bool, List, Some, None, Result, Ok, Err, IfErr, OnOk, refl, sym, ◌∙◌, ap, subst, arith}
 use Rattle.chip_trait.specs.Told.{Told}
 use Rattle.ipl_base.specs.declared.fault.ChipFault.{ChipFault}
 use Rattle.ipl_base.specs.declared.fault.StoreFault.{StoreFault}
@@ -13,9 +13,9 @@ use Rattle.frame_changes.proofs.FrameLemmas.{pins_keep_frames}
 use Rattle.record_locks.specs.Held.{Slots}
 use Rattle.pending_writes.specs.Frames.{Frame}
 use Rattle.store_steps.specs.Advances.{memory_of, MemoryFits}
+use Rattle.store_steps.proofs.KeepLemmas.{says_next}
 use Rattle.page_frames.specs.declared.pages.Pages.{Pages}
 use Rattle.page_frames.specs.Asks.{AsksToBring}
-use Rattle.page_frames.specs.Faulty.{NamesBadPage}
 use Rattle.page_frames.specs.Pages.{tables_in, frames_in, IsFramed, IsFresh, OnlyUses, Upholds}
 use Rattle.page_frames.proofs.FaultyLemmas.{still_sound}
 use Rattle.transactions.specs.declared.transactions.Transactions.{Transactions}
@@ -89,10 +89,8 @@ module _ (old mid : Transactions) (before between : Told) (n : ℕ)
       (subst (λ (k : ℕ). MemoryFits k (chart_of y) on.layout (memory_in mid) state) sized
       (subst (λ (slots : Slots). MemoryFits before.places (chart_of y) on.layout
       (memory_of (tables_in mid.pages) (frames_in mid.pages) slots) state) (sym same) on.fits))
-      (subst (λ (k : ℕ). Says k (chart_of y) on.layout state.map) sized (record {
-        pages = λ u page low few. on.shows.pages u page low few (says.pages u page low few);
-        nowhere_else = λ k high. on.shows.nowhere_else k high (says.nowhere_else k high);
-      }))
+      (subst (λ (k : ℕ). Says k (chart_of y) on.layout state.map) sized
+      (says_next before.places (chart_of x) (chart_of y) layout on.layout state state on.shows says))
 
 then_tells : (old mid : Transactions) (before between : Told) (n : ℕ)
     (did : Upholds {T = Unit {0}} n old.pages before (Ok tt) mid.pages between)
@@ -106,21 +104,21 @@ then_tells old mid before between n did same (Err e) last alike tells x told lay
     let (y, now, had) = (did.keeps old.sessions).fits before.places refl tt x told in
     let on = had layout state fits in
     let sized = did.accounts.counts.places in
-    let is = subst (λ (k : ℕ). NamesBadPage k y on.layout (tables_in last) e) sized
-    (tells y now on.layout state
+    let is = tells y now on.layout state
     (subst (λ (k : ℕ). MemoryFits k (chart_of y) on.layout (memory_in mid) state) (sym sized)
     (subst (λ (slots : Slots). MemoryFits before.places (chart_of y) on.layout
     (memory_of (tables_in mid.pages) (frames_in mid.pages) slots) state) (sym same) on.fits))
-    fine) in
+    fine in
+    let low : is.unit < layout.count = omega (arith, is.low, on.shows.count) in
     record {
       unit = is.unit;
       page = is.page;
-      low = is.low;
+      low = low;
       few = is.few;
       bad = λ none. is.bad
           (subst (λ (l : List ℕ). load_fault y on.layout (among l) is.unit is.page ≡ None) (sym alike)
           (still_sound before.places x y layout on.layout (memory_in old) after state is.unit is.page
-          is.low is.few (λ s held. had layout s held) fits on.fits.mirrors
+          low is.few (λ s held. had layout s held) fits on.fits.mirrors
           (subst (λ (l : List ℕ). load_fault x layout (among l) is.unit is.page ≡ None) alike
           none)));
       names = is.names;

@@ -3,6 +3,7 @@ use Rattle.std.proofs.Common.{◌≡◌, inl, inr, ℕ, ◌+◌, ◌≤◌, ◌|
 use Rattle.std.proofs.lemmas.Bool.Decides.{nat_tests}
 use Rattle.chip_trait.specs.Told.{History, Told}
 use Rattle.chip_trait.proofs.CountsLemmas.{counts_none}
+use Rattle.ipl_base.specs.Places.{KeepsUnits, places_for}
 use Rattle.ipl_base.specs.declared.fault.ChipFault.{ChipFault}
 use Rattle.ipl_base.specs.declared.fault.Refusal.{Refusal}
 use Rattle.ipl_base.specs.declared.fault.StoreFault.{StoreFault}
@@ -197,21 +198,21 @@ failed_so (Err e) was is result ends alone =
     (e, refl, alone)
 
 -- or that of a page
-blamed_so : (places : ℕ) (x : Contents) (it : Layout) (done : Result (Unit {0}) ChipFault)
+blamed_so : (x : Contents) (it : Layout) (done : Result (Unit {0}) ChipFault)
     (was is : Bool) (result : Result (Unit {0}) StoreFault) → EndsAs done was result is
-    → (a b : Tables) → a ≡ b → IfErr done (FailsByPage places x it a)
-    → IfErr result (λ fault. (e : ChipFault) × (fault ≡ Chip e) × FailsByPage places x it b e)
-blamed_so places x it (Ok v) was is result ends a b same blamed =
+    → (a b : Tables) → a ≡ b → IfErr done (FailsByPage x it a)
+    → IfErr result (λ fault. (e : ChipFault) × (fault ≡ Chip e) × FailsByPage x it b e)
+blamed_so x it (Ok v) was is result ends a b same blamed =
     subst (λ (r : Result (Unit {0}) StoreFault). IfErr r (λ fault. (e : ChipFault)
-    × (fault ≡ Chip e) × FailsByPage places x it b e)) (sym ends.0) tt
-blamed_so places x it (Err e) was is result ends a b same blamed =
+    × (fault ≡ Chip e) × FailsByPage x it b e)) (sym ends.0) tt
+blamed_so x it (Err e) was is result ends a b same blamed =
     subst (λ (r : Result (Unit {0}) StoreFault). IfErr r (λ fault. (e : ChipFault)
-    × (fault ≡ Chip e) × FailsByPage places x it b e)) (sym ends.0)
-    (e, refl, subst (λ (t : Tables). FailsByPage places x it t e) same blamed)
+    × (fault ≡ Chip e) × FailsByPage x it b e)) (sym ends.0)
+    (e, refl, subst (λ (t : Tables). FailsByPage x it t e) same blamed)
 
 -- work that is complete, where store and contents show a state
 shown_complete : (store : Store) (before : Told) (done : Result (Unit {0}) ChipFault)
-    → store.units + 4 ≡ before.places → CompletesFor store.transactions done before
+    → KeepsUnits before.places store.units → CompletesFor store.transactions done before
     → OfContents before (λ x. (state : State) → ShowsState (view_of store) state x
     → FailsByChipAlone done)
 shown_complete store before done suits complete x told state shown =
@@ -234,12 +235,13 @@ module _ (next : State → State) (most : ℕ) (old : Store) (t : Transactions) 
   made =
       let was = sound.made in record {
         geometry = was.geometry;
-        units = ap (λ (s : Store). s.units + 4) rest ∙ was.units;
+        units = ap (λ (s : Store). places_for s.units) rest ∙ was.units;
         scratch = ap (λ (s : Store). s.scratch) rest ∙ was.scratch;
         directory = ap (λ (it : Transactions). length it.pages.parts.directory.in_use) moved
             ∙ moves.order.ready.known.suits.all;
-        overflow = ap (λ (it : Transactions). length it.pages.parts.overflow.spots + 4) moved
-            ∙ moves.order.ready.known.suits.overflow;
+        overflow = ap (λ (it : Transactions). places_for (length it.pages.parts.overflow.spots)) moved
+            ∙ ap places_for moves.order.ready.known.suits.overflow
+            ∙ moves.order.ready.known.suits.units;
         frames = ap (λ (s : Store). s.frames) rest ∙ was.frames ∙ sym moves.limit
             ∙ ap (λ (it : Transactions). it.pages.pool.limit) (sym moved);
         two = subst (λ (n : ℕ). 2 ≤ n) (sym (ap (λ (s : Store). s.frames) rest)) was.two;
@@ -262,7 +264,7 @@ module _ (next : State → State) (most : ℕ) (old : Store) (t : Transactions) 
           (sym moved) moves.drawn;
       complete = λ x told state shown. failed_so done old.down new.down result ends
           (shown_complete old before done sound.made.units moves.complete x told state shown);
-      faults = λ x told it state fits. blamed_so before.places x it done old.down new.down result
+      faults = λ x told it state fits. blamed_so x it done old.down new.down result
           ends (tables_in t.pages) (tables_in new.transactions.pages)
           (ap (λ (it : Transactions). tables_in it.pages) (sym moved))
           (moves.faults x told it state fits);

@@ -1,10 +1,11 @@
 -- What an opening of a chip leaves of a store.
-use Rattle.std.proofs.Common.{◌≡◌, inl, inr, ℕ, ◌+◌, ◌-◌, ◌<◌, ◌≤◌, ◌^◌, Bool, List, Option, Some, None, Ok, get_or, length, slice_index_or, count_by, replicate, refl, sym, ◌∙◌, ap, subst, arith}
+use Rattle.std.proofs.Common.{◌≡◌, inl, inr, ℕ, ◌+◌, ◌<◌, ◌≤◌, ◌^◌, Bool, List, Option, Some, None, Ok, get_or, length, slice_index_or, count_by, replicate, refl, sym, ◌∙◌, ap, subst, arith}
 use Rattle.std.specs.Option.{option_map}
 use Rattle.std.proofs.lemmas.Bool.{cases_lt}
 use Rattle.std.proofs.lemmas.List.{get_or-replicate, get_or_past, length-replicate}
 use Rattle.chip_trait.specs.Story.{Contents}
 use Rattle.chip_trait.specs.Told.{History, Told}
+use Rattle.ipl_base.specs.Places.{KeepsUnits, places_for}
 use Rattle.ipl_base.specs.declared.fault.ChipFault.{ChipFault}
 use Rattle.ipl_rules.specs.Operations.{after_restart}
 use Rattle.ipl_rules.specs.State.{Map, at_rest}
@@ -14,11 +15,11 @@ use Rattle.ipl_meaning.specs.Laws.{AreOneLayout}
 use Rattle.ipl_meaning.specs.Layout.{Layout, Shape, Laid}
 use Rattle.ipl_meaning.specs.Mirrors.{Mirrors}
 use Rattle.ipl_meaning.specs.Rests.{now, StoryRests}
-use Rattle.ipl_meaning.specs.Stands.{Shows, Says, Stands, page_in}
-use Rattle.ipl_meaning.specs.Steps.{KeepsPages}
+use Rattle.ipl_meaning.specs.Stands.{Shows, Says, Stands}
 use Rattle.ipl_meaning.specs.Tables.{Tables}
 use Rattle.ipl_meaning.specs.Values.{Values}
 use Rattle.ipl_meaning.proofs.OnceLemmas.{laid_once}
+use Rattle.ipl_meaning.proofs.StandsLemmas.{kept_pages_keep_the_map}
 use Rattle.opening_rules.specs.Faults.{greatest_found}
 use Rattle.opening_rules.specs.LaidOut.{layout_in}
 use Rattle.record_locks.specs.Held.{Held, number_of, numbers_in}
@@ -49,20 +50,12 @@ use Rattle.ipl_store.specs.Openings.{IsFresh, Opens, Restarts}
 
 -- ---- pages
 
--- pages that are kept say the map that they said
-says_kept : (places : ℕ) (c y : Chart) (it new : Layout) (m : Map) → KeepsPages places c it y new
-    → Says places c it m → Says places y new m
-says_kept places c y it new m keeps says = record {
-  pages = λ u page low few. keeps u page (page_in m u page) low few (says.pages u page low few);
-  nowhere_else = says.nowhere_else;
-}
-
 -- two layouts of a chart show the same
-shows_as : (places : ℕ) (c : Chart) (it other : Layout) (u page : ℕ) (values : Values)
-    → AreOneLayout places it other → u < places - 4
+shows_as : (c : Chart) (it other : Layout) (u page : ℕ) (values : Values)
+    → AreOneLayout it other → u < it.count
     → Shows c it.committed u (it.units u) page values
     → Shows c other.committed u (other.units u) page values
-shows_as places c it other u page values same low shows =
+shows_as c it other u page values same low shows =
     subst (λ (shape : Shape). Shows c other.committed u shape page values) (same.units u low)
     (subst (λ (f : ℕ → Bool). Shows c f u (it.units u) page values)
     (λ i tid. same.committed tid i) shows)
@@ -98,8 +91,8 @@ module _ (places : ℕ) (t : Tables) (old new : Told)
       × Says places (chart_of v) it m) (same_held z y new there then) (
         is.now,
         is.mirrors,
-        says_kept places (chart_of x) (chart_of z)
-            (layout_in (chart_of x) places) is.now m is.pages said,
+        kept_pages_keep_the_map places (chart_of x) (chart_of z)
+            (layout_in (chart_of x) places) is.now m is.pages is.count said,
       )
 
   -- it leads to the state without sessions
@@ -116,15 +109,18 @@ module _ (places : ℕ) (t : Tables) (old new : Told)
           let (y, there, is) = tells x told in (
             y,
             there,
-            λ it laid. record {
-              layout = is.now;
-              mirrors = is.mirrors;
-              none_lost = holds.known.none_lost;
-              pages = λ u page values low few shows. is.pages u page values low few
-                  (shows_as places (chart_of x) it (layout_in (chart_of x) places) u page values
-                  (laid_once places (chart_of x) it (layout_in (chart_of x) places) laid is.laid)
-                  low shows);
-            },
+            λ it laid.
+                let one = laid_once places (chart_of x) it (layout_in (chart_of x) places) laid
+                is.laid in record {
+                  layout = is.now;
+                  count = is.count ∙ sym one.count;
+                  mirrors = is.mirrors;
+                  none_lost = holds.known.none_lost;
+                  pages = λ u page values low few shows. is.pages u page values
+                      (rw one.count at low) few
+                      (shows_as (chart_of x) it (layout_in (chart_of x) places) u page values one
+                      low shows);
+                },
           )
 
       opens : (all : ℕ) → old.places ≡ all → Charts (λ c y. (it : Layout) → Laid all c it
@@ -159,31 +155,31 @@ module _ (places : ℕ) (t : Tables) (old new : Told)
           before.tables t h (Ok tt) old new) (sym suits ∙ same) (preserved m h steady) rests
 
 module _ (units : ℕ) (t : Tables) (old new : Told)
-    (tells : RecoversTold (units + 4) old (Ok tt) t new)
-    (steps : RecoversInSteps (units + 4) old (Ok tt) t new)
-    (holds : HoldsOpened (units + 4) t) where
+    (tells : RecoversTold (places_for units) old (Ok tt) t new)
+    (steps : RecoversInSteps (places_for units) old (Ok tt) t new)
+    (holds : HoldsOpened (places_for units) t) where
   -- over contents that stood for a map
   pub opened_shows : (m : Map) (x y : Contents) → old.contents ≡ Some x
-      → Stands (units + 4) (chart_of x) m → new.contents ≡ Some y
+      → Stands (places_for units) (chart_of x) m → new.contents ≡ Some y
       → ShowsState (opened_with units t (replicate 32 None)) (at_rest m) y
   opened_shows m x y told stands then =
-      let (it, mirrors, says) = opened_says (units + 4) t old new tells steps holds m x y told
+      let (it, mirrors, says) = opened_says (places_for units) t old new tells steps holds m x y told
       stands then in record {
         layout = it;
-        fits = openings_fit (units + 4) (chart_of y) it t (replicate 32 None) m mirrors
+        fits = openings_fit (places_for units) (chart_of y) it t (replicate 32 None) m mirrors
             holds.known.none_lost holds.active none_open (empty_slots_are_at_rest m);
         says = says;
       }
 
   -- and over a history then that rests on it
   pub opened_keeps : (m : Map) (k : History) (x : Contents) → old.contents ≡ Some x
-      → Stands (units + 4) (chart_of x) m → IsSteady k new → StoryRests (units + 4) m k
+      → Stands (places_for units) (chart_of x) m → IsSteady k new → StoryRests (places_for units) m k
       → IsTidy k.story t
       → KeepsStore (limits_of units) (opened_with units t (replicate 32 None)) new k (at_rest m)
   opened_keeps m k x told stands =
       opened_stores_keep units t (replicate 32 None) new k m holds.known.none_lost holds.active
       none_open (empty_slots_are_at_rest m)
-      (λ y then. opened_says (units + 4) t old new tells steps holds m x y told stands then)
+      (λ y then. opened_says (places_for units) t old new tells steps holds m x y told stands then)
 
 -- ---- as its fields have it
 
@@ -255,13 +251,13 @@ module _ (places : ℕ) (store : Store) (made : IsMade places store) (fresh : Is
       t : Tables
       t = tables_in store.transactions.pages
 
-      tells_here : RecoversTold (store.units + 4) old (Ok tt) t new
+      tells_here : RecoversTold (places_for store.units) old (Ok tt) t new
       tells_here = subst (λ (n : ℕ). RecoversTold n old (Ok tt) t new) (sym made.units) tells
 
-      steps_here : RecoversInSteps (store.units + 4) old (Ok tt) t new
+      steps_here : RecoversInSteps (places_for store.units) old (Ok tt) t new
       steps_here = subst (λ (n : ℕ). RecoversInSteps n old (Ok tt) t new) (sym made.units) steps
 
-      holds_here : HoldsOpened (store.units + 4) t
+      holds_here : HoldsOpened (places_for store.units) t
       holds_here = subst (λ (n : ℕ). HoldsOpened n t) (sym made.units) holds
 
   -- a store that stood for states stands for them with no session open
@@ -289,7 +285,7 @@ recovered store parts kept scratch down = record store {
 pub made_recovered : (places : ℕ) (store : Store) (parts : Parts) (kept : List ℕ) (scratch : ℕ)
     (down : Bool) → IsMade places store
     → (scratch ≡ store.scratch) × (length parts.directory.in_use ≡ places)
-    × (length parts.overflow.spots + 4 ≡ places)
+    × KeepsUnits places (length parts.overflow.spots)
     → IsMade places (recovered store parts kept scratch down)
 made_recovered places store parts kept scratch down made sized = record {
   geometry = made.geometry;

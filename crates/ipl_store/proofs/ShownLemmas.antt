@@ -1,11 +1,11 @@
 -- What a store's frames tell of a name, after a call that kept each state.
-use Rattle.std.proofs.Common.{◌≡◌, ◌+◌, ℕ, List, Option, Some, None, Result, Ok, Err, IsSome, OnOk, refl, sym, ◌∙◌, ap, subst, arith}
+use Rattle.std.proofs.Common.{◌≡◌, ℕ, List, Option, Some, None, Result, Ok, Err, IsSome, OnOk, refl, sym, ◌∙◌, ap, subst, arith}
 use Rattle.std.specs.FinMap.{get}
 use Rattle.chip_trait.specs.Story.{Contents}
 use Rattle.chip_trait.specs.Told.{Told}
 use Rattle.ipl_base.specs.declared.fault.ChipFault.{ChipFault}
 use Rattle.ipl_base.specs.declared.fault.StoreFault.{StoreFault}
-use Rattle.ipl_base.specs.Places.{home_of}
+use Rattle.ipl_base.specs.Places.{home_of, KeepsUnits, places_for}
 use Rattle.ipl_rules.specs.State.{State, see}
 use Rattle.ipl_format.specs.Record.{Change}
 use Rattle.ipl_meaning.specs.Chart.{chart_of}
@@ -42,24 +42,25 @@ pub name_shown : (store : View) (state : State) (n : ℕ) (x : Contents) → Sho
 name_shown store state n x shown = record {
   layout = shown.layout;
   fits = shown.fits;
-  shows = λ low. shown.says.pages (home_of n).unit (home_of n).page (omega (arith, low)) (omega arith);
+  shows = λ low. shown.says.pages (home_of n).unit (home_of n).page
+      (omega (arith, low, shown.fits.mirrors.laid.count)) (omega arith);
 }
 
 pub shown_frames_tell : {T E : Type 0} (v : T) (n : ℕ) (store : View) (t : Tables)
-    (later : Frames) (f : Frame) (old new : Told) → store.units + 4 ≡ old.places
+    (later : Frames) (f : Frame) (old new : Told) → KeepsUnits old.places store.units
     → KeepsState {T = T} {E = E} store.memory.tables store.memory.frames old (Ok v) t later new
     → later (home_of n).unit (home_of n).page ≡ Some f
     → (state : State) → OfContents old (λ x. ShowsName store state n x
     → TellsName store.memory.slots state n f)
 shown_frames_tell v n store t later f old new suits keeper there state x told shown =
-    let places = store.units + 4 in
+    let places = places_for store.units in
     let home = home_of n in
     let (y, told_then, had) = (keeper store.memory.slots).fits places (sym suits) tt x told in
     let on = had shown.layout state shown.fits in
     let low = (on.fits.framed.within home.unit home.page f there).0 in
     let tells = frames_tell_state places (chart_of x) (chart_of y) shown.layout state.map
     (record { tables = t; frames = later; slots = store.memory.slots }) state home.unit home.page
-    home.slot f on (shown.shows (omega (arith, low))) there (omega arith) in
+    home.slot f on (shown.shows (omega (arith, low, on.fits.mirrors.laid.count))) there (omega arith) in
     let same = name_of_home n in record {
       committed = tells.committed ∙ ap (get state.map) same;
       seen = λ s tid mine. tells.seen s tid mine ∙ ap (see state s) same;
@@ -72,7 +73,7 @@ some_is None some = absurd (cc some)
 some_is (Some x) some = (x, refl)
 
 pub names_told : (n : ℕ) (old : Store) (pages : Pages) (before after : Told)
-    (done : Result (Unit {0}) ChipFault) (new : Store) → old.units + 4 ≡ before.places
+    (done : Result (Unit {0}) ChipFault) (new : Store) → KeepsUnits before.places old.units
     → new.transactions.pages ≡ pages
     → KeepsState (tables_in old.transactions.pages) (frames_in old.transactions.pages) before done
     (tables_in pages) (frames_in pages) after

@@ -1,9 +1,9 @@
 -- What a contract sees of a store, and what each of its calls leaves.
 use Rattle.std.specs.Prelude.{ℕ, ◌≡◌, ◌≤◌, ◌+◌, ◌-◌, ◌||◌, ◌&&◌, nat_le, nat_lt, Bool, not, true, false, ◌∷◌, [], length, Option, Some, None, Result, Ok, Err, MatchResult, IfErr, if◌then◌else◌}
 use Rattle.chip_trait.specs.Told.{Told, Counts}
-use Rattle.ipl_base.specs.declared.limits.TheConstants.{RESERVED_PLACES, PAGES}
+use Rattle.ipl_base.specs.declared.limits.TheConstants.{PAGES}
 use Rattle.ipl_base.specs.Calls.{IsFailedCall}
-use Rattle.ipl_base.specs.Places.{IsGeometry}
+use Rattle.ipl_base.specs.Places.{IsGeometry, KeepsUnits}
 use Rattle.ipl_base.specs.declared.fault.ChipFault.{ChipFault}
 use Rattle.ipl_base.specs.declared.fault.ChipFault.TheVariants.{ReadFault, Stopped, Damaged, Malformed, WornOut}
 use Rattle.ipl_base.specs.declared.fault.Refusal.{Refusal}
@@ -42,13 +42,13 @@ counter_of store = store.transactions.pages.parts.counter
 
 -- ---- the condition of all calls
 
--- the store is made for a chip of so many places
+-- the store is made for a chip of so many places, and for the units that are kept on them
 pub record IsMade (places : ℕ) (store : Store) : Type 0 where
   pub geometry : IsGeometry places
-  pub units : store.units + RESERVED_PLACES ≡ places
+  pub units : KeepsUnits places store.units
   pub scratch : store.scratch ≡ places
   pub directory : length store.transactions.pages.parts.directory.in_use ≡ places
-  pub overflow : length store.transactions.pages.parts.overflow.spots + RESERVED_PLACES ≡ places
+  pub overflow : KeepsUnits places (length store.transactions.pages.parts.overflow.spots)
   pub frames : store.frames ≡ store.transactions.pages.pool.limit
   pub two : 2 ≤ store.frames
 
@@ -143,7 +143,7 @@ abbrev pub BlamesPages : {T : Type 0} → Store → Told → Result T StoreFault
 BlamesPages old before result new = OfContents before (λ x. (it : Layout) (state : State)
     → MemoryFits before.places (chart_of x) it (memory_of_store old) state
     → IfErr result (λ fault. (e : ChipFault) × (fault ≡ Chip e)
-    × FailsByPage before.places x it (tables_in new.transactions.pages) e))
+    × FailsByPage x it (tables_in new.transactions.pages) e))
 
 -- A call that is let in. It leads from each state that memory and chip stand for to the next one,
 -- and at most so many numbers were drawn. Over contents that the memory shows a state of, it fails

@@ -1,5 +1,5 @@
 -- What an opening of a chip leaves of a store.
-use Rattle.std.specs.Prelude.{ℕ, ◌≡◌, ◌⊎◌, ◌≤◌, ◌+◌, ◌-◌, ◌^◌, false, true, [], replicate, None, Result, Ok, Err, MatchResult, OnOk, is_ok}
+use Rattle.std.specs.Prelude.{ℕ, ◌≡◌, ◌⊎◌, ◌≤◌, ◌+◌, ◌^◌, false, true, [], replicate, None, Result, Ok, Err, MatchResult, OnOk, is_ok}
 use Rattle.chip_trait.specs.Told.{History, Told}
 use Rattle.ipl_base.specs.declared.fault.ChipFault.{ChipFault}
 use Rattle.ipl_base.specs.declared.fault.ImageFault.{ImageFault}
@@ -7,7 +7,7 @@ use Rattle.ipl_base.specs.declared.fault.ImageFault.TheVariants.{Geometry}
 use Rattle.ipl_base.specs.declared.fault.OpenFault.{OpenFault}
 use Rattle.ipl_base.specs.declared.fault.OpenFault.TheVariants.{Image, OutOfMemory}
 use Rattle.ipl_base.specs.declared.limits.TheConstants.{SESSIONS}
-use Rattle.ipl_base.specs.Places.{IsGeometry}
+use Rattle.ipl_base.specs.Places.{IsGeometry, units_on}
 use Rattle.ipl_rules.specs.Operations.{after_restart}
 use Rattle.ipl_rules.specs.State.{Map, at_rest}
 use Rattle.ipl_meaning.specs.Agrees.{IsTidy}
@@ -68,7 +68,7 @@ pub record Tries (places : ℕ) (old : Told) (result : Result (Unit {0}) ImageFa
   pub complete : CompletesOpening places result old
   pub bytes : ReadsBytes places old result
   pub tidy : Spends (TidyWork IsNowhere (IsCountedClean t) (is_ok result ≡ true)) old new
-  pub costs : Spends (ErasesAtMost (places - 3)) old new
+  pub costs : Spends (ErasesAtMost (units_on places + 1)) old new
   pub renewed : OnOk result (Spends (HasErased t.status.place) old new)
   pub accounts : Accounts OpeningCause result old new
 

@@ -1,11 +1,10 @@
 -- What a store's frames tell of a name, and which pages are held.
-use Rattle.std.specs.Prelude.{ℕ, ◌≡◌, ◌<◌, ◌+◌, ◌⊎◌, ◌↔◌, Option, Some, List, [], Result, Ok, Err, OnOk}
+use Rattle.std.specs.Prelude.{ℕ, ◌≡◌, ◌<◌, ◌⊎◌, ◌↔◌, Option, Some, List, [], Result, Ok, Err, OnOk}
 use Rattle.std.specs.FinMap.{get}
 use Rattle.chip_trait.specs.Story.{Contents}
 use Rattle.chip_trait.specs.Told.{Told}
-use Rattle.ipl_base.specs.declared.limits.TheConstants.{RESERVED_PLACES}
 use Rattle.ipl_base.specs.declared.fault.StoreFault.{StoreFault}
-use Rattle.ipl_base.specs.Places.{home_of}
+use Rattle.ipl_base.specs.Places.{home_of, places_for}
 use Rattle.ipl_rules.specs.State.{State, see}
 use Rattle.ipl_meaning.specs.Chart.{chart_of}
 use Rattle.ipl_meaning.specs.Layout.{Layout}
@@ -29,7 +28,7 @@ use Rattle.ipl_store.specs.Calls.{view_of, KeepsHolds, Calls}
 -- other pages nothing is asked: they may not read well.
 pub record ShowsName (store : View) (state : State) (n : ℕ) (x : Contents) : Type 0 where
   pub layout : Layout
-  pub fits : MemoryFits (store.units + RESERVED_PLACES) (chart_of x) layout store.memory state
+  pub fits : MemoryFits (places_for store.units) (chart_of x) layout store.memory state
   pub shows : (home_of n).unit < store.units → Shows (chart_of x) layout.committed (home_of n).unit
       (layout.units (home_of n).unit) (home_of n).page
       (page_in state.map (home_of n).unit (home_of n).page)

@@ -22,7 +22,7 @@ impl Store {
     pub fn closed(alloc: Global, geometry: Geometry, frames: u32) -> Result<Store, OutOfMemory>
         requires two { 2 ≤ frames }
         requires few { frames ≤ 64 }
-        ensures sound { IfOk result (λ store. IsSound geometry store) }
+        ensures sound { IfOk result (λ store. IsSound geometry.places store) }
         ensures down { IfOk result (λ store. store.down ≡ true) }
         ensures frames { IfOk result (λ store. store.frames ≡ frames) }
     {

@@ -97,7 +97,7 @@ merged_units_add_nothing n it now kept keeps same wait tid = (forth, back) where
   ]
 
 pub kept_numbers_keep : KeptNumbersKeep
-kept_numbers_keep places it kept keeps u low k none within =
+kept_numbers_keep it kept keeps u low k none within =
     let r : Record = get_or (records_of (it.units u).log) k none in
     let has : Contains (records_of (it.units u).log) r =
     Contains-get_or (records_of (it.units u).log) k none within in
@@ -111,7 +111,7 @@ kept_numbers_keep places it kept keeps u low k none within =
     ]
 
 pub kept_numbers_are_exact : KeptNumbersAreExact
-kept_numbers_are_exact places it kept keeps tid = (
+kept_numbers_are_exact it kept keeps tid = (
   λ is. (keeps tid).0 ((among_is_contains kept tid).0 is),
   λ both. (among_is_contains kept tid).1 ((keeps tid).1 both),
 )

@@ -1,6 +1,5 @@
 -- Which committed numbers live records have, unit by unit.
-use Rattle.std.specs.Prelude.{ℕ, ◌≡◌, ◌⊎◌, ◌↔◌, ◌<◌, ◌+◌, ◌-◌, Bool, IsTrue, List, [], Contains}
-use Rattle.ipl_base.specs.declared.limits.TheConstants.{RESERVED_PLACES}
+use Rattle.std.specs.Prelude.{ℕ, ◌≡◌, ◌⊎◌, ◌↔◌, ◌<◌, ◌+◌, Bool, IsTrue, List, [], Contains}
 use Rattle.ipl_format.specs.Record.{Record}
 use Rattle.ipl_meaning.specs.Layout.{Entry, Layout, records_of}
 use Rattle.ipl_meaning.specs.Steps.{AllWait, KeepsNumbers}
@@ -57,12 +56,12 @@ MergedUnitsAddNothing = (n : ℕ) (it now : Layout) (kept : List ℕ)
 
 -- with all units passed, each number in a live record is kept exactly where it is committed
 abbrev pub KeptNumbersKeep : Type 0
-KeptNumbersKeep = (places : ℕ) (it : Layout) (kept : List ℕ)
-    → KeepsBelow (places - RESERVED_PLACES) it kept → KeepsNumbers places it (among kept)
+KeptNumbersKeep = (it : Layout) (kept : List ℕ)
+    → KeepsBelow it.count it kept → KeepsNumbers it (among kept)
 
 -- and the numbers that are kept are those committed ones that a live record has
 abbrev pub KeptNumbersAreExact : Type 0
-KeptNumbersAreExact = (places : ℕ) (it : Layout) (kept : List ℕ)
-    → KeepsBelow (places - RESERVED_PLACES) it kept
+KeptNumbersAreExact = (it : Layout) (kept : List ℕ)
+    → KeepsBelow it.count it kept
     → (tid : ℕ) → IsTrue (among kept tid)
-    ↔ (IsTrue (it.committed tid) × IsLoggedBelow (places - RESERVED_PLACES) it tid)
+    ↔ (IsTrue (it.committed tid) × IsLoggedBelow it.count it tid)

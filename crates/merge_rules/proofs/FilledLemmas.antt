@@ -150,7 +150,7 @@ module _ (places : ℕ) (c y : Chart) (it : Layout) (t : Tables) (u p : ℕ) (he
   ]
 
   -- no unit has that generation
-  generation_below : (v : ℕ) → v < places - 4 → (it.units v).head.generation < t.next
+  generation_below : (v : ℕ) → v < it.count → (it.units v).head.generation < t.next
   generation_below v low =
       let chosen = (may.mirrors.laid.each v low).chosen in
       may.mirrors.numbers.above (it.units v).head.generation (

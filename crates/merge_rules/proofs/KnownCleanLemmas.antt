@@ -75,10 +75,6 @@ one_spot l p a b apart (i, in_i, is) (j, in_j, is_too) = elim (cases_eq i j) [
 -- ---- the tables
 
 module _ (places : ℕ) (t : Tables) (known : KnowsPlaces places t) where
-  -- a unit has a place
-  unit_there : (u : ℕ) → u + 4 < places → u < length t.places.current
-  unit_there u low = omega (arith, low, known.suits.units)
-
   -- a unit's place is one of the units'
   is_home : (v q : ℕ) → v < length t.places.current → q ≡ slice_index t.places.current v
       → Contains t.places.current q
@@ -101,7 +97,7 @@ module _ (places : ℕ) (t : Tables) (known : KnowsPlaces places t) where
   -- ---- a sector that was written
 
   -- the first log sector at a unit's home
-  pub home_shrinks : (u mask next : ℕ) → u + 4 < places
+  pub home_shrinks : (u mask next : ℕ) → u < length t.places.current
       → length t.places.written ≡ length t.places.current
       → CountedShrink t (after_home_log t u mask next) (slice_index t.places.current u) (first_log t u)
   home_shrinks u mask next low logs q n (small, inl (v, less, is, first)) = elim (cases_eq v u) [
@@ -109,7 +105,7 @@ module _ (places : ℕ) (t : Tables) (known : KnowsPlaces places t) where
         let mine : slice_index (after_home_log t u mask next).places.written u
         ≡ slice_index t.places.written u + 1 =
         get_or-set_same t.places.written u (slice_index t.places.written u + 1) 0
-        (omega (arith, logs, unit_there u low)) in
+        (omega (arith, logs, low)) in
         let above : first_log t u + 1 ≤ n =
         let one = rw same at first in omega (arith, one, mine) in (
           (small, inl (v, less, is, rw same (omega (arith, above)))),
@@ -123,18 +119,18 @@ module _ (places : ℕ) (t : Tables) (known : KnowsPlaces places t) where
               (slice_index t.places.written u + 1) 0 apart,
         ) in (
           (small, inl (v, less, is, above)),
-          λ same _. homes_differ t.places.current u v known.homes_apart (unit_there u low) less
+          λ same _. homes_differ t.places.current u v known.homes_apart low less
               apart (sym is ∙ same),
         )
   ]
   home_shrinks u mask next low logs q n (small, inr (inl (first, is, above))) = (
     (small, inr (inl (first, is, above))),
     λ same _. known.no_home q (map_contains t.overflow.in_use q first is)
-        (is_home u q (unit_there u low) same),
+        (is_home u q low same),
   )
   home_shrinks u mask next low logs q n (small, inr (inr (is, above))) = (
     (small, inr (inr (is, above))),
-    λ same _. known.status_apart.0 (is_home u t.status.place (unit_there u low) (sym is ∙ same)),
+    λ same _. known.status_apart.0 (is_home u t.status.place low (sym is ∙ same)),
   )
 
   -- the first clean sector of an overflow place
@@ -184,7 +180,7 @@ module _ (places : ℕ) (t : Tables) (known : KnowsPlaces places t) where
   stays p from q n free counted = inl (counted, free_apart p q n free counted)
 
   -- a unit's new place
-  pub merged_clean : (after : Tables) (u p used next : ℕ) → u + 4 < places
+  pub merged_clean : (after : Tables) (u p used next : ℕ) → u < length t.places.current
       → length t.places.written ≡ length t.places.current → IsFree t.places p
       → IsMoved (with_next (taken t p) next) after u p used → (q n : ℕ) → IsCountedClean after q n
       → StaysOrIsFrom p (FIRST_LOG_SECTOR + used) q n
@@ -199,11 +195,11 @@ module _ (places : ℕ) (t : Tables) (known : KnowsPlaces places t) where
         | inl same ↦
             let at : q ≡ p = is ∙ ap (slice_index after.places.current) same
             ∙ ap (λ (l : List ℕ). slice_index l u) moved.current
-            ∙ get_or-set_same t.places.current u p 0 (unit_there u low) in
+            ∙ get_or-set_same t.places.current u p 0 low in
             let count : slice_index after.places.written u ≡ used =
             ap (λ (l : List ℕ). slice_index l u) moved.written
             ∙ get_or-set_same t.places.written u used 0
-            (omega (arith, logs, unit_there u low)) in
+            (omega (arith, logs, low)) in
             let from : FIRST_LOG_SECTOR + used ≤ n =
             let one = rw same at first in omega (arith, one, count) in
             inr (at, from)

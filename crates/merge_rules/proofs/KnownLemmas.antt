@@ -1,9 +1,10 @@
 -- The places that the tables know, once a place is taken and a unit has moved.
-use Rattle.std.proofs.Common.{◌≡◌, ◌≢◌, ◌⊎◌, ◌<◌, ◌+◌, ℕ, zero, suc, true, false, List, [], ◌∷◌, length, map, get_or, slice_index, slice_set, inl, inr, refl, sym, ◌∙◌, ap, subst, arith}
+use Rattle.std.proofs.Common.{◌≡◌, ◌≢◌, ◌⊎◌, ◌<◌, ℕ, zero, suc, true, false, List, [], ◌∷◌, length, map, get_or, slice_index, slice_set, inl, inr, refl, sym, ◌∙◌, ap, subst, arith}
 use Rattle.std.specs.List.{All, AllPairs, Contains}
 use Rattle.std.proofs.lemmas.Bool.{cases_eq, cases_lt}
 use Rattle.std.proofs.lemmas.List.{get_or-set_same, get_or-set_other, get_or_past, get_or-map, length-set, length-map}
 use Rattle.std.proofs.lemmas.List.Elements.{Contains-get_or}
+use Rattle.ipl_base.specs.Places.{KeepsUnits}
 use Rattle.ipl_meaning.specs.Mirrors.{AreApart, NoneIsLost}
 use Rattle.ipl_meaning.specs.Tables.{IsFree, Status, Tables, overflow_places, place_of}
 use Rattle.ipl_meaning.specs.TableSteps.{IsMoved, taken, with_next}
@@ -84,16 +85,13 @@ places_stay l k q all (i, within, is) =
     )
 
 module _ (places : ℕ) (t after : Tables) (u p used next : ℕ) (known : KnowsPlaces places t)
-    (low : u + 4 < places) (free : IsFree t.places p)
+    (low : u < length t.places.current) (free : IsFree t.places p)
     (moved : IsMoved (with_next (taken t p) next) after u p used) where
   abbrev home : ℕ
   home = slice_index t.places.current u
 
-  there : u < length t.places.current
-  there = omega (arith, low, known.suits.units)
-
   is_home : Contains t.places.current home
-  is_home = Contains-get_or t.places.current u 0 there
+  is_home = Contains-get_or t.places.current u 0 low
 
   not_named : ¬ IsNamed t p
   not_named named = known.used p named free
@@ -125,8 +123,8 @@ module _ (places : ℕ) (t after : Tables) (u p used next : ℕ) (known : KnowsP
     | inl same ↦ not_named (inl (subst (Contains t.places.current) (sym at ∙ same) is_home))
     | inr (i, within, other, is) ↦
         let same : get_or t.places.current u q ≡ q =
-        default_apart t.places.current u q 0 there ∙ sym at in
-        other_apart t.places.current u i q known.homes_apart there within other is same
+        default_apart t.places.current u q 0 low ∙ sym at in
+        other_apart t.places.current u i q known.homes_apart low within other is same
   ]
     where
       default_apart : (l : List ℕ) (i d e : ℕ) → i < length l → get_or l i d ≡ get_or l i e
@@ -171,19 +169,21 @@ module _ (places : ℕ) (t after : Tables) (u p used next : ℕ) (known : KnowsP
         known.status_apart.0 (subst (Contains t.places.current) status_then (i, within, is))
   ]
 
+  as_many : length after.places.current ≡ length t.places.current
+  as_many = ap (λ (l : List ℕ). length l) moved.current ∙ length-set t.places.current u p
+
   knows_then : NoneIsLost places after → KnowsPlaces places after
   knows_then lost = record {
     suits = record {
       all = moved.all ∙ (length-set t.places.in_use p true ∙ known.suits.all);
-      units = ap (λ (l : List ℕ). length l + 4) moved.current
-          ∙ (ap (λ n. n + 4) (length-set t.places.current u p) ∙ known.suits.units);
-      overflow = ap (λ (l : List (List (ℕ × ℕ))). length l + 4) moved.spots
-          ∙ (ap (λ n. n + 4) (length-set t.overflow.spots u []) ∙ known.suits.overflow);
+      units = subst (KeepsUnits places) (sym as_many) known.suits.units;
+      overflow = ap (λ (l : List (List (ℕ × ℕ))). length l) moved.spots
+          ∙ (length-set t.overflow.spots u [] ∙ (known.suits.overflow ∙ sym as_many));
     };
     none_lost = lost;
     used = used_then;
     homes_apart = subst (AllPairs AreApart) (sym moved.current)
-        (apart_set t.places.current u p there (λ has. not_named (inl has)) known.homes_apart);
+        (apart_set t.places.current u p low (λ has. not_named (inl has)) known.homes_apart);
     overflows_apart = moved.apart;
     no_home = home_apart;
     status_apart = (

@@ -195,7 +195,7 @@ module _ (places : ℕ) (c y : Chart) (it : Layout) (t : Tables) (u p : ℕ) (he
   stands_then : (m : Map) → Says places c it m → Stands places (with_sector y p 0 head) m
   stands_then m says =
       stands_by places m c (with_sector y p 0 head) it (with_unit it u fresh)
-      (switched.0, keeps) says
+      (switched.0, keeps) refl says
 
   -- ---- the tables then
 

@@ -1,14 +1,15 @@
 -- What the tables know of the places of a chip.
-use Rattle.std.specs.Prelude.{ℕ, ◌≡◌, ◌⊎◌, ◌<◌, ◌≤◌, ◌+◌, length, AllPairs, Contains}
-use Rattle.ipl_base.specs.declared.limits.TheConstants.{RESERVED_PLACES, OVERFLOW_PLACES}
+use Rattle.std.specs.Prelude.{ℕ, ◌≡◌, ◌⊎◌, ◌<◌, ◌≤◌, length, AllPairs, Contains}
+use Rattle.ipl_base.specs.declared.limits.TheConstants.{OVERFLOW_PLACES}
+use Rattle.ipl_base.specs.Places.{KeepsUnits}
 use Rattle.ipl_meaning.specs.Mirrors.{AreApart, NoneIsLost}
 use Rattle.ipl_meaning.specs.Tables.{IsFree, Tables, overflow_places}
 
--- the tables are made for a chip of so many places: four more than units
+-- the tables are made for a chip of so many places, and for the units that are kept on them
 pub record Suits (places : ℕ) (t : Tables) : Type 0 where
   pub all : length t.places.in_use ≡ places
-  pub units : length t.places.current + RESERVED_PLACES ≡ places
-  pub overflow : length t.overflow.spots + RESERVED_PLACES ≡ places
+  pub units : KeepsUnits places (length t.places.current)
+  pub overflow : length t.overflow.spots ≡ length t.places.current
 
 -- the place is a unit's, the status place or an overflow place
 abbrev pub IsNamed : Tables → ℕ → Type 0

@@ -1,6 +1,6 @@
 -- Laws of the places that the tables know.
-use Rattle.std.specs.Prelude.{ℕ, ◌<◌, ◌+◌, length}
-use Rattle.ipl_base.specs.declared.limits.TheConstants.{RESERVED_PLACES, OVERFLOW_PLACES}
+use Rattle.std.specs.Prelude.{ℕ, ◌<◌, length}
+use Rattle.ipl_base.specs.declared.limits.TheConstants.{OVERFLOW_PLACES}
 use Rattle.ipl_meaning.specs.Mirrors.{NoneIsLost}
 use Rattle.ipl_meaning.specs.Tables.{IsFree, Tables}
 use Rattle.ipl_meaning.specs.TableSteps.{IsMoved, taken, with_next, with_overflow}
@@ -16,7 +16,7 @@ KnownPlacesLeaveOne = (places : ℕ) (t : Tables) → KnowsPlaces places t
 abbrev pub KnownPlacesMove : Type 0
 KnownPlacesMove =
     (places : ℕ) (t after : Tables) (u p used next : ℕ) → KnowsPlaces places t
-    → u + RESERVED_PLACES < places → p < places → IsFree t.places p
+    → u < length t.places.current → p < places → IsFree t.places p
     → IsMoved (with_next (taken t p) next) after u p used → NoneIsLost places after
     → KnowsPlaces places after
 

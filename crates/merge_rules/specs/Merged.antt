@@ -1,7 +1,7 @@
 -- A unit merged into a place that was free.
-use Rattle.std.specs.Prelude.{ℕ, ◌≡◌, ◌<◌, ◌≤◌, ◌-◌, List, length}
+use Rattle.std.specs.Prelude.{ℕ, ◌≡◌, ◌<◌, ◌≤◌, List, length}
 use Rattle.log_records.specs.View.{Versioned}
-use Rattle.ipl_base.specs.declared.limits.TheConstants.{RESERVED_PLACES, PAGES, FIRST_LOG_SECTOR, CARRIED_SECTORS, VERSION}
+use Rattle.ipl_base.specs.declared.limits.TheConstants.{PAGES, FIRST_LOG_SECTOR, CARRIED_SECTORS, VERSION}
 use Rattle.ipl_format.specs.Sector.{Sector}
 use Rattle.ipl_format.specs.Record.{Record}
 use Rattle.ipl_format.specs.Header.{SpellsDataHeader, data_header_bytes}
@@ -89,7 +89,7 @@ merged_layout t it u p head pieces serial =
 pub record IsToMerge (places : ℕ) (c : Chart) (it : Layout) (t : Tables) (u p generation serial : ℕ)
     (from : Source) (payloads : List Versioned) : Type 0 where
   pub mirrors : Mirrors places c it t
-  pub low : u < places - RESERVED_PLACES
+  pub low : u < it.count
   pub free : IsFree t.places p
   pub within : p < places
   pub source : from ≡ source_of t (it.units u) u
@@ -102,10 +102,10 @@ pub record IsToMerge (places : ℕ) (c : Chart) (it : Layout) (t : Tables) (u p 
 pub record MayMerge (places : ℕ) (c y : Chart) (it : Layout) (t : Tables) (u p : ℕ)
     (head : Sector) (pieces : List ℕ) (serial : ℕ) : Type 0 where
   pub mirrors : Mirrors places c it t
-  pub low : u < places - RESERVED_PLACES
+  pub low : u < it.count
   pub free : IsFree t.places p
   pub within : p < places
-  pub head_is : IsUnitHead (places - RESERVED_PLACES) u head.generation pieces
+  pub head_is : IsUnitHead (length t.places.current) u head.generation pieces
       (length (packs_in t (it.units u))) head
   pub new : t.next ≤ head.generation
   pub later : head.generation < serial
@@ -133,7 +133,7 @@ pub record IsMergedUnit (places : ℕ) (c z : Chart) (it : Layout) (t : Tables) 
   pub pieces : List ℕ
   pub serial : ℕ
   pub free : IsFree t.places place
-  pub head_is : IsUnitHead (places - RESERVED_PLACES) u head.generation pieces
+  pub head_is : IsUnitHead (length t.places.current) u head.generation pieces
       (length (packs_in t (it.units u))) head
   pub new : t.next ≤ head.generation
   pub later : head.generation < serial

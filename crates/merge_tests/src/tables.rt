@@ -1,5 +1,6 @@
 //! A chip of five places, of which one is a unit's, and the tables of what it says.
-ghost use Rattle.std.specs.Prelude.{◌≡◌, ◌+◌, [], length, IfOk};
+ghost use Rattle.std.specs.Prelude.{◌≡◌, [], length, IfOk};
+ghost use Rattle.ipl_base.specs.Places.{KeepsUnits};
 ghost use Rattle.merge_rules.specs.Known.{KnowsPlaces};
 ghost use Rattle.selective_merge.specs.Moving.{tables_of};
 
@@ -35,15 +36,15 @@ pub(crate) fn formatted(alloc: Global) -> Result<MemChip, Fail> {
 
 /// The size of the chip.
 fn geometry(rt: &impl Abort) -> Geometry
-    ensures { result ≡ 5 }
+    ensures { result.places ≡ 5 }
 {
     Geometry::of(PLACES).expect(rt, "a size")
 }
 
 /// Tables that say nothing yet.
 fn fresh(alloc: Global, geometry: Geometry) -> Result<Parts, OutOfMemory>
-    ensures directory { IfOk result (λ parts. length parts.directory.in_use ≡ geometry) }
-    ensures overflow { IfOk result (λ parts. length parts.overflow.spots + 4 ≡ geometry) }
+    ensures directory { IfOk result (λ parts. length parts.directory.in_use ≡ geometry.places) }
+    ensures overflow { IfOk result (λ parts. KeepsUnits geometry.places (length parts.overflow.spots)) }
     ensures active { IfOk result (λ parts. parts.active ≡ []) }
 {
     Ok(Parts {

@@ -1,11 +1,12 @@
 -- After an opening, the tables mirror the chart.
-use Rattle.std.proofs.Common.{◌≡◌, ◌≢◌, inl, inr, ◌<◌, ◌≤◌, ◌+◌, ◌-◌, ◌*◌, ◌/◌, ◌%◌, ℕ, Bool, true, false, List, length, map, Option, Some, sym, ◌∙◌, ap, subst, arith}
+use Rattle.std.proofs.Common.{◌≡◌, ◌≢◌, inl, inr, ◌<◌, ◌≤◌, ◌+◌, ◌*◌, ◌/◌, ◌%◌, ℕ, Bool, true, false, List, length, map, Option, Some, sym, ◌∙◌, ap, subst, arith}
 use Rattle.std.specs.List.{Contains, AllPairs}
 use Rattle.std.specs.Prelude.{IsTrue}
 use Rattle.std.proofs.lemmas.List.{length-map}
 use Rattle.std.proofs.lemmas.List.Elements.{All-contains}
 use Rattle.std.proofs.lemmas.Bool.{eq-eqb, and_parts, and_from}
 use Rattle.std.proofs.lemmas.Option.{same_Some}
+use Rattle.ipl_base.specs.Places.{units_on}
 use Rattle.ipl_format.specs.Sector.{Sector}
 use Rattle.ipl_meaning.specs.Chart.{Chart, IsLive, IsOverflow}
 use Rattle.ipl_meaning.specs.Layout.{Layout, Laid, IsListed, IsLiveIn}
@@ -53,9 +54,9 @@ module _ (places : ℕ) (c : Chart) (t : Tables) (it : AreOpened places c t) (la
 
   -- the unit's header, as it is found
   abbrev own : ℕ → Winner
-  own u = record { place = (lay.units u).home; head = head_of (places - 4) (lay.units u).head }
+  own u = record { place = (lay.units u).home; head = head_of (units_on places) (lay.units u).head }
 
-  own_is : (u : ℕ) → u < places - 4 → current u ≡ Some (own u)
+  own_is : (u : ℕ) → u < units_on places → current u ≡ Some (own u)
   own_is u low =
       chosen_are_current c places u (lay.units u).home (lay.units u).head low (laid.each u low).chosen
 
@@ -64,14 +65,14 @@ module _ (places : ℕ) (c : Chart) (t : Tables) (it : AreOpened places c t) (la
   free_within : (p : ℕ) → IsFree t.places p → p < places
   free_within p free = omega (arith, free_low t.places.in_use p free, it.directory.all)
 
-  not_home : (p : ℕ) → IsFree t.places p → (u : ℕ) → u < places - 4 → (lay.units u).home ≢ p
+  not_home : (p : ℕ) → IsFree t.places p → (u : ℕ) → u < units_on places → (lay.units u).home ≢ p
   not_home p free u low =
       ((it.directory.free p (free_within p free)).0 free).not_home u (own u) low (own_is u low)
 
   not_status : (p : ℕ) → IsFree t.places p → lay.status ≢ p
   not_status p free =
       ((it.directory.free p (free_within p free)).0 free).not_status
-      (record { place = lay.status; head = head_of (places - 4) lay.head })
+      (record { place = lay.status; head = head_of (units_on places) lay.head })
       (chosen_are_status c places lay.status lay.head laid.chosen)
 
   above : IsAbove places c lay t.next
@@ -81,7 +82,7 @@ module _ (places : ℕ) (c : Chart) (t : Tables) (it : AreOpened places c t) (la
   -- ---- the spots of a unit
 
   -- at each of them a live sector of the unit stands, in an overflow place
-  spot_live : (u p s k : ℕ) → u < places - 4 → spots u k ≡ Some (p, s)
+  spot_live : (u p s k : ℕ) → u < units_on places → spots u k ≡ Some (p, s)
       → (p ≢ (lay.units u).home) × (sector : Sector) × IsLiveIn c places lay u p s sector
   spot_live u p s k low is =
       let spot = spot_from u (mark_at heads current c k) p s is in
@@ -108,7 +109,7 @@ module _ (places : ℕ) (c : Chart) (t : Tables) (it : AreOpened places c t) (la
       )
 
   -- and each such sector stands at one of them
-  live_spot : (u p s : ℕ) (sector : Sector) → u < places - 4 → IsLiveIn c places lay u p s sector
+  live_spot : (u p s : ℕ) (sector : Sector) → u < units_on places → IsLiveIn c places lay u p s sector
       → p ≢ (lay.units u).home → spots u (p * 256 + s) ≡ Some (p, s)
   live_spot u p s sector low live away =
       let k : ℕ = p * 256 + s in
@@ -125,10 +126,10 @@ module _ (places : ℕ) (c : Chart) (t : Tables) (it : AreOpened places c t) (la
       overflow live.of_unit
       ∙ ap Some (same_spot (k / 256) (k % 256) p s place number)
 
-  spots_are : (u : ℕ) → u < places - 4 → spots_of t u ≡ spots_in c places u
+  spots_are : (u : ℕ) → u < units_on places → spots_of t u ≡ spots_in c places u
   spots_are u low = it.overflow.spots_are u low
 
-  listed : (u p s : ℕ) (sector : Sector) → u < places - 4 → IsLiveIn c places lay u p s sector
+  listed : (u p s : ℕ) (sector : Sector) → u < units_on places → IsLiveIn c places lay u p s sector
       → p ≢ (lay.units u).home → Contains (spots_of t u) (p, s)
   listed u p s sector low live away =
       subst (λ (xs : List (ℕ × ℕ)). Contains xs (p, s)) (sym (spots_are u low))
@@ -136,13 +137,13 @@ module _ (places : ℕ) (c : Chart) (t : Tables) (it : AreOpened places c t) (la
       (live_spot u p s sector low live away))
 
   -- one of the spots, and its number
-  spot_at : (u p s : ℕ) → u < places - 4 → Contains (spots_of t u) (p, s)
+  spot_at : (u p s : ℕ) → u < units_on places → Contains (spots_of t u) (p, s)
       → (k : ℕ) × (k < places * 256) × (spots u k ≡ Some (p, s))
   spot_at u p s low has =
       all_from (spots u) (places * 256) (p, s)
       (subst (λ (xs : List (ℕ × ℕ)). Contains xs (p, s)) (spots_are u low) has)
 
-  only : (u p s : ℕ) → u < places - 4 → Contains (spots_of t u) (p, s)
+  only : (u p s : ℕ) → u < units_on places → Contains (spots_of t u) (p, s)
       → (p ≢ (lay.units u).home) × (sector : Sector) × IsLiveIn c places lay u p s sector
   only u p s low has = let at = spot_at u p s low has in spot_live u p s at.0 low at.2
 
@@ -155,14 +156,14 @@ module _ (places : ℕ) (c : Chart) (t : Tables) (it : AreOpened places c t) (la
       let number : k % 256 ≡ s = ap (λ (m : Mark). m.number) from.is ∙ spot.number in
       omega (arith, place, number)
 
-  once : (u : ℕ) → u < places - 4 → AllPairs AreApart (spots_of t u)
+  once : (u : ℕ) → u < units_on places → AllPairs AreApart (spots_of t u)
   once u low =
       subst (AllPairs AreApart) (sym (spots_are u low))
       (all_apart (spots u) (places * 256)
       (λ j k a before within first second.
       omega (arith, before, number_from u a.0 a.1 j first, number_from u a.0 a.1 k second)))
 
-  few : (u : ℕ) → u < places - 4 → length (spots_of t u) ≤ 16
+  few : (u : ℕ) → u < units_on places → length (spots_of t u) ≤ 16
   few u low =
       let log = (laid.each u low).log in
       let size : length (spots_of t u) ≡ count_below (λ k. passes any (spots u k)) (places * 256) =
@@ -186,7 +187,7 @@ module _ (places : ℕ) (c : Chart) (t : Tables) (it : AreOpened places c t) (la
       let held = listed_holds holds places t.overflow.in_use it.overflow.in_use_are p has in
       overflow_from c places p (and_parts _ _ held.0).0
 
-  in_overflow : (u p s : ℕ) → u < places - 4 → Contains (spots_of t u) (p, s)
+  in_overflow : (u p s : ℕ) → u < units_on places → Contains (spots_of t u) (p, s)
       → Contains (overflow_places t) p
   in_overflow u p s low has =
       let at = spot_at u p s low has in
@@ -232,10 +233,10 @@ module _ (places : ℕ) (c : Chart) (t : Tables) (it : AreOpened places c t) (la
   none_active : (k : ℕ) → k < length t.active → ⊥
   none_active k within = omega (arith, within, ap length it.active)
 
-  home_low : (u : ℕ) → u < places - 4 → (lay.units u).home < places
+  home_low : (u : ℕ) → u < units_on places → (lay.units u).home < places
   home_low u low = (laid.each u low).chosen.within
 
-  masks : MirrorsMasks places lay t
+  masks : MirrorsMasks lay t
   masks = record {
     units = it.masks.units;
     lists = it.masks.lists;

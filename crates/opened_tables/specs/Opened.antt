@@ -1,6 +1,7 @@
 -- What an opening makes of the tables.
 use Rattle.std.specs.Prelude.{ℕ, ◌≡◌, ◌≢◌, ◌↔◌, ◌<◌, ◌≤◌, ◌+◌, ◌-◌, ◌*◌, false, [], length, map, slice_index, slice_index_or, Some, Contains}
-use Rattle.ipl_base.specs.declared.limits.TheConstants.{SECTORS, RESERVED_PLACES, FIRST_LOG_SECTOR, LOG_SECTORS}
+use Rattle.ipl_base.specs.declared.limits.TheConstants.{SECTORS, FIRST_LOG_SECTOR, LOG_SECTORS}
+use Rattle.ipl_base.specs.Places.{units_on}
 use Rattle.ipl_meaning.specs.Chart.{Chart}
 use Rattle.ipl_meaning.specs.Layout.{Laid}
 use Rattle.ipl_meaning.specs.Tables.{Places, masks_in, IsFree, OverflowLists, Status, Tables}
@@ -13,7 +14,7 @@ use Rattle.opened_tables.specs.Found.{spots_in, overflows_in, generation_of, mas
 
 -- the place is neither that of a unit, nor the status place, nor an overflow place that holds live log sectors
 pub record IsUnused (places : ℕ) (c : Chart) (p : ℕ) : Type 0 where
-  pub not_home : (u : ℕ) (winner : Winner) → u < places - RESERVED_PLACES
+  pub not_home : (u : ℕ) (winner : Winner) → u < units_on places
       → current_at c places u ≡ Some winner
       → winner.place ≢ p
   pub not_status : (winner : Winner) → status_at c places ≡ Some winner → winner.place ≢ p
@@ -22,34 +23,34 @@ pub record IsUnused (places : ℕ) (c : Chart) (p : ℕ) : Type 0 where
 -- the directory has each unit's place and generation, no log sector counts as clean, exactly the unused places are free, and the
 -- counter is the number after the greatest found
 pub record IsOpened (places : ℕ) (c : Chart) (directory : Places) (counter : ℕ) : Type 0 where
-  pub units : length directory.current ≡ places - RESERVED_PLACES
-  pub logs : length directory.written ≡ places - RESERVED_PLACES
+  pub units : length directory.current ≡ units_on places
+  pub logs : length directory.written ≡ units_on places
   pub all : length directory.in_use ≡ places
-  pub current : (u : ℕ) → u < places - RESERVED_PLACES
+  pub current : (u : ℕ) → u < units_on places
       → slice_index directory.current u ≡ place_of (current_at c places u)
-  pub heads : length directory.generations ≡ places - RESERVED_PLACES
-  pub generation : (u : ℕ) → u < places - RESERVED_PLACES
+  pub heads : length directory.generations ≡ units_on places
+  pub generation : (u : ℕ) → u < units_on places
       → slice_index directory.generations u ≡ generation_of (current_at c places u)
-  pub written : (u : ℕ) → u < places - RESERVED_PLACES
+  pub written : (u : ℕ) → u < units_on places
       → slice_index directory.written u ≡ LOG_SECTORS
   pub free : (p : ℕ) → p < places → IsFree directory p ↔ IsUnused places c p
   pub number : counter ≡ greatest_found c places + 1
 
 -- the overflow lists have each unit's live log sectors in overflow places, and the places that hold them
 pub record IsOpenedOverflow (places : ℕ) (c : Chart) (overflow : OverflowLists) : Type 0 where
-  pub units : length overflow.spots ≡ places - RESERVED_PLACES
-  pub spots_are : (u : ℕ) → u < places - RESERVED_PLACES → slice_index_or overflow.spots u [] ≡ spots_in c places u
+  pub units : length overflow.spots ≡ units_on places
+  pub spots_are : (u : ℕ) → u < units_on places → slice_index_or overflow.spots u [] ≡ spots_in c places u
   pub in_use_are : overflow.in_use ≡ overflows_in c places
 
 -- the masks have of each unit's live log sectors the pages that they name, and of other sectors none
 pub record AreOpenedMasks (places : ℕ) (c : Chart) (directory : Places) (overflow : OverflowLists) : Type 0 where
-  pub units : length directory.masks ≡ places - RESERVED_PLACES
-  pub lists : length overflow.masks ≡ places - RESERVED_PLACES
-  pub sectors : (u : ℕ) → u < places - RESERVED_PLACES → length (masks_in directory u) ≡ LOG_SECTORS
-  pub home : (u s : ℕ) → u < places - RESERVED_PLACES → FIRST_LOG_SECTOR ≤ s → s < SECTORS
+  pub units : length directory.masks ≡ units_on places
+  pub lists : length overflow.masks ≡ units_on places
+  pub sectors : (u : ℕ) → u < units_on places → length (masks_in directory u) ≡ LOG_SECTORS
+  pub home : (u s : ℕ) → u < units_on places → FIRST_LOG_SECTOR ≤ s → s < SECTORS
       → slice_index (masks_in directory u) (s - FIRST_LOG_SECTOR)
       ≡ mask_found c places u (place_of (current_at c places u) * SECTORS + s)
-  pub elsewhere : (u : ℕ) → u < places - RESERVED_PLACES
+  pub elsewhere : (u : ℕ) → u < units_on places
       → slice_index_or overflow.masks u [] ≡ map (λ spot. mask_found c places u (spot.0 * SECTORS + spot.1)) (spots_in c places u)
 
 -- the status has the status place, its generation and its numbers, and no sector of it counts as clean

@@ -1,5 +1,5 @@
 -- Each fault comes where its cause is.
-use Rattle.std.proofs.Common.{ℕ, ◌≡◌, ◌⊎◌, inl, inr, ◌-◌, ◌/◌, ◌%◌, ◌^◌, nat_lt, nat_le, Bool, true, false, cond, ◌&&◌, Option, Some, None, refl, sym, ◌∙◌, ap, subst}
+use Rattle.std.proofs.Common.{ℕ, ◌≡◌, ◌⊎◌, inl, inr, ◌/◌, ◌%◌, ◌^◌, nat_lt, nat_le, Bool, true, false, cond, ◌&&◌, Option, Some, None, refl, sym, ◌∙◌, ap, subst}
 use Rattle.std.specs.Option.{option_or}
 use Rattle.std.proofs.lemmas.Bool.{and_cases, leb-false, ltb-false}
 use Rattle.std.proofs.lemmas.Option.{same_Some}
@@ -8,6 +8,7 @@ use Rattle.ipl_base.specs.declared.fault.ImageFault.TheVariants.{Geometry, NotFo
 use Rattle.ipl_format.specs.Sector.{Sector}
 use Rattle.ipl_meaning.specs.Chart.{Chart, IsDataHeader, IsStatusHeader}
 use Rattle.ipl_base.specs.First.{first_below}
+use Rattle.ipl_base.specs.Places.{units_on}
 use Rattle.opening_rules.specs.FirstLaws.{IsFirst}
 use Rattle.opening_rules.specs.Payloads.{is_commit_payload}
 use Rattle.opening_rules.specs.Chosen.{KeptHeader, Winner, current_at, status_at}
@@ -119,26 +120,26 @@ module _ (c : Chart) (places : ℕ) (fault : ImageFault) where
   abbrev headers : ℕ → Option ImageFault
   headers u = bad_header (current_at c places u)
 
-  units_missing : first_fault c places ≡ Some fault → first_below missings (places - 4) ≡ Some fault → IsCaused c places fault
+  units_missing : first_fault c places ≡ Some fault → first_below missings (units_on places) ≡ Some fault → IsCaused c places fault
   units_missing whole e =
-      let first : IsFirst missings (places - 4) fault = first_is_first missings (places - 4) fault e in
+      let first : IsFirst missings (units_on places) fault = first_is_first missings (units_on places) fault e in
       let same : Missing first.number ≡ fault = missing_some first.number (current_at c places first.number) fault first.here in
       subst (IsCaused c places) same (missing_is_least c places first.number (whole ∙ ap Some (sym same)))
 
   header_cause : first_fault c places ≡ Some fault → header_fault c places ≡ Some fault → IsCaused c places fault
-  header_cause whole e = elim (or_some (not_formatted (status_at c places)) (option_or (other_geometry (status_at c places)) (option_or (first_below geometries (places - 4))
-      (option_or (first_below missings (places - 4)) (option_or (first_below headers (places - 4)) (option_or (bad_header (status_at c places)) None))))) fault e) [
+  header_cause whole e = elim (or_some (not_formatted (status_at c places)) (option_or (other_geometry (status_at c places)) (option_or (first_below geometries (units_on places))
+      (option_or (first_below missings (units_on places)) (option_or (first_below headers (units_on places)) (option_or (bad_header (status_at c places)) None))))) fault e) [
         | inl here ↦ unformatted here
-        | inr rest ↦ elim (or_some (other_geometry (status_at c places)) (option_or (first_below geometries (places - 4))
-            (option_or (first_below missings (places - 4)) (option_or (first_below headers (places - 4)) (option_or (bad_header (status_at c places)) None)))) fault rest) [
+        | inr rest ↦ elim (or_some (other_geometry (status_at c places)) (option_or (first_below geometries (units_on places))
+            (option_or (first_below missings (units_on places)) (option_or (first_below headers (units_on places)) (option_or (bad_header (status_at c places)) None)))) fault rest) [
               | inl here ↦ status_geometry here
-              | inr more ↦ elim (or_some (first_below geometries (places - 4))
-                  (option_or (first_below missings (places - 4)) (option_or (first_below headers (places - 4)) (option_or (bad_header (status_at c places)) None))) fault more) [
-                    | inl here ↦ let first : IsFirst geometries (places - 4) fault = first_is_first geometries (places - 4) fault here in unit_geometry first.number first.here
-                    | inr last ↦ elim (or_some (first_below missings (places - 4)) (option_or (first_below headers (places - 4)) (option_or (bad_header (status_at c places)) None)) fault last) [
+              | inr more ↦ elim (or_some (first_below geometries (units_on places))
+                  (option_or (first_below missings (units_on places)) (option_or (first_below headers (units_on places)) (option_or (bad_header (status_at c places)) None))) fault more) [
+                    | inl here ↦ let first : IsFirst geometries (units_on places) fault = first_is_first geometries (units_on places) fault here in unit_geometry first.number first.here
+                    | inr last ↦ elim (or_some (first_below missings (units_on places)) (option_or (first_below headers (units_on places)) (option_or (bad_header (status_at c places)) None)) fault last) [
                       | inl here ↦ units_missing whole here
-                      | inr spelled ↦ elim (or_some (first_below headers (places - 4)) (option_or (bad_header (status_at c places)) None) fault spelled) [
-                        | inl here ↦ let first : IsFirst headers (places - 4) fault = first_is_first headers (places - 4) fault here in unit_bad first.number first.here
+                      | inr spelled ↦ elim (or_some (first_below headers (units_on places)) (option_or (bad_header (status_at c places)) None) fault spelled) [
+                        | inl here ↦ let first : IsFirst headers (units_on places) fault = first_is_first headers (units_on places) fault here in unit_bad first.number first.here
                         | inr status ↦ elim (or_some (bad_header (status_at c places)) None fault status) [
                           | inl here ↦ status_bad here
                           | inr nothing ↦ absurd (cc nothing)

@@ -1,5 +1,5 @@
 -- What single faults say.
-use Rattle.std.proofs.Common.{ℕ, zero, suc, ◌≡◌, inl, inr, ◌-◌, ◌*◌, ◌/◌, ◌%◌, ◌^◌, ◌<◌, ◌≤◌, nat_lt, nat_le, Bool, true, false, not, cond, ◌&&◌, ◌||◌, ◌==◌, List, Option, Some, None, refl, sym, ◌∙◌, ap, subst, arith}
+use Rattle.std.proofs.Common.{ℕ, zero, suc, ◌≡◌, inl, inr, ◌*◌, ◌/◌, ◌%◌, ◌^◌, ◌<◌, ◌≤◌, nat_lt, nat_le, Bool, true, false, not, cond, ◌&&◌, ◌||◌, ◌==◌, List, Option, Some, None, refl, sym, ◌∙◌, ap, subst, arith}
 use Rattle.std.specs.List.{list_any, count_by}
 use Rattle.std.specs.Option.{option_or}
 use Rattle.std.proofs.lemmas.Bool.{and_from, and_parts, and_cases, or_cases, not-false, eqb-true, leb-true, le-leb, cond-true, both_ways}
@@ -9,6 +9,7 @@ use Rattle.ipl_base.specs.declared.fault.ImageFault.TheVariants.{Geometry, NotFo
 use Rattle.ipl_format.specs.Sector.{Sector}
 use Rattle.ipl_meaning.specs.Chart.{Chart, IsStatusHeader}
 use Rattle.ipl_base.specs.First.{first_below}
+use Rattle.ipl_base.specs.Places.{units_on}
 use Rattle.opening_rules.specs.First.{passes, count_below}
 use Rattle.opening_rules.specs.FirstLaws.{IsFirst}
 use Rattle.opening_rules.specs.Payloads.{is_commit_payload, is_log_payload}
@@ -125,13 +126,13 @@ module _ (test : ImageFault → Bool) (geometry : test Geometry ≡ false) (chip
 
 module _ (c : Chart) (places : ℕ) where
   abbrev geometries : Option ImageFault
-  geometries = first_below (λ u. other_geometry (current_at c places u)) (places - 4)
+  geometries = first_below (λ u. other_geometry (current_at c places u)) (units_on places)
 
   abbrev missings : Option ImageFault
-  missings = first_below (λ u. missing u (current_at c places u)) (places - 4)
+  missings = first_below (λ u. missing u (current_at c places u)) (units_on places)
 
   abbrev headers : Option ImageFault
-  headers = first_below (λ u. bad_header (current_at c places u)) (places - 4)
+  headers = first_below (λ u. bad_header (current_at c places u)) (units_on places)
 
   abbrev status : Option Winner
   status = status_at c places
@@ -154,10 +155,10 @@ module _ (c : Chart) (places : ℕ) where
       fault (unformatted_other status) refl all in
       let then = later is_missing (other_geometry status) (option_or geometries (option_or missings (option_or headers (option_or (bad_header status) None)))) fault (geometry status) refl after in
       let next = later is_missing geometries (option_or missings (option_or headers (option_or (bad_header status) None))) fault
-      (below_other is_missing (λ v. other_geometry (current_at c places v)) (places - 4) (λ v. geometry (current_at c places v))) refl then in
+      (below_other is_missing (λ v. other_geometry (current_at c places v)) (units_on places) (λ v. geometry (current_at c places v))) refl then in
       sooner is_missing missings (option_or headers (option_or (bad_header status) None)) fault
       (or_other is_missing headers (option_or (bad_header status) None)
-      (below_other is_missing (λ v. bad_header (current_at c places v)) (places - 4) (λ v. header (current_at c places v)))
+      (below_other is_missing (λ v. bad_header (current_at c places v)) (units_on places) (λ v. header (current_at c places v)))
       (or_other is_missing (bad_header status) None (header status) refl)) refl next
 
   unformatted_found : first_fault c places ≡ Some NotFormatted → not_formatted status ≡ Some NotFormatted
@@ -169,11 +170,11 @@ module _ (c : Chart) (places : ℕ) where
       NotFormatted
       (or_other is_unformatted (other_geometry status) (option_or geometries (option_or missings (option_or headers (option_or (bad_header status) None)))) (geometry status)
       (or_other is_unformatted geometries (option_or missings (option_or headers (option_or (bad_header status) None)))
-      (below_other is_unformatted (λ v. other_geometry (current_at c places v)) (places - 4) (λ v. geometry (current_at c places v)))
+      (below_other is_unformatted (λ v. other_geometry (current_at c places v)) (units_on places) (λ v. geometry (current_at c places v)))
       (or_other is_unformatted missings (option_or headers (option_or (bad_header status) None))
-      (below_other is_unformatted (λ v. missing v (current_at c places v)) (places - 4) (λ v. missing_other v (current_at c places v)))
+      (below_other is_unformatted (λ v. missing v (current_at c places v)) (units_on places) (λ v. missing_other v (current_at c places v)))
       (or_other is_unformatted headers (option_or (bad_header status) None)
-      (below_other is_unformatted (λ v. bad_header (current_at c places v)) (places - 4) (λ v. header (current_at c places v)))
+      (below_other is_unformatted (λ v. bad_header (current_at c places v)) (units_on places) (λ v. header (current_at c places v)))
       (or_other is_unformatted (bad_header status) None (header status) refl)))))
       refl all
 
@@ -191,10 +192,10 @@ there_too v (Some winner) e = (winner, refl)
 
 pub missing_is_least : MissingIsLeast
 missing_is_least c places u e =
-    let first : IsFirst (λ v. missing v (current_at c places v)) (places - 4) (Missing u) =
-    first_is_first (λ v. missing v (current_at c places v)) (places - 4) (Missing u) (missing_found c places u e) in
+    let first : IsFirst (λ v. missing v (current_at c places v)) (units_on places) (Missing u) =
+    first_is_first (λ v. missing v (current_at c places v)) (units_on places) (Missing u) (missing_found c places u e) in
     let (none, same) = missing_here first.number u (current_at c places first.number) first.here in
-    let low : u < places - 4 = omega (arith, same, first.within) in
+    let low : u < units_on places = omega (arith, same, first.within) in
     record {
       low = low;
       none = λ p head within here. none_is_current c places u p head low (sym (ap (current_at c places) same) ∙ none) within here;

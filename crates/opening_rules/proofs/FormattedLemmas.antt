@@ -1,6 +1,7 @@
 -- A chip that was just formatted has no fault.
-use Rattle.std.proofs.Common.{ℕ, inl, inr, ◌+◌, ◌-◌, ◌<◌, ◌≤◌, [], ◌∷◌, ◌++◌, sym, ◌∙◌, ap, subst, arith}
+use Rattle.std.proofs.Common.{ℕ, inl, inr, ◌+◌, ◌<◌, ◌≤◌, [], ◌∷◌, ◌++◌, sym, ◌∙◌, ap, subst, arith}
 use Rattle.std.proofs.lemmas.Bool.{cases_eq}
+use Rattle.ipl_base.specs.Places.{units_on}
 use Rattle.ipl_format.specs.Numbers.{IsBytes, word}
 use Rattle.ipl_format.specs.Header.{data_header_bytes}
 use Rattle.ipl_format.specs.Sector.{Sector}
@@ -24,8 +25,8 @@ pub formatted_bytes : (places : ℕ) → 5 ≤ places → places ≤ 1028 → Is
 formatted_bytes places least most p s sector low within read is = elim (cases_eq s 0) [
   | inr other ↦ absurd (no_sector places least most p s sector other is)
   | inl first ↦ elim (header_is places least most p sector (ap (λ (t : ℕ). formatted places p t) (sym first) ∙ is)) [
-    | inl unit ↦ subst (λ (x : Sector). IsBytes x.payload) unit.1 (header_bytes (places - 4))
-    | inr status ↦ subst (λ (x : Sector). IsBytes x.payload) status.1 (bytes-word (places - 4))
+    | inl unit ↦ subst (λ (x : Sector). IsBytes x.payload) unit.1 (header_bytes (units_on places))
+    | inr status ↦ subst (λ (x : Sector). IsBytes x.payload) status.1 (bytes-word (units_on places))
   ]
 ]
 
@@ -33,4 +34,4 @@ pub formatted_chips_have_no_fault : FormattedChipsHaveNoFault
 formatted_chips_have_no_fault places least most =
     let it : Mirrors places (formatted places) (first_layout places) (first_tables places) = first_tables_mirror places least most in
     laid_has_no_fault (formatted places) places (first_layout places) (formatted_bytes places least most) it.laid
-    (λ n found. let low : n < places - 4 + 2 = it.numbers.above n found in omega (arith, low, most))
+    (λ n found. let low : n < units_on places + 2 = it.numbers.above n found in omega (arith, low, most))

@@ -1,5 +1,5 @@
 -- A chart that is laid out has no fault.
-use Rattle.std.proofs.Common.{ℕ, suc, ◌≡◌, ◌≢◌, inl, inr, ◌+◌, ◌*◌, ◌/◌, ◌%◌, ◌-◌, ◌^◌, ◌<◌, ◌≤◌, Bool, true, false, nat_le, ◌==◌, List, length, map, get_or, Option, Some, None, refl, sym, ◌∙◌, ap, ap₂, subst, arith, cond}
+use Rattle.std.proofs.Common.{ℕ, suc, ◌≡◌, ◌≢◌, inl, inr, ◌+◌, ◌*◌, ◌/◌, ◌%◌, ◌^◌, ◌<◌, ◌≤◌, Bool, true, false, nat_le, ◌==◌, List, length, map, get_or, Option, Some, None, refl, sym, ◌∙◌, ap, ap₂, subst, arith, cond}
 use Rattle.std.specs.List.{Contains, count_by}
 use Rattle.std.specs.Option.{option_map}
 use Rattle.std.proofs.lemmas.Bool.{cases_Bool, cases_lt, cases_order, eqb-true, eq-eqb, lt-leb, and_parts, and_from, and_left, and_right, or_from, not_from_true, not_from_false, cond-true, cond-false}
@@ -7,6 +7,8 @@ use Rattle.std.proofs.lemmas.List.{get_or_default, length-map, get_or-map}
 use Rattle.std.proofs.lemmas.List.Elements.{All-contains}
 use Rattle.std.proofs.lemmas.Option.{same_Some}
 use Rattle.ipl_base.specs.declared.fault.ImageFault.TheVariants.{Geometry}
+use Rattle.ipl_base.specs.Places.{units_on}
+use Rattle.ipl_base.proofs.UnitLemmas.{count_is, unit_kept}
 use Rattle.ipl_format.specs.Numbers.{word_at}
 use Rattle.ipl_format.specs.Record.{SpellsLog}
 use Rattle.ipl_format.specs.Sector.{Sector}
@@ -103,13 +105,13 @@ module _ (c : Chart) (places : ℕ) (it : Layout) (laid : Laid places c it) wher
   live k = live_at heads current c k
 
   abbrev own : ℕ → Winner
-  own u = record { place = (it.units u).home; head = head_of (places - 4) (it.units u).head }
+  own u = record { place = (it.units u).home; head = head_of (units_on places) (it.units u).head }
 
   -- ---- live sectors and entries
 
   -- a live sector's entry in the log of its unit
   record IsListedAs (u k : ℕ) (sector : Sector) : Type 0 where
-    low : u < places - 4
+    low : u < it.count
     entry : Entry
     has : Contains (it.units u).log entry
     place : entry.place ≡ k / 256
@@ -117,10 +119,10 @@ module _ (c : Chart) (places : ℕ) (it : Layout) (laid : Laid places c it) wher
     sector_is : entry.sector ≡ sector
     spelled : SpellsLog entry.sector.version entry.sector.payload entry.records
 
-  live_in : (k : ℕ) (sector : Sector) → live k ≡ Some sector → (sector.unit < places - 4) × IsLiveIn c places it sector.unit (k / 256) (k % 256) sector
+  live_in : (k : ℕ) (sector : Sector) → live k ≡ Some sector → (sector.unit < it.count) × IsLiveIn c places it sector.unit (k / 256) (k % 256) sector
   live_in k sector is =
       let found = live_from c places k sector is in
-      let low = current_low c places sector.unit found.winner found.current in
+      let low = unit_kept places it.count sector.unit laid.count (current_low c places sector.unit found.winner found.current) in
       let one : found.winner ≡ own sector.unit = same_Some found.winner (own sector.unit) (sym found.current ∙ home_is c places it laid sector.unit low) in
       (low, subst (λ (x : Winner). IsLive c places sector.unit x.place x.head.generation (k / 256) (k % 256) sector) one found.live)
 
@@ -144,7 +146,7 @@ module _ (c : Chart) (places : ℕ) (it : Layout) (laid : Laid places c it) wher
   listed u k sector is same = subst (λ (v : ℕ). IsListedAs v k sector) same (listed_own k sector is)
 
   -- a sector in an overflow place doesn't stand at its unit's home
-  away : (u p : ℕ) → u < places - 4 → is_overflow_place (heads p) ≡ true → p ≢ (it.units u).home
+  away : (u p : ℕ) → u < it.count → is_overflow_place (heads p) ≡ true → p ≢ (it.units u).home
   away u p low in_overflow same =
       home_apart c places u (it.units u).home (it.units u).head (laid.each u low).chosen (subst (IsOverflow c) same (overflow_from c places p in_overflow).1)
 
@@ -229,29 +231,30 @@ module _ (c : Chart) (places : ℕ) (it : Layout) (laid : Laid places c it) wher
       subst (Contains laid.overflows) (theirs.place ∙ at) overflow
 
   abbrev status : Winner
-  status = record { place = it.status; head = head_of (places - 4) it.head }
+  status = record { place = it.status; head = head_of (units_on places) it.head }
 
-  status_well : is_status_payload (places - 4) it.head.payload ≡ true
-  status_well = spelled_status_passes it.head.version (places - 4) it.head.payload laid.counts
+  status_well : is_status_payload (units_on places) it.head.payload ≡ true
+  status_well = subst (λ (n : ℕ). is_status_payload n it.head.payload ≡ true) (count_is places it.count laid.count) (spelled_status_passes it.head.version it.count it.head.payload laid.counts)
 
-  data_well : (u : ℕ) → u < places - 4 → is_data_payload (places - 4) (it.units u).head.payload ≡ true
-  data_well u low = (spelled_data_passes (it.units u).head.version (places - 4) (it.units u).pieces (it.units u).head.payload (laid.each u low).counts).0
+  data_well : (u : ℕ) → u < units_on places → is_data_payload (units_on places) (it.units u).head.payload ≡ true
+  data_well u low = subst (λ (n : ℕ). is_data_payload n (it.units u).head.payload ≡ true) (count_is places it.count laid.count)
+      (spelled_data_passes (it.units u).head.version it.count (it.units u).pieces (it.units u).head.payload (laid.each u (unit_kept places it.count u laid.count low)).counts).0
 
   status_geometry : other_geometry (Some status) ≡ None
-  status_geometry = cond-false (begins_with_other_units (places - 4) it.head.payload) (Some Geometry) None
-      (own_units (places - 4) it.head.payload (eqb-true _ _ (and_parts _ _ status_well).1))
+  status_geometry = cond-false (begins_with_other_units (units_on places) it.head.payload) (Some Geometry) None
+      (own_units (units_on places) it.head.payload (eqb-true _ _ (and_parts _ _ status_well).1))
 
-  data_geometry : (u : ℕ) → u < places - 4 → other_geometry (Some (own u)) ≡ None
-  data_geometry u low = cond-false (begins_with_other_units (places - 4) (it.units u).head.payload) (Some Geometry) None
-      (own_units (places - 4) (it.units u).head.payload (eqb-true _ _ (and_parts _ _ (and_parts _ _ (data_well u low)).1).0))
+  data_geometry : (u : ℕ) → u < units_on places → other_geometry (Some (own u)) ≡ None
+  data_geometry u low = cond-false (begins_with_other_units (units_on places) (it.units u).head.payload) (Some Geometry) None
+      (own_units (units_on places) (it.units u).head.payload (eqb-true _ _ (and_parts _ _ (and_parts _ _ (data_well u low)).1).0))
 
   status_good : bad_header (Some status) ≡ None
-  status_good = cond-true (is_head_payload (places - 4) it.head.kind it.head.payload) None (Some (malformed it.status 0))
-      (ap (λ (kind : ℕ). is_head_payload (places - 4) kind it.head.payload) laid.chosen.fits ∙ status_well)
+  status_good = cond-true (is_head_payload (units_on places) it.head.kind it.head.payload) None (Some (malformed it.status 0))
+      (ap (λ (kind : ℕ). is_head_payload (units_on places) kind it.head.payload) laid.chosen.fits ∙ status_well)
 
-  data_good : (u : ℕ) → u < places - 4 → bad_header (Some (own u)) ≡ None
-  data_good u low = cond-true (is_head_payload (places - 4) (it.units u).head.kind (it.units u).head.payload) None (Some (malformed (it.units u).home 0))
-      (ap (λ (kind : ℕ). is_head_payload (places - 4) kind (it.units u).head.payload) (laid.each u low).chosen.fits.0 ∙ data_well u low)
+  data_good : (u : ℕ) → u < units_on places → bad_header (Some (own u)) ≡ None
+  data_good u low = cond-true (is_head_payload (units_on places) (it.units u).head.kind (it.units u).head.payload) None (Some (malformed (it.units u).home 0))
+      (ap (λ (kind : ℕ). is_head_payload (units_on places) kind (it.units u).head.payload) (laid.each u (unit_kept places it.count u laid.count low)).chosen.fits.0 ∙ data_well u low)
 
   commit_good : (s : ℕ) → s < sectors → commit_fault c (Some status) s ≡ None
   commit_good s low = commit_none it.status s (commit_at c (Some status) s) (λ sector at.
@@ -272,7 +275,7 @@ module _ (c : Chart) (places : ℕ) (it : Layout) (laid : Laid places c it) wher
   pub is_formed : IsFormed c places
   is_formed =
       let status_here : status_at c places ≡ Some status = status_is c places it laid in
-      let home_here : (u : ℕ) → u < places - 4 → current u ≡ Some (own u) = home_is c places it laid in
+      let home_here : (u : ℕ) → u < units_on places → current u ≡ Some (own u) = λ u low. home_is c places it laid u (unit_kept places it.count u laid.count low) in
       record {
         least = laid.least;
         most = laid.most;

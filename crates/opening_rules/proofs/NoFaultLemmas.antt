@@ -1,11 +1,13 @@
 -- A chart without a fault is laid out.
-use Rattle.std.proofs.Common.{ℕ, zero, suc, ◌≡◌, inl, inr, ◌+◌, ◌*◌, ◌/◌, ◌%◌, ◌-◌, ◌<◌, ◌≤◌, Bool, true, false, nat_le, ◌==◌, ◌&&◌, List, [], ◌∷◌, map, Option, Some, None, refl, sym, ◌∙◌, ap, ap₂, subst, arith, cond, All}
+use Rattle.std.proofs.Common.{ℕ, zero, suc, ◌≡◌, inl, inr, ◌+◌, ◌*◌, ◌/◌, ◌%◌, ◌<◌, ◌≤◌, Bool, true, false, nat_le, ◌==◌, ◌&&◌, List, [], ◌∷◌, map, Option, Some, None, refl, sym, ◌∙◌, ap, ap₂, subst, arith, cond, All}
 use Rattle.std.specs.Prelude.{IsTrue, unwrap_or, not, ◌||◌}
 use Rattle.std.specs.List.{Contains, list_any, count_by}
 use Rattle.std.specs.Option.{option_map}
 use Rattle.std.proofs.lemmas.Bool.{cases_Bool, eqb-true, eq-eqb, leb-false, and_parts, and_from, and_cases, or_parts, or_cases, or_left, or_right, not-true, cond-true, both_ways}
 use Rattle.std.proofs.lemmas.List.{length-map, get_or-map}
 use Rattle.std.proofs.lemmas.Option.{same_Some, cond_some}
+use Rattle.ipl_base.specs.Places.{units_on}
+use Rattle.ipl_base.proofs.UnitLemmas.{units_are_kept}
 use Rattle.ipl_format.specs.Record.{SpellsLog}
 use Rattle.ipl_format.specs.Commit.{SpellsCommit}
 use Rattle.ipl_format.specs.Sector.{Sector}
@@ -249,7 +251,7 @@ module _ (c : Chart) (places : ℕ) (bytes : IsByteChart places c) (fine : HasNo
     is : current u ≡ Some winner
     home : IsHome c places u winner
 
-  has_home : (u : ℕ) → u < places - 4 → HasHome u
+  has_home : (u : ℕ) → u < units_on places → HasHome u
   has_home u low =
       let there = there_from u (current u) (fine.formed.there u low) in
       record { winner = there.0; is = there.1; home = home_of c places u there.0 there.1 }
@@ -257,26 +259,26 @@ module _ (c : Chart) (places : ℕ) (bytes : IsByteChart places c) (fine : HasNo
   sector_is : (o : Option Winner) (winner : Winner) (sector : Sector) → o ≡ Some winner → c winner.place 0 ≡ Some sector → sector_of c o ≡ sector
   sector_is o winner sector is here = ap (sector_of c) is ∙ ap (λ (x : Option Sector). unwrap_or x no_sector) here
 
-  unit_is : (u : ℕ) → u < places - 4 → IsUnit c places u (shape_in c places u)
+  unit_is : (u : ℕ) → u < units_on places → IsUnit c places (units_on places) u (shape_in c places u)
   unit_is u low =
       let it = has_home u low in
       let head : Sector = it.home.sector in
       let here : c it.winner.place 0 ≡ Some head = it.home.chosen.here in
       let generation : it.winner.head.generation ≡ head.generation = ap (λ (h : KeptHeader). h.generation) it.home.kept in
-      let well_is : is_head_payload (places - 4) head.kind head.payload ≡ true =
+      let well_is : is_head_payload (units_on places) head.kind head.payload ≡ true =
       ap (λ (h : KeptHeader). h.well) (sym it.home.kept) ∙ header_well (current u) it.winner it.is (fine.formed.headers u low) in
-      let passes_it : is_data_payload (places - 4) head.payload ≡ true =
-      ap (λ (kind : ℕ). is_head_payload (places - 4) kind head.payload) (sym it.home.chosen.fits.0) ∙ well_is in
+      let passes_it : is_data_payload (units_on places) head.payload ≡ true =
+      ap (λ (kind : ℕ). is_head_payload (units_on places) kind head.payload) (sym it.home.chosen.fits.0) ∙ well_is in
       let shape : Shape = record { home = it.winner.place; head = head; pieces = pieces_in head.payload; log = log_in c places u } in
       let same : shape ≡ shape_in c places u = ap₂ (λ (p : ℕ) (s : Sector). let x : Shape = record { home = p; head = s; pieces = pieces_in s.payload; log = log_in c places u } in x)
       (sym (ap place_of it.is)) (sym (sector_is (current u) it.winner head it.is here)) in
-      subst (IsUnit c places u) same (record {
+      subst (IsUnit c places (units_on places) u) same (record {
         chosen = it.home.chosen;
-        counts = data_payloads_are_spelled head.version (places - 4) head.payload (bytes it.winner.place 0 head it.home.chosen.within (omega arith) (inl refl) here) passes_it;
+        counts = data_payloads_are_spelled head.version (units_on places) head.payload (bytes it.winner.place 0 head it.home.chosen.within (omega arith) (inl refl) here) passes_it;
         log = subst (λ (g : ℕ). IsLog c places u it.winner.place g (log_in c places u)) generation (is_log u it.winner it.is);
       })
 
-  in_overflow : (u : ℕ) → u < places - 4 → All (IsInOverflow (passing (holds_live heads all_marks) places) (shape_in c places u).home) (shape_in c places u).log
+  in_overflow : (u : ℕ) → u < units_on places → All (IsInOverflow (passing (holds_live heads all_marks) places) (shape_in c places u).home) (shape_in c places u).log
   in_overflow u low =
       let it = has_home u low in
       subst (λ (p : ℕ). All (IsInOverflow (passing (holds_live heads all_marks) places) p) (log_in c places u)) (sym (ap place_of it.is))
@@ -324,18 +326,19 @@ module _ (c : Chart) (places : ℕ) (bytes : IsByteChart places c) (fine : HasNo
         let head : Sector = it.sector in
         let here : c winner.place 0 ≡ Some head = it.counts.here in
         let generation : winner.head.generation ≡ head.generation = ap (λ (h : KeptHeader). h.generation) it.head in
-        let well_is : is_head_payload (places - 4) head.kind head.payload ≡ true =
+        let well_is : is_head_payload (units_on places) head.kind head.payload ≡ true =
         ap (λ (h : KeptHeader). h.well) (sym it.head) ∙ header_well (status_at c places) winner is fine.formed.header in
-        let passes_it : is_status_payload (places - 4) head.payload ≡ true =
-        ap (λ (kind : ℕ). is_head_payload (places - 4) kind head.payload) (sym it.counts.fits) ∙ well_is in
-        let layout : Layout = record { status = winner.place; head = head; committed = committed_in c (Some winner); units = shape_in c places } in
-        let same : layout ≡ layout_in c places = ap₂ (λ (o : Option Winner) (s : Sector). let x : Layout = record { status = place_of o; head = s; committed = committed_in c o; units = shape_in c places } in x)
+        let passes_it : is_status_payload (units_on places) head.payload ≡ true =
+        ap (λ (kind : ℕ). is_head_payload (units_on places) kind head.payload) (sym it.counts.fits) ∙ well_is in
+        let layout : Layout = record { status = winner.place; head = head; committed = committed_in c (Some winner); count = units_on places; units = shape_in c places } in
+        let same : layout ≡ layout_in c places = ap₂ (λ (o : Option Winner) (s : Sector). let x : Layout = record { status = place_of o; head = s; committed = committed_in c o; count = units_on places; units = shape_in c places } in x)
         (sym is) (sym (sector_is (status_at c places) winner head is here)) in
         subst (Laid places c) same (record {
           least = fine.formed.least;
           most = fine.formed.most;
+          count = units_are_kept places (fine.formed.least, fine.formed.most);
           chosen = it.counts;
-          counts = status_payloads_are_spelled head.version (places - 4) head.payload (bytes winner.place 0 head it.counts.within (omega arith) (inl refl) here) passes_it;
+          counts = status_payloads_are_spelled head.version (units_on places) head.payload (bytes winner.place 0 head it.counts.within (omega arith) (inl refl) here) passes_it;
           commits = subst (λ (g : ℕ). IsStatus c winner.place g (committed_in c (Some winner))) generation status_is;
           each = unit_is;
           overflows = passing (holds_live heads all_marks) places;

@@ -1,10 +1,12 @@
 -- The greatest number found.
-use Rattle.std.proofs.Common.{ℕ, ◌≡◌, ◌⊎◌, inl, inr, ◌+◌, ◌*◌, ◌/◌, ◌%◌, ◌-◌, ◌<◌, ◌≤◌, List, [], map, max, Option, Some, None, refl, sym, ◌∙◌, ap, ap₂, subst, arith, zero, suc, ◌∷◌}
+use Rattle.std.proofs.Common.{ℕ, ◌≡◌, ◌⊎◌, inl, inr, ◌+◌, ◌*◌, ◌/◌, ◌%◌, ◌<◌, ◌≤◌, List, [], map, max, Option, Some, None, refl, sym, ◌∙◌, ap, ap₂, subst, arith, zero, suc, ◌∷◌}
 use Rattle.std.specs.List.{Contains}
 use Rattle.std.proofs.Math.Nat.{le-max_left, le-max_right}
 use Rattle.std.proofs.lemmas.Bool.{cases_Bool, leb-true, le-leb, and_parts, and_from, cond-true, cond-false}
 use Rattle.std.proofs.lemmas.Option.{same_Some}
 use Rattle.std.proofs.lemmas.List.{length-map, get_or-map}
+use Rattle.ipl_base.specs.Places.{units_on}
+use Rattle.ipl_base.proofs.UnitLemmas.{unit_on, unit_kept}
 use Rattle.ipl_format.specs.Sector.{Sector}
 use Rattle.ipl_format.specs.Record.{Record, SpellsLog}
 use Rattle.ipl_format.specs.Commit.{SpellsCommit}
@@ -95,16 +97,16 @@ log-le sector n kind mentions =
 
 module _ (c : Chart) (places : ℕ) (it : Layout) (laid : Laid places c it) where
   abbrev status : Winner
-  status = record { place = it.status; head = head_of (places - 4) it.head }
+  status = record { place = it.status; head = head_of (units_on places) it.head }
 
   pub status_is : status_at c places ≡ Some status
   status_is = chosen_are_status c places it.status it.head laid.chosen
 
   abbrev home : ℕ → Winner
-  home u = record { place = (it.units u).home; head = head_of (places - 4) (it.units u).head }
+  home u = record { place = (it.units u).home; head = head_of (units_on places) (it.units u).head }
 
-  pub home_is : (u : ℕ) → u < places - 4 → current_at c places u ≡ Some (home u)
-  home_is u low = chosen_are_current c places u (it.units u).home (it.units u).head low (laid.each u low).chosen
+  pub home_is : (u : ℕ) → u < it.count → current_at c places u ≡ Some (home u)
+  home_is u low = chosen_are_current c places u (it.units u).home (it.units u).head (unit_on places it.count u laid.count low) (laid.each u low).chosen
 
   abbrev heads_greatest : ℕ
   heads_greatest = greatest_of_heads (header_at c places) places
@@ -120,10 +122,10 @@ module _ (c : Chart) (places : ℕ) (it : Layout) (laid : Laid places c it) wher
 
   header_below : (p : ℕ) (sector : Sector) (n : ℕ) → p < places → c p 0 ≡ Some sector → IsHeader sector → Mentions sector n → n ≤ greatest_found c places
   header_below p sector n low here kind mentions =
-      let kept : header_at c places p ≡ Some (head_of (places - 4) sector) =
+      let kept : header_at c places p ≡ Some (head_of (units_on places) sector) =
       header_kept c places p sector low here (and_from _ _ (le-leb 1 sector.kind kind.0) (le-leb sector.kind 3 kind.1)) in
-      let own = head-le (places - 4) sector n kind mentions in
-      let same : head_number (header_at c places p) ≡ head_number (Some (head_of (places - 4) sector)) = ap head_number kept in
+      let own = head-le (units_on places) sector n kind mentions in
+      let same : head_number (header_at c places p) ≡ head_number (Some (head_of (units_on places) sector)) = ap head_number kept in
       let among : head_number (header_at c places p) ≤ heads_greatest = each-le 0 (λ q. head_number (header_at c places q)) places p low in
       omega (arith, own, same, among, heads-le)
 
@@ -136,11 +138,11 @@ module _ (c : Chart) (places : ℕ) (it : Layout) (laid : Laid places c it) wher
       each-le heads_greatest (λ t. commit_number (commit_at c (status_at c places) t)) sectors s (omega (arith, is.where_it_is, sectors_are)) in
       omega (arith, own, same, among, commits-le)
 
-  may_from : (p s : ℕ) → IsLogSpot places c it p s → MayStand c places p s
+  may_from : (p s : ℕ) → IsLogSpot c it p s → MayStand c places p s
   may_from p s (inl (u, low, same, high)) = inl (u, home u, home_is u low, same, high)
   may_from p s (inr over) = inr over
 
-  log_below : (p s : ℕ) (sector : Sector) (n : ℕ) → p < places → s < 256 → c p s ≡ Some sector → sector.kind ≡ 5 → IsLogSpot places c it p s → Mentions sector n
+  log_below : (p s : ℕ) (sector : Sector) (n : ℕ) → p < places → s < 256 → c p s ≡ Some sector → sector.kind ≡ 5 → IsLogSpot c it p s → Mentions sector n
       → n ≤ greatest_found c places
   log_below p s sector n low within here kind spot mentions =
       let k : ℕ = p * 256 + s in
@@ -207,9 +209,9 @@ module _ (c : Chart) (places : ℕ) (it : Layout) (laid : Laid places c it) wher
             )
       ]
 
-  spot_back : (p s : ℕ) → MayStand c places p s → IsLogSpot places c it p s
+  spot_back : (p s : ℕ) → MayStand c places p s → IsLogSpot c it p s
   spot_back p s (inl (u, winner, is, same, high)) =
-      let low = current_low c places u winner is in
+      let low = unit_kept places it.count u laid.count (current_low c places u winner is) in
       let one : winner ≡ home u = same_Some winner (home u) (sym is ∙ home_is u low) in
       inl (u, low, same ∙ ap (λ (x : Winner). x.place) one, high)
   spot_back p s (inr over) = inr over

@@ -1,5 +1,5 @@
 -- No fault is no fault of each kind.
-use Rattle.std.proofs.Common.{ℕ, ◌≡◌, ◌-◌, ◌*◌, ◌^◌, ◌<◌, ◌≤◌, nat_lt, nat_le, Bool, true, false, cond, ◌&&◌, Option, Some, None, refl}
+use Rattle.std.proofs.Common.{ℕ, ◌≡◌, ◌*◌, ◌^◌, ◌<◌, ◌≤◌, nat_lt, nat_le, Bool, true, false, cond, ◌&&◌, Option, Some, None, refl}
 use Rattle.std.specs.Option.{option_or}
 use Rattle.std.proofs.lemmas.Bool.{leb-true, ltb-true, le-leb, lt-ltb, le-ltb, and_parts, and_from, cond-true, cond-false}
 use Rattle.ipl_base.specs.declared.fault.ImageFault.{ImageFault}
@@ -10,6 +10,7 @@ use Rattle.opening_rules.specs.Chosen.{header_at, current_at, status_at}
 use Rattle.opening_rules.specs.Live.{sectors}
 use Rattle.opening_rules.specs.Faults.{size_fault, not_formatted, other_geometry, missing, bad_header, header_fault, commit_fault, first_commit_fault, log_fault, first_log_fault, greatest_found, spent, overflows_found, no_spare, first_fault}
 use Rattle.ipl_base.proofs.FirstLemmas.{or_none, first_none, none_before}
+use Rattle.ipl_base.specs.Places.{units_on}
 
 -- ---- six that are not there
 
@@ -40,9 +41,9 @@ pub record IsFormed (c : Chart) (places : ℕ) : Type 0 where
   pub most : places ≤ 1028
   pub formatted : not_formatted (status_at c places) ≡ None
   pub geometry : other_geometry (status_at c places) ≡ None
-  pub geometries : (u : ℕ) → u < places - 4 → other_geometry (current_at c places u) ≡ None
-  pub there : (u : ℕ) → u < places - 4 → missing u (current_at c places u) ≡ None
-  pub headers : (u : ℕ) → u < places - 4 → bad_header (current_at c places u) ≡ None
+  pub geometries : (u : ℕ) → u < units_on places → other_geometry (current_at c places u) ≡ None
+  pub there : (u : ℕ) → u < units_on places → missing u (current_at c places u) ≡ None
+  pub headers : (u : ℕ) → u < units_on places → bad_header (current_at c places u) ≡ None
   pub header : bad_header (status_at c places) ≡ None
   pub commits : (s : ℕ) → s < sectors → commit_fault c (status_at c places) s ≡ None
   pub logs : (k : ℕ) → k < places * 256 → log_fault (header_at c places) (current_at c places) c k ≡ None
@@ -55,13 +56,13 @@ pub record HasNoFault (c : Chart) (places : ℕ) : Type 0 where
 
 module _ (c : Chart) (places : ℕ) where
   abbrev geometries_fault : Option ImageFault
-  geometries_fault = first_below (λ u. other_geometry (current_at c places u)) (places - 4)
+  geometries_fault = first_below (λ u. other_geometry (current_at c places u)) (units_on places)
 
   abbrev missing_fault : Option ImageFault
-  missing_fault = first_below (λ u. missing u (current_at c places u)) (places - 4)
+  missing_fault = first_below (λ u. missing u (current_at c places u)) (units_on places)
 
   abbrev headers_fault : Option ImageFault
-  headers_fault = first_below (λ u. bad_header (current_at c places u)) (places - 4)
+  headers_fault = first_below (λ u. bad_header (current_at c places u)) (units_on places)
 
   pub no_fault_parts : first_fault c places ≡ None → HasNoFault c places
   no_fault_parts e =
@@ -76,9 +77,9 @@ module _ (c : Chart) (places : ℕ) where
           most = leb-true places 1028 bounds.1;
           formatted = heads.0;
           geometry = heads.1;
-          geometries = none_before (λ u. other_geometry (current_at c places u)) (places - 4) heads.2;
-          there = none_before (λ u. missing u (current_at c places u)) (places - 4) heads.3;
-          headers = none_before (λ u. bad_header (current_at c places u)) (places - 4) heads.4;
+          geometries = none_before (λ u. other_geometry (current_at c places u)) (units_on places) heads.2;
+          there = none_before (λ u. missing u (current_at c places u)) (units_on places) heads.3;
+          headers = none_before (λ u. bad_header (current_at c places u)) (units_on places) heads.4;
           header = heads.5;
           commits = none_before (commit_fault c (status_at c places)) sectors all.2;
           logs = none_before (log_fault (header_at c places) (current_at c places) c) (places * 256) all.3;
@@ -95,9 +96,9 @@ module _ (c : Chart) (places : ℕ) where
     headers_pass = six_none (not_formatted (status_at c places)) (other_geometry (status_at c places)) geometries_fault missing_fault headers_fault (bad_header (status_at c places))
         it.formatted
         it.geometry
-        (first_none (λ u. other_geometry (current_at c places u)) (places - 4) it.geometries)
-        (first_none (λ u. missing u (current_at c places u)) (places - 4) it.there)
-        (first_none (λ u. bad_header (current_at c places u)) (places - 4) it.headers)
+        (first_none (λ u. other_geometry (current_at c places u)) (units_on places) it.geometries)
+        (first_none (λ u. missing u (current_at c places u)) (units_on places) it.there)
+        (first_none (λ u. bad_header (current_at c places u)) (units_on places) it.headers)
         it.header
 
     commits_pass : first_commit_fault c places ≡ None

@@ -1,9 +1,10 @@
 -- What each fault says of a chart.
-use Rattle.std.specs.Prelude.{ℕ, ◌≡◌, ◌⊎◌, ◌<◌, ◌≤◌, ◌-◌, ◌/◌, ◌%◌, ◌^◌, false, true, Some}
-use Rattle.ipl_base.specs.declared.limits.TheConstants.{SECTORS, LEAST_PLACES, MOST_PLACES, RESERVED_PLACES, OVERFLOW_PLACES}
+use Rattle.std.specs.Prelude.{ℕ, ◌≡◌, ◌⊎◌, ◌<◌, ◌≤◌, ◌/◌, ◌%◌, ◌^◌, false, true, Some}
+use Rattle.ipl_base.specs.declared.limits.TheConstants.{SECTORS, LEAST_PLACES, MOST_PLACES, OVERFLOW_PLACES}
 use Rattle.ipl_base.specs.declared.fault.ChipFault.TheVariants.{ReadFault, Stopped, Damaged, Malformed, WornOut}
 use Rattle.ipl_base.specs.declared.fault.ImageFault.{ImageFault}
 use Rattle.ipl_base.specs.declared.fault.ImageFault.TheVariants.{Geometry, NotFormatted, Missing, Chip, Spent, NoSpare}
+use Rattle.ipl_base.specs.Places.{units_on}
 use Rattle.ipl_format.specs.Sector.{Sector}
 use Rattle.ipl_meaning.specs.Chart.{Chart, IsChosen, IsDataHeader, IsStatusHeader}
 use Rattle.opening_rules.specs.Payloads.{begins_with_other_units, is_commit_payload}
@@ -16,20 +17,20 @@ use Rattle.opening_rules.specs.FaultLaws.{IsLeastMissing, IsFirstBadLog}
 abbrev pub HeaderCounts : Chart → ℕ → ℕ → Sector → Type 0
 HeaderCounts c places p head =
     IsChosen c places IsStatusHeader p head
-    ⊎ ((u : ℕ) × (u < places - RESERVED_PLACES) × IsChosen c places (IsDataHeader u) p head)
+    ⊎ ((u : ℕ) × (u < units_on places) × IsChosen c places (IsDataHeader u) p head)
 
 -- a header that counts was written for another number of units
 pub record HasOtherUnits (c : Chart) (places : ℕ) : Type 0 where
   pub place : ℕ
   pub head : Sector
   pub counts : HeaderCounts c places place head
-  pub other : begins_with_other_units (places - RESERVED_PLACES) head.payload ≡ true
+  pub other : begins_with_other_units (units_on places) head.payload ≡ true
 
 -- the header at this place counts, and its payload is not in the grammar of its kind
 pub record HasBadHeader (c : Chart) (places p : ℕ) : Type 0 where
   pub head : Sector
   pub counts : HeaderCounts c places p head
-  pub bad : is_head_payload (places - RESERVED_PLACES) head.kind head.payload ≡ false
+  pub bad : is_head_payload (units_on places) head.kind head.payload ≡ false
 
 -- this commit sector is the first of the status place whose payload is not in its grammar
 pub record IsFirstBadCommit (c : Chart) (places p s : ℕ) : Type 0 where

@@ -1,6 +1,6 @@
 -- The headers of a chip, and which of them count.
-use Rattle.std.specs.Prelude.{ℕ, zero, suc, ◌-◌, nat_lt, nat_le, ◌==◌, ◌&&◌, Bool, true, List, Option, Some, None, if◌then◌else◌}
-use Rattle.ipl_base.specs.declared.limits.TheConstants.{RESERVED_PLACES}
+use Rattle.std.specs.Prelude.{ℕ, zero, suc, nat_lt, nat_le, ◌==◌, ◌&&◌, Bool, true, List, Option, Some, None, if◌then◌else◌}
+use Rattle.ipl_base.specs.Places.{units_on}
 use Rattle.ipl_format.specs.Sector.{Sector}
 use Rattle.ipl_meaning.specs.Chart.{Chart}
 use Rattle.opening_rules.specs.Payloads.{begins_with_other_units, is_data_payload, is_status_payload}
@@ -49,7 +49,7 @@ header_in units (Some sector) = if is_header sector then Some (head_of units sec
 -- the header of each place
 abbrev pub header_at : Chart → ℕ → ℕ → Option KeptHeader
 header_at c places p =
-    if nat_lt p places then header_in (places - RESERVED_PLACES) (c p 0) else None
+    if nat_lt p places then header_in (units_on places) (c p 0) else None
 
 -- it is a data header of the unit
 abbrev pub is_data_of : ℕ → KeptHeader → Bool
@@ -77,7 +77,7 @@ chosen fits heads (suc n) = picked fits (chosen fits heads n) n (heads n)
 
 -- the current header of each unit
 abbrev pub current_in : (ℕ → Option KeptHeader) → ℕ → ℕ → Option Winner
-current_in heads places u = if nat_lt u (places - RESERVED_PLACES) then chosen (is_data_of u) heads places else None
+current_in heads places u = if nat_lt u (units_on places) then chosen (is_data_of u) heads places else None
 
 -- the status header
 abbrev pub status_in : (ℕ → Option KeptHeader) → ℕ → Option Winner

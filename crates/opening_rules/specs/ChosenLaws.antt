@@ -1,6 +1,6 @@
 -- The headers that are chosen are those that count, and those that count are chosen.
-use Rattle.std.specs.Prelude.{ℕ, ◌≡◌, ◌<◌, ◌-◌, Some, None}
-use Rattle.ipl_base.specs.declared.limits.TheConstants.{RESERVED_PLACES}
+use Rattle.std.specs.Prelude.{ℕ, ◌≡◌, ◌<◌, Some, None}
+use Rattle.ipl_base.specs.Places.{units_on}
 use Rattle.ipl_format.specs.Sector.{Sector}
 use Rattle.ipl_meaning.specs.Chart.{Chart, IsChosen, IsDataHeader, IsStatusHeader}
 use Rattle.opening_rules.specs.Chosen.{Winner, head_of, current_at, status_at}
@@ -9,24 +9,24 @@ use Rattle.opening_rules.specs.Chosen.{Winner, head_of, current_at, status_at}
 pub record IsWinnerOf (c : Chart) (places : ℕ) (Fits : Sector → Type 0) (winner : Winner) : Type 0 where
   pub sector : Sector
   pub counts : IsChosen c places Fits winner.place sector
-  pub head : winner.head ≡ head_of (places - RESERVED_PLACES) sector
+  pub head : winner.head ≡ head_of (units_on places) sector
 
 -- a current header is the one that counts for its unit
 abbrev pub CurrentsAreChosen : Type 0
 CurrentsAreChosen =
     (c : Chart) (places u : ℕ) (winner : Winner) → current_at c places u ≡ Some winner
-    → (u < places - RESERVED_PLACES) × IsWinnerOf c places (IsDataHeader u) winner
+    → (u < units_on places) × IsWinnerOf c places (IsDataHeader u) winner
 
 -- the one that counts is current
 abbrev pub ChosenAreCurrent : Type 0
 ChosenAreCurrent =
-    (c : Chart) (places u p : ℕ) (head : Sector) → u < places - RESERVED_PLACES → IsChosen c places (IsDataHeader u) p head
-    → current_at c places u ≡ Some (record { place = p; head = head_of (places - RESERVED_PLACES) head })
+    (c : Chart) (places u p : ℕ) (head : Sector) → u < units_on places → IsChosen c places (IsDataHeader u) p head
+    → current_at c places u ≡ Some (record { place = p; head = head_of (units_on places) head })
 
 -- a unit without a current header has no header
 abbrev pub NoneIsCurrent : Type 0
 NoneIsCurrent =
-    (c : Chart) (places u p : ℕ) (head : Sector) → u < places - RESERVED_PLACES
+    (c : Chart) (places u p : ℕ) (head : Sector) → u < units_on places
     → current_at c places u ≡ None
     → p < places → c p 0 ≡ Some head → ¬ IsDataHeader u head
 
@@ -39,7 +39,7 @@ StatusesAreChosen =
 abbrev pub ChosenAreStatus : Type 0
 ChosenAreStatus =
     (c : Chart) (places p : ℕ) (head : Sector) → IsChosen c places IsStatusHeader p head
-    → status_at c places ≡ Some (record { place = p; head = head_of (places - RESERVED_PLACES) head })
+    → status_at c places ≡ Some (record { place = p; head = head_of (units_on places) head })
 
 -- where there is none, no place has one
 abbrev pub NoneIsStatus : Type 0

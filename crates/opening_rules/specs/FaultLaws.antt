@@ -1,8 +1,9 @@
 -- What single faults say of a chart.
-use Rattle.std.specs.Prelude.{ℕ, ◌≡◌, ◌⊎◌, ◌<◌, ◌≤◌, ◌-◌, ◌*◌, ◌/◌, ◌%◌, ◌==◌, ◌&&◌, Bool, false, true, Some}
-use Rattle.ipl_base.specs.declared.limits.TheConstants.{SECTORS, LEAST_PLACES, MOST_PLACES, RESERVED_PLACES, OVERFLOW_SECTORS}
+use Rattle.std.specs.Prelude.{ℕ, ◌≡◌, ◌⊎◌, ◌<◌, ◌≤◌, ◌*◌, ◌/◌, ◌%◌, ◌==◌, ◌&&◌, Bool, false, true, Some}
+use Rattle.ipl_base.specs.declared.limits.TheConstants.{SECTORS, LEAST_PLACES, MOST_PLACES, OVERFLOW_SECTORS}
 use Rattle.ipl_base.specs.declared.fault.ImageFault.{ImageFault}
 use Rattle.ipl_base.specs.declared.fault.ImageFault.TheVariants.{NotFormatted, Missing}
+use Rattle.ipl_base.specs.Places.{units_on}
 use Rattle.ipl_format.specs.Sector.{Sector}
 use Rattle.ipl_meaning.specs.Chart.{Chart, IsOverflow, IsChosen, IsDataHeader, IsStatusHeader}
 use Rattle.opening_rules.specs.First.{passes, count_below}
@@ -22,7 +23,7 @@ NotFormattedIsExact =
 
 -- the unit has no header, and all lower ones have one
 pub record IsLeastMissing (c : Chart) (places u : ℕ) : Type 0 where
-  pub low : u < places - RESERVED_PLACES
+  pub low : u < units_on places
   pub none : (p : ℕ) (head : Sector) → p < places → c p 0 ≡ Some head → ¬ IsDataHeader u head
   pub lower : (v : ℕ) → v < u → (p : ℕ) × (head : Sector) × IsChosen c places (IsDataHeader v) p head
 

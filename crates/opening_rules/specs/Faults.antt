@@ -1,13 +1,14 @@
 -- What is at fault on a chart, in the order in which it is told.
-use Rattle.std.specs.Prelude.{ℕ, ◌≡◌, ◌*◌, ◌-◌, ◌/◌, ◌%◌, ◌^◌, nat_lt, nat_le, ◌==◌, ◌&&◌, ◌||◌, not, Bool, true, false, List, [], ◌∷◌, max, Option, Some, None, if◌then◌else◌, Result, MatchResult}
+use Rattle.std.specs.Prelude.{ℕ, ◌≡◌, ◌*◌, ◌/◌, ◌%◌, ◌^◌, nat_lt, nat_le, ◌==◌, ◌&&◌, ◌||◌, not, Bool, true, false, List, [], ◌∷◌, max, Option, Some, None, if◌then◌else◌, Result, MatchResult}
 use Rattle.std.specs.List.{list_any, count_by}
-use Rattle.ipl_base.specs.declared.limits.TheConstants.{SECTORS, LEAST_PLACES, MOST_PLACES, RESERVED_PLACES, OVERFLOW_PLACES, OVERFLOW_SECTORS}
+use Rattle.ipl_base.specs.declared.limits.TheConstants.{SECTORS, LEAST_PLACES, MOST_PLACES, OVERFLOW_PLACES, OVERFLOW_SECTORS}
 use Rattle.ipl_base.specs.declared.fault.ChipFault.TheVariants.{ReadFault, Stopped, Damaged, Malformed, WornOut}
 use Rattle.ipl_base.specs.declared.fault.ImageFault.{ImageFault}
 use Rattle.ipl_base.specs.declared.fault.ImageFault.TheVariants.{Geometry, NotFormatted, Missing, Chip, Spent, NoSpare}
 use Rattle.ipl_format.specs.Sector.{Sector}
 use Rattle.ipl_meaning.specs.Chart.{Chart}
 use Rattle.ipl_base.specs.First.{first_below}
+use Rattle.ipl_base.specs.Places.{units_on}
 use Rattle.opening_rules.specs.First.{first_of, greatest_below, greatest_of, count_below}
 use Rattle.opening_rules.specs.Payloads.{is_commit_payload, is_log_payload, numbers_told, tids_told}
 use Rattle.opening_rules.specs.Chosen.{KeptHeader, Winner, header_at, current_at, status_at}
@@ -59,7 +60,7 @@ header_tests units status current =
 
 -- the first fault of the headers
 abbrev pub header_fault : Chart → ℕ → Option ImageFault
-header_fault c places = first_of (header_tests (places - RESERVED_PLACES) (status_at c places) (current_at c places))
+header_fault c places = first_of (header_tests (units_on places) (status_at c places) (current_at c places))
 
 -- ---- commit sectors
 

@@ -1,6 +1,7 @@
 -- What the calls on overflow places come to in the words of the tables.
-use Rattle.std.specs.Prelude.{ℕ, ◌≡◌, ◌≢◌, ◌<◌, ◌≤◌, ◌-◌, List, map, length, Some, None, All, AllPairs, Contains}
-use Rattle.ipl_base.specs.declared.limits.TheConstants.{SECTORS, RESERVED_PLACES}
+use Rattle.std.specs.Prelude.{ℕ, ◌≡◌, ◌≢◌, ◌<◌, ◌≤◌, List, map, length, Some, None, All, AllPairs, Contains}
+use Rattle.ipl_base.specs.declared.limits.TheConstants.{SECTORS}
+use Rattle.ipl_base.specs.Places.{units_on}
 use Rattle.ipl_meaning.specs.Tables.{OverflowLists, Tables, place_of, overflow_places}
 use Rattle.ipl_meaning.specs.Mirrors.{AreApart}
 use Rattle.ipl_meaning.specs.TableSteps.{after_overflow_log}
@@ -56,4 +57,4 @@ DropsMove = (it : OverflowLists) (u : ℕ) → OverflowMoves it (after_drop it u
 -- an empty table is that of a formatted chip
 abbrev pub EmptyListsAreFirst : Type 0
 EmptyListsAreFirst = (places : ℕ)
-    → empty_lists (places - RESERVED_PLACES) ≡ (first_tables places).overflow
+    → empty_lists (units_on places) ≡ (first_tables places).overflow

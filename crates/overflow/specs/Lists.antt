@@ -1,7 +1,8 @@
 -- What the calls on overflow places make of the table, and what always holds of it.
 use Rattle.std.specs.Prelude.{ℕ, ◌≡◌, ◌<◌, ◌≤◌, ◌+◌, ◌==◌, Bool, not, max, nat_le, List, [], ◌∷◌, ◌++◌, map, length, slice_index_or, slice_set, replicate, Option, Some, None, All, if◌then◌else◌}
 use Rattle.std.specs.List.{list_any, filter}
-use Rattle.ipl_base.specs.declared.limits.TheConstants.{SECTORS, RESERVED_PLACES, OVERFLOW_PLACES, OVERFLOW_SECTORS}
+use Rattle.ipl_base.specs.declared.limits.TheConstants.{SECTORS, OVERFLOW_PLACES, OVERFLOW_SECTORS}
+use Rattle.ipl_base.specs.Places.{places_for}
 use Rattle.ipl_base.specs.declared.spot.Spot.{Spot}
 use Rattle.overflow.specs.declared.places.PlaceInUse.{PlaceInUse}
 use Rattle.overflow.specs.declared.spots.ShortSpot.{ShortSpot}
@@ -130,13 +131,13 @@ abbrev pub IsPlaceOf : ℕ → ℕ × ℕ → Type 0
 IsPlaceOf places it = it.0 < places
 
 -- at most 1024 units have at most 16 spots each, and at most two places are in use; all spots are
--- sectors of the chip, and all places in use places of it: it has four places more than units
+-- sectors of a chip that keeps so many units, and all places in use places of it
 pub record IsSoundOverflow (it : OverflowLists) : Type 0 where
   pub units : length it.spots ≤ 1024
   pub few : All AreFew it.spots
   pub two : length it.in_use ≤ OVERFLOW_PLACES
   pub firsts : All IsFirst it.in_use
-  pub within : All (AreWithin (length it.spots + RESERVED_PLACES)) it.spots
-  pub placed : All (IsPlaceOf (length it.spots + RESERVED_PLACES)) it.in_use
+  pub within : All (AreWithin (places_for (length it.spots))) it.spots
+  pub placed : All (IsPlaceOf (places_for (length it.spots))) it.in_use
   pub lists : length it.masks ≡ length it.spots
   pub each : (u : ℕ) → length (masks_at it u) ≡ length (spots_in it u)

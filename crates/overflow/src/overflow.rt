@@ -1,7 +1,8 @@
 //! The table of overflow places.
-ghost use Rattle.std.specs.Prelude.{◌≡◌, ◌≤◌, ◌<◌, ◌+◌, ◌-◌, [], ℕ, map, replicate, length, nat_lt, Contains, IfOk, IfSome, IfNone, None};
+ghost use Rattle.std.specs.Prelude.{◌≡◌, ◌≤◌, ◌<◌, [], ℕ, map, replicate, length, nat_lt, Contains, IfOk, IfSome, IfNone, None};
 ghost use Rattle.std.specs.Option.{option_map};
 ghost use Rattle.ipl_base.specs.declared.limits.TheConstants.{OVERFLOW_SECTORS};
+ghost use Rattle.ipl_base.specs.Places.{places_for};
 ghost use Rattle.overflow.specs.Lists.{pair_of, spots_in, masks_at, empty_lists, with_place, after_add, after_drop, places_left, listed, first_spot, AreWithin, IsSoundOverflow};
 
 use crate::places::{PlaceInUse, first_spot, keep_named, places_left, use_spot};
@@ -44,7 +45,7 @@ impl Model for Overflow {
 impl Overflow {
     /// No unit has a log sector in an overflow place, and no place is in use.
     pub fn new(alloc: Global, geometry: Geometry) -> Result<Overflow, OutOfMemory>
-        ensures { IfOk result (λ overflow. overflow ≡ empty_lists (geometry - 4)) }
+        ensures { IfOk result (λ overflow. overflow ≡ empty_lists geometry.units) }
     {
         let units = geometry.units() as usize;
         let mut spots = Vec::with_capacity(alloc, units)?;
@@ -73,7 +74,7 @@ impl Overflow {
     }
 
     /// What always holds: there are at most 1024 units, each with at most 16 spots, and at most two
-    /// places in use; all these are sectors and places of a chip with four places more than units.
+    /// places in use; all these are sectors and places of a chip that keeps so many units.
     pub fn facts(&self)
         ensures { IsSoundOverflow self.now }
     {
@@ -85,7 +86,7 @@ impl Overflow {
         requires { unit < length self.now.spots }
         ensures spots { map pair_of result.items ≡ spots_in self.now unit }
         ensures few { length result.items ≤ OVERFLOW_SECTORS }
-        ensures within { AreWithin (length self.now.spots + 4) (spots_in self.now unit) }
+        ensures within { AreWithin (places_for (length self.now.spots)) (spots_in self.now unit) }
     {
         let list = &self.spots[unit as usize];
         list.list()
@@ -118,7 +119,7 @@ impl Overflow {
         // What that comes to.
         ensures some { IfSome result (λ spot. Contains self.now.in_use (pair_of spot)) }
         ensures in_range { IfSome result (λ spot. (1 ≤ spot.sector) × (spot.sector < 256)) }
-        ensures placed { IfSome result (λ spot. spot.place < length self.now.spots + 4) }
+        ensures placed { IfSome result (λ spot. spot.place < places_for (length self.now.spots)) }
         ensures lowest { IfSome result (λ spot.
             (p first : ℕ) → Contains self.now.in_use (p, first) → first < 256 → spot.place ≤ p) }
         ensures none { IfNone result
@@ -138,7 +139,7 @@ impl Overflow {
     /// to 255 are clean. That one more may be taken is a condition, which `may_add` tests.
     pub fn add_place(&mut self, place: u32)
         requires few { length self.old.in_use < 2 }
-        requires place { place < length self.old.spots + 4 }
+        requires place { place < places_for (length self.old.spots) }
         ensures { self.new ≡ with_place self.old place 1 }
     {
         self.in_use.push(PlaceInUse { place, first: 1 });
@@ -148,7 +149,7 @@ impl Overflow {
     /// known clean. That one more may be taken is a condition, which `may_add` tests.
     pub fn adopt_place(&mut self, place: u32)
         requires few { length self.old.in_use < 2 }
-        requires place { place < length self.old.spots + 4 }
+        requires place { place < places_for (length self.old.spots) }
         ensures { self.new ≡ with_place self.old place 256 }
     {
         let first = SECTORS;
@@ -160,7 +161,7 @@ impl Overflow {
     pub fn add(&mut self, unit: u32, spot: Spot, mask: u16)
         requires unit { unit < length self.old.spots }
         requires few { length (spots_in self.old unit) < OVERFLOW_SECTORS }
-        requires place { spot.place < length self.old.spots + 4 }
+        requires place { spot.place < places_for (length self.old.spots) }
         requires sector { spot.sector < 256 }
         ensures { self.new ≡ after_add self.old unit spot.place spot.sector mask }
     {

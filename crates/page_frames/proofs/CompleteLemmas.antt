@@ -1,5 +1,5 @@
 -- Calls over contents that stand for a state fail only where a call of the chip failed.
-use Rattle.std.proofs.Common.{◌≡◌, ◌≢◌, ◌≤◌, ◌<◌, ◌+◌, ◌-◌, ℕ, Bool, Option, None, Result, Ok, Err, IfErr, refl, sym, subst, arith}
+use Rattle.std.proofs.Common.{◌≡◌, ◌≢◌, ◌≤◌, ◌<◌, ℕ, Bool, length, Option, None, Result, Ok, Err, IfErr, refl, sym, subst, arith}
 use Rattle.chip_trait.specs.Story.{Contents}
 use Rattle.chip_trait.specs.Told.{Told}
 use Rattle.ipl_base.specs.Calls.{IsFailedCall}
@@ -26,6 +26,7 @@ use Rattle.pending_writes.specs.Frames.{Frames}
 use Rattle.pending_writes.proofs.FitLemmas.{merges_are_small}
 use Rattle.pending_writes.proofs.PendingRoomLemmas.{loaded_pages_fit}
 use Rattle.store_steps.specs.Advances.{memory_of, MemoryFits, KeepsState}
+use Rattle.store_steps.proofs.KeepLemmas.{says_next}
 use Rattle.page_frames.specs.declared.pages.Pages.{Pages}
 use Rattle.page_frames.specs.Pages.{tables_in, frames_in}
 use Rattle.page_frames.specs.Complete.{Completes, CompletesLoad}
@@ -36,18 +37,18 @@ use Rattle.page_frames.specs.Complete.{Completes, CompletesLoad}
 all_mergeable : (places : ℕ) (c : Chart) (it : Layout) (t : Tables) (frames : Frames)
     (slots : Slots) (state : State) (u : ℕ)
     → MemoryFits places c it (memory_of t frames slots) state → Says places c it state.map
-    → u < places - 4 → IsMergeable c it.committed t (it.units u) u
+    → u < it.count → IsMergeable c it.committed t (it.units u) u
 all_mergeable places c it t frames slots state u fits says low =
     said_units_are_mergeable places c it state.map t u says low
     (merges_are_small places c it t frames slots state u fits low)
 
 pub merge_completes : {T : Type 0} (u : ℕ) (pages : Pages) (result : Result T ChipFault)
-    (told : Told) → u + 4 < told.places
+    (told : Told) → u < length pages.parts.directory.current
     → CompletesMerge told.places (tables_in pages) u result told → Completes pages result told
 merge_completes u pages result told low complete x there slots it state fits says =
     complete x there it fits.mirrors
     (all_mergeable told.places (chart_of x) it (tables_in pages) (frames_in pages) slots state u fits
-    says (omega (arith, low)))
+    says (omega (arith, low, fits.mirrors.directory.units)))
 
 pub renew_completes : (pages : Pages) (result : Result (Unit {0}) ChipFault) (told : Told)
     → CompletesRenewal told.places (tables_in pages) result told → Completes pages result told
@@ -92,10 +93,10 @@ load_completes t u page result told tells x there it now mirrors shows room =
 
 -- where a state is stood for, the page shows its values, and has room for what is pending
 pub loaded_completes : {T : Type 0} (u page : ℕ) (pages : Pages) (result : Result T ChipFault)
-    (told : Told) → u + 4 < told.places → page < 15
+    (told : Told) → u < length pages.parts.directory.current → page < 15
     → CompletesLoad (tables_in pages) u page result told → Completes pages result told
 loaded_completes u page pages result told low few complete x there slots it state fits says =
-    let below : u < told.places - 4 = omega (arith, low) in
+    let below : u < it.count = omega (arith, low, fits.mirrors.directory.units) in
     let values = page_in state.map u page in
     let shows = says.pages u page below few in
     complete x there it values fits.mirrors shows
@@ -116,7 +117,5 @@ completes_then first between result old mid sized keeps complete x there slots i
     complete y now slots on.layout state
     (subst (λ (n : ℕ). MemoryFits n (chart_of y) on.layout
     (memory_of (tables_in between) (frames_in between) slots) state) (sym sized) on.fits)
-    (subst (λ (n : ℕ). Says n (chart_of y) on.layout state.map) (sym sized) (record {
-      pages = λ u page low few. on.shows.pages u page low few (says.pages u page low few);
-      nowhere_else = λ n high. on.shows.nowhere_else n high (says.nowhere_else n high);
-    }))
+    (subst (λ (n : ℕ). Says n (chart_of y) on.layout state.map) (sym sized)
+    (says_next old.places (chart_of x) (chart_of y) it on.layout state state on.shows says))

@@ -125,7 +125,7 @@ full_of_page place page values pending e found =
 
 -- that of a page of a unit is so at the unit's home
 pub load_of_page : (places : ℕ) (x : Contents) (it : Layout) (active : ℕ → Bool) (t : Tables)
-    (u page : ℕ) (e : ChipFault) → Mirrors places (chart_of x) it t → u < places - 4 → page < 15
+    (u page : ℕ) (e : ChipFault) → Mirrors places (chart_of x) it t → u < it.count → page < 15
     → load_fault x it active u page ≡ Some e → IsOfPage (it.units u).home page e
 load_of_page places x it active t u page e mirrors low few found =
     let unit = it.units u in
@@ -142,10 +142,10 @@ load_of_page places x it active t u page e mirrors low few found =
 
 -- so it names that page where the tables then have the unit there still, with the same sessions open
 pub names_page : (places : ℕ) (x : Contents) (it : Layout) (t after : Tables) (u page : ℕ)
-    (e : ChipFault) → Mirrors places (chart_of x) it t → u < places - 4 → page < 15
+    (e : ChipFault) → Mirrors places (chart_of x) it t → u < it.count → page < 15
     → after.active ≡ t.active
     → slice_index after.places.current u ≡ slice_index t.places.current u
-    → load_fault x it (among t.active) u page ≡ Some e → NamesBadPage places x it after e
+    → load_fault x it (among t.active) u page ≡ Some e → NamesBadPage x it after e
 names_page places x it t after u page e mirrors low few alike stays found = record {
   unit = u;
   page = page;
@@ -219,7 +219,7 @@ sound_shows x it active u page none =
 
 -- what is shown by one layout of a chart is shown by the other
 shows_other : {places u page : ℕ} {c : Chart} {it new : Layout} {now : Values}
-    → Laid places c it → Laid places c new → u < places - 4
+    → Laid places c it → Laid places c new → u < it.count
     → Shows c it.committed u (it.units u) page now → Shows c new.committed u (new.units u) page now
 shows_other {places} {u} {page} {c} {it} {new} {now} laid other low shows =
     let one = laid_once places c it new laid other in
@@ -229,7 +229,7 @@ shows_other {places} {u} {page} {c} {it} {new} {now} laid other low shows =
 
 -- and has room by the other where it has by the one
 room_other : {places u : ℕ} {c : Chart} {it new : Layout} (page : ℕ) (now : Values)
-    (active : ℕ → Bool) → Laid places c it → Laid places c new → u < places - 4
+    (active : ℕ → Bool) → Laid places c it → Laid places c new → u < it.count
     → fill_by now (loaded_pending it active u page) ≤ PAGE_LEN
     → fill_by now (loaded_pending new active u page) ≤ PAGE_LEN
 room_other {places} {u} {c} {it} {new} page now active laid other low room =
@@ -238,7 +238,7 @@ room_other {places} {u} {c} {it} {new} page now active laid other low room =
 
 -- after a call that keeps each state, a page that had no fault has none
 pub still_sound : (places : ℕ) (x y : Contents) (it new : Layout) (before after : Memory)
-    (state : State) (u page : ℕ) → u < places - 4 → page < 15
+    (state : State) (u page : ℕ) → u < it.count → page < 15
     → ((s : State) → MemoryFits places (chart_of x) it before s
     → FitsOn places (chart_of x) it s.map (chart_of y) after s)
     → MemoryFits places (chart_of x) it before state → Mirrors places (chart_of y) new after.tables
@@ -252,8 +252,9 @@ still_sound places x y it new before after state u page low few keeps fits mirro
     let on = keeps other (fits_whatever_the_map places (chart_of x) it before.tables before.frames
     before.slots state m fits) in
     let shown = on.shows.pages u page low few shows in
+    let theirs : u < on.layout.count = omega (arith, low, on.shows.count) in
     let room = loaded_pages_fit places (chart_of y) on.layout after.tables after.frames after.slots other
-    u page values on.fits low few shown in
+    u page values on.fits theirs few shown in
     let laid = on.fits.mirrors.laid in
-    no_load_fault y new active u page values (shows_other laid mirrors.laid low shown)
-    (room_other page values active laid mirrors.laid low room)
+    no_load_fault y new active u page values (shows_other laid mirrors.laid theirs shown)
+    (room_other page values active laid mirrors.laid theirs room)

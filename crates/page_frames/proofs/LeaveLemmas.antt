@@ -1,5 +1,5 @@
 -- A page that leaves its frame once its records are written out.
-use Rattle.std.proofs.Common.{◌≡◌, ◌≤◌, ◌+◌, ℕ, [], Some, None, Ok, refl, sym, ◌∙◌, ap, subst, inl, inr, arith}
+use Rattle.std.proofs.Common.{◌≡◌, ◌≤◌, ◌<◌, ◌+◌, ℕ, [], length, Some, None, Ok, refl, sym, ◌∙◌, ap, subst, inl, inr, arith}
 use Rattle.std.specs.Option.{option_map}
 use Rattle.chip_trait.specs.Told.{Told}
 use Rattle.chip_trait.proofs.CountsLemmas.{counts_none}
@@ -56,7 +56,7 @@ gone_upholds u page f old new t ready same there empty is pins = record {
     known = subst (λ parts. KnowsPlaces t.places (tables_of parts)) (sym same) ready.known;
     within = λ v q g found.
         let was = left_there v q g (ap (λ (F : Frames). F v q) (sym is) ∙ found) in
-        ready.within v q g was;
+        subst (λ parts. v < length parts.directory.current) (sym same) (ready.within v q g was);
     rest = rest_stays old.pool new.pool pins ready.rest;
   };
   active = ap (λ parts. parts.active) same;

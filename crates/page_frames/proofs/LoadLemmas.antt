@@ -1,5 +1,5 @@
 -- A page that is loaded into a frame.
-use Rattle.std.proofs.Common.{◌≡◌, ◌<◌, ◌+◌, ◌++◌, ℕ, List, [], Option, Some, None, Result, Ok, Err, refl, sym, ◌∙◌, ap, subst, inl, inr, arith}
+use Rattle.std.proofs.Common.{◌≡◌, ◌<◌, ◌++◌, ℕ, List, [], length, Option, Some, None, Result, Ok, Err, refl, sym, ◌∙◌, ap, subst, inl, inr, arith}
 use Rattle.std.specs.Option.{option_map_or}
 use Rattle.std.proofs.lemmas.List.{append-nil}
 use Rattle.chip_trait.specs.Told.{Told}
@@ -80,14 +80,14 @@ freed_then frames later last u page f none one two =
 
 -- a page that was loaded into a frame that was free
 load_keeps : (t : Tables) (frames : Frames) (u page : ℕ) (view : FrameView) (old new : Told)
-    → u + 4 < old.places → page < 15 → frames u page ≡ None → ReadsAt Anywhere old new
+    → u < length t.places.current → page < 15 → frames u page ≡ None → ReadsAt Anywhere old new
     → OfContents old (λ x. (it : Layout) → Mirrors old.places (chart_of x) it t
     → IsLoaded (chart_of x) it (among t.active) u page view)
     → KeepsState {T = Unit {0}} {E = ChipFault} t frames old (Ok tt) t
     (with_frame_at frames u page (Some (frame_of view []))) new
 load_keeps t frames u page view old new low few none reads loaded =
-    loads_anywhere_keep_states t frames u page (frame_of view []) old new reads
-    (omega (arith, low)) few none refl (λ x told it mirrors.
+    loads_anywhere_keep_states t frames u page (frame_of view []) old new reads low few none refl
+    (λ x told it mirrors.
     loaded_frame (chart_of x) it frames t.active u page view
     (ap (λ (o : Option Frame). option_map_or (λ f. f.log) o []) none) (loaded x told it mirrors))
 
@@ -95,7 +95,7 @@ load_keeps t frames u page view old new low few none reads loaded =
 frames_uphold : (old new : Pages) (later : Frames) (result : Result (Unit {0}) ChipFault)
     (before after : Told) → IsReady before.places old → tables_in new ≡ tables_in old
     → frames_in new ≡ later
-    → ((v q : ℕ) (g : Frame) → later v q ≡ Some g → v + 4 < before.places)
+    → ((v q : ℕ) (g : Frame) → later v q ≡ Some g → v < length old.parts.directory.current)
     → KeepsState (tables_in old) (frames_in old) before result (tables_in old) later after
     → ReadsAt Anywhere before after
     → KeepsPins old.pool new.pool → Accounts PageCause result before after
@@ -109,7 +109,8 @@ frames_uphold old new later result before after ready tables is within keeps rea
       (tables_read Anywhere (tables_in old) result before after reads);
   ready = record {
     known = subst (KnowsPlaces before.places) (sym tables) ready.known;
-    within = λ v q g there. within v q g (ap (λ (F : Frames). F v q) (sym is) ∙ there);
+    within = λ v q g there. subst (λ (t : Tables). v < length t.places.current) (sym tables)
+        (within v q g (ap (λ (F : Frames). F v q) (sym is) ∙ there));
     rest = rest_stays old.pool new.pool pins ready.rest;
   };
   active = ap (λ (t : Tables). t.active) tables;
@@ -121,7 +122,7 @@ frames_uphold old new later result before after ready tables is within keeps rea
 
 -- done
 pub load_upholds : (u page : ℕ) (view : FrameView) (old new : Pages) (before after : Told)
-    → IsReady before.places old → u + 4 < before.places → page < 15
+    → IsReady before.places old → u < length old.parts.directory.current → page < 15
     → frames_in old u page ≡ None → tables_in new ≡ tables_in old
     → frames_in new ≡ with_frame_at (frames_in old) u page (Some (frame_of view []))
     → ReadsAt Anywhere before after
@@ -136,7 +137,7 @@ load_upholds u page view old new before after ready low few none tables is reads
   where
     within : (v q : ℕ) (g : Frame)
         → with_frame_at (frames_in old) u page (Some (frame_of view [])) v q ≡ Some g
-        → v + 4 < before.places
+        → v < length old.parts.directory.current
     within v q g there = elim (cases_page u page v q) [
       | inl here ↦ let same = here.0 in omega (arith, low, same)
       | inr apart ↦ ready.within v q g

@@ -1,5 +1,5 @@
 -- The pages of names, written out one after the other in the order of pages.
-use Rattle.std.proofs.Common.{◌≡◌, ◌<◌, ◌≤◌, ◌+◌, ◌*◌, ◌∷◌, ◌⊎◌, ◌==◌, ◌&&◌, ◌||◌, ℕ, zero, suc, Bool, true, false, List, [], All, Contains, Option, Some, None, Ok, Err, length, get_or, refl, sym, ◌∙◌, ap, subst, inl, inr, arith}
+use Rattle.std.proofs.Common.{◌≡◌, ◌<◌, ◌≤◌, ◌+◌, ◌*◌, ◌∷◌, ◌⊎◌, ◌==◌, ◌&&◌, ◌||◌, ℕ, zero, suc, Bool, true, false, List, [], All, Contains, Option, Some, None, Ok, Err, length, get_or, refl, sym, ◌∙◌, ap, inl, inr, arith}
 use Rattle.std.specs.Prelude.{slice_index_or}
 use Rattle.std.specs.Option.{option_map, option_map_or}
 use Rattle.std.proofs.lemmas.Bool.{cases_eq, eq-eqb, false≢true}
@@ -26,7 +26,7 @@ use Rattle.page_frames.proofs.HomesLemmas.{SpendsHome, WroteAtHome, none_at_home
 use Rattle.page_frames.proofs.ChangedLemmas.{changed_below, SpendsOn, none_below, spends_passed, spends_more, spends_all}
 use Rattle.page_frames.proofs.FrameLemmas.{emptied_out}
 use Rattle.page_frames.proofs.FramedLemmas.{out_framed}
-use Rattle.page_frames.proofs.UpholdLemmas.{upholds_none, upholds_then, upholds_weaker}
+use Rattle.page_frames.proofs.UpholdLemmas.{units_stay, upholds_none, upholds_then, upholds_weaker}
 
 -- of the first n pages in the order, those that are of the names have no records in memory
 abbrev pub AreOutBelow : ℕ → List ℕ → List ℕ → Frames → Type 0
@@ -209,24 +209,22 @@ or_right : (a b : Bool) → b ≡ true → (a || b) ≡ true
 or_right true b two = refl
 or_right false b two = two
 
--- a page that is in a buffer is of the chip's units
+-- a page that is in a buffer is of the tables' units
 pub framed_unit : (most : ℕ) (first now : Pages) (before after : Told) (u page : ℕ)
     → Upholds {T = Unit {0}} most first before (Ok tt) now after → AreOnce now.pool.buffers
-    → IsThere now.pool.buffers u page → u + 4 < after.places
+    → IsThere now.pool.buffers u page → u < length now.parts.directory.current
 framed_unit most first now before after u page did once there =
-    subst (λ (n : ℕ). u + 4 < n) (sym did.accounts.counts.places)
-    (did.ready.within u page (frame_in there.has.buffer)
-    (frame_found now.pool u page there.key once there.has))
+    did.ready.within u page (frame_in there.has.buffer)
+    (frame_found now.pool u page there.key once there.has)
 
--- so it is of one of the tables' units
+-- so it is of those that they had at first
 pub framed_low : (most : ℕ) (first now : Pages) (before after : Told) (u page : ℕ)
     → Upholds {T = Unit {0}} most first before (Ok tt) now after → AreOnce now.pool.buffers
     → IsThere now.pool.buffers u page → IsReady before.places first
     → u < length first.parts.directory.current
 framed_low most first now before after u page did once there ready =
     let low = framed_unit most first now before after u page did once there in
-    let same = did.accounts.counts.places in
-    let units = ready.known.suits.units in omega (arith, low, same, units)
+    omega (arith, low, units_stay before.places first now ready.known did.ready.known)
 
 -- one that has a frame is in a buffer
 framed_there : (p : PoolView) (u page : ℕ) (f : Frame) → AreOnce p.buffers

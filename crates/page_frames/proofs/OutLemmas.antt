@@ -1,5 +1,5 @@
 -- The records of a page, written out from its frame.
-use Rattle.std.proofs.Common.{◌≡◌, ◌≤◌, ◌+◌, ℕ, [], Option, Some, Result, Ok, Err, refl, sym, ◌∙◌, ap, subst}
+use Rattle.std.proofs.Common.{◌≡◌, ◌≤◌, ◌+◌, ℕ, [], Option, Some, Result, Ok, Err, refl, sym, ◌∙◌, ap, subst, arith}
 use Rattle.std.specs.Prelude.{IsSome}
 use Rattle.std.specs.Option.{option_map, option_map_or}
 use Rattle.chip_trait.specs.Told.{Told}
@@ -25,6 +25,7 @@ use Rattle.page_frames.specs.Pages.{tables_in, frames_in, IsReady, Upholds, Page
 use Rattle.page_frames.proofs.FrameLemmas.{emptied_there}
 use Rattle.page_frames.proofs.HeldLemmas.{some_of}
 use Rattle.page_frames.proofs.TableLemmas.{tables_uphold}
+use Rattle.page_frames.proofs.UpholdLemmas.{units_stay}
 
 -- ---- causes
 
@@ -116,7 +117,8 @@ out_done u page payload old new before after ready spelled did pins tells steps 
         within = λ v q f there.
             let was = emptied_there (frames_in old) u page v q f
             (ap (λ (F : Frames). F v q) (sym is) ∙ there) in
-            ready.within v q was.0 was.1;
+            let low = ready.within v q was.0 was.1 in
+            omega (arith, low, units_stay before.places old new ready.known holds.known);
         rest = rest_stays old.pool new.pool pins ready.rest;
       };
       active = holds.active;

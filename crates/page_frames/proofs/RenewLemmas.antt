@@ -1,5 +1,5 @@
 -- A renewal of the status place keeps each state, whatever frames there are.
-use Rattle.std.proofs.Common.{◌≡◌, ◌-◌, ℕ, Bool, get_or, Result, Ok, Err, ap, subst}
+use Rattle.std.proofs.Common.{◌≡◌, ℕ, Bool, get_or, Result, Ok, Err, sym, ap, subst}
 use Rattle.chip_trait.specs.Told.{Told}
 use Rattle.ipl_base.specs.declared.fault.ChipFault.{ChipFault}
 use Rattle.ipl_format.specs.Record.{Record}
@@ -24,12 +24,12 @@ abbrev pub turned_renewed : (places : ℕ) (c y : Chart) (it : Layout) (t after 
     → KeepsTablesOn places c it t y after
 turned_renewed places c y it t after is none active = record {
   layout = is.now;
+  count = is.passed.count;
   mirrors = is.mirrors;
   none_lost = none;
   active = active;
-  alike = passed_logs_are_same_or_carried places (places - 4) t.active t.status.numbers it is.now
-      is.passed;
-  kept = exact_numbers_keep places it is.now is.exact;
+  alike = passed_logs_are_same_or_carried it.count t.active t.status.numbers it is.now is.passed;
+  kept = λ u low. exact_numbers_keep it is.now is.exact u (rw (sym is.passed.count) at low);
   pages = is.pages;
 }
 
@@ -39,11 +39,11 @@ abbrev pub turned_stopped : (places : ℕ) (c y : Chart) (it : Layout) (t after 
     → KeepsTablesOn places c it t y after
 turned_stopped places c y it t after is none active = record {
   layout = is.now;
+  count = is.passed.count;
   mirrors = is.mirrors;
   none_lost = none;
   active = active;
-  alike = passed_logs_are_same_or_carried places is.units t.active t.status.numbers it is.now
-      is.passed;
+  alike = passed_logs_are_same_or_carried is.units t.active t.status.numbers it is.now is.passed;
   kept = λ u low i d within. let r : Record = get_or (records_of (is.now.units u).log) i d in
       ap (λ (f : ℕ → Bool). f r.tid) is.committed;
   pages = is.pages;

@@ -26,6 +26,7 @@ use Rattle.status_renewal.specs.Passes.{RenewsTold, HoldsRenewed, KeepsInSteps, 
 use Rattle.status_renewal.proofs.CauseLemmas.{merge_accounts}
 use Rattle.frame_changes.specs.Views.{frames_of}
 use Rattle.page_frames.proofs.RenewLemmas.{renew_keeps}
+use Rattle.page_frames.proofs.UpholdLemmas.{units_stay}
 use Rattle.page_frames.specs.declared.pages.Pages.{Pages}
 use Rattle.page_frames.specs.Pages.{tables_in, frames_in, IsReady, Upholds, PageCause}
 
@@ -95,7 +96,9 @@ tables_uphold most old new result before after ready same known active keeps tid
   ready = record {
     known = known;
     within = λ u page f there.
-        ready.within u page f (ap (λ (p : PoolView). frames_of p u page) (sym same) ∙ there);
+        let was =
+        ready.within u page f (ap (λ (p : PoolView). frames_of p u page) (sym same) ∙ there) in
+        omega (arith, was, units_stay before.places old new ready.known known);
     rest = subst IsAtRest (sym same) ready.rest;
   };
   active = active;

@@ -1,5 +1,5 @@
 -- Calls over contents that stand for a state tell the fault of a page that didn't read well.
-use Rattle.std.proofs.Common.{◌≡◌, ◌≢◌, ◌<◌, ◌+◌, ◌-◌, ℕ, List, Option, Some, None, slice_index, Result, Ok, Err, IfErr, refl, sym, ◌∙◌, ap, subst, arith}
+use Rattle.std.proofs.Common.{◌≡◌, ◌≢◌, ◌<◌, ℕ, List, length, Option, Some, None, slice_index, Result, Ok, Err, IfErr, refl, sym, ◌∙◌, ap, subst, arith}
 use Rattle.chip_trait.specs.Story.{Contents}
 use Rattle.chip_trait.specs.Told.{Told}
 use Rattle.ipl_base.specs.declared.fault.ChipFault.{ChipFault}
@@ -32,11 +32,11 @@ use Rattle.page_frames.proofs.FaultyLemmas.{first_some, moved_fault, names_page,
 
 -- what is wrong with a unit that is to be merged is what is wrong with a page of it
 unit_names : (places : ℕ) (x : Contents) (it : Layout) (old : Pages) (after : Tables)
-    (slots : Slots) (state : State) (u : ℕ) (e : ChipFault) → u < places - 4
+    (slots : Slots) (state : State) (u : ℕ) (e : ChipFault) → u < it.count
     → MemoryFits places (chart_of x) it (memory_of (tables_in old) (frames_in old) slots) state
     → after.active ≡ (tables_in old).active
     → slice_index after.places.current u ≡ slice_index (tables_in old).places.current u
-    → merge_fault x (tables_in old) (it.units u) u ≡ Some e → NamesBadPage places x it after e
+    → merge_fault x (tables_in old) (it.units u) u ≡ Some e → NamesBadPage x it after e
 unit_names places x it old after slots state u e low fits alike stays is =
     let t = tables_in old in
     let few = merges_are_small places (chart_of x) it t (frames_in old) slots state u fits low in
@@ -46,27 +46,31 @@ unit_names places x it old after slots state u e low fits alike stays is =
     (moved_fault x it (among t.active) u page e found)
 
 pub merge_tells : {T : Type 0} (u : ℕ) (old new : Pages) (result : Result T ChipFault)
-    (told : Told) → u + 4 < told.places → (tables_in new).active ≡ (tables_in old).active
+    (told : Told) → u < length old.parts.directory.current
+    → (tables_in new).active ≡ (tables_in old).active
     → FailsAsMerge told.places (tables_in old) u result told
     → StaysInPlace told.places (tables_in old) u (tables_in new) result told
     → TellsFaults old result told new
 merge_tells u old new (Ok v) told low alike fails stays x there slots it state fits = tt
 merge_tells u old new (Err e) told low alike fails stays x there slots it state fits = λ fine.
-    unit_names told.places x it old (tables_in new) slots state u e (omega (arith, low)) fits alike
+    unit_names told.places x it old (tables_in new) slots state u e
+    (omega (arith, low, fits.mirrors.directory.units)) fits alike
     (stays x there it fits.mirrors fine) (fails x there it fits.mirrors fine)
 
 -- where it fails the tables mirror the same layout
 pub merge_in_place : (places u : ℕ) (t after : Tables) (result : Result (Unit {0}) ChipFault)
-    (old new : Told) → u < places - 4
+    (old new : Told) → u < length t.places.current
     → ChartsThroughout (λ done. Merges places u t after) (StaysMirrored places t after) result old new
     → StaysInPlace places t u after result old
 merge_in_place places u t after (Ok v) old new low tells x told it mirrors = tt
 merge_in_place places u t after (Err e) old new low tells x told it mirrors = λ fine.
     let (y, there, still) = tells (unstopped e fine) x told in
-    (still it mirrors).0.directory.current u low ∙ sym (mirrors.directory.current u low)
+    let below : u < it.count = omega (arith, low, mirrors.directory.units) in
+    (still it mirrors).0.directory.current u below ∙ sym (mirrors.directory.current u below)
 
 pub merged_tells : (u : ℕ) (old new : Pages) (result : Result (Unit {0}) ChipFault)
-    (before after : Told) → u + 4 < before.places → (tables_in new).active ≡ (tables_in old).active
+    (before after : Told) → u < length old.parts.directory.current
+    → (tables_in new).active ≡ (tables_in old).active
     → TellsMergeFault before.places (tables_in old) u result before
     → ChartsThroughout (λ done. Merges before.places u (tables_in old) (tables_in new))
     (StaysMirrored before.places (tables_in old) (tables_in new)) result before after
@@ -74,8 +78,7 @@ pub merged_tells : (u : ℕ) (old new : Pages) (result : Result (Unit {0}) ChipF
 merged_tells u old new result before after low alike fault tells =
     merge_tells u old new result before low alike
     (merge_fails_so before.places (tables_in old) u result before fault)
-    (merge_in_place before.places u (tables_in old) (tables_in new) result before after
-    (omega (arith, low)) tells)
+    (merge_in_place before.places u (tables_in old) (tables_in new) result before after low tells)
 
 pub renew_tells : (old new : Pages) (result : Result (Unit {0}) ChipFault) (told : Told)
     → (tables_in new).active ≡ (tables_in old).active
@@ -105,12 +108,13 @@ load_exact t u page result told tells x there it mirrors =
     }))
 
 pub loaded_tells : {T : Type 0} (u page : ℕ) (old new : Pages) (result : Result T ChipFault)
-    (told : Told) → u + 4 < told.places → page < 15 → tables_in new ≡ tables_in old
+    (told : Told) → u < length old.parts.directory.current → page < 15
+    → tables_in new ≡ tables_in old
     → FailsAsPage (tables_in old) u page result told → TellsFaults old result told new
 loaded_tells u page old new (Ok v) told low few same fails x there slots it state fits = tt
 loaded_tells u page old new (Err e) told low few same fails x there slots it state fits =
     λ fine. names_page told.places x it (tables_in old) (tables_in new) u page e fits.mirrors
-    (omega (arith, low)) few (ap (λ (t : Tables). t.active) same)
+    (omega (arith, low, fits.mirrors.directory.units)) few (ap (λ (t : Tables). t.active) same)
     (ap (λ (t : Tables). slice_index t.places.current u) same)
     (fails x there it fits.mirrors (unread e fine))
 
@@ -138,18 +142,17 @@ tells_then first between last (Err e) old mid sized alike keeps tells x there sl
     let after = memory_of (tables_in between) (frames_in between) slots in
     let (y, now, had) = (keeps slots).fits old.places refl tt x there in
     let on = had it state fits in
-    let is = subst (λ (n : ℕ). NamesBadPage n y on.layout (tables_in last) e) sized
-    (tells y now slots on.layout state
-    (subst (λ (n : ℕ). MemoryFits n (chart_of y) on.layout after state) (sym sized) on.fits)
-    fine) in
+    let is = tells y now slots on.layout state
+    (subst (λ (n : ℕ). MemoryFits n (chart_of y) on.layout after state) (sym sized) on.fits) fine in
+    let low : is.unit < it.count = omega (arith, is.low, on.shows.count) in
     record {
       unit = is.unit;
       page = is.page;
-      low = is.low;
+      low = low;
       few = is.few;
       bad = λ none. is.bad (subst (λ (l : List ℕ). load_fault y on.layout (among l) is.unit is.page ≡ None)
           (sym alike) (still_sound old.places x y it on.layout memory after state is.unit is.page
-          is.low is.few (λ s held. had it s held) fits on.fits.mirrors
+          low is.few (λ s held. had it s held) fits on.fits.mirrors
           (subst (λ (l : List ℕ). load_fault x it (among l) is.unit is.page ≡ None) alike none)));
       names = is.names;
     }

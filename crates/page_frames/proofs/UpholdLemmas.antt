@@ -1,14 +1,24 @@
 -- Calls that keep each state: nothing done, one after another, and causes.
-use Rattle.std.proofs.Common.{◌≤◌, ◌+◌, ℕ, Result, Ok, refl, ◌∙◌, subst, arith}
+use Rattle.std.proofs.Common.{◌≡◌, ◌≤◌, ◌+◌, ℕ, length, Result, Ok, refl, ◌∙◌, subst, arith}
 use Rattle.chip_trait.specs.Told.{Told}
 use Rattle.chip_trait.proofs.CountsLemmas.{counts_none}
+use Rattle.ipl_base.proofs.UnitLemmas.{one_count}
 use Rattle.ipl_base.specs.declared.fault.ChipFault.{ChipFault}
 use Rattle.buffer_pool.proofs.HoldingLemmas.{nothing_keeps, both_keep}
+use Rattle.merge_rules.specs.Known.{KnowsPlaces}
 use Rattle.status_renewal.proofs.CauseLemmas.{accounts_then}
 use Rattle.steps.proofs.TablesLemmas.{tables_none, tables_then}
 use Rattle.store_steps.proofs.KeeperLemmas.{nothing_keeps_states, keepers_are_joined}
 use Rattle.page_frames.specs.declared.pages.Pages.{Pages}
 use Rattle.page_frames.specs.Pages.{tables_in, frames_in, IsReady, Upholds}
+
+-- tables that know the same chip are of as many units
+pub units_stay : (places : ℕ) (old new : Pages) → KnowsPlaces places (tables_in old)
+    → KnowsPlaces places (tables_in new)
+    → length new.parts.directory.current ≡ length old.parts.directory.current
+units_stay places old new was known =
+    one_count places (length new.parts.directory.current) (length old.parts.directory.current)
+    known.suits.units was.suits.units
 
 pub upholds_none : (most : ℕ) (pages : Pages) (t : Told) → IsReady t.places pages
     → Upholds most pages t (Ok (tt {0})) pages t

@@ -1,6 +1,6 @@
 -- Which fault calls on pages tell, where a page doesn't read well.
-use Rattle.std.specs.Prelude.{ℕ, ◌≡◌, ◌≢◌, ◌⊎◌, ◌<◌, ◌-◌, slice_index, Some, None, Result, IfErr}
-use Rattle.ipl_base.specs.declared.limits.TheConstants.{RESERVED_PLACES, PAGES, PAGE_SECTORS}
+use Rattle.std.specs.Prelude.{ℕ, ◌≡◌, ◌≢◌, ◌⊎◌, ◌<◌, slice_index, Some, None, Result, IfErr}
+use Rattle.ipl_base.specs.declared.limits.TheConstants.{PAGES, PAGE_SECTORS}
 use Rattle.chip_trait.specs.Story.{Contents}
 use Rattle.chip_trait.specs.Told.{Told}
 use Rattle.ipl_base.specs.Calls.{IsFailedCall}
@@ -45,18 +45,17 @@ FailsAsPage t u page result told = OfContents told (λ x. (it : Layout)
 
 -- a page that didn't read well or had no room for its values, with what is pending of the sessions
 -- that are open then; and the fault is of it, at the place where the tables then have its unit
-pub record NamesBadPage (places : ℕ) (x : Contents) (it : Layout) (after : Tables)
-    (e : ChipFault) : Type 0 where
+pub record NamesBadPage (x : Contents) (it : Layout) (after : Tables) (e : ChipFault) : Type 0 where
   pub unit : ℕ
   pub page : ℕ
-  pub low : unit < places - RESERVED_PLACES
+  pub low : unit < it.count
   pub few : page < PAGES
   pub bad : load_fault x it (among after.active) unit page ≢ None
   pub names : IsOfPage (slice_index after.places.current unit) page e
 
 -- the fault is of such a page, unless a call of the chip failed
-abbrev pub FailsByPage : ℕ → Contents → Layout → Tables → ChipFault → Type 0
-FailsByPage places x it after e = ¬ IsFailedCall e → NamesBadPage places x it after e
+abbrev pub FailsByPage : Contents → Layout → Tables → ChipFault → Type 0
+FailsByPage x it after e = ¬ IsFailedCall e → NamesBadPage x it after e
 
 -- Where the chip tells what it holds, and that with the tables, the frames and whatever sessions
 -- stands for a state, the call fails by a page that didn't read well or had no room for its values with
@@ -65,4 +64,4 @@ abbrev pub TellsFaults : {T : Type 0} → Pages → Result T ChipFault → Told 
 TellsFaults old result told new = OfContents told (λ x. (slots : Slots) (it : Layout)
     (state : State) → MemoryFits told.places (chart_of x) it
     (memory_of (tables_in old) (frames_in old) slots) state
-    → IfErr result (FailsByPage told.places x it (tables_in new)))
+    → IfErr result (FailsByPage x it (tables_in new)))

@@ -1,6 +1,5 @@
 -- Pages in frames over the tables of a chip, as contracts see them, and what their calls leave.
-use Rattle.std.specs.Prelude.{ℕ, ◌≡◌, ◌⊎◌, ◌≤◌, ◌<◌, ◌+◌, [], IsSome, Some, Result, Ok, Err, OnOk}
-use Rattle.ipl_base.specs.declared.limits.TheConstants.{RESERVED_PLACES}
+use Rattle.std.specs.Prelude.{ℕ, ◌≡◌, ◌⊎◌, ◌≤◌, ◌<◌, ◌+◌, [], length, IsSome, Some, Result, Ok, Err, OnOk}
 use Rattle.std.specs.Option.{option_map}
 use Rattle.chip_trait.specs.Told.{Told}
 use Rattle.ipl_base.specs.declared.fault.ChipFault.{ChipFault}
@@ -70,11 +69,12 @@ KeepsValues u page old new = (f : Frame) → frames_in old u page ≡ Some f
 
 -- ---- what always holds between calls
 
--- The tables know each place, pages in frames are of the chip's units, and fewer pages are held than
+-- The tables know each place, pages in frames are of their units, and fewer pages are held than
 -- there are frames.
 pub record IsReady (places : ℕ) (pages : Pages) : Type 0 where
   pub known : KnowsPlaces places (tables_in pages)
-  pub within : (u page : ℕ) (f : Frame) → frames_in pages u page ≡ Some f → u + RESERVED_PLACES < places
+  pub within : (u page : ℕ) (f : Frame) → frames_in pages u page ≡ Some f
+      → u < length pages.parts.directory.current
   pub rest : IsAtRest pages.pool
 
 -- ---- causes

@@ -1,5 +1,5 @@
 //! A page is brought into a frame.
-ghost use Rattle.std.specs.Prelude.{◌≡◌, ◌<◌, ◌≤◌, ◌+◌, ◌^◌, ◌⊎◌, [], ℕ, None, IsOk, OnOk};
+ghost use Rattle.std.specs.Prelude.{◌≡◌, ◌<◌, ◌≤◌, ◌+◌, ◌^◌, ◌⊎◌, [], ℕ, length, None, IsOk, OnOk};
 ghost use Rattle.unit_io.specs.Accounts.{Accounts};
 ghost use Rattle.unit_io.specs.Costs.{Costs, Spends};
 ghost use Rattle.unit_io.specs.ReadsAt.{Anywhere, ReadsAt};
@@ -90,7 +90,7 @@ impl Pages {
     /// Loads a page into its frame, where it has no records in memory.
     fn load_frame<C: Chip>(&mut self, chip: &mut C, unit: u32, page: u32) -> Result<(), ChipFault>
         requires suits { Suits (C.told chip.old).places (tables_in self.old) }
-        requires unit { unit + 4 < (C.told chip.old).places }
+        requires unit { unit < length self.old.parts.directory.current }
         requires page { page < 15 }
         requires unheld { IsUnheld self.old.pool unit page }
         requires empty { logs_of (frames_in self.old) unit page ≡ [] }
@@ -127,7 +127,7 @@ impl Pages {
     /// Loads a page into the frame that it was given. Where it fails, that is free again.
     fn fill<C: Chip>(&mut self, chip: &mut C, unit: u32, page: u32) -> Result<(), ChipFault>
         requires suits { Suits (C.told chip.old).places (tables_in self.old) }
-        requires unit { unit + 4 < (C.told chip.old).places }
+        requires unit { unit < length self.old.parts.directory.current }
         requires page { page < 15 }
         requires unheld { IsUnheld self.old.pool unit page }
         requires empty { logs_of (frames_in self.old) unit page ≡ [] }
@@ -151,7 +151,7 @@ impl Pages {
     /// Loads a page that is in no frame, for which another page may have to leave its frame.
     fn fetch<C: Chip>(&mut self, chip: &mut C, unit: u32, page: u32) -> Result<(), ChipFault>
         requires ready { IsReady (C.told chip.old).places self.old }
-        requires unit { unit + 4 < (C.told chip.old).places }
+        requires unit { unit < length self.old.parts.directory.current }
         requires page { page < 15 }
         requires absent { frames_in self.old unit page ≡ None }
         requires left { self.old.parts.counter + 14 < 2 ^ 64 }
@@ -180,7 +180,7 @@ impl Pages {
     /// It is the page used last then, and has no records in memory where it was in no frame.
     pub fn bring<C: Chip>(&mut self, chip: &mut C, unit: u32, page: u32) -> Result<(), ChipFault>
         requires ready { IsReady (C.told chip.old).places self.old }
-        requires unit { unit + 4 < (C.told chip.old).places }
+        requires unit { unit < length self.old.parts.directory.current }
         requires page { page < 15 }
         requires left { self.old.parts.counter + 14 < 2 ^ 64 }
         ensures upholds { Upholds 14 self.old (C.told chip.old) result self.new (C.told chip.new) }
@@ -213,7 +213,7 @@ impl Pages {
         logged: &Record,
     ) -> Result<(), ChipFault>
         requires ready { IsReady (C.told chip.old).places self.old }
-        requires unit { unit + 4 < (C.told chip.old).places }
+        requires unit { unit < length self.old.parts.directory.current }
         requires page { logged.now.page < 15 }
         requires left { self.old.parts.counter + 14 < 2 ^ 64 }
         ensures upholds { Upholds 14 self.old (C.told chip.old) result self.new (C.told chip.new) }

@@ -1,5 +1,5 @@
 //! The frames and the tables of a store.
-ghost use Rattle.std.specs.Prelude.{◌≡◌, ◌≤◌, ◌+◌, [], length, IfOk};
+ghost use Rattle.std.specs.Prelude.{◌≡◌, ◌≤◌, [], length, IfOk};
 ghost use Rattle.buffer_pool.specs.Pools.{PoolView};
 
 use buffer_pool::Pool;
@@ -22,9 +22,10 @@ impl Pages {
     /// No page in any of so many frames, at most 64, and empty tables for a chip of this geometry.
     pub fn new(alloc: Global, geometry: Geometry, frames: u32) -> Result<Pages, OutOfMemory>
         requires { frames ≤ 64 }
-        ensures directory { IfOk result (λ pages. length pages.parts.directory.in_use ≡ geometry) }
-        ensures overflow { IfOk result (λ pages.
-            length pages.parts.overflow.spots + 4 ≡ geometry) }
+        ensures directory { IfOk result (λ pages. length pages.parts.directory.in_use
+            ≡ geometry.places) }
+        ensures overflow { IfOk result (λ pages. length pages.parts.overflow.spots
+            ≡ geometry.units) }
         ensures active { IfOk result (λ pages. pages.parts.active ≡ []) }
         ensures empty { IfOk result (λ pages. pages.pool.buffers.slots ≡ []) }
         ensures limit { IfOk result (λ pages. pages.pool.limit ≡ frames) }

@@ -1,6 +1,6 @@
 //! Work on the tables that leaves the frames as they are: a clean sector for the next commit, and a
 //! merge.
-ghost use Rattle.std.specs.Prelude.{◌≡◌, ◌<◌, ◌≤◌, ◌+◌, ◌-◌, ◌^◌, slice_index, is_ok, OnOk};
+ghost use Rattle.std.specs.Prelude.{◌≡◌, ◌<◌, ◌≤◌, ◌+◌, ◌^◌, length, slice_index, is_ok, OnOk};
 ghost use Rattle.ipl_base.specs.declared.limits.TheConstants.{CARRIED_SECTORS};
 ghost use Rattle.unit_io.specs.Costs.{Spends};
 ghost use Rattle.txn_status.specs.Status.{room_of};
@@ -36,7 +36,7 @@ impl Pages {
         ensures framed { KeepsFramed self.old self.new }
         ensures idle { 0 < room_of self.old.parts.status
             → (self.new ≡ self.old) × (C.told chip.new ≡ C.told chip.old) }
-        ensures costs { Spends (ErasesAtMost ((C.told chip.old).places - 3))
+        ensures costs { Spends (ErasesAtMost (length self.old.parts.directory.current + 1))
             (C.told chip.old) (C.told chip.new) }
     {
         if self.parts.status.room() > 0 {
@@ -48,7 +48,7 @@ impl Pages {
     /// Merges a unit, whatever is carried.
     pub fn merge<C: Chip>(&mut self, chip: &mut C, unit: u32) -> Result<(), ChipFault>
         requires ready { IsReady (C.told chip.old).places self.old }
-        requires unit { unit + 4 < (C.told chip.old).places }
+        requires unit { unit < length self.old.parts.directory.current }
         requires left { self.old.parts.counter + 13 < 2 ^ 64 }
         ensures upholds { Upholds 13 self.old (C.told chip.old) result self.new (C.told chip.new) }
         ensures complete { Completes self.old result (C.told chip.old) }

@@ -1,5 +1,5 @@
 //! The records of a page, written out from its frame.
-ghost use Rattle.std.specs.Prelude.{◌≡◌, ◌<◌, ◌≤◌, ◌+◌, ◌^◌};
+ghost use Rattle.std.specs.Prelude.{◌≡◌, ◌<◌, ◌≤◌, ◌+◌, ◌^◌, length};
 ghost use Rattle.selective_merge.specs.Merging.{FailsAsMerge};
 ghost use Rattle.buffer_pool.specs.Uses.{used_of};
 ghost use Rattle.page_frames.specs.Asks.{AsksToWriteOut};
@@ -25,7 +25,7 @@ impl Pages {
         page: u32,
     ) -> Result<(), ChipFault>
         requires ready { IsReady (C.told chip.old).places self.old }
-        requires unit { unit + 4 < (C.told chip.old).places }
+        requires unit { unit < length self.old.parts.directory.current }
         requires page { page < 15 }
         requires left { self.old.parts.counter + 14 < 2 ^ 64 }
         ensures upholds { Upholds 14 self.old (C.told chip.old) result self.new (C.told chip.new) }

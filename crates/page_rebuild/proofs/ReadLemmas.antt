@@ -100,7 +100,7 @@ module _ {places u : ℕ} {c : Chart} {it : Layout} {t : Tables} {directory : Pl
     {overflow : OverflowLists} {status : Status}
     (are : AreTables places c it t directory overflow status)
     (low : u < length directory.current) where
-  pub within : u < places - 4
+  pub within : u < it.count
   within =
       omega (
         arith,

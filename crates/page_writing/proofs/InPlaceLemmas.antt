@@ -1,5 +1,5 @@
 -- A unit that is where it was, though its records weren't written out.
-use Rattle.std.proofs.Common.{◌≡◌, ◌≢◌, ◌<◌, ◌-◌, ℕ, Some, sym, ◌∙◌, subst}
+use Rattle.std.proofs.Common.{◌≡◌, ◌≢◌, ◌<◌, ℕ, length, Some, sym, ◌∙◌, subst}
 use Rattle.chip_trait.specs.Story.{Contents}
 use Rattle.chip_trait.specs.Told.{Told}
 use Rattle.ipl_base.specs.Calls.{IsFailedCall}
@@ -21,10 +21,11 @@ module _ (t : Tables) (u : ℕ) (after : Tables) where
   in_place_stopped e is = λ held. absurd (held (subst IsFailedCall (sym is) tt))
 
   -- no room was made
-  pub unplaced_stays : (places : ℕ) (old new : Told) (e : ChipFault) → u < places - 4
+  pub unplaced_stays : (places : ℕ) (old new : Told) (e : ChipFault) → u < length t.places.current
       → (e ≢ Stopped → Charts (StaysMirrored places t after) old new) → (x : Contents)
       → old.contents ≡ Some x → (it : Layout) → Mirrors places (chart_of x) it t
       → IsInPlace t u after e
   unplaced_stays places old new e low stays x told it mirrors = λ held.
       let (y, there, still) = stays (λ is. held (subst IsFailedCall (sym is) tt)) x told in
-      (still it mirrors).0.directory.current u low ∙ sym (mirrors.directory.current u low)
+      let unit = subst (λ (n : ℕ). u < n) mirrors.directory.units low in
+      (still it mirrors).0.directory.current u unit ∙ sym (mirrors.directory.current u unit)

@@ -85,7 +85,9 @@ out_fits places c y it t after frames slots state u page f payload fits there ou
           u page f logged.entry mid there logged.records_are logged.mirrors logged.none_lost
           logged.active logged.pages;
       shows = record {
-        pages = λ v q low few shows. logged.pages v q (page_in state.map v q) low few
+        count = turned.count;
+        pages = λ v q low few shows.
+            logged.pages v q (page_in state.map v q) (rw (← turned.count) at low) few
             (turned.pages v q (page_in state.map v q) low few shows);
         nowhere_else = λ name high none. none;
       };

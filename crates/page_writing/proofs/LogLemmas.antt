@@ -1,5 +1,5 @@
 -- A log sector, written at a spot of its unit.
-use Rattle.std.proofs.Common.{◌≡◌, ◌<◌, ◌+◌, ◌-◌, ℕ, List, slice_index, Ok, Err, Result, IfErr, OnOk, inl, inr, refl, sym, ◌∙◌, ap, subst, arith}
+use Rattle.std.proofs.Common.{◌≡◌, ◌<◌, ◌+◌, ℕ, List, length, slice_index, Ok, Err, Result, IfErr, OnOk, inl, inr, refl, sym, ◌∙◌, ap, subst, arith}
 use Rattle.std.specs.List.{Contains}
 use Rattle.std.proofs.lemmas.List.Elements.{All-contains}
 use Rattle.chip_trait.specs.Chart.{with_sector}
@@ -53,7 +53,7 @@ log_of u generation serial g s payload head version is of_generation of_serial =
 }
 
 module _ (places : ℕ) (c : Chart) (it : Layout) (t : Tables) (u : ℕ) (at : Spot)
-    (payload : Versioned) (records : List Record) (sector : Sector) (low : u < places - 4)
+    (payload : Versioned) (records : List Record) (sector : Sector) (low : u < length t.places.current)
     (asked : IsToLog places c it t payload records)
     (is : IsLogOf u (slice_index t.places.generations u) t.next payload sector) where
   abbrev p : ℕ
@@ -65,6 +65,10 @@ module _ (places : ℕ) (c : Chart) (it : Layout) (t : Tables) (u : ℕ) (at : S
   abbrev mirrors : Mirrors places c it t
   mirrors = asked.mirrors
 
+  -- the unit is one of those that are laid out
+  unit : u < it.count
+  unit = subst (λ (n : ℕ). u < n) mirrors.directory.units low
+
   here : SpellsLog sector.version sector.payload records
   here =
       subst (λ (l : List ℕ). SpellsLog sector.version l records) (sym is.payload_is)
@@ -75,7 +79,7 @@ module _ (places : ℕ) (c : Chart) (it : Layout) (t : Tables) (u : ℕ) (at : S
   fresh = record {
     kind = is.kind;
     of_unit = is.of_unit;
-    of_generation = is.of_generation ∙ mirrors.directory.generation u low;
+    of_generation = is.of_generation ∙ mirrors.directory.generation u unit;
     new = let serial = is.serial_is in omega (arith, serial);
     spelled = here;
     active = asked.payload_of.active;
@@ -83,16 +87,16 @@ module _ (places : ℕ) (c : Chart) (it : Layout) (t : Tables) (u : ℕ) (at : S
 
   may : IsSpotFor t u p s → MayLog places c it u p s sector records
   may (inl home) = rw (home.place, home.sector)
-      (log_sectors_may_go_home places c it t u sector records mirrors low home.left fresh)
+      (log_sectors_may_go_home places c it t u sector records mirrors unit home.left fresh)
   may (inr over) =
-      log_sectors_may_go_elsewhere places c it t u p s sector records mirrors low over.first
+      log_sectors_may_go_elsewhere places c it t u p s sector records mirrors unit over.first
       over.within.0 over.within.1 over.few fresh
 
   -- ---- the counter is above all that the sector mentions
 
   generation_low : slice_index t.places.generations u < t.next
   generation_low =
-      let unit = mirrors.laid.each u low in
+      let there = mirrors.laid.each u unit in
       let head = (it.units u).head in
       let below = mirrors.numbers.above head.generation (
         (it.units u).home,
@@ -100,16 +104,16 @@ module _ (places : ℕ) (c : Chart) (it : Layout) (t : Tables) (u : ℕ) (at : S
         head,
         inl (
           refl,
-          unit.chosen.within,
-          unit.chosen.here,
+          there.chosen.within,
+          there.chosen.here,
           (
-            omega (arith, unit.chosen.fits.0),
-            omega (arith, unit.chosen.fits.0),
+            omega (arith, there.chosen.fits.0),
+            omega (arith, there.chosen.fits.0),
           ),
         ),
         inl refl,
       ) in
-      let same = mirrors.directory.generation u low in omega (arith, below, same)
+      let same = mirrors.directory.generation u unit in omega (arith, below, same)
 
   mentions : MentionsBelow (t.next + 1) sector
   mentions n (inl same) = let e = is.of_generation in omega (arith, same, e, generation_low)
@@ -136,16 +140,16 @@ module _ (places : ℕ) (c : Chart) (it : Layout) (t : Tables) (u : ℕ) (at : S
   follows : (after : Tables) → IsAfterLog t after u p s (mask_by payload) (t.next + 1)
       → Mirrors places (with_sector c p s sector) (with_log it u entry) after
   follows after (inl (home, then_is)) = rw (then_is, mask_is, home.place, home.sector)
-      (tables_follow_home_logs places c it t u (t.next + 1) sector records mirrors low home.left
+      (tables_follow_home_logs places c it t u (t.next + 1) sector records mirrors unit home.left
       fresh (omega arith) mentions)
   follows after (inr (over, then_is)) = rw (then_is, mask_is)
-      (tables_follow_overflow_logs places c it t u p s (t.next + 1) sector records mirrors low
+      (tables_follow_overflow_logs places c it t u p s (t.next + 1) sector records mirrors unit
       over.first over.within.0 over.within.1 over.few fresh (omega arith) mentions)
 
   pub shrinks : (after : Tables) → IsAfterLog t after u p s (mask_by payload) (t.next + 1)
       → CountedShrink t after p s
   shrinks after (inl (home, then_is)) = rw (then_is, home.place, home.sector)
-      ((counted_follow places c it t mirrors).0 u (mask_by payload) (t.next + 1) low)
+      ((counted_follow places c it t mirrors).0 u (mask_by payload) (t.next + 1) unit)
   shrinks after (inr (over, then_is)) = rw then_is
       ((counted_follow places c it t mirrors).1 u p s (mask_by payload) (t.next + 1) over.first)
 
@@ -182,7 +186,7 @@ JoinsLog places p s sector old result new =
     → KeepsMap places m (Programs p (IsSpot s)) (λ done. Gains p s sector) h old result new
 
 module _ (places u : ℕ) (at : Spot) (payload : Versioned) (t after : Tables) (sector : Sector)
-    (old new : Told) (low : u < places - 4) (is : IsLogOf u (slice_index t.places.generations u) t.next payload sector)
+    (old new : Told) (low : u < length t.places.current) (is : IsLogOf u (slice_index t.places.generations u) t.next payload sector)
   where
     pub log_told : IsAfterLog t after u at.place at.sector (mask_by payload) (t.next + 1)
         → NoneIsLost places after
@@ -208,8 +212,7 @@ module _ (places u : ℕ) (at : Spot) (payload : Versioned) (t after : Tables) (
         → IfErr result (λ fault. IsStopped fault old new)
         → WritesLogInSteps places u at payload t after old result new
     log_steps (Ok v) spot tables joins stopped m it records h steady rests agrees asked =
-        let counted = spot_counted t u Spot_p Spot_s
-        (omega (arith, low, agrees.mirrors.directory.units)) spot in
+        let counted = spot_counted t u Spot_p Spot_s low spot in
         let first = agrees.tidy Spot_p Spot_s counted in
         writes_are_steps (Unit {0}) (EachStands places m) (Programs Spot_p (IsSpot Spot_s))
         (RestsWith places m (λ done. Gains Spot_p Spot_s sector) h) (λ done k. StoryRests places m k)
@@ -229,8 +232,7 @@ module _ (places u : ℕ) (at : Spot) (payload : Versioned) (t after : Tables) (
         programs.others base q n (λ same is_s. apart same is_s) (clean q n was))
         (λ done a programs ends. ends.0)
     log_steps (Err e) spot tables joins stopped m it records h steady rests agrees asked =
-        let counted = spot_counted t u Spot_p Spot_s
-        (omega (arith, low, agrees.mirrors.directory.units)) spot in
+        let counted = spot_counted t u Spot_p Spot_s low spot in
         let first = agrees.tidy Spot_p Spot_s counted in
         failed_writes_are_steps (Unit {0}) (Unit {0}) (EachStands places m)
         (Programs Spot_p (IsSpot Spot_s))

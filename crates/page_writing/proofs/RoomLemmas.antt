@@ -32,6 +32,7 @@ abbrev pub turned_same : (places : ℕ) (c y : Chart) (it : Layout) (t after : T
     → after.active ≡ t.active → KeepsTablesOn places c it t y after
 turned_same places c y it t after mirrors keeps none active = record {
   layout = it;
+  count = refl;
   mirrors = mirrors;
   none_lost = none;
   active = active;
@@ -46,6 +47,7 @@ abbrev pub turned_merged : (places : ℕ) (c y : Chart) (it : Layout) (t : Table
     → KeepsTablesOn places c it t y after
 turned_merged places c y it t u after is none active = record {
   layout = merged_layout t it u is.place is.head is.pieces is.serial;
+  count = refl;
   mirrors = is.mirrors;
   none_lost = none;
   active = active;

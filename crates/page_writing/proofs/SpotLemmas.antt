@@ -1,8 +1,9 @@
 -- Spots for log sectors, and the tables once one is written there.
-use Rattle.std.proofs.Common.{◌≡◌, ◌<◌, ◌+◌, ℕ, List, [], ◌∷◌, ◌++◌, length, inl, inr, refl, sym, ◌∙◌, ap, subst, arith}
+use Rattle.std.proofs.Common.{◌≡◌, ◌<◌, ℕ, List, [], ◌∷◌, ◌++◌, length, inl, inr, refl, sym, ◌∙◌, ap, subst, arith}
 use Rattle.std.specs.List.{AllPairs, Contains}
 use Rattle.std.proofs.lemmas.List.{length-set, length-map}
 use Rattle.std.proofs.lemmas.List.Elements.{All-contains}
+use Rattle.ipl_base.specs.Places.{places_for}
 use Rattle.ipl_meaning.specs.Mirrors.{AreApart}
 use Rattle.ipl_meaning.specs.Tables.{Tables, IsCountedClean, overflow_places, spots_of, with_written, with_mask, first_log}
 use Rattle.ipl_meaning.specs.TableSteps.{after_overflow_log, with_next, with_next_spot}
@@ -25,27 +26,27 @@ spot_counted t u p s low (inl home) =
 spot_counted t u p s low (inr over) = (over.within.1, inr (inl (s, over.first, omega arith)))
 
 -- it is a sector of the chip
-pub spot_within : (places : ℕ) (t : Tables) (u p s : ℕ) → Suits places t → u + 4 < places
+pub spot_within : (places : ℕ) (t : Tables) (u p s : ℕ) → Suits places t → u < length t.places.current
     → IsSoundDirectory t.places → IsSoundOverflow t.overflow → IsSpotFor t u p s
     → (p < places) × (s < 256)
 spot_within places t u p s suits low directory overflow (inl home) =
-    let within = directory.within u (omega (arith, low, suits.units)) in (
+    let within = directory.within u low in (
       omega (arith, within, home.place, suits.all),
       omega (arith, home.left, home.sector),
     )
 spot_within places t u p s suits low directory overflow (inr over) =
-    let within = All-contains (IsPlaceOf (length t.overflow.spots + 4)) t.overflow.in_use (p, s)
+    let within = All-contains (IsPlaceOf (places_for (length t.overflow.spots))) t.overflow.in_use (p, s)
     overflow.placed over.first in
-    (omega (arith, within, suits.overflow), over.within.1)
+    (omega (arith, within, suits.overflow, suits.units), over.within.1)
 
 -- one that isn't at home
 pub elsewhere_within : (t : Tables) (u p s : ℕ) → IsSpotFor t u p s → ¬ IsHomeSpot t u p s
     → IsSoundOverflow t.overflow
-    → (length (spots_of t u) < 16) × (p < length t.overflow.spots + 4) × (s < 256)
+    → (length (spots_of t u) < 16) × (p < places_for (length t.overflow.spots)) × (s < 256)
 elsewhere_within t u p s (inl home) other overflow = absurd (other home)
 elsewhere_within t u p s (inr over) other overflow = (
   over.few,
-  All-contains (IsPlaceOf (length t.overflow.spots + 4)) t.overflow.in_use (p, s) overflow.placed
+  All-contains (IsPlaceOf (places_for (length t.overflow.spots))) t.overflow.in_use (p, s) overflow.placed
       over.first,
   over.within.1,
 )

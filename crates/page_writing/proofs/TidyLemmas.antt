@@ -1,5 +1,5 @@
 -- What a log sector adds by the tables alone, whatever the chip tells.
-use Rattle.std.proofs.Common.{◌≡◌, ◌<◌, ◌+◌, ℕ, true, false, length, Result, Err, inl, inr, sym, subst, arith}
+use Rattle.std.proofs.Common.{◌≡◌, ◌<◌, ℕ, true, false, length, Result, Err, inl, inr, sym, subst, arith}
 use Rattle.chip_trait.specs.Told.{Told, Rose}
 use Rattle.ipl_base.specs.declared.fault.ChipFault.{ChipFault}
 use Rattle.ipl_meaning.specs.Tables.{Tables, IsCountedClean}
@@ -15,7 +15,7 @@ use Rattle.page_writing.specs.Writing.{IsAfterLog}
 use Rattle.page_writing.proofs.SpotLemmas.{spot_counted, spot_of_log}
 
 module _ (places : ℕ) (t after : Tables) (u p s mask next : ℕ) (known : KnowsPlaces places t)
-    (low : u + 4 < places) where
+    (low : u < length t.places.current) where
   -- the sector was counted as clean, and isn't then
   log_shrinks : length t.places.written ≡ length t.places.current → IsAfterLog t after u p s mask next
       → CountedShrink t after p s
@@ -31,7 +31,7 @@ module _ (places : ℕ) (t after : Tables) (u p s mask next : ℕ) (known : Know
   logs_tidily T result old new logs is =
       tables_programmed t after p (IsSpot s) true result old new
       (λ n at. subst (IsCountedClean t p) (sym at)
-      (spot_counted t u p s (omega (arith, low, known.suits.units))
+      (spot_counted t u p s low
       (spot_of_log t after u p s mask next is)))
       (λ settled q n counted. log_shrinks logs is q n counted)
 
@@ -42,5 +42,5 @@ module _ (places : ℕ) (t after : Tables) (u p s mask next : ℕ) (known : Know
   fails_tidily T e old new spot rose =
       tables_programmed {T = T} t (with_next t next) p (IsSpot s) false (Err e) old new
       (λ n at. subst (IsCountedClean t p) (sym at)
-      (spot_counted t u p s (omega (arith, low, known.suits.units)) spot))
+      (spot_counted t u p s low spot))
       (λ settled q n counted. absurd (omega (arith, settled, rose)))

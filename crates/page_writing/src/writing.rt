@@ -47,7 +47,7 @@ fn is_home(parts: &Parts, unit: u32, spot: Spot) -> bool
 /// Counts a spot as written that was one for a log sector of the unit, which names these pages.
 fn use_spot(parts: &mut Parts, unit: u32, spot: Spot, mask: u16, places: u32)
     requires known { KnowsPlaces places (tables_of parts.old) }
-    requires unit { unit + 4 < places }
+    requires unit { unit < length parts.old.directory.current }
     requires spot { IsSpotFor (tables_of parts.old) unit spot.place spot.sector }
     ensures { IsAfterLog (tables_of parts.old) (tables_of parts.new) unit spot.place spot.sector
         mask parts.old.counter }
@@ -71,7 +71,7 @@ fn write_log<C: Chip>(
     payload: &Payload,
 ) -> Result<(), ChipFault>
     requires known { KnowsPlaces (C.told chip.old).places (tables_of parts.old) }
-    requires unit { unit + 4 < (C.told chip.old).places }
+    requires unit { unit < length parts.old.directory.current }
     requires spot { IsSpotFor (tables_of parts.old) unit at.place at.sector }
     requires left { parts.old.counter + 1 < 2 ^ 64 }
     requires version { payload.now.version ≡ VERSION }
@@ -116,7 +116,7 @@ pub fn write_out<C: Chip>(
     payload: &mut Payload,
 ) -> Result<(), ChipFault>
     requires known { KnowsPlaces (C.told chip.old).places (tables_of parts.old) }
-    requires unit { unit + 4 < (C.told chip.old).places }
+    requires unit { unit < length parts.old.directory.current }
     requires left { parts.old.counter + 14 < 2 ^ 64 }
     requires version { payload.old.version ≡ VERSION }
 

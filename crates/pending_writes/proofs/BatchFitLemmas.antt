@@ -1,5 +1,5 @@
 -- A store fits after several sessions are committed together.
-use Rattle.std.proofs.Common.{Bool, List, None, Some, [], ap, arith, false, length, refl, sym, ℕ, ◌-◌, ◌<◌, ◌∙◌, ◌∷◌, ◌≡◌}
+use Rattle.std.proofs.Common.{Bool, List, None, Some, [], ap, arith, false, length, refl, sym, ℕ, ◌<◌, ◌∙◌, ◌∷◌, ◌≡◌}
 use Rattle.std.specs.List.{All, Contains}
 use Rattle.std.proofs.lemmas.List.{length-set}
 use Rattle.std.proofs.lemmas.List.Elements.{All-contains}
@@ -83,8 +83,8 @@ sessions_join places c it t frames slots state ss committed fits are out joins =
 -- ---- the frames over another chart
 
 frames_over : (places : ℕ) (c y : Chart) (it : Layout) (active rest : ℕ → Bool) (frames : Frames)
-    → KeepsPages places c it y it → ((n : ℕ) → active n ≡ rest n) → AreFramesOf (places - 4) c it active frames
-    → AreFramesOf (places - 4) y it rest frames
+    → KeepsPages places c it y it → ((n : ℕ) → active n ≡ rest n) → AreFramesOf it.count c it active frames
+    → AreFramesOf it.count y it rest frames
 frames_over places c y it active rest frames keeps alike framed = record {
   within = framed.within;
   each = λ u page f is.
@@ -109,9 +109,9 @@ batches_fit places c y it t later frames after slots state ss committed fits are
           (listed_once closed apart)
           (of_left (λ n. committed n ≡ false) (λ s n mine. waits.pending.waits s n (then s n mine)));
       none_lost = none_lost;
-      pending = pending_with_numbers (places - 4) new (logs_of after) (without_sessions (number_of slots) ss)
+      pending = pending_with_numbers it.count new (logs_of after) (without_sessions (number_of slots) ss)
           (number_of closed) (rules.after_batch state ss) numbers waits.pending;
-      filled = room_kept (places - 4) c y new new (rules.after_batch state ss) (rules.after_batch state ss) keeps
+      filled = room_kept it.count c y new new (rules.after_batch state ss) (rules.after_batch state ss) keeps
           (λ n. omega arith) waits.filled;
       active = listed_active closed;
       framed = frames_over places c y new (is_active waits.tables) (λ n. is_among n (numbers_in closed)) after keeps

@@ -1,5 +1,5 @@
 -- Several sessions are committed by one sector: on paper one after the other.
-use Rattle.std.proofs.Common.{◌≡◌, ℕ, ◌-◌, ◌<◌, ◌++◌, Bool, true, false, cond, ◌||◌, List, [], ◌∷◌, Some, None, inl, inr, refl, sym, ◌∙◌, subst}
+use Rattle.std.proofs.Common.{◌≡◌, ℕ, ◌<◌, ◌++◌, Bool, true, false, cond, ◌||◌, List, [], ◌∷◌, Some, None, inl, inr, refl, sym, ◌∙◌, subst}
 use Rattle.std.specs.List.{Contains, list_any}
 use Rattle.std.proofs.lemmas.Bool.{false_from_ne_true}
 use Rattle.ipl_rules.proofs.BatchLemmas.{Distinct, batches_keep}
@@ -128,7 +128,7 @@ batch_shows units c it logs numbers state (s ∷ ss) after has filled one join u
 pub batches_say_writes : BatchesSayWrites
 batches_say_writes places c it logs numbers state ss after has filled one join says = record {
   pages = λ u page low few.
-      batch_shows (places - 4) c it logs numbers state ss after has filled one join u page low few
+      batch_shows it.count c it logs numbers state ss after has filled one join u page low few
       (says.pages u page low few);
   nowhere_else = λ n high. batches_keep state ss n (λ t there. has.nowhere_else t n high) ∙ says.nowhere_else n high;
 }

@@ -1,5 +1,5 @@
 -- A store fits after each step on the chip.
-use Rattle.std.proofs.Common.{List, Some, [], ap, arith, inl, refl, subst, sym, ℕ, ◌-◌, ◌<◌, ◌∙◌, ◌≡◌}
+use Rattle.std.proofs.Common.{List, Some, [], ap, arith, inl, refl, subst, sym, ℕ, ◌<◌, ◌∙◌, ◌≡◌}
 use Rattle.std.specs.List.{All}
 use Rattle.ipl_rules.specs.State.{State}
 use Rattle.record_locks.specs.Held.{Slots, number_of}
@@ -12,6 +12,7 @@ use Rattle.ipl_meaning.specs.Tables.{Tables}
 use Rattle.pending_writes.specs.Pending.{Logs, with_records, HasPending}
 use Rattle.pending_writes.specs.PendingLaws.{IsSameOrMerged}
 use Rattle.pending_writes.specs.Frames.{Frame, Frames, logs_of, with_frame_at, with_frame_log, AreFramesOf}
+use Rattle.pending_writes.specs.Room.{PagesHaveRoom}
 use Rattle.pending_writes.specs.Fits.{is_active, Fits}
 use Rattle.pending_writes.specs.StepLaws.{LogSectorsFit, MergesFit, OtherStepsFit, RenewalsFit}
 use Rattle.pending_writes.proofs.CarriedLemmas.{merged_or_same}
@@ -20,7 +21,7 @@ use Rattle.pending_writes.proofs.RenewLemmas.{renewals_keep_pending}
 use Rattle.pending_writes.proofs.RoomLemmas.{room_kept}
 use Rattle.pending_writes.proofs.FrameLemmas.{log_sectors_keep_frames, other_steps_keep_frames}
 use Rattle.pending_writes.proofs.ActiveLemmas.{still_active, waits_for}
-use Rattle.pending_writes.proofs.FitLemmas.{sessions_are_sound, resting_pages_keep}
+use Rattle.pending_writes.proofs.FitLemmas.{sessions_are_sound, as_many_units, resting_pages_keep}
 use Rattle.pending_writes.proofs.SameLemmas.{pending_with_logs, frame_as, IsPlaced, placed, log_in, logs_with, frames_put, frames_still}
 
 -- ---- a log sector
@@ -44,14 +45,14 @@ module _ (places : ℕ) (c y : Chart) (it : Layout) (t : Tables) (frames : Frame
   same : (v q : ℕ) → logs v q ≡ logs_of later v q
   same = logs_with frames u page (Some (with_frame_log f []))
 
-  pending : HasPending (places - 4) new (logs_of later) (number_of slots) state
+  pending : HasPending it.count new (logs_of later) (number_of slots) state
   pending =
-      pending_with_logs (places - 4) new logs (logs_of later) (number_of slots) state same
-      (log_sectors_keep_pending (places - 4) it (logs_of frames) (number_of slots) state u page e fits.pending records)
+      pending_with_logs it.count new logs (logs_of later) (number_of slots) state same
+      (log_sectors_keep_pending it.count it (logs_of frames) (number_of slots) state u page e fits.pending records)
 
-  each : (v q : ℕ) (x : Frame) → frames v q ≡ Some x → IsPlaced (places - 4) y new (logs_of later) (is_active t) v q x
+  each : (v q : ℕ) (x : Frame) → frames v q ≡ Some x → IsPlaced it.count y new (logs_of later) (is_active t) v q x
   each v q x is =
-      let (low, few, was) = placed (places - 4) c it (is_active t) frames fits.framed v q x is in (
+      let (low, few, was) = placed it.count c it (is_active t) frames fits.framed v q x is in (
         low,
         few,
         frame_as y new logs (logs_of later) (is_active t) v q x.values x.values x.pending x.pending (same v q)
@@ -60,9 +61,9 @@ module _ (places : ℕ) (c y : Chart) (it : Layout) (t : Tables) (frames : Frame
             x.values x.pending fits.pending records keeps low few was),
       )
 
-  framed : AreFramesOf (places - 4) y new (is_active t) later
+  framed : AreFramesOf it.count y new (is_active t) later
   framed =
-      frames_put (places - 4) y new (is_active t) frames u page (with_frame_log f []) (each u page f there)
+      frames_put it.count y new (is_active t) frames u page (with_frame_log f []) (each u page f there)
       (λ v q x apart is. each v q x is)
 
 pub log_sectors_fit : LogSectorsFit
@@ -71,9 +72,9 @@ log_sectors_fit places c y it t after frames slots state u page f e fits there i
       mirrors = mirrors;
       none_lost = none_lost;
       pending = pending places c y it t frames slots state u page f e fits there its keeps;
-      filled = room_kept (places - 4) c y it (with_log it u e) state state keeps (λ n. omega arith) fits.filled;
+      filled = room_kept it.count c y it (with_log it u e) state state keeps (λ n. omega arith) fits.filled;
       active = still_active (number_of slots) t after active fits.active;
-      framed = frames_still (places - 4) y (with_log it u e) t after later active
+      framed = frames_still it.count y (with_log it u e) t after later active
           (framed places c y it t frames slots state u page f e fits there its keeps);
       sessions = fits.sessions;
     }
@@ -83,26 +84,31 @@ log_sectors_fit places c y it t after frames slots state u page f e fits there i
 -- each unit has the records that it had, or those that a merge carries
 same_or_merged_fit : (places : ℕ) (c y : Chart) (it new : Layout) (t after : Tables) (frames : Frames) (slots : Slots)
     (state : State) → Fits places c it t frames slots state
-    → ((u : ℕ) → u < places - 4 → IsSameOrMerged (is_active t) (it.units u) (new.units u))
-    → ((u : ℕ) → u < places - 4 → All (λ r. new.committed r.tid ≡ it.committed r.tid) (records_of (new.units u).log))
+    → ((u : ℕ) → u < it.count → IsSameOrMerged (is_active t) (it.units u) (new.units u))
+    → ((u : ℕ) → u < it.count → All (λ r. new.committed r.tid ≡ it.committed r.tid) (records_of (new.units u).log))
     → Mirrors places y new after → NoneIsLost places after → after.active ≡ t.active → KeepsPages places c it y new
     → Fits places y new after frames slots state
 same_or_merged_fit places c y it new t after frames slots state fits alike kept mirrors none_lost active keeps =
-    let still = still_active (number_of slots) t after active fits.active in record {
+    let still = still_active (number_of slots) t after active fits.active in
+    let count = as_many_units places c y it new fits.mirrors.laid mirrors.laid in
+    record {
       mirrors = mirrors;
       none_lost = none_lost;
-      pending = renewals_keep_pending (places - 4) it new (logs_of frames) (number_of slots) state (is_active t)
+      pending = subst (λ (n : ℕ). HasPending n new (logs_of frames) (number_of slots) state) count
+          (renewals_keep_pending it.count it new (logs_of frames) (number_of slots) state (is_active t)
           fits.pending (sessions_are_sound slots state fits.sessions).0 fits.active alike kept
-          (waits_for new (number_of slots) after still mirrors.numbers.waits);
-      filled = room_kept (places - 4) c y it new state state keeps (λ n. omega arith) fits.filled;
+          (waits_for new (number_of slots) after still mirrors.numbers.waits));
+      filled = subst (λ (n : ℕ). PagesHaveRoom n y new state) count
+          (room_kept it.count c y it new state state keeps (λ n. omega arith) fits.filled);
       active = still;
-      framed = frames_still (places - 4) y new t after frames active (record {
-        within = fits.framed.within;
-        each = λ v q f is.
-            let (low, few, was) = placed (places - 4) c it (is_active t) frames fits.framed v q f is in
-            other_steps_keep_frames places c y it new (logs_of frames) (is_active t) v q f.values f.pending
-            (alike v low) keeps low few was;
-      });
+      framed = subst (λ (n : ℕ). AreFramesOf n y new (is_active after) frames) count
+          (frames_still it.count y new t after frames active (record {
+            within = fits.framed.within;
+            each = λ v q f is.
+                let (low, few, was) = placed it.count c it (is_active t) frames fits.framed v q f is in
+                other_steps_keep_frames places c y it new (logs_of frames) (is_active t) v q f.values f.pending
+                (alike v low) keeps low few was;
+          }));
       sessions = fits.sessions;
     }
 

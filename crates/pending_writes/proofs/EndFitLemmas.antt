@@ -1,5 +1,5 @@
 -- A store fits after a session is aborted.
-use Rattle.std.proofs.Common.{Bool, None, refl, ℕ, ◌-◌, ◌≡◌}
+use Rattle.std.proofs.Common.{Bool, None, refl, ℕ, ◌≡◌}
 use Rattle.std.specs.List.{filter}
 use Rattle.ipl_rules.specs.Operations.{after_abort}
 use Rattle.ipl_rules.proofs.MarkLemmas.{removed_most}
@@ -26,15 +26,15 @@ pub aborts_fit : AbortsFit
 aborts_fit places c it t frames after slots state s tid fits within mine all locked = record {
   mirrors = ended_mirrors places c it t tid fits.mirrors;
   none_lost = fits.none_lost;
-  pending = pending_with_numbers (places - 4) it (logs_of after) (with_number (number_of slots) s None)
+  pending = pending_with_numbers it.count it (logs_of after) (with_number (number_of slots) s None)
       (number_of (after_end slots s)) (rules.after_abort state s) ended
-      (pending_with_logs (places - 4) it (without_number (logs_of frames) tid) (logs_of after)
+      (pending_with_logs it.count it (without_number (logs_of frames) tid) (logs_of after)
       (with_number (number_of slots) s None) (rules.after_abort state s) same
-      (aborts_keep_pending (places - 4) it (logs_of frames) (number_of slots) state s tid fits.pending mine));
-  filled = room_kept (places - 4) c c it it state (rules.after_abort state s) (λ u page now low few shows. shows)
+      (aborts_keep_pending it.count it (logs_of frames) (number_of slots) state s tid fits.pending mine));
+  filled = room_kept it.count c c it it state (rules.after_abort state s) (λ u page now low few shows. shows)
       (λ n. removed_most state.sessions s n) fits.filled;
   active = active_with_numbers (with_number (number_of slots) s None) (number_of (after_end slots s)) rest ended tells;
-  framed = frames_all (places - 4) c c it it (is_active t) rest frames after (IsAbortedFrame tid) fits.framed all
+  framed = frames_all it.count c c it it (is_active t) rest frames after (IsAbortedFrame tid) fits.framed all
       framed;
   sessions = record {
     names = (keeps_names slots state s within fits.sessions.names).aborts;
@@ -57,11 +57,11 @@ aborts_fit places c it t frames after slots state s tid fits within mine all loc
         both_logs (IsAbortedFrame tid) (filter (is_other tid)) refl (λ a b changed. changed.log) (frames u page)
         (after u page) (all u page)
 
-    framed : (u page : ℕ) (a b : Frame) → IsPlaced (places - 4) c it (logs_of frames) (is_active t) u page a
+    framed : (u page : ℕ) (a b : Frame) → IsPlaced it.count c it (logs_of frames) (is_active t) u page a
         → IsAbortedFrame tid a b → IsFrameOf c it (logs_of after) rest u page b.values b.pending
     framed u page a b (low, few, was) changed =
         frame_as c it (without_number (logs_of frames) tid) (logs_of after) rest u page a.values b.values
         (λ slot. without_pending tid (a.pending slot)) b.pending (same u page) changed.values changed.pending
-        (aborts_keep_frames (places - 4) c it (logs_of frames) (number_of slots) state (is_active t) rest s tid u page
+        (aborts_keep_frames it.count c it (logs_of frames) (number_of slots) state (is_active t) rest s tid u page
         a.values a.pending fits.pending (sessions_are_sound slots state fits.sessions).0 fits.active tells mine low few
         was)

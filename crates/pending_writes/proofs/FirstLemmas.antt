@@ -7,6 +7,7 @@ use Rattle.std.proofs.lemmas.Bool.{cases_eq, cases_lt}
 use Rattle.std.proofs.lemmas.List.{get_or-append_right, get_or-replicate, get_or_past, length-replicate}
 use Rattle.std.proofs.lemmas.List.FromFn.{get_or-range_with_len, length-range_with_len}
 use Rattle.ipl_base.specs.declared.limits.TheConstants.{SESSIONS}
+use Rattle.ipl_base.specs.Places.{units_on}
 use Rattle.ipl_rules.specs.Marks.{marks_of}
 use Rattle.ipl_rules.specs.State.{Session, at_rest}
 use Rattle.record_locks.specs.Held.{Held, slot_marks}
@@ -59,19 +60,19 @@ empty_slots_are_at_rest m = record { names = names; marks = marked; locked = loc
 -- ---- the first tables
 
 none_lost : (places : ℕ) → 5 ≤ places → NoneIsLost places (first_tables places)
-none_lost places least p low used = elim (cases_lt p (places - 4)) [
+none_lost places least p low used = elim (cases_lt p (units_on places)) [
   | inl unit ↦ inl (
     p,
-    omega (arith, unit, length-range_with_len 0 (places - 4)),
-    get_or-range_with_len 0 (places - 4) p p unit ∙ omega arith,
+    omega (arith, unit, length-range_with_len 0 (units_on places)),
+    get_or-range_with_len 0 (units_on places) p p unit ∙ omega arith,
   )
-  | inr past ↦ elim (cases_eq p (places - 4)) [
+  | inr past ↦ elim (cases_eq p (units_on places)) [
     | inl status ↦ inr (inl status)
     | inr later ↦ absurd (used (
-        let front = length-replicate (places - 4 + 1) true in
-        get_or-append_right (replicate (places - 4 + 1) true) (replicate 3 false) (places - 4 + 1) p true front
+        let front = length-replicate (units_on places + 1) true in
+        get_or-append_right (replicate (units_on places + 1) true) (replicate 3 false) (units_on places + 1) p true front
         (omega (arith, past, later))
-        ∙ get_or-replicate 3 (p - (places - 4 + 1)) false true (omega (arith, low, past, later))))
+        ∙ get_or-replicate 3 (p - (units_on places + 1)) false true (omega (arith, low, past, later))))
   ]
 ]
 

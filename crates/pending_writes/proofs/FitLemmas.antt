@@ -1,5 +1,5 @@
 -- What a store gives that fits.
-use Rattle.std.proofs.Common.{Bool, Some, arith, not, refl, subst, sym, true, ℕ, ◌*◌, ◌+◌, ◌-◌, ◌<◌, ◌∙◌, ◌≡◌, ◌≤◌}
+use Rattle.std.proofs.Common.{Bool, Some, arith, not, refl, subst, sym, true, ℕ, ◌*◌, ◌+◌, ◌<◌, ◌∙◌, ◌≡◌, ◌≤◌}
 use Rattle.std.specs.List.{Contains}
 use Rattle.std.proofs.lemmas.Bool.{not-false, not_from_true}
 use Rattle.std.proofs.lemmas.List.Elements.{Contains-append_left}
@@ -14,7 +14,7 @@ use Rattle.record_locks.proofs.StandingLemmas.{new_write_at}
 use Rattle.ipl_meaning.specs.Chart.{Chart, chart_of}
 use Rattle.ipl_meaning.specs.Laws.{AreOneLayout}
 use Rattle.ipl_meaning.specs.Last.{weight_of}
-use Rattle.ipl_meaning.specs.Layout.{Layout, Shape, records_of}
+use Rattle.ipl_meaning.specs.Layout.{Laid, Layout, Shape, records_of}
 use Rattle.ipl_meaning.specs.Rests.{now}
 use Rattle.ipl_meaning.specs.Stands.{Says, Shows, page_in}
 use Rattle.ipl_meaning.specs.Steps.{KeepsPages}
@@ -93,21 +93,21 @@ merges_are_small places c it t frames slots state u fits low =
     few_are_carried (is_active t) (it.units u).log (λ i. weight_of_mark (marks state (960 * u + i)))
     (fits.pending.valid u low) ((sessions_are_sound slots state fits.sessions).1 u) (λ r there is.
     subst (λ (n : ℕ). weight_of r ≤ weight_of_mark (marks state n)) (in_unit u r.page r.slot)
-    (records_weigh_no_more (places - 4) it (logs_of frames) (number_of slots) state (is_active t) u r.page r
+    (records_weigh_no_more it.count it (logs_of frames) (number_of slots) state (is_active t) u r.page r
     fits.pending fits.active low (Contains-append_left live (logs_of frames u r.page) r there) is))
 
 -- ---- pages
 
 -- as any layout of the chart does
-says_as : (places : ℕ) (c : Chart) (it other : Layout) (m : Map) → AreOneLayout places it other
+says_as : (places : ℕ) (c : Chart) (it other : Layout) (m : Map) → AreOneLayout it other
     → Says places c other m → Says places c it m
 says_as places c it other m same says = record {
   pages = λ u page low few.
       let shows = subst (λ (f : ℕ → Bool). Shows c f u (other.units u) page (page_in m u page))
-      (λ i tid. sym (same.committed tid) i) (says.pages u page low few) in
+      (λ i tid. sym (same.committed tid) i) (says.pages u page (omega (arith, low, same.count)) few) in
       subst (λ (shape : Shape). Shows c it.committed u shape page (page_in m u page)) (sym (same.units u low))
       shows;
-  nowhere_else = says.nowhere_else;
+  nowhere_else = λ n high. says.nowhere_else n (omega (arith, high, same.count));
 }
 
 pub resting_pages_say : RestingPagesSay
@@ -116,11 +116,16 @@ resting_pages_say places h it m rests laid =
     let one = laid_once places (now h) it stands.layout laid stands.laid in
     says_as places (now h) it stands.layout m one stands.says
 
+-- any two layouts on so many places have as many units
+pub as_many_units : (places : ℕ) (c y : Chart) (it new : Layout) → Laid places c it → Laid places y new
+    → it.count ≡ new.count
+as_many_units places c y it new one two = omega (arith, one.count, two.count)
+
 -- where both say one map, each page is kept
-says_keep : (places : ℕ) (c y : Chart) (it new : Layout) (m : Map) → Says places c it m → Says places y new m
-    → KeepsPages places c it y new
-says_keep places c y it new m before after u page shown low few shows =
-    let there = after.pages u page low few in record {
+says_keep : (places : ℕ) (c y : Chart) (it new : Layout) (m : Map) → it.count ≡ new.count → Says places c it m
+    → Says places y new m → KeepsPages places c it y new
+says_keep places c y it new m count before after u page shown low few shows =
+    let there = after.pages u page (omega (arith, low, count)) few in record {
       base = there.base;
       reads = there.reads;
       says = λ slot less.
@@ -132,7 +137,7 @@ says_keep places c y it new m before after u page shown low few shows =
 
 pub resting_pages_keep : RestingPagesKeep
 resting_pages_keep places m h k it new first second one two =
-    says_keep places (now h) (now k) it new m
+    says_keep places (now h) (now k) it new m (as_many_units places (now h) (now k) it new one two)
     (resting_pages_say places h it m first one) (resting_pages_say places k new m second two)
 
 -- ---- frames
@@ -144,7 +149,7 @@ fits_tell : (places : ℕ) (c : Chart) (it : Layout) (t : Tables) (frames : Fram
 fits_tell places c it t frames slots state u page slot f fits says there less =
     let (low, few) = fits.framed.within u page f there in
     let one = (sessions_are_sound slots state fits.sessions).0 in
-    frames_tell (places - 4) c it (logs_of frames) (number_of slots) state (is_active t) u page slot
+    frames_tell it.count c it (logs_of frames) (number_of slots) state (is_active t) u page slot
     f.values f.pending fits.pending one fits.active (says.pages u page low few) low few less
     (fits.framed.each u page f there)
 

@@ -1,5 +1,5 @@
 -- Frames after a session is committed or aborted.
-use Rattle.std.proofs.Common.{Bool, List, None, Option, Some, ap, eqb, false, inl, inr, sym, true, ℕ, ◌-◌, ◌<◌, ◌∙◌, ◌≡◌, ◌≢◌, ◌⊎◌}
+use Rattle.std.proofs.Common.{Bool, List, None, Option, Some, ap, eqb, false, inl, inr, sym, true, ℕ, ◌<◌, ◌∙◌, ◌≡◌, ◌≢◌, ◌⊎◌}
 use Rattle.std.specs.List.{Contains, filter, list_any}
 use Rattle.std.proofs.lemmas.Bool.{ne_eqb, not_from_false, both_ways, false_from_ne_true}
 use Rattle.std.proofs.lemmas.Option.{none-some, same_Some}
@@ -110,11 +110,11 @@ commits_keep_frames places c y it logs numbers state active rest after s tid u p
     later mine out joins keeps low few framed =
     record {
       shows = keeps u page (λ slot. seen_by tid (values slot) (pending slot)) low few
-          (settled_shows (places - 4) c it logs numbers state s tid after has filled mine out joins u page low few
+          (settled_shows it.count c it logs numbers state s tid after has filled mine out joins u page low few
           values (λ slot. seen_by tid (values slot) (pending slot)) says framed.shows);
       changes = λ slot less.
           ap (without_pending tid) (framed.changes slot less)
-          ∙ changes_without (places - 4) it logs numbers state active rest s tid has one tells later mine u page slot
+          ∙ changes_without it.count it logs numbers state active rest s tid has one tells later mine u page slot
           low;
     }
   where
@@ -122,7 +122,7 @@ commits_keep_frames places c y it logs numbers state active rest after s tid u p
         ≡ applied (last_that (counts_for (is_number tid) page slot) (records_of (it.units u).log) None) (values slot)
     says slot less =
         ap (seen_by tid (values slot)) (framed.changes slot less)
-        ∙ value_with (places - 4) it logs numbers state active rest s tid has one tells later mine u page slot low
+        ∙ value_with it.count it logs numbers state active rest s tid has one tells later mine u page slot low
         out (values slot)
 
 pub aborts_keep_frames : AbortsKeepFrames

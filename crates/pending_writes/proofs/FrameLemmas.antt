@@ -1,5 +1,5 @@
 -- What frames tell, and what each step makes of them.
-use Rattle.std.proofs.Common.{List, None, Option, Some, [], ap, false, inl, inr, refl, sym, ℕ, ◌++◌, ◌-◌, ◌<◌, ◌∙◌, ◌∷◌, ◌≡◌, ◌≢◌}
+use Rattle.std.proofs.Common.{List, None, Option, Some, [], ap, false, inl, inr, refl, sym, ℕ, ◌++◌, ◌<◌, ◌∙◌, ◌∷◌, ◌≡◌, ◌≢◌}
 use Rattle.std.specs.FinMap.{get}
 use Rattle.std.specs.List.{Contains}
 use Rattle.std.specs.Option.{option_map_or}
@@ -144,7 +144,7 @@ log_sectors_keep_frames places c y it logs numbers state active u page v q e val
       shows = keeps v q values low few framed.shows;
       changes = λ slot less.
           framed.changes slot less
-          ∙ ap pending_of (sym (last_same (places - 4) it logs numbers state u page e has its active v q slot));
+          ∙ ap pending_of (sym (last_same it.count it logs numbers state u page e has its active v q slot));
     }
 
 pub other_steps_keep_frames : OtherStepsKeepFrames

@@ -107,11 +107,11 @@ low_marked units it logs numbers state n has marked = elim (cases_lt n (UNIT_NAM
 pub written_pages_fit : WrittenPagesFit
 written_pages_fit places c it t frames slots state n fits says marked =
     let home = home_of n in
-    let within = low_marked (places - 4) it (logs_of frames) (number_of slots) state n fits.pending marked in
-    let low : home.unit < places - 4 = omega (arith, within) in
+    let within = low_marked it.count it (logs_of frames) (number_of slots) state n fits.pending marked in
+    let low : home.unit < it.count = omega (arith, within) in
     let few : home.page < PAGES = omega arith in
     let values = page_in state.map home.unit home.page in
-    let shown = shown_fill (places - 4) c it state home.unit home.page values fits.filled low few
+    let shown = shown_fill it.count c it state home.unit home.page values fits.filled low few
     (says.pages home.unit home.page low few) in
     le_trans (fewer (fills_same _ _ _ values (λ slot less. ap (get state.map) (one_name n slot less))
     (λ slot less. ap (marks state) (one_name n slot less)))) shown

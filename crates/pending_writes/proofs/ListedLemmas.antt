@@ -1,5 +1,5 @@
 -- Tables that have the sessions' numbers in the order of their slots.
-use Rattle.std.proofs.Common.{Bool, List, None, Some, [], ap, arith, false, inl, inr, subst, suc, zero, ℕ, ◌-◌, ◌<◌, ◌∷◌, ◌≡◌}
+use Rattle.std.proofs.Common.{Bool, List, None, Some, [], ap, arith, false, inl, inr, subst, suc, zero, ℕ, ◌<◌, ◌∷◌, ◌≡◌}
 use Rattle.std.specs.List.{All, AllPairs, Contains}
 use Rattle.std.proofs.lemmas.List.Elements.{All-contains}
 use Rattle.std.proofs.lemmas.List.Kept.{AllPairs-cons}
@@ -75,7 +75,7 @@ members_fit places c it t frames slots state active fits tells once = record {
   pending = fits.pending;
   filled = fits.filled;
   active = tells;
-  framed = subst (λ (test : ℕ → Bool). AreFramesOf (places - 4) c it test frames) (λ i n. alike n i) fits.framed;
+  framed = subst (λ (test : ℕ → Bool). AreFramesOf it.count c it test frames) (λ i n. alike n i) fits.framed;
   sessions = fits.sessions;
 }
   where

@@ -1,5 +1,5 @@
 -- A store fits after each step in memory.
-use Rattle.std.proofs.Common.{List, None, Option, Some, [], ap, arith, length, refl, subst, sym, ℕ, ◌++◌, ◌-◌, ◌<◌, ◌≤◌, ◌∙◌, ◌∷◌, ◌≡◌}
+use Rattle.std.proofs.Common.{List, None, Option, Some, [], ap, arith, length, refl, subst, sym, ℕ, ◌++◌, ◌<◌, ◌≤◌, ◌∙◌, ◌∷◌, ◌≡◌}
 use Rattle.std.specs.FinMap.{empty, get-empty}
 use Rattle.std.specs.List.{All}
 use Rattle.std.specs.Ordering.{nat_cmp}
@@ -78,7 +78,7 @@ begins_fit places c it t frames slots state s tid fits within closed later locke
 }
   where
     units : ℕ
-    units = places - 4
+    units = it.count
 
     logs : Logs
     logs = logs_of frames
@@ -113,10 +113,10 @@ shares_fit places c it t frames slots state s n fits within locked =
     let shared = number_shared slots s n within in record {
       mirrors = fits.mirrors;
       none_lost = fits.none_lost;
-      pending = pending_with_numbers (places - 4) it (logs_of frames) (number_of slots)
+      pending = pending_with_numbers it.count it (logs_of frames) (number_of slots)
           (number_of (after_share slots s n)) (rules.after_share state s n) shared
-          (shares_keep_pending (places - 4) it (logs_of frames) (number_of slots) state s n fits.pending);
-      filled = room_kept (places - 4) c c it it state (rules.after_share state s n) (λ u page now low few shows. shows)
+          (shares_keep_pending it.count it (logs_of frames) (number_of slots) state s n fits.pending);
+      filled = room_kept it.count c c it it state (rules.after_share state s n) (λ u page now low few shows. shows)
           (λ k. shared_less state s n k) fits.filled;
       active = active_with_numbers (number_of slots) (number_of (after_share slots s n)) (is_active t) shared
           fits.active;
@@ -133,7 +133,7 @@ shares_fit places c it t frames slots state s n fits within locked =
 module _ (places : ℕ) (c : Chart) (it : Layout) (t : Tables) (frames : Frames) (slots : Slots) (state : State)
     (s u : ℕ)
     (r : Record) (f g : Frame) (fits : Fits places c it t frames slots state) (within : s < length slots)
-    (mine : number_of slots s ≡ Some r.tid) (low : u < places - 4) (valid : IsRecord VERSION r)
+    (mine : number_of slots s ≡ Some r.tid) (low : u < it.count) (valid : IsRecord VERSION r)
     (there : frames u r.page ≡ Some f) (written : IsWrittenFrame r f g) where
   abbrev name : ℕ
   name = name_at u r.page r.slot
@@ -156,15 +156,15 @@ module _ (places : ℕ) (c : Chart) (it : Layout) (t : Tables) (frames : Frames)
   numbers_stay : number_of held ≡ number_of slots
   numbers_stay = number_written slots s name (size_in_page r.change) within
 
-  pending : HasPending (places - 4) it (logs_of after) (number_of held) (rules.after_write state s (name, r.change))
+  pending : HasPending it.count it (logs_of after) (number_of held) (rules.after_write state s (name, r.change))
   pending =
-      pending_with_numbers (places - 4) it (logs_of after) (number_of slots) (number_of held)
+      pending_with_numbers it.count it (logs_of after) (number_of slots) (number_of held)
       (rules.after_write state s (name, r.change)) numbers_stay
-      (pending_with_logs (places - 4) it logs (logs_of after) (number_of slots)
+      (pending_with_logs it.count it logs (logs_of after) (number_of slots)
       (rules.after_write state s (name, r.change)) same
-      (writes_keep_pending (places - 4) it (logs_of frames) (number_of slots) state s u r fits.pending mine low valid))
+      (writes_keep_pending it.count it (logs_of frames) (number_of slots) state s u r fits.pending mine low valid))
 
-  here : IsPlaced (places - 4) c it (logs_of after) (is_active t) u r.page g
+  here : IsPlaced it.count c it (logs_of after) (is_active t) u r.page g
   here = (
     low,
     valid.page,
@@ -185,11 +185,11 @@ module _ (places : ℕ) (c : Chart) (it : Layout) (t : Tables) (frames : Frames)
     mirrors = fits.mirrors;
     none_lost = fits.none_lost;
     pending = pending;
-    filled = room_written (places - 4) c it state s u r f.values fits.filled low valid.page valid.slot
+    filled = room_written it.count c it state s u r f.values fits.filled low valid.page valid.slot
         (fits.framed.each u r.page f there).shows (room_by_state room);
     active = active_with_numbers (number_of slots) (number_of held) (is_active t) numbers_stay fits.active;
-    framed = frames_put (places - 4) c it (is_active t) frames u r.page g here
-        (other_frames (places - 4) c it (is_active t) frames u r.page (Some g) fits.framed);
+    framed = frames_put it.count c it (is_active t) frames u r.page g here
+        (other_frames it.count c it (is_active t) frames u r.page (Some g) fits.framed);
     sessions = record {
       names = (keeps_names slots state s within fits.sessions.names).writes name (size_in_page r.change) r.change;
       marks = (keep_marks slots state s within fits.sessions).writes name r.change;
@@ -207,19 +207,19 @@ pub loads_fit : LoadsFit
 loads_fit places c it t frames slots state u page f fits low few absent empty framed = record {
   mirrors = fits.mirrors;
   none_lost = fits.none_lost;
-  pending = pending_with_logs (places - 4) it (logs_of frames) (logs_of (with_frame_at frames u page (Some f)))
+  pending = pending_with_logs it.count it (logs_of frames) (logs_of (with_frame_at frames u page (Some f)))
       (number_of slots) state same fits.pending;
   filled = fits.filled;
   active = fits.active;
-  framed = frames_put (places - 4) c it (is_active t) frames u page f here
-      (other_frames (places - 4) c it (is_active t) frames u page (Some f) fits.framed);
+  framed = frames_put it.count c it (is_active t) frames u page f here
+      (other_frames it.count c it (is_active t) frames u page (Some f) fits.framed);
   sessions = fits.sessions;
 }
   where
     same : (v q : ℕ) → logs_of frames v q ≡ logs_of (with_frame_at frames u page (Some f)) v q
     same = logs_unchanged frames u page (Some f) (empty ∙ sym (ap log_in absent))
 
-    here : IsPlaced (places - 4) c it (logs_of (with_frame_at frames u page (Some f))) (is_active t) u page f
+    here : IsPlaced it.count c it (logs_of (with_frame_at frames u page (Some f))) (is_active t) u page f
     here = (
       low,
       few,
@@ -232,18 +232,18 @@ evictions_fit places c it t frames slots state u page f fits there empty =
     let same = logs_unchanged frames u page None (sym (ap log_in there ∙ empty)) in record {
       mirrors = fits.mirrors;
       none_lost = fits.none_lost;
-      pending = pending_with_logs (places - 4) it (logs_of frames) (logs_of (with_frame_at frames u page None))
+      pending = pending_with_logs it.count it (logs_of frames) (logs_of (with_frame_at frames u page None))
           (number_of slots) state same fits.pending;
       filled = fits.filled;
       active = fits.active;
-      framed = frames_with (places - 4) c it (is_active t) frames u page None (λ x is. absurd (none-some x is))
-          (other_frames (places - 4) c it (is_active t) frames u page None fits.framed);
+      framed = frames_with it.count c it (is_active t) frames u page None (λ x is. absurd (none-some x is))
+          (other_frames it.count c it (is_active t) frames u page None fits.framed);
       sessions = fits.sessions;
     }
 
 -- ---- a chip is opened
 
-log_valid : (places : ℕ) (c : Chart) (it : Layout) → Laid places c it → (u : ℕ) → u < places - 4
+log_valid : (places : ℕ) (c : Chart) (it : Layout) → Laid places c it → (u : ℕ) → u < it.count
     → All (IsRecord VERSION) (records_of (it.units u).log)
 log_valid places c it laid u low =
     let log = (laid.each u low).log in
@@ -259,8 +259,8 @@ pub openings_fit : OpeningsFit
 openings_fit places c it t slots m mirrors none_lost nothing closed sessions = record {
   mirrors = mirrors;
   none_lost = none_lost;
-  pending = pending_with_numbers (places - 4) it (λ u page. []) (λ s. None) (number_of slots) (at_rest m) none
-      (restarts_leave_none (places - 4) it (at_rest m) (log_valid places c it mirrors.laid));
+  pending = pending_with_numbers it.count it (λ u page. []) (λ s. None) (number_of slots) (at_rest m) none
+      (restarts_leave_none it.count it (at_rest m) (log_valid places c it mirrors.laid));
   filled = λ u page slot low few less marked. absurd (no_mark (unmarked_at_rest m (name_at u page slot)) marked);
   active = active_with_numbers (λ s. None) (number_of slots) (is_active t) none (λ tid. (
     (λ is. absurd (both_ways (is_among tid t.active) (ap (is_among tid) nothing) is)),

@@ -1,5 +1,5 @@
 -- What is pending in a page takes no more than the sessions' writes of its names.
-use Rattle.std.proofs.Common.{◌≡◌, ℕ, Bool, ◌+◌, ◌-◌, ◌<◌, ◌≤◌, true, List, Option, Some, None, refl, sym, subst, arith}
+use Rattle.std.proofs.Common.{◌≡◌, ℕ, Bool, ◌+◌, ◌<◌, ◌≤◌, true, List, Option, Some, None, refl, sym, subst, arith}
 use Rattle.std.specs.List.{Contains}
 use Rattle.std.proofs.lemmas.List.Elements.{Contains-append_left}
 use Rattle.ipl_base.specs.Sizes.{size_in_page}
@@ -53,10 +53,10 @@ module _ (units : ℕ) (it : Layout) (logs : Logs) (numbers : Numbers) (state : 
 pub loaded_pages_fit : LoadedPagesFit
 loaded_pages_fit places c it t frames slots state u page now fits low few shows =
     let live = records_of (it.units u).log in
-    le_trans (fewer_marks _ _ now (λ slot less. one_less (last_mark (places - 4) it (logs_of frames) (number_of slots)
+    le_trans (fewer_marks _ _ now (λ slot less. one_less (last_mark it.count it (logs_of frames) (number_of slots)
     state (is_active t) fits.pending fits.active u page slot low live
     (λ r there. Contains-append_left live (logs_of frames u page) r there))))
-    (shown_fill (places - 4) c it state u page now fits.filled low few shows)
+    (shown_fill it.count c it state u page now fits.filled low few shows)
 
 pub frames_keep_marks : FramesKeepMarks
 frames_keep_marks places c it t frames slots state u page slot f fits there less =
@@ -64,5 +64,5 @@ frames_keep_marks places c it t frames slots state u page slot f fits there less
     let framed = fits.framed.each u page f there in
     subst (λ (m : ℕ). mark_of (f.pending slot) ≤ m) (sym (marks_are slots state fits.sessions.marks (name_at u page slot)))
     (subst (λ (p : Option Pending). mark_of p ≤ marks state (name_at u page slot)) (sym (framed.changes slot less))
-    (last_mark (places - 4) it (logs_of frames) (number_of slots) state (is_active t) fits.pending fits.active u page slot
+    (last_mark it.count it (logs_of frames) (number_of slots) state (is_active t) fits.pending fits.active u page slot
     low (records_at it (logs_of frames) u page) (λ r in_page. in_page)))

@@ -137,7 +137,7 @@ room_committed units c it logs numbers state s tid after has filled mine out joi
 pub commits_say_writes : CommitsSayWrites
 commits_say_writes places c it logs numbers state s tid after has filled mine out joins says = record {
   pages = λ u page low few.
-      commit_shows (places - 4) c it logs numbers state s tid after has filled mine out joins u page low few
+      commit_shows it.count c it logs numbers state s tid after has filled mine out joins u page low few
       (says.pages u page low few);
   nowhere_else = λ n high.
       get-with_writes (writes_of state s) state.map n

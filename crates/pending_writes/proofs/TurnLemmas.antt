@@ -1,5 +1,5 @@
 -- What waits while sessions are committed one after the other, and what the commit of one of them keeps of it.
-use Rattle.std.proofs.Common.{Bool, None, Some, ap, false, inl, inr, is_some, refl, subst, sym, true, ℕ, ◌-◌, ◌<◌, ◌∙◌, ◌≡◌}
+use Rattle.std.proofs.Common.{Bool, None, Some, ap, false, inl, inr, is_some, refl, subst, sym, true, ℕ, ◌<◌, ◌∙◌, ◌≡◌}
 use Rattle.std.proofs.lemmas.Bool.{cases_eq}
 use Rattle.ipl_rules.specs.Operations.{after_commit}
 use Rattle.ipl_rules.specs.State.{State, last_write}
@@ -77,10 +77,10 @@ module _ (units : ℕ) (it : Layout) (logs : Logs) (numbers : Numbers) (state : 
 -- its changes become values of the frame
 turn_frame : (places : ℕ) (c : Chart) (it : Layout) (logs : Logs) (numbers : Numbers) (state : State)
     (active rest after : ℕ → Bool) (s tid u page : ℕ) (values : Values) (pending : Pendings)
-    → HasPending (places - 4) it logs numbers state → PagesHaveRoom (places - 4) c it state
+    → HasPending it.count it logs numbers state → PagesHaveRoom it.count c it state
     → StateHasOneWriter state → AreActive numbers active
     → AreActive (with_number numbers s None) rest → numbers s ≡ Some tid → IsWrittenOut logs tid
-    → JoinsIfWritten state s tid it.committed after → u < places - 4 → page < 15
+    → JoinsIfWritten state s tid it.committed after → u < it.count → page < 15
     → IsFrameOf c it logs active u page values pending
     → IsFrameOf c (with_committed it after) logs rest u page (λ slot. seen_by tid (values slot) (pending slot))
     (λ slot. without_pending tid (pending slot))
@@ -92,7 +92,7 @@ turn_frame places c it logs numbers state active rest after s tid u page values 
     out (inr (none, same)) low few framed =
     subst (λ (f : ℕ → Bool). IsFrameOf c (with_committed it f) logs rest u page
     (λ slot. seen_by tid (values slot) (pending slot)) (λ slot. without_pending tid (pending slot))) (sym same)
-    (empty_frame (places - 4) it logs numbers state s tid has mine out none c active rest u page values pending one
+    (empty_frame it.count it logs numbers state s tid has mine out none c active rest u page values pending one
     tells later low few framed)
 
 -- ---- all that waits
@@ -102,11 +102,11 @@ turn_frame places c it logs numbers state active rest after s tid u page values 
 pub record Waits (places : ℕ) (c : Chart) (it : Layout) (frames : Frames) (numbers : Numbers) (state : State)
     : Type 0 where
   pub tables : Tables
-  pub pending : HasPending (places - 4) it (logs_of frames) numbers state
-  pub filled : PagesHaveRoom (places - 4) c it state
+  pub pending : HasPending it.count it (logs_of frames) numbers state
+  pub filled : PagesHaveRoom it.count c it state
   pub one_writer : StateHasOneWriter state
   pub tells : AreActive numbers (is_active tables)
-  pub framed : AreFramesOf (places - 4) c it (is_active tables) frames
+  pub framed : AreFramesOf it.count c it (is_active tables) frames
 
 -- records in memory stay at a commit
 pub logs_stay : (tid : ℕ) (frames after : Frames) → EachFrameChanges (IsCommittedFrame tid) frames after
@@ -123,14 +123,14 @@ pub turn_waits : (places : ℕ) (c : Chart) (it : Layout) (frames after : Frames
     → Waits places c (with_committed it committed) after (with_number numbers s None) (after_commit state s)
 turn_waits places c it frames after numbers state s tid committed waits mine out joins all = record {
   tables = without_active waits.tables tid;
-  pending = subst (λ (l : Logs). HasPending (places - 4) new l rest (after_commit state s)) same
-      (turn_pending (places - 4) it (logs_of frames) numbers state s tid committed waits.pending mine out
+  pending = subst (λ (l : Logs). HasPending it.count new l rest (after_commit state s)) same
+      (turn_pending it.count it (logs_of frames) numbers state s tid committed waits.pending mine out
       waits.one_writer joins);
-  filled = turn_room (places - 4) it (logs_of frames) numbers state s tid committed waits.pending mine out joins c
+  filled = turn_room it.count it (logs_of frames) numbers state s tid committed waits.pending mine out joins c
       waits.filled;
   one_writer = one_writer_then state s waits.one_writer;
   tells = tells;
-  framed = frames_all (places - 4) c c it new active later frames after (IsCommittedFrame tid) waits.framed all framed;
+  framed = frames_all it.count c c it new active later frames after (IsCommittedFrame tid) waits.framed all framed;
 }
   where
     new : Layout
@@ -151,7 +151,7 @@ turn_waits places c it frames after numbers state s tid committed waits mine out
     same : logs_of frames ≡ logs_of after
     same = logs_stay tid frames after all
 
-    framed : (u page : ℕ) (a b : Frame) → IsPlaced (places - 4) c it (logs_of frames) active u page a
+    framed : (u page : ℕ) (a b : Frame) → IsPlaced it.count c it (logs_of frames) active u page a
         → IsCommittedFrame tid a b → IsFrameOf c new (logs_of after) later u page b.values b.pending
     framed u page a b (low, few, was) changed =
         frame_as c new (logs_of frames) (logs_of after) later u page

@@ -1,6 +1,6 @@
 -- When a store's memory and a chip together stand for a state.
-use Rattle.std.specs.Prelude.{ℕ, ◌≡◌, ◌+◌, ◌-◌, ◌==◌, not, Bool, List, [], ◌∷◌, ◌++◌, length, filter, All}
-use Rattle.ipl_base.specs.declared.limits.TheConstants.{RESERVED_PLACES, SESSIONS}
+use Rattle.std.specs.Prelude.{ℕ, ◌≡◌, ◌+◌, ◌==◌, not, Bool, List, [], ◌∷◌, ◌++◌, length, filter, All}
+use Rattle.ipl_base.specs.declared.limits.TheConstants.{SESSIONS}
 use Rattle.chip_trait.specs.Story.{Contents, blank}
 use Rattle.chip_trait.specs.Told.{History}
 use Rattle.ipl_rules.specs.State.{State}
@@ -67,10 +67,10 @@ pub record Fits (places : ℕ) (c : Chart) (it : Layout) (t : Tables) (frames : 
     (state : State) : Type 0 where
   pub mirrors : Mirrors places c it t
   pub none_lost : NoneIsLost places t
-  pub pending : HasPending (places - RESERVED_PLACES) it (logs_of frames) (number_of slots) state
-  pub filled : PagesHaveRoom (places - RESERVED_PLACES) c it state
+  pub pending : HasPending it.count it (logs_of frames) (number_of slots) state
+  pub filled : PagesHaveRoom it.count c it state
   pub active : AreActive (number_of slots) (is_active t)
-  pub framed : AreFramesOf (places - RESERVED_PLACES) c it (is_active t) frames
+  pub framed : AreFramesOf it.count c it (is_active t) frames
   pub sessions : AreSessionsOf slots state
 
 -- and the chip's story rests on the map, with what is counted as clean being clean

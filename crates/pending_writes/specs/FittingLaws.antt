@@ -1,7 +1,7 @@
 -- What a store gives whose memory and chip stand for a state, and that there is one.
-use Rattle.std.specs.Prelude.{ℕ, ◌≡◌, ◌<◌, ◌≤◌, ◌-◌, ◌/◌, false, List, replicate, Some, None}
+use Rattle.std.specs.Prelude.{ℕ, ◌≡◌, ◌<◌, ◌≤◌, ◌/◌, false, List, replicate, Some, None}
 use Rattle.std.specs.FinMap.{empty}
-use Rattle.ipl_base.specs.declared.limits.TheConstants.{LEAST_PLACES, MOST_PLACES, RESERVED_PLACES, PAGE_LEN, PAGES, SLOTS, CARRIED_SECTORS, SESSIONS}
+use Rattle.ipl_base.specs.declared.limits.TheConstants.{LEAST_PLACES, MOST_PLACES, PAGE_LEN, PAGES, SLOTS, CARRIED_SECTORS, SESSIONS}
 use Rattle.chip_trait.specs.Story.{Contents}
 use Rattle.chip_trait.specs.Told.{History}
 use Rattle.ipl_base.specs.Places.{home_of}
@@ -80,7 +80,7 @@ abbrev pub LoadedPagesFit : Type 0
 LoadedPagesFit =
     (places : ℕ) (c : Chart) (it : Layout) (t : Tables) (frames : Frames) (slots : Slots) (state : State) (u page : ℕ)
     (now : Values)
-    → Fits places c it t frames slots state → u < places - RESERVED_PLACES → page < PAGES
+    → Fits places c it t frames slots state → u < it.count → page < PAGES
     → Shows c it.committed u (it.units u) page now
     → fill_by now
     (λ slot. pending_of (last_that (counts_for (is_active t) page slot) (records_of (it.units u).log) None)) ≤ PAGE_LEN
@@ -97,7 +97,7 @@ FramesKeepMarks =
 abbrev pub MergesAreSmall : Type 0
 MergesAreSmall =
     (places : ℕ) (c : Chart) (it : Layout) (t : Tables) (frames : Frames) (slots : Slots) (state : State) (u : ℕ)
-    → Fits places c it t frames slots state → u < places - RESERVED_PLACES → carried_count (is_active t) (it.units u).log ≤ CARRIED_SECTORS
+    → Fits places c it t frames slots state → u < it.count → carried_count (is_active t) (it.units u).log ≤ CARRIED_SECTORS
 
 -- where the story rests on a map the pages say it
 abbrev pub RestingPagesSay : Type 0

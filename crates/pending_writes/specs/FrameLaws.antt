@@ -1,8 +1,8 @@
 -- What each step makes of the frame of a page.
-use Rattle.std.specs.Prelude.{ℕ, ◌≡◌, ◌<◌, ◌-◌, ◌∷◌, ◌++◌, Bool, List, [], Some, None, ◌≤◌}
+use Rattle.std.specs.Prelude.{ℕ, ◌≡◌, ◌<◌, ◌∷◌, ◌++◌, Bool, List, [], Some, None, ◌≤◌}
 use Rattle.std.specs.FinMap.{get}
 use Rattle.ipl_base.specs.Sizes.{size_of_values}
-use Rattle.ipl_base.specs.declared.limits.TheConstants.{RESERVED_PLACES, PAGES, SLOTS, PAGE_LEN}
+use Rattle.ipl_base.specs.declared.limits.TheConstants.{PAGES, SLOTS, PAGE_LEN}
 use Rattle.ipl_rules.specs.State.{State, see}
 use Rattle.ipl_format.specs.Record.{Record}
 use Rattle.ipl_format.specs.Page.{Slots, value_in}
@@ -81,8 +81,8 @@ abbrev pub LogSectorsKeepFrames : Type 0
 LogSectorsKeepFrames =
     (places : ℕ) (c y : Chart) (it : Layout) (logs : Logs) (numbers : Numbers) (state : State) (active : ℕ → Bool)
     (u page v q : ℕ) (e : Entry) (values : Values) (pending : Pendings)
-    → HasPending (places - RESERVED_PLACES) it logs numbers state → e.records ≡ logs u page
-    → KeepsPages places c it y (with_log it u e) → v < places - RESERVED_PLACES → q < PAGES
+    → HasPending it.count it logs numbers state → e.records ≡ logs u page
+    → KeepsPages places c it y (with_log it u e) → v < it.count → q < PAGES
     → IsFrameOf c it logs active v q values pending
     → IsFrameOf y (with_log it u e) (with_records logs u page []) active v q values pending
 
@@ -92,7 +92,7 @@ MergesKeepFrames =
     (places : ℕ) (c y : Chart) (it : Layout) (logs : Logs) (active : ℕ → Bool) (u v q : ℕ) (fresh : Shape)
     (values : Values) (pending : Pendings)
     → records_of fresh.log ≡ carried active (records_of (it.units u).log)
-    → KeepsPages places c it y (with_unit it u fresh) → v < places - RESERVED_PLACES → q < PAGES
+    → KeepsPages places c it y (with_unit it u fresh) → v < it.count → q < PAGES
     → IsFrameOf c it logs active v q values pending → IsFrameOf y (with_unit it u fresh) logs active v q values pending
 
 -- the status moves, perhaps after merges, or what doesn't count changes
@@ -100,7 +100,7 @@ abbrev pub OtherStepsKeepFrames : Type 0
 OtherStepsKeepFrames =
     (places : ℕ) (c y : Chart) (it new : Layout) (logs : Logs) (active : ℕ → Bool) (v q : ℕ) (values : Values)
     (pending : Pendings)
-    → IsSameOrMerged active (it.units v) (new.units v) → KeepsPages places c it y new → v < places - RESERVED_PLACES → q < PAGES
+    → IsSameOrMerged active (it.units v) (new.units v) → KeepsPages places c it y new → v < it.count → q < PAGES
     → IsFrameOf c it logs active v q values pending → IsFrameOf y new logs active v q values pending
 
 -- a session is committed, all its records being on the chip: its changes become values, for which the page has room
@@ -108,11 +108,11 @@ abbrev pub CommitsKeepFrames : Type 0
 CommitsKeepFrames =
     (places : ℕ) (c y : Chart) (it : Layout) (logs : Logs) (numbers : Numbers) (state : State)
     (active rest after : ℕ → Bool) (s tid u page : ℕ) (values : Values) (pending : Pendings)
-    → HasPending (places - RESERVED_PLACES) it logs numbers state → PagesHaveRoom (places - RESERVED_PLACES) c it state
+    → HasPending it.count it logs numbers state → PagesHaveRoom it.count c it state
     → StateHasOneWriter state → AreActive numbers active
     → AreActive (with_number numbers s None) rest → numbers s ≡ Some tid → IsWrittenOut logs tid
     → NumberJoins it.committed tid after → KeepsPages places c (with_committed it after) y (with_committed it after)
-    → u < places - RESERVED_PLACES → page < PAGES → IsFrameOf c it logs active u page values pending
+    → u < it.count → page < PAGES → IsFrameOf c it logs active u page values pending
     → IsFrameOf y (with_committed it after) logs rest u page
     (λ slot. seen_by tid (values slot) (pending slot)) (λ slot. without_pending tid (pending slot))
 

@@ -1,7 +1,7 @@
 -- What each step makes of the records of open sessions.
-use Rattle.std.specs.Prelude.{ℕ, ◌≡◌, ◌≢◌, ◌↔◌, ◌⊎◌, ◌<◌, ◌≤◌, ◌-◌, ◌∷◌, ◌++◌, Bool, true, false, IsTrue, List, [], Some, None, All, Contains, if◌then◌else◌}
+use Rattle.std.specs.Prelude.{ℕ, ◌≡◌, ◌≢◌, ◌↔◌, ◌⊎◌, ◌<◌, ◌≤◌, ◌∷◌, ◌++◌, Bool, true, false, IsTrue, List, [], Some, None, All, Contains, if◌then◌else◌}
 use Rattle.std.specs.List.{list_any}
-use Rattle.ipl_base.specs.declared.limits.TheConstants.{RESERVED_PLACES, PAGES, SLOTS, VERSION}
+use Rattle.ipl_base.specs.declared.limits.TheConstants.{PAGES, SLOTS, VERSION}
 use Rattle.ipl_rules.specs.Marks.{weight_of_mark, marks}
 use Rattle.ipl_rules.specs.State.{State}
 use Rattle.ipl_rules.specs.Operations.{after_begin, after_share, after_write, after_commit, after_batch, after_abort, after_restart}
@@ -123,7 +123,7 @@ abbrev pub CommitsSayWrites : Type 0
 CommitsSayWrites =
     (places : ℕ) (c : Chart) (it : Layout) (logs : Logs) (numbers : Numbers) (state : State) (s tid : ℕ)
     (after : ℕ → Bool)
-    → HasPending (places - RESERVED_PLACES) it logs numbers state → PagesHaveRoom (places - RESERVED_PLACES) c it state
+    → HasPending it.count it logs numbers state → PagesHaveRoom it.count c it state
     → numbers s ≡ Some tid → IsWrittenOut logs tid
     → NumberJoins it.committed tid after → Says places c it state.map
     → Says places c (with_committed it after) (after_commit state s).map
@@ -165,7 +165,7 @@ abbrev pub BatchesSayWrites : Type 0
 BatchesSayWrites =
     (places : ℕ) (c : Chart) (it : Layout) (logs : Logs) (numbers : Numbers) (state : State) (ss : List ℕ)
     (after : ℕ → Bool)
-    → HasPending (places - RESERVED_PLACES) it logs numbers state → PagesHaveRoom (places - RESERVED_PLACES) c it state
+    → HasPending it.count it logs numbers state → PagesHaveRoom it.count c it state
     → StateHasOneWriter state → JoinInTurn numbers logs state ss it.committed after → Says places c it state.map
     → Says places c (with_committed it after) (after_batch state ss).map
 

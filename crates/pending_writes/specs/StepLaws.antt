@@ -1,6 +1,6 @@
 -- What each step of a store keeps: the memory and the chip stand for the state after it.
-use Rattle.std.specs.Prelude.{ℕ, ◌≡◌, ◌<◌, ◌≤◌, ◌-◌, Bool, false, List, [], length, Some, None, All, Contains}
-use Rattle.ipl_base.specs.declared.limits.TheConstants.{RESERVED_PLACES, PAGES, VERSION}
+use Rattle.std.specs.Prelude.{ℕ, ◌≡◌, ◌<◌, ◌≤◌, Bool, false, List, [], length, Some, None, All, Contains}
+use Rattle.ipl_base.specs.declared.limits.TheConstants.{PAGES, VERSION}
 use Rattle.chip_trait.specs.Told.{History}
 use Rattle.ipl_base.specs.Sizes.{size_in_page}
 use Rattle.ipl_rules.specs.State.{Map, State, at_rest}
@@ -48,7 +48,7 @@ abbrev pub WritesFit : Type 0
 WritesFit =
     (places : ℕ) (c : Chart) (it : Layout) (t : Tables) (frames : Frames) (slots : Slots) (state : State) (s u : ℕ)
     (r : Record) (f g : Frame)
-    → Fits places c it t frames slots state → s < length slots → number_of slots s ≡ Some r.tid → u < places - RESERVED_PLACES
+    → Fits places c it t frames slots state → s < length slots → number_of slots s ≡ Some r.tid → u < it.count
     → IsRecord VERSION r → frames u r.page ≡ Some f → IsWrittenFrame r f g
     → PageHasRoomFor (marks_in slots) u r f.values → LocksHold (after_record slots s u r)
     → Fits places c it t (with_frame_at frames u r.page (Some g)) (after_record slots s u r)
@@ -75,7 +75,7 @@ abbrev pub LoadsFit : Type 0
 LoadsFit =
     (places : ℕ) (c : Chart) (it : Layout) (t : Tables) (frames : Frames) (slots : Slots) (state : State) (u page : ℕ)
     (f : Frame)
-    → Fits places c it t frames slots state → u < places - RESERVED_PLACES → page < PAGES → frames u page ≡ None → f.log ≡ []
+    → Fits places c it t frames slots state → u < it.count → page < PAGES → frames u page ≡ None → f.log ≡ []
     → IsFrameOf c it (logs_of frames) (is_active t) u page f.values f.pending
     → Fits places c it t (with_frame_at frames u page (Some f)) slots state
 
@@ -122,7 +122,7 @@ abbrev pub OtherStepsFit : Type 0
 OtherStepsFit =
     (places : ℕ) (c y : Chart) (it new : Layout) (t after : Tables) (frames : Frames) (slots : Slots) (state : State)
     → Fits places c it t frames slots state
-    → ((u : ℕ) → u < places - RESERVED_PLACES → (new.units u).log ≡ (it.units u).log) → KeepsNumbers places it new.committed
+    → ((u : ℕ) → u < it.count → (new.units u).log ≡ (it.units u).log) → KeepsNumbers it new.committed
     → Mirrors places y new after → NoneIsLost places after → after.active ≡ t.active → KeepsPages places c it y new
     → Fits places y new after frames slots state
 
@@ -132,9 +132,9 @@ abbrev pub RenewalsFit : Type 0
 RenewalsFit =
     (places : ℕ) (h k : History) (it new : Layout) (t after : Tables) (frames : Frames) (slots : Slots) (state : State)
     → FitsStory places h it t frames slots state
-    → ((u : ℕ) → u < places - RESERVED_PLACES
+    → ((u : ℕ) → u < it.count
     → IsSameOrMerged (is_active t) (it.units u) (new.units u))
-    → ((u : ℕ) → u < places - RESERVED_PLACES
+    → ((u : ℕ) → u < it.count
     → All (λ r. new.committed r.tid ≡ it.committed r.tid) (records_of (new.units u).log))
     → StoryRests places state.map k → Agrees places k new after → NoneIsLost places after → after.active ≡ t.active
     → FitsStory places k new after frames slots state

@@ -1,9 +1,10 @@
 -- The tables that were filled know each place, whatever the chip tells.
-use Rattle.std.proofs.Common.{◌≡◌, ◌≢◌, inl, inr, ◌≤◌, ◌<◌, ◌+◌, ◌-◌, ℕ, zero, suc, Bool, true, false, ◌||◌, ◌==◌, nat_lt, List, length, map, get_or, Option, Some, None, refl, sym, ◌∙◌, ap, subst, arith}
+use Rattle.std.proofs.Common.{◌≡◌, ◌≢◌, inl, inr, ◌≤◌, ◌<◌, ℕ, zero, suc, Bool, true, false, ◌||◌, ◌==◌, nat_lt, List, length, map, get_or, Option, Some, None, refl, sym, ◌∙◌, ap, subst, arith}
 use Rattle.std.specs.List.{AllPairs, Contains}
 use Rattle.std.proofs.lemmas.Bool.{cases_eq, cases_Bool, eq-eqb, eqb-true, and_parts, or_cases, or_left, or_right}
 use Rattle.std.proofs.lemmas.List.{get_or_default}
 use Rattle.std.proofs.lemmas.Option.{same_Some}
+use Rattle.ipl_base.specs.Places.{KeepsUnits, units_on}
 use Rattle.ipl_meaning.specs.Mirrors.{AreApart}
 use Rattle.ipl_meaning.specs.Tables.{Places, OverflowLists, Status, IsFree, place_of as place_in}
 use Rattle.opening_rules.specs.First.{at, all_below, count_below}
@@ -66,7 +67,7 @@ module _ (heads : List (Option KeptHeader)) (current : List (Option Winner)) (wi
       case None is = absurd (there u low is)
       case (Some w) is =
           let found = sym (ap (λ (cur : ℕ → Option Winner). cur u) chosen.current_are) ∙ is in
-          elim (cases_Bool (nat_lt u (length heads - 4))) [
+          elim (cases_Bool (nat_lt u (units_on (length heads)))) [
             | inl less ↦ (w, is, chosen_is_best (is_data_of u) (at heads) (length heads) w (rw less at found))
             | inr past ↦ let no : None ≡ Some w = rw past at found in absurd (cc no)
           ]
@@ -75,7 +76,7 @@ module _ (heads : List (Option KeptHeader)) (current : List (Option Winner)) (wi
   status_best = chosen_is_best is_status (at heads) (length heads) winner (sym chosen.status_is)
 
   module _ (places : ℕ) (sized : length heads ≡ places) (notes : Notes) (d : Places) (lists : OverflowLists)
-      (status : Status) (most next : ℕ) (four : length current + 4 ≡ places)
+      (status : Status) (most next : ℕ) (keeps : KeepsUnits places (length current))
       (used : AreUsed (is_used (at current) (length current) winner.place (is_held heads notes)) places most d.in_use)
       (adopted : AreAdopted (at current) (length current) (length current) d)
       (spots : length lists.spots ≡ length current)
@@ -196,8 +197,8 @@ module _ (heads : List (Option KeptHeader)) (current : List (Option Winner)) (wi
     knows_places = record {
       suits = record {
         all = used.all;
-        units = omega (arith, adopted.units_are, four);
-        overflow = omega (arith, spots, four);
+        units = omega (arith, adopted.units_are, keeps);
+        overflow = spots ∙ sym adopted.units_are;
       };
       none_lost = none_lost;
       used = named_used;

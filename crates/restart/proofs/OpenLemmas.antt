@@ -1,10 +1,11 @@
 -- From the tables of an opening to the chart.
-use Rattle.std.proofs.Common.{◌≡◌, ◌≢◌, ◌⊎◌, inl, inr, ◌≤◌, ◌<◌, ◌+◌, ◌-◌, ◌*◌, ℕ, zero, suc, Bool, true, false, ◌&&◌, ◌||◌, nat_lt, List, length, get_or, Option, Some, None, Result, refl, sym, ◌∙◌, ap, subst, arith}
+use Rattle.std.proofs.Common.{◌≡◌, ◌≢◌, ◌⊎◌, inl, inr, ◌≤◌, ◌<◌, ◌+◌, ◌*◌, ℕ, zero, suc, Bool, true, false, ◌&&◌, ◌||◌, nat_lt, List, length, get_or, Option, Some, None, Result, refl, sym, ◌∙◌, ap, subst, arith}
 use Rattle.std.specs.Result.{IsErrAnd}
 use Rattle.std.specs.Option.{option_or}
 use Rattle.std.proofs.lemmas.Bool.{cases_eq, cases_Bool, eq-eqb, ne_eqb, eqb-true, le-leb}
 use Rattle.chip_trait.specs.Story.{Contents}
 use Rattle.chip_trait.specs.Told.{Told}
+use Rattle.ipl_base.specs.Places.{KeepsUnits, units_on}
 use Rattle.ipl_base.specs.declared.fault.ImageFault.{ImageFault}
 use Rattle.ipl_meaning.specs.Chart.{Chart, chart_of}
 use Rattle.ipl_meaning.specs.Layout.{Laid}
@@ -50,12 +51,12 @@ shows_from c places heads current status winner shown size currents its is = rec
 }
 
 pub headers_tell : {T : Type 0} (c : Chart) (places units : ℕ) (heads : List (Option KeptHeader)) (current : List (Option Winner)) (status : Option Winner) (r : Result T ImageFault)
-    → at heads ≡ header_at c places → length heads ≡ places → at current ≡ current_in (at heads) (length heads) → status ≡ status_in (at heads) (length heads) → units ≡ places - 4
+    → at heads ≡ header_at c places → length heads ≡ places → at current ≡ current_in (at heads) (length heads) → status ≡ status_in (at heads) (length heads) → units ≡ units_on places
     → TellsImageFault (first_of (header_tests units status (at current))) r → TellsImageFault (header_fault c places) r
-headers_tell c places units heads current status r shown size currents its four tells =
+headers_tell c places units heads current status r shown size currents its count tells =
     let current_is : at current ≡ current_at c places = currents ∙ ap (current_in (at heads)) size ∙ ap (λ (h : ℕ → Option KeptHeader). current_in h places) shown in
     let status_is : status ≡ status_at c places = its ∙ ap (status_in (at heads)) size ∙ ap (λ (h : ℕ → Option KeptHeader). status_in h places) shown in
-    subst (λ (n : ℕ). TellsImageFault (first_of (header_tests n (status_at c places) (current_at c places))) r) four
+    subst (λ (n : ℕ). TellsImageFault (first_of (header_tests n (status_at c places) (current_at c places))) r) count
     (subst (λ (cur : ℕ → Option Winner). TellsImageFault (first_of (header_tests units (status_at c places) cur)) r) current_is
     (subst (λ (st : Option Winner). TellsImageFault (first_of (header_tests units st (at current))) r) status_is tells))
 
@@ -63,7 +64,7 @@ pub status_low : (heads : ℕ → Option KeptHeader) (n : ℕ) (status : Option 
 status_low heads n status winner is some = (chosen_is_best _ heads n winner (sym is ∙ some)).within
 
 pub current_low : (heads : ℕ → Option KeptHeader) (n u : ℕ) (winner : Winner) → current_in heads n u ≡ Some winner → winner.place < n
-current_low heads n u winner is = elim (cases_Bool (nat_lt u (n - 4))) [
+current_low heads n u winner is = elim (cases_Bool (nat_lt u (units_on n))) [
   | inl low ↦ (chosen_is_best _ heads n winner (rw low at is)).within
   | inr past ↦ let no = rw past at is in absurd (none_some winner no)
 ] where
@@ -151,7 +152,7 @@ module _ (c : Chart) (places : ℕ) (heads : List (Option KeptHeader)) (current 
   noted_found notes lists it = to_chart (λ h cur st. IsNoted notes lists (marks h cur c (places * 256))) it
 
   -- a place is free exactly where it is unused
-  module _ (notes : Notes) (lists : OverflowLists) (noted : IsNoted notes lists (marks (at heads) (at current) c (places * 256))) (d : Places) (units most : ℕ) (four : units + 4 ≡ places) (used : AreUsed (is_used (at current) units status.place (is_held heads notes)) places most d.in_use) (p : ℕ) (low : p < places) where
+  module _ (notes : Notes) (lists : OverflowLists) (noted : IsNoted notes lists (marks (at heads) (at current) c (places * 256))) (d : Places) (units most : ℕ) (keeps : KeepsUnits places units) (used : AreUsed (is_used (at current) units status.place (is_held heads notes)) places most d.in_use) (p : ℕ) (low : p < places) where
     held_found : is_held heads notes p ≡ holds_live (header_at c places) (marks_in c places (places * 256)) p
     held_found = held_is heads notes lists (marks_in c places (places * 256)) (noted_found notes lists noted) p
         ∙ ap (λ (h : ℕ → Option KeptHeader). holds_live h (marks_in c places (places * 256)) p) shows.heads_are
@@ -162,7 +163,7 @@ module _ (c : Chart) (places : ℕ) (heads : List (Option KeptHeader)) (current 
         let parts = or_parts _ _ none in
         let first = or_parts _ _ parts.0 in record {
           not_home = λ u winner small is same.
-              let within : u < units = omega (arith, small, four) in
+              let within : u < units = omega (arith, small, keeps) in
               not_at (at current u) winner p (home_from (at current) units p u first.0 within) (ap (λ (cur : ℕ → Option Winner). cur u) shows.current_are ∙ is) same;
           not_status = λ winner is same. not_at (Some status) winner p first.1 (shows.status_is ∙ is) same;
           not_held = sym held_found ∙ parts.1;
@@ -172,22 +173,22 @@ module _ (c : Chart) (places : ℕ) (heads : List (Option KeptHeader)) (current 
     unused_to it =
         used.used_are p low ∙ or_both _ _
         (or_both _ _
-        (home_none (at current) units p (λ u within. at_none (at current u) p (λ winner is. it.not_home u winner (omega (arith, within, four)) (ap (λ (cur : ℕ → Option Winner). cur u) (sym shows.current_are) ∙ is))))
+        (home_none (at current) units p (λ u within. at_none (at current u) p (λ winner is. it.not_home u winner (omega (arith, within, keeps)) (ap (λ (cur : ℕ → Option Winner). cur u) (sym shows.current_are) ∙ is))))
         (at_none (Some status) p (λ winner is. it.not_status winner (sym shows.status_is ∙ is))))
         (held_found ∙ it.not_held)
 
-  pub opened : (notes : Notes) (lists : OverflowLists) → IsNoted notes lists (marks (at heads) (at current) c (places * 256)) → (d : Places) (units most counter greatest : ℕ) → units + 4 ≡ places
+  pub opened : (notes : Notes) (lists : OverflowLists) → IsNoted notes lists (marks (at heads) (at current) c (places * 256)) → (d : Places) (units most counter greatest : ℕ) → KeepsUnits places units
       → AreUsed (is_used (at current) units status.place (is_held heads notes)) places most d.in_use → AreAdopted (at current) units units d
       → greatest ≡ number_by c (at heads) (at current) (Some status) places → counter ≡ greatest + 1 → IsOpened places c d counter
-  opened notes lists noted d units most counter greatest four used adopted number next = record {
-    units = omega (arith, adopted.units_are, four);
-    logs = omega (arith, adopted.logs_are, four);
+  opened notes lists noted d units most counter greatest keeps used adopted number next = record {
+    units = omega (arith, adopted.units_are, keeps);
+    logs = omega (arith, adopted.logs_are, keeps);
     all = used.all;
-    current = λ u low. adopted.current_is u (omega (arith, low, four)) ∙ ap (λ (cur : ℕ → Option Winner). place_of (cur u)) shows.current_are;
-    heads = omega (arith, adopted.heads_are, four);
-    generation = λ u low. adopted.generation_is u (omega (arith, low, four)) ∙ ap (λ (cur : ℕ → Option Winner). generation_of (cur u)) shows.current_are;
-    written = λ u low. adopted.written_is u (omega (arith, low, four));
-    free = λ p low. (unused_from notes lists noted d units most four used p low, unused_to notes lists noted d units most four used p low);
+    current = λ u low. adopted.current_is u (omega (arith, low, keeps)) ∙ ap (λ (cur : ℕ → Option Winner). place_of (cur u)) shows.current_are;
+    heads = omega (arith, adopted.heads_are, keeps);
+    generation = λ u low. adopted.generation_is u (omega (arith, low, keeps)) ∙ ap (λ (cur : ℕ → Option Winner). generation_of (cur u)) shows.current_are;
+    written = λ u low. adopted.written_is u (omega (arith, low, keeps));
+    free = λ p low. (unused_from notes lists noted d units most keeps used p low, unused_to notes lists noted d units most keeps used p low);
     number = next ∙ ap (λ (n : ℕ). n + 1) (number_found greatest number);
   }
 
@@ -196,11 +197,11 @@ pub used_of : {used : ℕ → Bool} {m n most : ℕ} {in_use : List Bool} → m 
 used_of {used} {m} {n} {most} {in_use} same it = subst (λ (k : ℕ). AreUsed used k most in_use) same it
 
 -- whether told or not, a place is free, and it is not that of the first unit
-pub has_free : (heads : List (Option KeptHeader)) (current : List (Option Winner)) (status : Winner) (notes : Notes) (d : Places) (units places count : ℕ) → units + 4 ≡ places → 1 ≤ units → count ≤ 2
+pub has_free : (heads : List (Option KeptHeader)) (current : List (Option Winner)) (status : Winner) (notes : Notes) (d : Places) (units places count : ℕ) → KeepsUnits places units → 1 ≤ units → count ≤ 2
     → ((u : ℕ) (winner : Winner) → at current u ≡ Some winner → winner.place < places) → (at current 0 ≡ None → ⊥)
     → AreUsed (is_used (at current) units status.place (is_held heads notes)) places (units + 1 + count) d.in_use → AreAdopted (at current) units units d → HasFree d
-has_free heads current status notes d units places count four some two within there used adopted = record {
-  some = omega (arith, used.most_are, four, two);
+has_free heads current status notes d units places count keeps some two within there used adopted = record {
+  some = omega (arith, used.most_are, keeps, two);
   first = λ free. first_used (at current 0) refl free;
 } where
   first_used : (o : Option Winner) → at current 0 ≡ o → IsFree d (get_or d.current 0 0) → ⊥

@@ -1,5 +1,5 @@
 -- That the numbers are used up is told after all was read, and what was read is bytes then.
-use Rattle.std.proofs.Common.{◌≡◌, ◌≢◌, ◌-◌, [], inl, inr, ℕ, zero, suc, Bool, true, false, List, Option, Some, None, Result, Ok, Err, IfErr, ◌≤◌, if◌then◌else◌, sym, ◌∙◌, ap}
+use Rattle.std.proofs.Common.{◌≡◌, ◌≢◌, [], inl, inr, ℕ, zero, suc, Bool, true, false, List, Option, Some, None, Result, Ok, Err, IfErr, ◌≤◌, if◌then◌else◌, sym, ◌∙◌, ap}
 use Rattle.std.specs.Result.{IsErrAnd}
 use Rattle.std.specs.Option.{option_or}
 use Rattle.std.proofs.lemmas.Bool.{cases_Bool}
@@ -7,6 +7,7 @@ use Rattle.chip_trait.specs.Told.{Told}
 use Rattle.ipl_base.specs.declared.fault.ImageFault.{ImageFault}
 use Rattle.ipl_base.specs.declared.fault.ImageFault.TheVariants.{Geometry, Spent}
 use Rattle.ipl_base.specs.First.{first_below}
+use Rattle.ipl_base.specs.Places.{units_on}
 use Rattle.ipl_format.specs.Sector.{Sector}
 use Rattle.ipl_meaning.specs.Chart.{Chart, chart_of}
 use Rattle.opening_rules.specs.First.{first_of}
@@ -62,9 +63,9 @@ pub header_unspent : (c : Chart) (places : ℕ) → header_fault c places ≢ So
 header_unspent c places =
     or_unspent _ _ (not_formatted_unspent (status_at c places))
     (or_unspent _ _ (other_unspent (status_at c places))
-    (or_unspent _ _ (below_unspent _ (places - 4) (λ u. other_unspent (current_at c places u)))
-    (or_unspent _ _ (below_unspent _ (places - 4) (λ u. missing_unspent u (current_at c places u)))
-    (or_unspent _ _ (below_unspent _ (places - 4) (λ u. bad_unspent (current_at c places u)))
+    (or_unspent _ _ (below_unspent _ (units_on places) (λ u. other_unspent (current_at c places u)))
+    (or_unspent _ _ (below_unspent _ (units_on places) (λ u. missing_unspent u (current_at c places u)))
+    (or_unspent _ _ (below_unspent _ (units_on places) (λ u. bad_unspent (current_at c places u)))
     (or_unspent _ _ (bad_unspent (status_at c places)) none_unspent)))))
 
 commit_test_unspent : (p s : ℕ) (o : Option Sector) → commit_test p s o ≢ Some Spent

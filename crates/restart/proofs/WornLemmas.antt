@@ -1,10 +1,11 @@
 -- After a format no place of the chip is worn, and what stands outside the chip counts for nothing.
-use Rattle.std.proofs.Common.{◌≡◌, ℕ, zero, suc, ◌-◌, ◌<◌, ◌≤◌, ◌++◌, true, false, inl, inr, refl, sym, ◌∙◌, arith}
+use Rattle.std.proofs.Common.{◌≡◌, ℕ, zero, suc, ◌<◌, ◌≤◌, ◌++◌, true, false, inl, inr, refl, sym, ◌∙◌, arith}
 use Rattle.std.proofs.lemmas.Bool.{cases_eq, cases_lt, eq-eqb, ne_eqb, and_right, false≢true}
 use Rattle.chip_trait.specs.declared.event.Event.TheVariants.{Erase}
 use Rattle.chip_trait.specs.Story.{Story}
 use Rattle.chip_trait.specs.Image.{is_sound, is_worn}
 use Rattle.chip_trait.specs.Told.{History, adds_all}
+use Rattle.ipl_base.specs.Places.{units_on}
 use Rattle.ipl_meaning.specs.Chart.{Chart}
 use Rattle.ipl_meaning.specs.Layout.{Layout, Laid}
 use Rattle.ipl_meaning.specs.Rests.{now, WornAreIdle}
@@ -27,7 +28,7 @@ mended places story zero p low = rw (sound_erases story places p low) (and_right
 mended places story (suc k) p low = mended places story k p low
 
 none_worn : (places : ℕ) (story : Story) (p : ℕ) → p < places → is_worn (format_events places ++ story) p ≡ false
-none_worn places story p low = rw (mended places story (places - 4) p low) refl
+none_worn places story p low = rw (mended places story (units_on places) p low) refl
 
 -- ---- outside it
 

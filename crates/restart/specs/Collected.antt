@@ -1,7 +1,7 @@
 -- The committed numbers that live log records have, as far as they are found.
-use Rattle.std.specs.Prelude.{ℕ, zero, suc, ◌≡◌, ◌<◌, ◌≤◌, ◌-◌, Bool, List, [], length, Option, Some, None}
+use Rattle.std.specs.Prelude.{ℕ, zero, suc, ◌≡◌, ◌<◌, ◌≤◌, Bool, List, [], length, Option, Some, None}
 use Rattle.std.specs.Bool.{OnTrue, OnFalse}
-use Rattle.ipl_base.specs.declared.limits.TheConstants.{RESERVED_PLACES, KEPT_NUMBERS}
+use Rattle.ipl_base.specs.declared.limits.TheConstants.{KEPT_NUMBERS}
 use Rattle.ipl_format.specs.Record.{Record}
 use Rattle.ipl_format.specs.Sector.{Sector}
 use Rattle.log_records.specs.Reading.{records_of}
@@ -35,5 +35,5 @@ pub record AreKept (found : List ℕ) (fits : Bool) (numbers : List ℕ) : Type 
 pub record AreCollected (places : ℕ) (c : Chart) (fits : Bool) (numbers : List ℕ) : Type 0 where
   pub found : List ℕ
   pub rising : AreRising found
-  pub exact : KeepsBelow (places - RESERVED_PLACES) (layout_in c places) found
+  pub exact : KeepsBelow (layout_in c places).count (layout_in c places) found
   pub kept : AreKept found fits numbers

@@ -1,6 +1,7 @@
 //! The directory and the overflow lists are filled.
-ghost use Rattle.std.specs.Prelude.{◌≡◌, ◌<◌, ◌≤◌, ◌+◌, ◌-◌, ◌&&◌, ◌||◌, Bool, ℕ, [], true, length, Option, Some};
+ghost use Rattle.std.specs.Prelude.{◌≡◌, ◌<◌, ◌≤◌, ◌+◌, ◌&&◌, ◌||◌, Bool, ℕ, [], true, length, Option, Some};
 ghost use Rattle.ipl_base.specs.declared.limits.TheConstants.{MOST_PLACES};
+ghost use Rattle.ipl_base.specs.Places.{KeepsUnits};
 ghost use Rattle.opening_rules.specs.First.{at, count_below, all_below, with_one};
 ghost use Rattle.opening_rules.specs.Chosen.{Winner as Chosen};
 ghost use Rattle.opening_rules.specs.Live.{is_overflow_place};
@@ -19,7 +20,7 @@ use unit_directory::Directory;
 /// Gives each unit the place and the generation of its header, with no log sector known clean, nor one
 /// that names a page. Nothing else is in use then.
 pub(crate) fn adopt_all(directory: &mut Directory, current: &[Option<Winner>])
-    requires units { length current.now + 4 ≡ length directory.old.in_use }
+    requires units { KeepsUnits (length directory.old.in_use) (length current.now) }
     requires places { length directory.old.in_use ≤ MOST_PLACES }
     requires within { (u : ℕ) (winner : Chosen) → at current.now u ≡ Some winner
         → winner.place < length directory.old.in_use }
@@ -28,6 +29,7 @@ pub(crate) fn adopt_all(directory: &mut Directory, current: &[Option<Winner>])
         (length current.now) directory.new.in_use }
     ensures blank { NoneNamed (length current.now) directory.new }
 {
+    directory.facts();
     directory.reset();
     for unit in 0..current.len() {
         match current[unit] {
@@ -91,7 +93,7 @@ pub(crate) fn take_others(
 fn list_place(overflow: &mut Overflow, heads: &[Option<Header>], noted: &Noted, place: u32)
     requires heads { place < length heads.now }
     requires places { place < places_of noted.now }
-    requires four { length overflow.old.spots + 4 ≡ length heads.now }
+    requires keeps { KeepsUnits (length heads.now) (length overflow.old.spots) }
     requires room { is_held_place heads.now noted.now place ≡ true
         → length overflow.old.in_use < 2 }
     ensures in_use { overflow.new.in_use ≡ with_one overflow.old.in_use
@@ -108,7 +110,7 @@ fn list_place(overflow: &mut Overflow, heads: &[Option<Header>], noted: &Noted, 
 pub(crate) fn list_places(overflow: &mut Overflow, heads: &[Option<Header>], noted: &Noted)
     requires small { length heads.now ≤ MOST_PLACES }
     requires places { places_of noted.now ≡ length heads.now }
-    requires four { length overflow.old.spots + 4 ≡ length heads.now }
+    requires keeps { KeepsUnits (length heads.now) (length overflow.old.spots) }
     requires two { count_below (is_held_place heads.now noted.now) (length heads.now) ≤ 2 }
     requires none { overflow.old.in_use ≡ [] }
     ensures in_use { overflow.new.in_use

@@ -2,6 +2,7 @@
 ghost use Rattle.std.specs.Prelude.{◌≡◌, ◌<◌, ◌≤◌, ◌+◌, ◌*◌, ℕ, List, [], true, false, max, length, Some, IfOk, IfErr, IfSome, OnOk};
 ghost use Rattle.std.specs.Option.{option_map};
 ghost use Rattle.ipl_base.specs.declared.limits.TheConstants.{OVERFLOW_SECTORS, PAYLOAD_LEN};
+ghost use Rattle.ipl_base.specs.Places.{KeepsUnits};
 ghost use Rattle.sector_format.specs.Decode.{sector_of};
 ghost use Rattle.ipl_meaning.specs.Chart.{chart_of};
 ghost use Rattle.ipl_meaning.specs.Masks.{mask_of as pages_of};
@@ -85,7 +86,7 @@ fn list_log(
     requires sector { spot.sector < 256 }
     requires unit { unit < length overflow.old.spots }
     requires units { length directory.old.current ≡ length overflow.old.spots }
-    requires four { length overflow.old.spots + 4 ≡ length heads.now }
+    requires keeps { KeepsUnits (length heads.now) (length overflow.old.spots) }
     requires few { is_overflow_place (at heads.now spot.place) ≡ true
         → overflow_count_of overflow.old unit < OVERFLOW_SECTORS }
     requires home { is_overflow_place (at heads.now spot.place) ≡ false → 241 ≤ spot.sector }
@@ -356,19 +357,19 @@ pub(crate) fn scan<C: Chip>(
     status: &Status,
     least: u64,
 ) -> Result<Gathered, ImageFault>
-    requires size { geometry ≡ (C.told chip.old).places }
-    requires heads { length heads.now ≡ geometry }
-    requires sized { AreSized (length current.now) geometry noted.old overflow.old }
+    requires size { geometry.places ≡ (C.told chip.old).places }
+    requires heads { length heads.now ≡ geometry.places }
+    requires sized { AreSized (length current.now) geometry.places noted.old overflow.old }
     requires units { length directory.old.current ≡ length current.now }
     requires blank { NoneNamed (length current.now) directory.old }
     ensures scanned { IfOk result (λ all. OfContents (C.told chip.old) (λ x.
-        IsScanned x (at heads.now) (at current.now) status.now.numbers least (geometry * 256)
+        IsScanned x (at heads.now) (at current.now) status.now.numbers least (geometry.places * 256)
         noted.new directory.new overflow.new numbers.new all.fits all.greatest)) }
     ensures fault { IfErr result (λ e. OfContents (C.told chip.old) (λ x. is_image e ≡ true
-        → first_below (log_fault (at heads.now) (at current.now) (chart_of x)) (geometry * 256)
+        → first_below (log_fault (at heads.now) (at current.now) (chart_of x)) (geometry.places * 256)
         ≡ Some e)) }
     ensures none { OnOk result (overflow.new.in_use ≡ []) }
-    ensures sized { AreSized (length current.now) geometry noted.new overflow.new }
+    ensures sized { AreSized (length current.now) geometry.places noted.new overflow.new }
     ensures places { SamePlaces directory.old directory.new }
     ensures looks { Looks HasCause result (C.told chip.old) (C.told chip.new) }
     ensures once { ReadsOnce (MayHoldLog (at heads.now) (at current.now))

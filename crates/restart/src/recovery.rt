@@ -1,6 +1,7 @@
 //! The opening of a chip.
-ghost use Rattle.std.specs.Prelude.{◌≡◌, ◌≢◌, ◌<◌, ◌≤◌, ◌+◌, ◌-◌, ◌*◌, ◌^◌, ℕ, [], length, Some, None, IfOk, IfErr, OnOk};
+ghost use Rattle.std.specs.Prelude.{◌≡◌, ◌≢◌, ◌<◌, ◌≤◌, ◌*◌, ◌^◌, ℕ, [], length, Some, None, IfOk, IfErr, OnOk};
 ghost use Rattle.chip_trait.specs.Told.{Told};
+ghost use Rattle.ipl_base.specs.Places.{KeepsUnits};
 ghost use Rattle.ipl_base.specs.declared.fault.ImageFault.TheVariants.{Spent};
 ghost use Rattle.ipl_meaning.specs.Chart.{chart_of};
 ghost use Rattle.ipl_meaning.specs.Layout.{Laid};
@@ -50,19 +51,19 @@ fn read_headers<C: Chip>(
     heads: &mut [Option<Header>],
     current: &mut [Option<Winner>],
 ) -> Result<Winner, ImageFault>
-    requires size { geometry ≡ (C.told chip.old).places }
-    requires heads { length heads.old ≡ geometry }
-    requires current { length current.old + 4 ≡ geometry }
+    requires size { geometry.places ≡ (C.told chip.old).places }
+    requires heads { length heads.old ≡ geometry.places }
+    requires current { KeepsUnits geometry.places (length current.old) }
     ensures shown { IfOk result (λ status. OfContents (C.told chip.old) (λ x.
-        ShowsHeaders (chart_of x) geometry heads.new current.new status)) }
+        ShowsHeaders (chart_of x) geometry.places heads.new current.new status)) }
     ensures chosen { IfOk result (λ status. AreChosen heads.new current.new status) }
     ensures fault { OfContents (C.told chip.old) (λ x.
-        TellsImageFault (header_fault (chart_of x) geometry) result) }
+        TellsImageFault (header_fault (chart_of x) geometry.places) result) }
     ensures whole { OnOk result (OfContents (C.told chip.old) (λ x.
-        (p : ℕ) → p < geometry → IsWhole (x p 0))) }
-    ensures status { IfOk result (λ status. status.place < geometry) }
+        (p : ℕ) → p < geometry.places → IsWhole (x p 0))) }
+    ensures status { IfOk result (λ status. status.place < geometry.places) }
     ensures within { OnOk result ((u : ℕ) (winner : Chosen)
-        → at current.new u ≡ Some winner → winner.place < geometry) }
+        → at current.new u ≡ Some winner → winner.place < geometry.places) }
     ensures there { OnOk result ((u : ℕ) → u < length current.new → at current.new u ≢ None) }
     ensures looks { Looks HasCause result (C.told chip.old) (C.told chip.new) }
     ensures once { ReadsOnce IsHeaderSpot (C.told chip.old) (C.told chip.new) }
@@ -87,24 +88,24 @@ fn read_rest<C: Chip>(
     status: &mut Status,
     numbers: &mut KeptNumbers,
 ) -> Result<Gathered, ImageFault>
-    requires size { geometry ≡ (C.told chip.old).places }
-    requires heads { length heads.now ≡ geometry }
-    requires sized { AreSized (length current.now) geometry noted.old overflow.old }
+    requires size { geometry.places ≡ (C.told chip.old).places }
+    requires heads { length heads.now ≡ geometry.places }
+    requires sized { AreSized (length current.now) geometry.places noted.old overflow.old }
     requires units { length directory.old.current ≡ length current.now }
     requires blank { NoneNamed (length current.now) directory.old }
-    requires winner { winner.now.place < geometry }
+    requires winner { winner.now.place < geometry.places }
     ensures fault { OfContents (C.told chip.old) (λ x. TellsImageFault
-        (fault_by (chart_of x) (at heads.now) (at current.now) (Some winner.now) geometry) result) }
+        (fault_by (chart_of x) (at heads.now) (at current.now) (Some winner.now) geometry.places) result) }
     ensures number { IfOk result (λ all. OfContents (C.told chip.old) (λ x. all.greatest
-        ≡ number_by (chart_of x) (at heads.now) (at current.now) (Some winner.now) geometry)) }
+        ≡ number_by (chart_of x) (at heads.now) (at current.now) (Some winner.now) geometry.places)) }
     ensures collected { IfOk result (λ all. OfContents (C.told chip.old) (λ x. AreKept
         (numbers_below status.new.numbers (at heads.now) (at current.now) (chart_of x)
-        (geometry * 256)) all.fits numbers.new)) }
+        (geometry.places * 256)) all.fits numbers.new)) }
     ensures noted { OnOk result (OfContents (C.told chip.old) (λ x. IsNoted noted.new overflow.new
-        (marks (at heads.now) (at current.now) (chart_of x) (geometry * 256)))) }
+        (marks (at heads.now) (at current.now) (chart_of x) (geometry.places * 256)))) }
     ensures masked { OnOk result (OfContents (C.told chip.old) (λ x.
         IsMasked (at heads.now) (at current.now)
-        (mask_by (at heads.now) (at current.now) (chart_of x)) (geometry * 256)
+        (mask_by (at heads.now) (at current.now) (chart_of x)) (geometry.places * 256)
         directory.new overflow.new)) }
     ensures places { SamePlaces directory.old directory.new }
     ensures status { OnOk result (OfContents (C.told chip.old) (λ x.
@@ -112,13 +113,13 @@ fn read_rest<C: Chip>(
     ensures placed { OnOk result (status.new.place ≡ winner.now.place) }
     ensures unclean { OnOk result (status.new.first ≡ 256) }
     ensures whole { OnOk result (OfContents (C.told chip.old) (λ x.
-        IsRestWhole x geometry heads.now current.now winner.now)) }
+        IsRestWhole x geometry.places heads.now current.now winner.now)) }
     ensures spent { IfErr result (λ e. e ≡ Spent → OfContents (C.told chip.old) (λ x.
-        IsRestWhole x geometry heads.now current.now winner.now)) }
+        IsRestWhole x geometry.places heads.now current.now winner.now)) }
     ensures left { IfOk result (λ all. all.greatest < 2 ^ 63) }
     ensures two { OnOk result (count_below (is_held heads.now noted.new) (length heads.now) ≤ 2) }
     ensures none { OnOk result (overflow.new.in_use ≡ []) }
-    ensures sized { AreSized (length current.now) geometry noted.new overflow.new }
+    ensures sized { AreSized (length current.now) geometry.places noted.new overflow.new }
     ensures looks { Looks HasCause result (C.told chip.old) (C.told chip.new) }
     ensures once { ((s : ℕ) → ¬ MayHoldLog (at heads.now) (at current.now) winner.now.place s)
         → ReadsOnce IsBehindHeader (C.told chip.old) (C.told chip.new) }
@@ -145,31 +146,31 @@ fn open<C: Chip>(
     counter: &mut Counter,
     numbers: &mut KeptNumbers,
 ) -> Result<bool, ImageFault>
-    requires size { geometry ≡ (C.told chip.old).places }
-    requires heads { length heads.old ≡ geometry }
-    requires sized { AreSized (length current.old) geometry noted.old overflow.old }
-    requires directory { length directory.old.in_use ≡ geometry }
+    requires size { geometry.places ≡ (C.told chip.old).places }
+    requires heads { length heads.old ≡ geometry.places }
+    requires sized { AreSized (length current.old) geometry.places noted.old overflow.old }
+    requires directory { length directory.old.in_use ≡ geometry.places }
     ensures fault { OfContents (C.told chip.old) (λ x.
-        TellsImageFault (first_fault (chart_of x) geometry) result) }
+        TellsImageFault (first_fault (chart_of x) geometry.places) result) }
     ensures opened { OnOk result (OfContents (C.told chip.old) (λ x.
-        AreOpened geometry (chart_of x)
+        AreOpened geometry.places (chart_of x)
         (tables_of directory.new overflow.new status.new counter.new))) }
     ensures laid { OnOk result (OfContents (C.told chip.old) (λ x.
-        Laid geometry (chart_of x) (layout_in (chart_of x) geometry))) }
+        Laid geometry.places (chart_of x) (layout_in (chart_of x) geometry.places))) }
     ensures mirrors { OnOk result (OfContents (C.told chip.old) (λ x.
-        Mirrors geometry (chart_of x) (layout_in (chart_of x) geometry)
+        Mirrors geometry.places (chart_of x) (layout_in (chart_of x) geometry.places)
         (tables_of directory.new overflow.new status.new counter.new))) }
     ensures collected { IfOk result (λ fits. OfContents (C.told chip.old) (λ x.
-        AreCollected geometry (chart_of x) fits numbers.new)) }
-    ensures bytes { ReadsBytes geometry (C.told chip.old) result }
-    ensures known { OnOk result (KnowsPlaces geometry
+        AreCollected geometry.places (chart_of x) fits numbers.new)) }
+    ensures bytes { ReadsBytes geometry.places (C.told chip.old) result }
+    ensures known { OnOk result (KnowsPlaces geometry.places
         (tables_of directory.new overflow.new status.new counter.new)) }
     ensures unclean { OnOk result (NoneIsClean
         (tables_of directory.new overflow.new status.new counter.new)) }
     ensures free { OnOk result (HasFree directory.new) }
     ensures left { OnOk result (counter.new ≤ 2 ^ 63) }
-    ensures size { length directory.new.in_use ≡ geometry }
-    ensures sized { AreSized (length current.new) geometry noted.new overflow.new }
+    ensures size { length directory.new.in_use ≡ geometry.places }
+    ensures sized { AreSized (length current.new) geometry.places noted.new overflow.new }
     ensures looks { Looks HasCause result (C.told chip.old) (C.told chip.new) }
     ensures once { ReadsOnce Anywhere (C.told chip.old) (C.told chip.new) }
 {
@@ -199,18 +200,18 @@ pub struct Scratch {
 impl Model for Scratch {
     ghost Value = { ℕ };
 
-    ghost view = { λ s. s.geometry };
+    ghost view = { λ s. s.geometry.places };
 
-    ghost invariant = { λ s. (length s.heads.items ≡ s.geometry)
-        × (length s.current.items + 4 ≡ s.geometry)
-        × (units_of s.noted + 4 ≡ s.geometry)
-        × (places_of s.noted ≡ s.geometry) };
+    ghost invariant = { λ s. (length s.heads.items ≡ s.geometry.places)
+        × KeepsUnits s.geometry.places (length s.current.items)
+        × KeepsUnits s.geometry.places (units_of s.noted)
+        × (places_of s.noted ≡ s.geometry.places) };
 }
 
 impl Scratch {
     /// Scratch memory for a chip of this size.
     pub fn new(alloc: Global, geometry: Geometry) -> Result<Scratch, OutOfMemory>
-        ensures { IfOk result (λ scratch. scratch ≡ geometry) }
+        ensures { IfOk result (λ scratch. scratch ≡ geometry.places) }
     {
         let heads = vec![in alloc; None; geometry.places() as usize]?;
         let current = vec![in alloc; None; geometry.units() as usize]?;
@@ -251,7 +252,7 @@ pub fn recover<C: Chip>(
 ) -> Result<bool, ImageFault>
     requires scratch { scratch.old ≡ (C.told chip.old).places }
     requires directory { length directory.old.in_use ≡ (C.told chip.old).places }
-    requires overflow { length overflow.old.spots + 4 ≡ (C.told chip.old).places }
+    requires overflow { KeepsUnits (C.told chip.old).places (length overflow.old.spots) }
 
     // It fails exactly with the first fault of the chip's contents, unless a read failed.
     ensures fault { OfContents (C.told chip.old) (λ x.

@@ -3,6 +3,7 @@ use Rattle.std.proofs.Common.{ℕ, ◌≡◌, ◌⊎◌, inl, inr, ◌≤◌, �
 use Rattle.chip_trait.specs.Story.{Contents, held}
 use Rattle.chip_trait.specs.Told.{History, Told}
 use Rattle.ipl_base.specs.declared.fault.ChipFault.TheVariants.{ReadFault, Stopped, Damaged, Malformed, WornOut}
+use Rattle.ipl_base.specs.Places.{KeepsUnits, places_for}
 use Rattle.ipl_base.specs.declared.fault.ImageFault.{ImageFault}
 use Rattle.ipl_base.specs.declared.fault.ImageFault.TheVariants as image
 use Rattle.ipl_rules.specs.Operations.{after_restart}
@@ -195,7 +196,7 @@ module _ (a b : ScriptStore) (before after : Told) (runs : IsRunning before.plac
   units : b.store.units ≡ a.store.units
   units = let was = runs.sound.made.units in let are = sound.made.units in omega (arith, was, are)
 
-  suits : a.store.units + 4 ≡ before.places
+  suits : KeepsUnits before.places a.store.units
   suits = runs.sound.made.units
 
   opened_does : Opens before.places before b.store after
@@ -235,7 +236,7 @@ module _ (a b : ScriptStore) (before after : Told) (runs : IsRunning before.plac
           let told = keeps.steady.holds in
           let shown = (keeps.up runs.up).shows in
           let bytes = subst (λ (n : ℕ). IsByteChart n (chart_of x)) (sym suits) (tries.bytes x told) in
-          let below = few_found (a.store.units + 4) (chart_of x) shown.layout
+          let below = few_found (places_for a.store.units) (chart_of x) shown.layout
           (counter_of a.store) bytes shown.fits.mirrors.laid shown.fits.mirrors.numbers.above in
           let number = subst (λ (n : ℕ).
           counter_of b.store ≤ greatest_found (chart_of x) n + 1 + 2 ^ 14)

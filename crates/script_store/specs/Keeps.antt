@@ -1,11 +1,11 @@
 -- How the store that a run of a script works with keeps a state, and what the work of each command
 -- leaves of it.
-use Rattle.std.specs.Prelude.{ℕ, ◌≡◌, ◌≤◌, ◌+◌, false, List, Option, None, Result, Ok, Err, IfErr, OnOk, IsErrOf, is_ok, if◌then◌else◌}
+use Rattle.std.specs.Prelude.{ℕ, ◌≡◌, ◌≤◌, false, List, Option, None, Result, Ok, Err, IfErr, OnOk, IsErrOf, is_ok, if◌then◌else◌}
 use Rattle.chip_trait.specs.Chart.{says}
 use Rattle.chip_trait.specs.Told.{History, Told, Counts, adds_all}
 use Rattle.ipl_base.specs.declared.fault.StoreFault.{StoreFault}
 use Rattle.ipl_base.specs.declared.fault.StoreFault.TheVariants as store
-use Rattle.ipl_base.specs.declared.limits.TheConstants.{RESERVED_PLACES}
+use Rattle.ipl_base.specs.Places.{places_for}
 use Rattle.ipl_rules.specs.State.{State, Limits}
 use Rattle.ipl_model.specs.declared.command.Command.{Command}
 use Rattle.ipl_model.specs.declared.reply.Reply.{Reply}
@@ -52,7 +52,7 @@ script_still limits s old new h state still keeps = record {
 abbrev pub script_keeping : Keeping ScriptStore
 script_keeping = record {
   checks = says sector_in;
-  stands = λ limits x m. Stands (limits.units + RESERVED_PLACES) (chart_of x) m;
+  stands = λ limits x m. Stands (places_for limits.units) (chart_of x) m;
   holds = KeepsScript;
   suits = λ s places. IsRunning places s;
   clean = λ s p sector. IsCountedClean (view_of s.store).memory.tables p sector;

@@ -28,6 +28,13 @@ impl ScriptStore {
         ScriptStore { store }
     }
 
+    /// The units of its chip.
+    pub fn units(&self) -> u32
+        ensures { result ≡ self.now.store.units }
+    {
+        self.store.units()
+    }
+
     /// Names are numbers below this: those of all units of its chip.
     pub(crate) fn limit(&self) -> u32
         ensures most { result ≤ 983040 }

@@ -61,14 +61,14 @@ held_back places t after n is known = record {
 }
 
 -- the place of a unit is in use
-pub home_used : (places : ℕ) (t : Tables) (u : ℕ) → KnowsPlaces places t → u + 4 < places
+pub home_used : (places : ℕ) (t : Tables) (u : ℕ) → KnowsPlaces places t → u < length t.places.current
     → ¬ IsFree t.places (slice_index t.places.current u)
 home_used places t u known low =
     known.used (slice_index t.places.current u)
-    (inl (Contains-get_or t.places.current u 0 (omega (arith, low, known.suits.units))))
+    (inl (Contains-get_or t.places.current u 0 low))
 
 pub held_moved : KnownPlacesMove → (places : ℕ) (t after : Tables) (u p used next : ℕ)
-    → KnowsPlaces places t → u + 4 < places → p < places → IsFree t.places p
+    → KnowsPlaces places t → u < length t.places.current → p < places → IsFree t.places p
     → IsMoved (with_next (taken t p) next) after u p used → NoneIsLost places after
     → Holds places t after
 held_moved moves places t after u p used next known low within free moved lost = record {
@@ -79,7 +79,7 @@ held_moved moves places t after u p used next known low within free moved lost =
 
 -- as many places are free, at least
 pub more_free : (places : ℕ) (t : Tables) (after : Places) (u p : ℕ) → KnowsPlaces places t
-    → u + 4 < places → IsFree t.places p → UsesTake
+    → u < length t.places.current → IsFree t.places p → UsesTake
     → (¬ IsFree (with_use t.places p true) (slice_index t.places.current u)
     → free_count (with_use t.places p true).in_use + 1 ≤ free_count after.in_use)
     → free_count t.places.in_use ≤ free_count after.in_use

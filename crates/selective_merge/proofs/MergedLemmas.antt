@@ -1,5 +1,5 @@
 -- A merge, once the unit is written: what the chip stands for, and what the tables say.
-use Rattle.std.proofs.Common.{◌≡◌, ◌≢◌, ◌⊎◌, ◌<◌, ◌≤◌, ◌+◌, ◌-◌, ℕ, true, List, [], ◌++◌, length, get_or, slice_index, slice_set, Some, None, Ok, Err, inl, inr, refl, sym, ◌∙◌, ap, ap₂, subst, arith}
+use Rattle.std.proofs.Common.{◌≡◌, ◌≢◌, ◌⊎◌, ◌<◌, ◌≤◌, ◌+◌, ℕ, true, List, [], ◌++◌, length, get_or, slice_index, slice_set, Some, None, Ok, Err, inl, inr, refl, sym, ◌∙◌, ap, ap₂, subst, arith}
 use Rattle.std.specs.List.{All, Contains}
 use Rattle.std.proofs.lemmas.Bool.{cases_eq}
 use Rattle.std.proofs.lemmas.List.{get_or-set_same, get_or-set_other, length-set, length-map}
@@ -101,14 +101,14 @@ module _ (t after : Tables) (u p used g : ℕ)
 -- what the tables and the log that was read make of the unit
 pub to_merge : (places : ℕ) (c : Chart) (it : Layout) (t : Tables) (u p g serial : ℕ)
     (from : Source) (payloads closed : List Versioned) (active : List ℕ) (log : List Record)
-    → Mirrors places c it t → u + 4 < places → IsFree t.places p → p < places
+    → Mirrors places c it t → u < length t.places.current → IsFree t.places p → p < places
     → from ≡ source_of t (it.units u) u → t.next ≤ g → g < serial → payloads ≡ closed
     → closed ≡ payloads_of (packs_of active log) → active ≡ t.active → log ≡ from.records
     → length payloads ≤ 12 → IsToMerge places c it t u p g serial from payloads
 to_merge places c it t u p g serial from payloads closed active log mirrors low free within source
     new later is packed same_active same_log few = record {
       mirrors = mirrors;
-      low = omega (arith, low);
+      low = omega (arith, low, mirrors.directory.units);
       free = free;
       within = within;
       source = source;
@@ -194,7 +194,7 @@ module _ (places : ℕ) (m : Map) (it : Layout) (t : Tables) (u p g serial n : �
   apart = counted_apart places (now h) it t p mirrors idle no_overflow
 
   -- the merge was done
-  pub merged_steps : (after : Tables) → u < places - 4 → n ≡ length (packs_in t (it.units u))
+  pub merged_steps : (after : Tables) → u < it.count → n ≡ length (packs_in t (it.units u))
       → IsMoved (with_next (taken t p) g) after u p n
       → TellsPacks t after u g (packs_in t (it.units u)) → serial + n ≤ after.next
       → KeepsThroughout {T = Unit {0}} {E = ChipFault} places m (Rewrites p (241 + n))

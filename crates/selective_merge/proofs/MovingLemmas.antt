@@ -4,6 +4,7 @@ use Rattle.std.specs.List.{AllPairs, Contains}
 use Rattle.std.proofs.lemmas.Bool.{cases_Bool, cases_eq}
 use Rattle.std.proofs.lemmas.List.{get_or-set_same, get_or-map, get_or-set_other, length-map, length-set, set-set}
 use Rattle.std.proofs.lemmas.List.Elements.{Contains-get_or}
+use Rattle.ipl_base.specs.Places.{places_for}
 use Rattle.ipl_meaning.specs.Mirrors.{AreApart}
 use Rattle.ipl_meaning.specs.Tables.{Places, IsFree, Status, OverflowLists, Tables, overflow_places, place_of, with_written, with_masks}
 use Rattle.ipl_meaning.specs.TableSteps.{IsMoved, with_next}
@@ -79,7 +80,7 @@ in_use_moved it u p generation used d is = ap (λ (x : Places). length x.in_use)
 
 -- an overflow place that is left is one of the chip's
 pub left_within : DropsMove → (it : OverflowLists) (u : ℕ) (left : List (Option ℕ)) (i n : ℕ)
-    → IsSoundOverflow it → listed left ≡ places_left it u → length it.spots + 4 ≡ n
+    → IsSoundOverflow it → listed left ≡ places_left it u → places_for (length it.spots) ≡ n
     → IfSome (get_or left i None) (λ p. p < n)
 left_within drops it u left i n sound is sized = case (get_or left i None) refl
   where

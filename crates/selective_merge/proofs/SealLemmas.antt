@@ -1,5 +1,5 @@
 -- A place sealed.
-use Rattle.std.proofs.Common.{◌≡◌, ◌+◌, ◌-◌, ℕ, List, length, true, None, Result, Ok, Err, IfErr, IfOk, OnOk, is_ok, refl, sym, ◌∙◌, ap, subst, arith}
+use Rattle.std.proofs.Common.{◌≡◌, ◌≤◌, ◌*◌, ℕ, List, length, true, None, Result, Ok, Err, IfErr, IfOk, OnOk, is_ok, refl, sym, ◌∙◌, ap, subst, arith}
 use Rattle.std.proofs.lemmas.List.{length-map}
 use Rattle.chip_trait.specs.Chart.{with_sector}
 use Rattle.chip_trait.specs.Lawful.{Clean, age}
@@ -73,7 +73,8 @@ pub says_of : (places : ℕ) (c : Chart) (it : Layout) (m : Map) → Laid places
 says_of places c it m laid stands =
     let one = laid_once places c it stands.layout laid stands.laid in record {
       pages = λ u page low few.
-          let there = stands.says.pages u page low few in
+          let theirs = rw one.count at low in
+          let there = stands.says.pages u page theirs few in
           let units : stands.layout.units u ≡ it.units u = sym (one.units u low) in
           let here : Shows c stands.layout.committed u (it.units u) page (page_in m u page) =
           subst (λ (s : Shape). Shows c stands.layout.committed u s page (page_in m u page))
@@ -85,7 +86,8 @@ says_of places c it m laid stands =
                 ∙ sym (same_applied it.committed stands.layout.committed page slot
                 (records_of (it.units u).log) _ (λ k d within. sym (one.committed _)));
           };
-      nowhere_else = stands.says.nowhere_else;
+      nowhere_else = λ n high.
+          stands.says.nowhere_else n (subst (λ (k : ℕ). 960 * k ≤ n) one.count high);
     }
 
 -- ---- worn places
@@ -109,17 +111,15 @@ worn_after_filling places c it t u p head pieces serial m k may rests clean =
 -- ---- a unit written
 
 module _ (places units p g serial carried : ℕ) (from : Source) (payloads : List Versioned)
-    (pieces : List ℕ) (sized : units + 4 ≡ places) (few : IsFew pieces)
-    (carried_is : carried ≡ length payloads) where
+    (pieces : List ℕ) (few : IsFew pieces) (carried_is : carried ≡ length payloads) where
   -- what is known of a place that was filled gives what a merge asks
   may_merge : (c y : Chart) (it : Layout) (t : Tables) (u : ℕ) (head : Sector)
-      → IsToMerge places c it t u p g serial from payloads
+      → length t.places.current ≡ units → IsToMerge places c it t u p g serial from payloads
       → IsUnitHead units from.unit g pieces carried head
       → IsFilled from p g serial pieces payloads c y
       → MayMerge places c y it t u p head pieces serial
-  may_merge c y it t u head what is filled =
+  may_merge c y it t u head all what is filled =
       let unit : from.unit ≡ u = ap (λ (s : Source). s.unit) what.source in
-      let all : units ≡ places - 4 = omega (arith, sized) in
       let gen : head.generation ≡ g = is.of_generation in
       let many : length payloads ≡ length (packs_in t (it.units u)) =
       ap length what.carried ∙ length-map (packs_in t (it.units u)) payload_of in record {
@@ -134,10 +134,11 @@ module _ (places units p g serial carried : ℕ) (from : Source) (payloads : Lis
           of_generation = refl;
           serial = is.serial ∙ sym gen;
           payload = subst (λ (k : ℕ). head.payload ≡ data_header_bytes k pieces
-              (length (packs_in t (it.units u)))) all
+              (length (packs_in t (it.units u)))) (sym all)
               (subst (λ (k : ℕ). head.payload ≡ data_header_bytes units pieces k)
               (carried_is ∙ many) is.payload);
-          counts = subst (λ (k : ℕ). SpellsDataHeader head.version k pieces head.payload) all is.counts;
+          counts = subst (λ (k : ℕ). SpellsDataHeader head.version k pieces head.payload) (sym all)
+              is.counts;
         };
         new = omega (arith, what.new, gen);
         later = omega (arith, what.later, gen);
@@ -158,16 +159,16 @@ module _ (places units p g serial carried : ℕ) (from : Source) (payloads : Lis
       (record { bare = bare; others = λ q s apart. refl }) gains
 
   written : (c y z : Chart) (it : Layout) (t : Tables) (u : ℕ) → ((s : ℕ) → c p s ≡ None)
-      → IsToMerge places c it t u p g serial from payloads
+      → length t.places.current ≡ units → IsToMerge places c it t u p g serial from payloads
       → GainsUnit from p g serial pieces payloads c y
       → IsSealed p units from.unit g pieces carried y z
       → IsWritten places c z it t u p g serial
-  written c y z it t u bare what gains (head, is, sealed) = record {
+  written c y z it t u bare all what gains (head, is, sealed) = record {
     head = head;
     pieces = pieces;
     filled = y;
     generation_is = is.of_generation;
-    may = may_merge c y it t u head what is (filled_on c y bare gains);
+    may = may_merge c y it t u head all what is (filled_on c y bare gains);
     gains = sealed;
   }
 
@@ -176,7 +177,7 @@ module _ (places units p g serial carried : ℕ) (from : Source) (payloads : Lis
   Was it t u c = IsToMerge places c it t u p g serial from payloads × ((s : ℕ) → c p s ≡ None)
 
   pub unit_written : (m : Map) (it : Layout) (t : Tables) (u : ℕ) (h : History) (old mid new : Told)
-      (result : Result (Unit {0}) ChipFault)
+      (result : Result (Unit {0}) ChipFault) → length t.places.current ≡ units
       → IsToMerge places (now h) it t u p g serial from payloads → StoryRests places m h
       → IsCleanPlace p h → Counts old mid
       → KeepsThroughout {T = List ℕ} {E = ChipFault} places m
@@ -186,7 +187,7 @@ module _ (places units p g serial carried : ℕ) (from : Source) (payloads : Lis
       → IfErr result (λ fault. IsStopped fault mid new)
       → KeepsThroughout places m (Programs p (IsUnitSpot (length payloads)))
       (λ done c y. IsWritten places c y it t u p g serial) (IsAside p) h result old new
-  unit_written m it t u h old mid new result what rests clean counts filled seals stopped =
+  unit_written m it t u h old mid new result all what rests clean counts filled seals stopped =
       let bare : (s : ℕ) → now h p s ≡ None = λ s. clean_bare h p s (clean s) in
       let first = so_far_and places m h (Programs p (IsFilledSpot (length payloads)) true)
       (GainsUnit from p g serial pieces payloads) (Was it t u) old mid (what, bare) filled in
@@ -205,7 +206,7 @@ module _ (places units p g serial carried : ℕ) (from : Source) (payloads : Lis
       (λ done. IsSealed p units from.unit g pieces carried) (λ c y. ⊥) mid new result
       (seals m k (first.steady tt) (first.ends tt).0 ready
       (λ head is.
-      let may = may_merge (now h) (now k) it t u head what is
+      let may = may_merge (now h) (now k) it t u head all what is
       (filled_on (now h) (now k) bare there.0) in (
         stands_after_filling places (now h) (now k) it t u p head pieces serial m may says,
         worn_after_filling places (now h) it t u p head pieces serial m k may (first.ends tt).0
@@ -218,19 +219,19 @@ module _ (places units p g serial carried : ℕ) (from : Source) (payloads : Lis
           → GainsUnit from p g serial pieces payloads c d × Was it t u c
           → IsSealed p units from.unit g pieces carried d e
           → IsWritten places c e it t u p g serial)
-      each (Ok done) = λ c d e is sealed. written c d e it t u is.1.1 is.1.0 is.0 sealed
+      each (Ok done) = λ c d e is sealed. written c d e it t u is.1.1 all is.1.0 is.0 sealed
       each (Err e) = tt
 
   pub written_told : (old mid new : Told) (result : Result (Unit {0}) ChipFault)
       → Charts (GainsUnit from p g serial pieces payloads) old mid
       → OnOk result (Charts (IsSealed p units from.unit g pieces carried) mid new)
       → IfErr result (λ fault. IsStopped fault mid new)
-      → ChartsThroughout (λ done. TellsWritten places from p g serial payloads) (IsAside p)
+      → ChartsThroughout (λ done. TellsWritten places units from p g serial payloads) (IsAside p)
       result old new
   written_told old mid new result one two stopped =
       told_then (GainsUnit from p g serial pieces payloads)
       (λ (done : Unit {0}). IsSealed p units from.unit g pieces carried)
-      (λ done. TellsWritten places from p g serial payloads) (λ c y. ⊥) (IsAside p)
+      (λ done. TellsWritten places units from p g serial payloads) (λ c y. ⊥) (IsAside p)
       old mid new result one
       (told_written (λ (done : Unit {0}). IsSealed p units from.unit g pieces carried) (λ c y. ⊥)
       mid mid new result (on_ok result two) stopped) (each result) (λ c d e is none. absurd none)
@@ -244,8 +245,9 @@ module _ (places units p g serial carried : ℕ) (from : Source) (payloads : Lis
       each : (r : Result (Unit {0}) ChipFault) → IfOk r (λ done. (c d e : Chart)
           → GainsUnit from p g serial pieces payloads c d
           → IsSealed p units from.unit g pieces carried d e
-          → TellsWritten places from p g serial payloads c e)
-      each (Ok done) = λ c d e gains sealed it t u bare what. written c d e it t u bare what gains sealed
+          → TellsWritten places units from p g serial payloads c e)
+      each (Ok done) = λ c d e gains sealed it t u bare all what.
+          written c d e it t u bare all what gains sealed
       each (Err e) = tt
 
 -- the place wasn't filled

@@ -237,13 +237,14 @@ module _ (places : ℕ) (it : Layout) (t : Tables) (u p g serial : ℕ) (from : 
   }
 
 -- what a power cut leaves
-module _ (it : Layout) (t : Tables) (u p g serial : ℕ) (from : Source) (payloads : List Versioned)
-    (m : Map) (h : History) (old mid new : Told) (lowest : first_free t.places.in_use ≡ Some p)
+module _ (units : ℕ) (it : Layout) (t : Tables) (u p g serial : ℕ) (from : Source)
+    (payloads : List Versioned) (all : length t.places.current ≡ units) (m : Map) (h : History)
+    (old mid new : Told) (lowest : first_free t.places.in_use ≡ Some p)
     (steady : IsSteady h old) (here : RestsAgreeing old.places m it t h)
     (takes : TakesPlace t.places old (Ok p) mid) (counts : Counts old mid)
     (what : IsToMerge old.places (now h) it t u p g serial from payloads) where
   pub unit_joined : (result : Result (Unit {0}) ChipFault)
-      → WritesUnit mid.places from p g serial payloads mid result new
+      → WritesUnit mid.places units from p g serial payloads mid result new
       → KeepsThroughout old.places m (Rewrites p (241 + length payloads))
       (λ done c y. IsWritten old.places c y it t u p g serial) (IsUnsealed p) h result old new
   unit_joined result writes =
@@ -252,15 +253,15 @@ module _ (it : Layout) (t : Tables) (u p g serial : ℕ) (from : Source) (payloa
       (taken_so_far t p m it h old mid lowest steady here takes) in
       let k = adds_all first.added h in
       let there = (first.ends tt).1 in
-      let says = subst (λ (q : ℕ). WritesUnit q from p g serial payloads mid result new) counts.places
-      writes in
+      let says = subst (λ (q : ℕ). WritesUnit q units from p g serial payloads mid result new)
+      counts.places writes in
       keeps_then old.places m h (Clears p true) (Programs p (IsUnitSpot (length payloads)))
       (Rewrites p (241 + length payloads)) (λ c y. IsCleared p c y × Asked c)
       (λ (done : Unit {0}) c y. IsWritten old.places c y it t u p g serial)
       (λ done c y. IsWritten old.places c y it t u p g serial) (IsAside p) (IsUnsealed p)
       old mid new result first counts
       (says m it t u k (first.steady tt) (first.ends tt).0 (λ s. first.does.fresh refl h.story s)
-      (asked_then old.places it t u p g serial from payloads (now h) (now k) there.1 there.0))
+      all (asked_then old.places it t u p g serial from payloads (now h) (now k) there.1 there.0))
       (λ a b one two. rewrites_below t p (241 + length payloads) (IsUnitSpot (length payloads))
       (is_ok result) b a lowest (λ s above spot. omega (arith, above, spot)) one two)
       (each result) (λ c d e is aside. unsealed p c d e is.0 aside)
@@ -273,25 +274,26 @@ module _ (it : Layout) (t : Tables) (u p g serial : ℕ) (from : Source) (payloa
       each (Err e) = tt
 
 -- what is told of the contents
-module _ (places p g serial : ℕ) (from : Source) (payloads : List Versioned) where
-  -- whatever layout and tables asked for it
+module _ (places units p g serial : ℕ) (from : Source) (payloads : List Versioned) where
+  -- whatever layout and tables of so many units asked for it
   abbrev pub WasWritten : Chart → Chart → Type 0
-  WasWritten c y = (it : Layout) (t : Tables) (u : ℕ)
+  WasWritten c y = (it : Layout) (t : Tables) (u : ℕ) → length t.places.current ≡ units
       → IsToMerge places c it t u p g serial from payloads → IsWritten places c y it t u p g serial
 
   pub unit_told : (old mid new : Told) (result : Result (Unit {0}) ChipFault)
       → Charts (IsCleared p) old mid
-      → ChartsThroughout (λ done. TellsWritten places from p g serial payloads) (IsAside p) result mid new
+      → ChartsThroughout (λ done. TellsWritten places units from p g serial payloads) (IsAside p)
+      result mid new
       → ChartsThroughout (λ done. WasWritten) (IsUnsealed p) result old new
   unit_told old mid new result first second =
-      told_then (IsCleared p) (λ (done : Unit {0}). TellsWritten places from p g serial payloads)
+      told_then (IsCleared p) (λ (done : Unit {0}). TellsWritten places units from p g serial payloads)
       (λ done. WasWritten) (IsAside p) (IsUnsealed p) old mid new result first second (each result)
       (unsealed p)
     where
       each : (r : Result (Unit {0}) ChipFault) → IfOk r (λ done. (c d e : Chart) → IsCleared p c d
-          → TellsWritten places from p g serial payloads d e → WasWritten c e)
-      each (Ok done) = λ c d e cleared tells it t u what.
+          → TellsWritten places units from p g serial payloads d e → WasWritten c e)
+      each (Ok done) = λ c d e cleared tells it t u all what.
           written_since places it t u p g serial from payloads c d e what cleared
-          (tells it t u cleared.bare
+          (tells it t u cleared.bare all
           (asked_then places it t u p g serial from payloads c d what cleared))
       each (Err e) = tt

@@ -143,7 +143,7 @@ module _ (places : ℕ) (t : Tables) (known : KnowsPlaces places t) (p : ℕ)
 
   -- or the place of a unit
   pub moves_tidily : (T : Type 0) (after : Tables) (u used next : ℕ) (result : Result T ChipFault)
-      (old new : Told) → u + 4 < places → length t.places.written ≡ length t.places.current
+      (old new : Told) → u < length t.places.current → length t.places.written ≡ length t.places.current
       → IsMoved (with_next (taken t p) next) after u p used
       → Spends (Rewrites p (241 + used) true) old new → Tidies t result after old new
   moves_tidily T after u used next result old new low logs moved =

@@ -109,19 +109,19 @@ SealsUnit places p units u generation pieces carried old result new = (m : Map) 
     → KeepsMap places m (Programs p (IsSpot 0))
     (λ done. IsSealed p units u generation pieces carried) h old result new
 
--- a unit, written to a clean place that is free
-abbrev pub WritesUnit : ℕ → Source → ℕ → ℕ → ℕ → List Versioned
+-- a unit, written to a clean place that is free, by tables of so many units
+abbrev pub WritesUnit : ℕ → ℕ → Source → ℕ → ℕ → ℕ → List Versioned
     → Told → Result (Unit {0}) ChipFault → Told → Type 0
-WritesUnit places from p generation serial payloads old result new =
+WritesUnit places units from p generation serial payloads old result new =
     (m : Map) (it : Layout) (t : Tables) (u : ℕ) (h : History)
     → IsSteady h old → StoryRests places m h → IsCleanPlace p h
-    → IsToMerge places (now h) it t u p generation serial from payloads
+    → length t.places.current ≡ units → IsToMerge places (now h) it t u p generation serial from payloads
     → KeepsThroughout places m (Programs p (IsUnitSpot (length payloads)))
     (λ done c y. IsWritten places c y it t u p generation serial) (IsAside p) h result old new
 
--- whatever layout and tables asked for it, where nothing checks at the place
-abbrev pub TellsWritten : ℕ → Source → ℕ → ℕ → ℕ → List Versioned → Chart → Chart → Type 0
-TellsWritten places from p generation serial payloads c y = (it : Layout) (t : Tables) (u : ℕ)
-    → ((s : ℕ) → c p s ≡ None)
+-- whatever layout and tables of so many units asked for it, where nothing checks at the place
+abbrev pub TellsWritten : ℕ → ℕ → Source → ℕ → ℕ → ℕ → List Versioned → Chart → Chart → Type 0
+TellsWritten places units from p generation serial payloads c y = (it : Layout) (t : Tables) (u : ℕ)
+    → ((s : ℕ) → c p s ≡ None) → length t.places.current ≡ units
     → IsToMerge places c it t u p generation serial from payloads
     → IsWritten places c y it t u p generation serial

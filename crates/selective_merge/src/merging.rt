@@ -51,7 +51,7 @@ fn merge_packed<C: Chip>(
     home: &Home,
 ) -> Result<(), ChipFault>
     requires known { KnowsPlaces (C.told chip.old).places (tables_of parts.old) }
-    requires unit { unit + 4 < (C.told chip.old).places }
+    requires unit { unit < length parts.old.directory.current }
     requires left { parts.old.counter + 13 < 2 ^ 64 }
     requires place { home.now.place ≡ slice_index parts.old.directory.current unit }
     requires few { IsFew home.now.pieces }
@@ -89,7 +89,7 @@ fn merge_packed<C: Chip>(
     known_laws();
     directory_laws();
     parts.directory.facts();
-    let places = chip.units();
+    let units = parts.directory.units();
     let generation = parts.counter.draw();
     let payloads = parts.scratch.packs.payloads();
     let place = take_place(chip, &mut parts.directory)?;
@@ -102,7 +102,7 @@ fn merge_packed<C: Chip>(
         &parts.status,
         place,
         generation,
-        places - 4,
+        units,
         payloads,
         &mut parts.counter,
     ) {
@@ -127,7 +127,7 @@ fn merge_known<C: Chip>(
     home: &Home,
 ) -> Result<(), ChipFault>
     requires known { KnowsPlaces (C.told chip.old).places (tables_of parts.old) }
-    requires unit { unit + 4 < (C.told chip.old).places }
+    requires unit { unit < length parts.old.directory.current }
     requires left { parts.old.counter + 13 < 2 ^ 64 }
     requires place { home.now.place ≡ slice_index parts.old.directory.current unit }
     requires few { IsFew home.now.pieces }
@@ -181,7 +181,7 @@ pub fn merge_learnt<C: Chip>(
     home: &Home,
 ) -> Result<(), ChipFault>
     requires known { KnowsPlaces (C.told chip.old).places (tables_of parts.old) }
-    requires unit { unit + 4 < (C.told chip.old).places }
+    requires unit { unit < length parts.old.directory.current }
     requires left { parts.old.counter + 13 < 2 ^ 64 }
     requires learnt { IsLearnt (tables_of parts.old) unit (C.told chip.old) home.now
         parts.old.scratch.log }
@@ -247,7 +247,7 @@ pub fn merge_learnt<C: Chip>(
 /// where a read or a write failed, or where that place is worn.
 pub fn merge<C: Chip>(chip: &mut C, parts: &mut Parts, unit: u32) -> Result<(), ChipFault>
     requires known { KnowsPlaces (C.told chip.old).places (tables_of parts.old) }
-    requires unit { unit + 4 < (C.told chip.old).places }
+    requires unit { unit < length parts.old.directory.current }
     requires left { parts.old.counter + 13 < 2 ^ 64 }
 
     // What the chip holds then, and what a power cut leaves.

@@ -79,7 +79,7 @@ pub fn open_overflow<C: Chip>(chip: &mut C, parts: &mut Parts) -> Result<Spot, C
     ensures accounts { Accounts IsNotTaken result (C.told chip.old) (C.told chip.new) }
 {
     known_laws();
-    let units = chip.units() - 4;
+    let units = parts.directory.units();
     let generation = parts.counter.draw();
     let place = take_place(chip, &mut parts.directory)?;
     match write_overflow(chip, place, generation, units) {

@@ -64,7 +64,7 @@ pub fn move_unit(
     used: u32,
     masks: [u16; 15],
 )
-    requires overflow { length parts.old.overflow.spots + 4 ≡ length parts.old.directory.in_use }
+    requires overflow { length parts.old.overflow.spots ≡ length parts.old.directory.current }
     requires unit { unit < length parts.old.directory.current }
     requires place { place < length parts.old.directory.in_use }
     requires another { place ≢ slice_index parts.old.directory.current unit }

@@ -126,7 +126,7 @@ fn count_of(payloads: &[Payload]) -> u8
 }
 
 /// Writes a unit to a clean place that was free, under a generation that was drawn for it: the place
-/// is filled, and its header makes it the unit's.
+/// is filled, and its header, which tells how many units the tables have, makes it the unit's.
 pub fn write_unit<C: Chip>(
     chip: &mut C,
     home: &Home,
@@ -142,14 +142,13 @@ pub fn write_unit<C: Chip>(
     requires few { IsFew home.now.pieces }
     requires place { place < (C.told chip.old).places }
     requires another { home.now.place ≢ place }
-    requires sized { units + 4 ≡ (C.told chip.old).places }
     requires twelve { length payloads.now ≤ CARRIED_SECTORS }
     requires left { counter.old + CARRIED_SECTORS < 2 ^ 64 }
-    ensures writes { WritesUnit (C.told chip.old).places
+    ensures writes { WritesUnit (C.told chip.old).places units
         (from_home home.now status.now.numbers log.now) place generation counter.old
         payloads.now (C.told chip.old) result (C.told chip.new) }
     ensures tells { ChartsThroughout
-        (λ done. TellsWritten (C.told chip.old).places
+        (λ done. TellsWritten (C.told chip.old).places units
         (from_home home.now status.now.numbers log.now) place generation counter.old payloads.now)
         (IsAside place) result (C.told chip.old) (C.told chip.new) }
     ensures fault { OfContents (C.told chip.old) (λ x. TellsTheFault

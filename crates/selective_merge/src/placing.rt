@@ -1,5 +1,5 @@
 //! Where a log sector of a unit goes: the rules.
-ghost use Rattle.std.specs.Prelude.{◌≡◌, ◌<◌, ◌≤◌, ◌+◌, ◌^◌, slice_index, IfOk};
+ghost use Rattle.std.specs.Prelude.{◌≡◌, ◌<◌, ◌≤◌, ◌+◌, ◌^◌, length, slice_index, IfOk};
 ghost use Rattle.overflow.specs.Lists.{spots_in};
 ghost use Rattle.unit_io.specs.Accounts.{Accounts};
 ghost use Rattle.unit_io.specs.Costs.{Spends};
@@ -31,7 +31,7 @@ fn merged_spot<C: Chip>(
     home: &Home,
 ) -> Result<Spot, ChipFault>
     requires known { KnowsPlaces (C.told chip.old).places (tables_of parts.old) }
-    requires unit { unit + 4 < (C.told chip.old).places }
+    requires unit { unit < length parts.old.directory.current }
     requires left { parts.old.counter + 13 < 2 ^ 64 }
     requires learnt { IsLearnt (tables_of parts.old) unit (C.told chip.old) home.now
         parts.old.scratch.log }
@@ -70,7 +70,7 @@ fn elsewhere<C: Chip>(
     home: &Home,
 ) -> Result<Spot, ChipFault>
     requires known { KnowsPlaces (C.told chip.old).places (tables_of parts.old) }
-    requires unit { unit + 4 < (C.told chip.old).places }
+    requires unit { unit < length parts.old.directory.current }
     requires left { parts.old.counter + 13 < 2 ^ 64 }
     requires learnt { IsLearnt (tables_of parts.old) unit (C.told chip.old) home.now
         parts.old.scratch.log }
@@ -111,7 +111,7 @@ fn elsewhere<C: Chip>(
 /// log are read once, also where it is merged then, at most one place is erased, which was free, and nothing is programmed elsewhere.
 pub fn log_place<C: Chip>(chip: &mut C, parts: &mut Parts, unit: u32) -> Result<Spot, ChipFault>
     requires known { KnowsPlaces (C.told chip.old).places (tables_of parts.old) }
-    requires unit { unit + 4 < (C.told chip.old).places }
+    requires unit { unit < length parts.old.directory.current }
     requires left { parts.old.counter + 13 < 2 ^ 64 }
 
     // What the chip holds then, and what a power cut leaves.

@@ -102,7 +102,7 @@ pub fn count_carried<C: Chip>(
 /// where a read failed.
 pub fn carried<C: Chip>(chip: &mut C, parts: &mut Parts, unit: u32) -> Result<u32, ChipFault>
     requires suits { Suits (C.told chip.old).places (tables_of parts.old) }
-    requires unit { unit + 4 < (C.told chip.old).places }
+    requires unit { unit < length parts.old.directory.current }
     ensures exact { OfContents (C.told chip.old) (λ x. (it : Layout)
         → Mirrors (C.told chip.old).places (chart_of x) it (tables_of parts.old)
         → MatchResult result

@@ -1,5 +1,5 @@
 //! The serial view of a script, said line by line.
-ghost use Rattle.std.specs.Prelude.{◌≡◌, ◌-◌, ◌<◌, ◌≤◌, ℕ, List, length, map, Some, is_ok, IfOk, IfErr, OnErr, IsErrOf, MatchResult};
+ghost use Rattle.std.specs.Prelude.{◌≡◌, ◌<◌, ◌≤◌, ℕ, List, length, map, Some, is_ok, IfOk, IfErr, OnErr, IsErrOf, MatchResult};
 ghost use Rattle.std.specs.FinMap.{empty};
 ghost use Rattle.chip_trait.specs.declared.event.Event.TheVariants.{Said};
 ghost use Rattle.chip_trait.specs.Told.{Told, Appends, FailsToSay, SayCounts, Rose};
@@ -24,7 +24,7 @@ fn order_from_nothing(
     commands: &[Command],
 ) -> Result<Vec<usize>, OutOfMemory>
     ensures { IfOk result (λ order.
-        IsSerialView (limits_for (geometry - 4)) empty commands.now order.items) }
+        IsSerialView (limits_for geometry.units) empty commands.now order.items) }
 {
     let start = PlainModel::new(alloc, geometry)?;
     serial_order(alloc, geometry, &start, commands)
@@ -74,7 +74,7 @@ pub fn say_serial_view<D: Desk>(
 ) -> Result<(), ViewStop>
     // What is said, of a script that is told: at Ok all lines, and of the script nothing is left.
     ensures view { (script : List ℕ) → (D.told desk.old).beside.left ≡ Some script
-        → SaysView (limits_for (geometry - 4)) script (D.told desk.old) result (D.told desk.new) }
+        → SaysView (limits_for geometry.units) script (D.told desk.old) result (D.told desk.new) }
     // Over every desk nothing else happens; where memory is wanting nothing is said.
     ensures only { OnlySays (D.told desk.old) (D.told desk.new) }
     ensures early { IsErrOf result ViewStop.OutOfMemory

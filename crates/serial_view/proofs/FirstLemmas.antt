@@ -1,5 +1,5 @@
 -- What is kept before the first command, and after all sessions are closed.
-use Rattle.std.proofs.Common.{◌≡◌, inl, inr, ℕ, zero, suc, ◌+◌, ◌*◌, ◌-◌, ◌<◌, ◌≤◌, Bool, true, false, cond, List, [], length, replicate, Option, Some, None, refl, sym, ◌∙◌, ap, subst, arith}
+use Rattle.std.proofs.Common.{◌≡◌, inl, inr, ℕ, zero, suc, ◌*◌, ◌<◌, ◌≤◌, Bool, true, false, cond, List, [], length, replicate, Option, Some, None, refl, sym, ◌∙◌, ap, subst, arith}
 use Rattle.std.specs.Prelude.{slice_index}
 use Rattle.std.specs.Cmp.{nat_cmp_total}
 use Rattle.std.specs.FinMap.{get, empty, remove, get-empty, get-remove, same_map, nat_cmp-IsAntisymmetric}
@@ -63,21 +63,21 @@ tracks_first units records m long sizes = record {
       omega (arith, least, zero);
 }
 
--- as it is made: of geometry g, whose limits these are
-pub tracks_new : (state : State) (limits : Limits) (run : KeptRun) (g names : ℕ)
-    → run.units + 4 ≡ g → names ≡ UNIT_NAMES * run.units
-    → limits ≡ limits_for (g - 4) → state ≡ at_rest state.map → run.slots ≡ replicate SESSIONS None
+-- as it is made: of so many units, whose limits these are
+pub tracks_new : (state : State) (limits : Limits) (run : KeptRun) (units names : ℕ)
+    → run.units ≡ units → names ≡ UNIT_NAMES * run.units
+    → limits ≡ limits_for units → state ≡ at_rest state.map → run.slots ≡ replicate SESSIONS None
     → length run.records ≡ limits.names
     → ((n : ℕ) → n < limits.names → slice_index run.records n ≡ size_in_page (get state.map n))
     → run.last ≡ replicate names 0 → run.most ≡ replicate names 0 → Tracks state run
-tracks_new state limits run g names units all are rest slots long sizes last most =
+tracks_new state limits run units names of_units all are rest slots long sizes last most =
     subst (λ (st : State). Tracks st run) (sym rest)
     (subst (Tracks (at_rest state.map)) (sym is)
     (tracks_first run.units run.records state.map (long ∙ ap (λ (l : Limits). l.names) same)
     (λ n low. sizes n (omega (arith, low, ap (λ (l : Limits). l.names) same)))))
   where
     same : limits ≡ limits_for run.units
-    same = let fewer : g - 4 ≡ run.units = omega (arith, units) in are ∙ ap limits_for fewer
+    same = are ∙ ap limits_for (sym of_units)
 
     is : run ≡ first_run run.units run.records
     is = λ i. record {

@@ -1,5 +1,5 @@
 //! A run of commands, as far as it tells which of them are refused.
-ghost use Rattle.std.specs.Prelude.{◌≡◌, ◌<◌, ◌-◌, ℕ, true, false, map, length, not, is_some, nat_lt, replicate, slice_index, slice_set, Contains, IfOk};
+ghost use Rattle.std.specs.Prelude.{◌≡◌, ◌<◌, ℕ, true, false, map, length, not, is_some, nat_lt, replicate, slice_index, slice_set, Contains, IfOk};
 ghost use Rattle.ipl_base.specs.declared.limits.TheConstants.{SESSIONS, PAGE_LEN};
 ghost use Rattle.ipl_rules.specs.State.{at_rest};
 ghost use Rattle.ipl_rules.specs.Operations.{after_commit, after_batch, after_abort, after_restart};
@@ -37,9 +37,9 @@ impl Running {
         geometry: Geometry,
         start: &PlainModel,
     ) -> Result<Running, OutOfMemory>
-        requires limits { limits_of start.now ≡ limits_for (geometry - 4) }
+        requires limits { limits_of start.now ≡ limits_for geometry.units }
         requires at_rest { state_of start.now ≡ at_rest (state_of start.now).map }
-        ensures units { IfOk result (λ run. (run_of run).units ≡ geometry - 4) }
+        ensures units { IfOk result (λ run. (run_of run).units ≡ geometry.units) }
         ensures tracks { IfOk result (λ run. Tracks (state_of start.now) (run_of run)) }
     {
         let names = UNIT_NAMES as usize * geometry.units() as usize;

@@ -1,5 +1,5 @@
 -- A renewal and an opening of what reads well fail only where a call of the chip failed.
-use Rattle.std.proofs.Common.{◌≡◌, ℕ, ◌<◌, ◌≤◌, ◌-◌, true, List, [], ◌∷◌, Some, None, Result, Ok, Err, IfErr, inl, inr, refl, sym, ◌∙◌, subst, arith}
+use Rattle.std.proofs.Common.{◌≡◌, ℕ, ◌<◌, ◌≤◌, true, List, [], ◌∷◌, Some, None, Result, Ok, Err, IfErr, inl, inr, refl, sym, ◌∙◌, subst, arith}
 use Rattle.std.proofs.lemmas.Bool.{cases_Bool}
 use Rattle.chip_trait.specs.Told.{Told}
 use Rattle.ipl_base.specs.declared.fault.ChipFault.{ChipFault}
@@ -28,8 +28,8 @@ use Rattle.status_renewal.specs.Recovers.{FailsByCallAlone}
 
 -- a unit that the pass hasn't come to may be merged still
 pub mergeable_then : (places n : ℕ) (c : Chart) (it : Layout) (t : Tables) (kept : List ℕ)
-    (old : Told) (mid : Tables) (was : HasPassed places n c it t kept old mid) → n < places - 4
-    → mid.active ≡ t.active → AreMergeable places c it t
+    (old : Told) (mid : Tables) (was : HasPassed places n c it t kept old mid) → n < it.count
+    → mid.active ≡ t.active → AreMergeable c it t
     → IsMergeable (chart_of was.contents) was.now.committed mid (was.now.units n) n
 mergeable_then places n c it t kept old mid was low active all =
     let may = all n low in
@@ -44,9 +44,9 @@ mergeable_then places n c it t kept old mid was low active all =
 -- so its merge is complete
 pub merge_is_complete : (places n : ℕ) (c : Chart) (it : Layout) (t : Tables) (kept : List ℕ)
     (old mid : Told) (between : Tables) (result : Result (Unit {0}) ChipFault)
-    → n < places - 4 → between.active ≡ t.active → mid.places ≡ places
+    → n < it.count → between.active ≡ t.active → mid.places ≡ places
     → mid.contents ≡ old.contents → HasPassed places n c it t kept old between
-    → AreMergeable places c it t → CompletesMerge mid.places between n result mid
+    → AreMergeable c it t → CompletesMerge mid.places between n result mid
     → FailsByChipAlone result
 merge_is_complete places n c it t kept old mid between result low active sized same was all says =
     subst (λ (q : ℕ). CompletesMerge q between n result mid) sized says was.contents
@@ -72,7 +72,7 @@ carried_none [] = refl
 carried_none (r ∷ records) = carried_none records
 
 pub all_mergeable : (places : ℕ) (c : Chart) (it : Layout) (m : Map) (t : Tables)
-    → Says places c it m → t.active ≡ [] → AreMergeable places c it t
+    → Says places c it m → t.active ≡ [] → AreMergeable c it t
 all_mergeable places c it m t says none u low =
     said_units_are_mergeable places c it m t u says low
     (subst (λ (a : List ℕ). carried_count (among a) (it.units u).log ≤ 12) (sym none)

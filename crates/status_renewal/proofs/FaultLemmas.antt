@@ -1,5 +1,5 @@
 -- What is wrong with a unit that a pass comes to is what was wrong with it at first.
-use Rattle.std.proofs.Common.{◌≡◌, ℕ, ◌<◌, ◌≤◌, ◌+◌, ◌-◌, false, List, [], length, slice_index, Some, None, Result, Ok, Err, OnOk, IfErr, inl, inr, refl, sym, ◌∙◌, ap, ap₂, subst, arith}
+use Rattle.std.proofs.Common.{◌≡◌, ℕ, ◌<◌, ◌≤◌, ◌+◌, false, List, [], length, slice_index, Some, None, Result, Ok, Err, OnOk, IfErr, inl, inr, refl, sym, ◌∙◌, ap, ap₂, subst, arith}
 use Rattle.std.specs.Prelude.{nat_le, if◌then◌else◌}
 use Rattle.std.proofs.lemmas.Bool.{lt-leb}
 use Rattle.std.proofs.lemmas.List.Elements.{Contains-get_or}
@@ -35,36 +35,37 @@ use Rattle.status_renewal.proofs.CompleteLemmas.{carried_none, not_taken_failed}
 -- ---- the bytes of units
 
 -- nothing was written
-pub spared_none : (places n : ℕ) (x : Contents) (it : Layout) (told : Told)
-    → told.contents ≡ Some x → SparesUnits places n x it told
-spared_none places n x it told is y told_y u low behind s =
+pub spared_none : (n : ℕ) (x : Contents) (it : Layout) (told : Told)
+    → told.contents ≡ Some x → SparesUnits n x it told
+spared_none n x it told is y told_y u low behind s =
     ap (λ (z : Contents). z (it.units u).home s) (same_Some y x (sym told_y ∙ is))
 
-pub spared_read : (places n : ℕ) (x : Contents) (it : Layout) (old new : Told)
-    → new.contents ≡ old.contents → SparesUnits places n x it old
-    → SparesUnits places (n + 1) x it new
-spared_read places n x it old new same spared y told u low behind =
+pub spared_read : (n : ℕ) (x : Contents) (it : Layout) (old new : Told)
+    → new.contents ≡ old.contents → SparesUnits n x it old
+    → SparesUnits (n + 1) x it new
+spared_read n x it old new same spared y told u low behind =
     spared y (sym same ∙ told) u low (omega (arith, behind))
 
 module _ (places n : ℕ) (x : Contents) (it : Layout) (t : Tables) (kept : List ℕ) (old mid : Told)
     (between : Tables) (known : KnowsPlaces places between)
     (was : HasPassed places n (chart_of x) it t kept old between)
-    (spared : SparesUnits places n x it old) (reads : mid.contents ≡ old.contents) where
+    (spared : SparesUnits n x it old) (reads : mid.contents ≡ old.contents) where
   -- the place of a unit that the pass hasn't come to is in use
-  still_used : (u : ℕ) → u < places - 4 → n ≤ u → ¬ IsFree between.places (it.units u).home
+  still_used : (u : ℕ) → u < it.count → n ≤ u → ¬ IsFree between.places (it.units u).home
   still_used u low behind free =
       let same : was.now.units u ≡ it.units u = was.passed.same u low (inl behind) in
+      let within : u < was.now.count = omega (arith, low, was.passed.count) in
       let home : slice_index between.places.current u ≡ (it.units u).home =
-      was.mirrors.directory.current u low ∙ ap (λ (s : Shape). s.home) same in
+      was.mirrors.directory.current u within ∙ ap (λ (s : Shape). s.home) same in
       known.used (slice_index between.places.current u)
       (inl (Contains-get_or between.places.current u 0
-      (omega (arith, low, was.mirrors.directory.units))))
+      (omega (arith, within, was.mirrors.directory.units))))
       (subst (IsFree between.places) (sym home) free)
 
   -- a merge leaves the other units' bytes
   pub spared_merged : (result : Result (Unit {0}) ChipFault) (new : Told)
       → OnOk result (SparesUsed between.places mid new)
-      → OnOk result (SparesUnits places (n + 1) x it new)
+      → OnOk result (SparesUnits (n + 1) x it new)
   spared_merged (Err e) new spares = tt
   spared_merged (Ok v) new spares = λ y told u low behind s.
       let (z, told_z, same) = spares was.contents (reads ∙ was.told) in
@@ -74,7 +75,7 @@ module _ (places n : ℕ) (x : Contents) (it : Layout) (t : Tables) (kept : List
 
   -- ---- the fault
 
-  module _ (low : n < places - 4) (active : between.active ≡ t.active)
+  module _ (low : n < it.count) (active : between.active ≡ t.active)
       (status : between.status ≡ t.status) where
     same_unit : was.now.units n ≡ it.units n
     same_unit = was.passed.same n low (inl (omega arith))
@@ -108,7 +109,7 @@ module _ (places n : ℕ) (x : Contents) (it : Layout) (t : Tables) (kept : List
         → mid.places ≡ places → FailsAsMerge mid.places between n result mid
         → ChartsThroughout (λ done. Merges mid.places n between after)
         (StaysMirrored mid.places between after) result mid new
-        → IfErr result (FailsInPlace places x it t after)
+        → IfErr result (FailsInPlace x it t after)
     merge_in_place result new after many sized fails tells = go result
         (subst (λ (q : ℕ). FailsAsMerge q between n result mid) sized fails was.contents
         (reads ∙ was.told) was.now was.mirrors)
@@ -119,7 +120,7 @@ module _ (places n : ℕ) (x : Contents) (it : Layout) (t : Tables) (kept : List
             → IfErr r (IsTheFault (merge_fault was.contents between (was.now.units n) n))
             → ChartsThroughout (λ done. Merges places n between after)
             (StaysMirrored places between after) r mid new
-            → IfErr r (FailsInPlace places x it t after)
+            → IfErr r (FailsInPlace x it t after)
         go (Ok v) is stays = tt
         go (Err e) is stays = λ unfailed.
             let (y, told_y, still) = stays (λ stopped. unfailed (subst IsFailedCall (sym stopped) tt))
@@ -130,30 +131,31 @@ module _ (places n : ℕ) (x : Contents) (it : Layout) (t : Tables) (kept : List
                 full = no_room many;
                 fault = sym fault_is ∙ is unfailed;
               };
-              stays = (still was.now was.mirrors).0.directory.current n low
+              stays = (still was.now was.mirrors).0.directory.current n
+                  (omega (arith, low, was.passed.count))
                   ∙ ap (λ (s : Shape). s.home) same_unit;
             }
 
 -- wherever the unit is
-pub in_place_fails : (places : ℕ) (x : Contents) (it : Layout) (t after : Tables)
-    (result : Result (Unit {0}) ChipFault) → IfErr result (FailsInPlace places x it t after)
-    → IfErr result (FailsAsPass places x it t)
-in_place_fails places x it t after (Ok v) fails = tt
-in_place_fails places x it t after (Err e) fails = λ unfailed. (fails unfailed).is
+pub in_place_fails : (x : Contents) (it : Layout) (t after : Tables)
+    (result : Result (Unit {0}) ChipFault) → IfErr result (FailsInPlace x it t after)
+    → IfErr result (FailsAsPass x it t)
+in_place_fails x it t after (Ok v) fails = tt
+in_place_fails x it t after (Err e) fails = λ unfailed. (fails unfailed).is
 
 -- a call that only writes
-pub pass_written : (places : ℕ) (x : Contents) (it : Layout) (t : Tables) (old new : Told)
+pub pass_written : (x : Contents) (it : Layout) (t : Tables) (old new : Told)
     (result : Result (Unit {0}) ChipFault) → IfErr result (λ e. IsNotTaken e old new)
-    → IfErr result (FailsAsPass places x it t)
-pass_written places x it t old new (Ok v) is = tt
-pass_written places x it t old new (Err e) is = λ unfailed.
+    → IfErr result (FailsAsPass x it t)
+pass_written x it t old new (Ok v) is = tt
+pass_written x it t old new (Err e) is = λ unfailed.
     absurd (unfailed (not_taken_failed e old new is))
 
-pub place_written : (places : ℕ) (x : Contents) (it : Layout) (t after : Tables) (old new : Told)
+pub place_written : (x : Contents) (it : Layout) (t after : Tables) (old new : Told)
     (result : Result (Unit {0}) ChipFault) → IfErr result (λ e. IsNotTaken e old new)
-    → IfErr result (FailsInPlace places x it t after)
-place_written places x it t after old new (Ok v) is = tt
-place_written places x it t after old new (Err e) is = λ unfailed.
+    → IfErr result (FailsInPlace x it t after)
+place_written x it t after old new (Ok v) is = tt
+place_written x it t after old new (Err e) is = λ unfailed.
     absurd (unfailed (not_taken_failed e old new is))
 
 -- ---- an opening
@@ -162,7 +164,7 @@ place_written places x it t after old new (Err e) is = λ unfailed.
 pub opening_fault : (places : ℕ) (x : Contents) (t : Tables) (fault : ChipFault)
     → t.active ≡ [] → MirrorsStatus (layout_in (chart_of x) places) t
     → first_fault (chart_of x) places ≡ None
-    → IsRenewalFault places x (layout_in (chart_of x) places) t fault
+    → IsRenewalFault x (layout_in (chart_of x) places) t fault
     → IsOpeningFault places x (Chip fault)
 opening_fault places x t fault none status sound is =
     let it = layout_in (chart_of x) places in

@@ -1,5 +1,5 @@
 -- All committed numbers were found before, so that no pass is needed.
-use Rattle.std.proofs.Common.{◌≡◌, inl, inr, ℕ, zero, suc, ◌<◌, ◌≤◌, ◌+◌, ◌-◌, Bool, true, false, List, [], length, Some, refl, sym, ◌∙◌, ap, subst, arith, add-one}
+use Rattle.std.proofs.Common.{◌≡◌, inl, inr, ℕ, zero, suc, ◌<◌, ◌≤◌, ◌+◌, Bool, true, false, List, [], length, Some, refl, sym, ◌∙◌, ap, subst, arith, add-one}
 use Rattle.std.specs.Bool.{OnTrue}
 use Rattle.std.specs.List.{Contains}
 use Rattle.std.proofs.lemmas.Bool.{cases_eq, le-leb, false≢true}
@@ -64,9 +64,9 @@ record AllFit (numbers : List ℕ) (it : Layout) (n : ℕ) : Type 0 where
 
 module _ (places : ℕ) (x : Contents) (it : Layout) (t : Tables)
     (mirrors : Mirrors places (chart_of x) it t) (kept : List ℕ) (rising : AreRising kept)
-    (few : length kept ≤ 3840) (keeps : KeepsBelow (places - 4) it kept) where
+    (few : length kept ≤ 3840) (keeps : KeepsBelow it.count it kept) where
   -- one more unit: its numbers are among those that are kept
-  fits_more : (n : ℕ) → n < places - 4 → AllFit t.status.numbers it n
+  fits_more : (n : ℕ) → n < it.count → AllFit t.status.numbers it n
       → AllFit t.status.numbers it (n + 1)
   fits_more n low so =
       let before = kept_below t.status.numbers it n in
@@ -94,7 +94,7 @@ module _ (places : ℕ) (x : Contents) (it : Layout) (t : Tables)
         ];
       }
 
-  fits_to : (n : ℕ) → n ≤ places - 4 → AllFit t.status.numbers it n
+  fits_to : (n : ℕ) → n ≤ it.count → AllFit t.status.numbers it n
   unfolding kept_below
   fits_to zero low = record {
     keeps = none_are_kept it;
@@ -107,21 +107,22 @@ module _ (places : ℕ) (x : Contents) (it : Layout) (t : Tables)
 
   -- so it is as if all units were passed
   pub passed_all : (told : Told) → told.contents ≡ Some x
-      → HasPassed places (places - 4) (chart_of x) it t kept told t
+      → HasPassed places it.count (chart_of x) it t kept told t
   passed_all told is =
-      let all = fits_to (places - 4) (omega arith) in record {
+      let all = fits_to it.count (omega arith) in record {
         contents = x;
         told = is;
         now = it;
         mirrors = mirrors;
         pages = λ u page now low few shows. shows;
         passed = record {
+          count = refl;
           same = λ u low either. refl;
           merged = λ u low full.
               let no_way : true ≡ false = sym (all.rooms u low) ∙ full in cc no_way;
         };
         committed = refl;
-        kept_is = rising_lists_are_one kept (kept_below t.status.numbers it (places - 4)) rising
+        kept_is = rising_lists_are_one kept (kept_below t.status.numbers it it.count) rising
             all.rises (λ tid. (
               λ has. (all.keeps tid).1 ((keeps tid).0 has),
               λ has. (keeps tid).1 ((all.keeps tid).0 has),
@@ -134,19 +135,26 @@ module _ (places : ℕ) (x : Contents) (it : Layout) (t : Tables)
 -- it is so for each layout of the chart
 collected_keeps : (places : ℕ) (c : Chart) (it : Layout) (numbers : List ℕ)
     → AreCollected places c true numbers → Laid places c (layout_in c places) → Laid places c it
-    → KeepsBelow (places - 4) it numbers
+    → KeepsBelow it.count it numbers
 collected_keeps places c it numbers all laid also tid =
-    let one = laid_once places c (layout_in c places) it laid also in (
+    let one = laid_once places c (layout_in c places) it laid also in
+    let count : (layout_in c places).count ≡ it.count = one.count in (
       λ has.
           let (is, (u, low, logged)) =
           (all.exact tid).0 (subst (λ (l : List ℕ). Contains l tid) all.kept.all has) in (
             sym (one.committed tid) ∙ is,
-            (u, low, subst (λ (s : Shape). IsLogged s.log tid) (one.units u low) logged),
+            (
+              u,
+              omega (arith, low, count),
+              subst (λ (s : Shape). IsLogged s.log tid) (one.units u low) logged,
+            ),
           ),
-      λ (is, (u, low, logged)). subst (λ (l : List ℕ). Contains l tid) (sym all.kept.all)
+      λ (is, (u, low, logged)).
+          let there : u < (layout_in c places).count = omega (arith, low, count) in
+          subst (λ (l : List ℕ). Contains l tid) (sym all.kept.all)
           ((all.exact tid).1 (
             one.committed tid ∙ is,
-            (u, low, subst (λ (s : Shape). IsLogged s.log tid) (sym (one.units u low)) logged),
+            (u, there, subst (λ (s : Shape). IsLogged s.log tid) (sym (one.units u there)) logged),
           )),
     )
 

@@ -1,7 +1,8 @@
 -- The places that the tables know, once the status has a new one.
-use Rattle.std.proofs.Common.{◌≡◌, ◌<◌, ◌+◌, ℕ, true, false, List, length, slice_set, inl, inr, sym, ◌∙◌, ap, subst, arith}
+use Rattle.std.proofs.Common.{◌≡◌, ◌<◌, ℕ, true, false, List, length, slice_set, inl, inr, sym, ◌∙◌, ap, subst, arith}
 use Rattle.std.specs.List.{AllPairs, Contains}
 use Rattle.std.proofs.lemmas.List.{length-set}
+use Rattle.ipl_base.specs.Places.{KeepsUnits}
 use Rattle.ipl_meaning.specs.Mirrors.{AreApart}
 use Rattle.ipl_meaning.specs.Tables.{IsFree, Places, Status, Tables, overflow_places}
 use Rattle.merge_rules.specs.Known.{IsNamed, KnowsPlaces}
@@ -63,8 +64,8 @@ module _ (takes : UsesTake) (gives_back : DisusesGiveBack) (places p : ℕ) (d :
           ∙ length-set (slice_set d.in_use p true) status.place false
           ∙ length-set d.in_use p true
           ∙ sym (ap (λ (e : Places). length e.in_use) has.places_is) ∙ known.suits.all;
-      units = ap (λ (l : List ℕ). length l + 4) homes ∙ known.suits.units;
-      overflow = known.suits.overflow;
+      units = subst (λ (l : List ℕ). KeepsUnits places (length l)) (sym homes) known.suits.units;
+      overflow = known.suits.overflow ∙ sym (ap (λ (l : List ℕ). length l) homes);
     };
     none_lost = none_lost takes gives_back places p d status next kept sized free within after new drawn
         is t has known.none_lost;

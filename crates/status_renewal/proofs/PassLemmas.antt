@@ -1,5 +1,5 @@
 -- A pass over the units, unit by unit.
-use Rattle.std.proofs.Common.{◌≡◌, ◌≢◌, ◌⊎◌, inl, inr, ℕ, ◌<◌, ◌≤◌, ◌+◌, ◌-◌, true, false, IsTrue, List, [], length, Some, Result, Ok, Err, MatchResult, refl, sym, ◌∙◌, ap, subst, arith}
+use Rattle.std.proofs.Common.{◌≡◌, ◌≢◌, ◌⊎◌, inl, inr, ℕ, ◌<◌, ◌≤◌, ◌+◌, true, false, IsTrue, List, [], length, Some, Result, Ok, Err, MatchResult, refl, sym, ◌∙◌, ap, subst, arith}
 use Rattle.std.specs.List.{All}
 use Rattle.std.proofs.lemmas.Bool.{cases_eq, eq-eqb, ne_eqb, le-leb, lt-leb}
 use Rattle.chip_trait.specs.Story.{Contents}
@@ -48,6 +48,7 @@ module _ (places : ℕ) (c : Chart) (it : Layout) (t : Tables) where
         (λ (y : Chart). Shows y it.committed u (it.units u) page now
         → Shows (chart_of x) it.committed u (it.units u) page now) (sym at) (λ shows. shows);
     passed = record {
+      count = refl;
       same = λ u low either. refl;
       merged = λ u low full. absurd (omega (arith, low));
     };
@@ -87,7 +88,7 @@ module _ (places : ℕ) (c : Chart) (it : Layout) (t : Tables) where
     },
   )
 
-  module _ (n : ℕ) (low : n < places - 4) (kept : List ℕ) (old : Told) (mid : Tables)
+  module _ (n : ℕ) (low : n < it.count) (kept : List ℕ) (old : Told) (mid : Tables)
       (was : HasPassed places n c it t kept old mid) where
     same_unit : was.now.units n ≡ it.units n
     same_unit = was.passed.same n low (inl (omega arith))
@@ -116,6 +117,7 @@ module _ (places : ℕ) (c : Chart) (it : Layout) (t : Tables) where
           mirrors = was.mirrors;
           pages = was.pages;
           passed = record {
+            count = was.passed.count;
             same = λ u within either. was.passed.same u within (elim either [
               | inl behind ↦ inl (omega (arith, behind))
               | inr fits_it ↦ inr fits_it
@@ -170,9 +172,11 @@ module _ (places : ℕ) (c : Chart) (it : Layout) (t : Tables) where
           told = told_y;
           now = now_is;
           mirrors = unit.mirrors;
-          pages = λ u page values within few shows. unit.keeps u page values within few
+          pages = λ u page values within few shows. unit.keeps u page values
+              (omega (arith, within, was.passed.count)) few
               (was.pages u page values within few shows);
           passed = record {
+            count = was.passed.count;
             same = λ u within either. unit_elsewhere was.now n u shape (apart u either full)
                 ∙ was.passed.same u within (elim either [
                   | inl behind ↦ inl (omega (arith, behind))
@@ -231,8 +235,9 @@ module _ (places : ℕ) (c : Chart) (it : Layout) (t : Tables) where
             units = n;
             now = was.now;
             mirrors = (still was.now was.mirrors).0;
-            pages = λ u page values low few shows. (still was.now was.mirrors).1 u page values low
-                few (was.pages u page values low few shows);
+            pages = λ u page values low few shows. (still was.now was.mirrors).1 u page values
+                (omega (arith, low, was.passed.count)) few
+                (was.pages u page values low few shows);
             passed = was.passed;
             committed = was.committed;
           },

@@ -61,7 +61,7 @@ module _ (takes : UsesTake) (gives_back : DisusesGiveBack) (places p : ℕ) (d :
   -- ---- what the tables ask of the place
 
   module _ (it : Layout) (t : Tables) (has : HasTables t d status next)
-      (may : MayRenew places it t kept) where
+      (may : MayRenew it t kept) where
     free_there : IsFree t.places p
     free_there = subst (λ (e : Places). IsFree e p) (sym has.places_is) free
 
@@ -164,7 +164,7 @@ module _ (takes : UsesTake) (gives_back : DisusesGiveBack) (places p : ℕ) (d :
     at_place = sym (ap (λ (s : Status). s.place) is.status_is)
 
     pub renews_told : (old mid told : Told) → Charts (IsCleared p) old mid
-        → Charts (Switches places status next p kept) mid told
+        → Charts (Switches places (length d.current) status next p kept) mid told
         → Charts (Renews places d status next kept after new drawn) old told
     renews_told old mid told clears switches x told_x =
         let (y, told_y, cleared) = clears x told_x in
@@ -177,6 +177,7 @@ module _ (takes : UsesTake) (gives_back : DisusesGiveBack) (places p : ℕ) (d :
               (cleared_mirrors places (chart_of x) (chart_of y) it t p mirrors
               (free_there it t has may) cleared) within in
               let done = made it (taken t p) then there (has_status it t has may)
+              (ap (λ (e : Places). length e.current) has.places_is)
               (is_taken it t has may (chart_of x) (chart_of y) mirrors cleared)
               (may_keep it t has may) (switched t has) in
               subst (λ (q : ℕ). Switched places (chart_of x) (chart_of z) it then q next kept)

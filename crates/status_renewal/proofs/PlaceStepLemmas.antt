@@ -32,7 +32,7 @@ module _ (takes : UsesTake) (gives_back : DisusesGiveBack) (p : ℕ) (d : Places
 
   module _ (m : Map) (it : Layout) (t : Tables) (h : History) (steady : IsSteady h old)
       (has : HasTables t d status next) (rests : StoryRests old.places m h)
-      (agrees : Agrees old.places h it t) (may : MayRenew old.places it t kept) where
+      (agrees : Agrees old.places h it t) (may : MayRenew it t kept) where
     first : Outcome (EachStands old.places m) (ClearsLowest d true) (Unit {0})
         (RestsTaken old.places m it t (now h) p) h old mid
     first = taking m it t h steady has.places_is (record { rests = rests; agrees = agrees })
@@ -68,14 +68,14 @@ module _ (takes : UsesTake) (gives_back : DisusesGiveBack) (p : ℕ) (d : Places
           absurd (second.ends (omega (arith, counts.writes, unrisen)))
 
       joined : (result : Result (Unit {0}) ChipFault)
-          → SwitchesInSteps old.places status next p kept result mid told
+          → SwitchesInSteps old.places (length d.current) status next p kept result mid told
           → Outcome (EachStands old.places m)
           (TidyWork (IsCountedClean t) (IsCountedClean after) (Settled result old told))
           (Settled result old told) (Ends result) h old told
       joined result says =
           let second = says (adds_all first.added h) it (taken t p) after m (first.steady tt)
           (has_status takes gives_back old.places p d status next kept sized free within it t has
-          may) there switched_so in
+          may) (ap (λ (e : Places). length e.current) has.places_is) there switched_so in
           taken_then (Unit {0}) ChipFault (EachStands old.places m)
           (RestsTaken old.places m it t (now h) p) (Ends result) d p (1 + parts_of kept)
           (IsStatusSpot (parts_of kept)) t after h result old mid told lowest
@@ -84,7 +84,7 @@ module _ (takes : UsesTake) (gives_back : DisusesGiveBack) (p : ℕ) (d : Places
   -- and written
   pub renews_in_steps : (after : Places) (new : Status) (drawn : ℕ)
       → IsMovedTo p d status next kept after new drawn
-      → SwitchesInSteps old.places status next p kept (Ok tt) mid told
+      → SwitchesInSteps old.places (length d.current) status next p kept (Ok tt) mid told
       → RenewsInSteps old.places d status next kept after new drawn (Ok tt) old told
   renews_in_steps after new drawn is says m it t h steady has rests agrees may =
       let then_is : Tables = with_tables t after new drawn in
@@ -102,7 +102,7 @@ module _ (takes : UsesTake) (gives_back : DisusesGiveBack) (p : ℕ) (d : Places
 
   -- or a write failed
   pub failed_in_steps : (after : Places) (new : Status) (drawn : ℕ) (e f : ChipFault)
-      → SwitchesInSteps old.places status next p kept (Err e) mid told
+      → SwitchesInSteps old.places (length d.current) status next p kept (Err e) mid told
       → RenewsInSteps old.places d status next kept after new drawn (Err f) old told
   failed_in_steps after new drawn e f says m it t h steady has rests agrees may =
       let made : Places = moved d p status.place in

@@ -1,5 +1,5 @@
 -- What a switch to kept numbers asks for.
-use Rattle.std.proofs.Common.{◌≡◌, inl, inr, ℕ, ◌<◌, Bool, true, false, get_or, refl, sym, ◌∙◌, subst, IsTrue}
+use Rattle.std.proofs.Common.{◌≡◌, inl, inr, ℕ, ◌<◌, Bool, true, false, get_or, refl, sym, ◌∙◌, subst, IsTrue, arith}
 use Rattle.std.proofs.lemmas.List.Elements.{Contains-get_or}
 use Rattle.ipl_format.specs.Page.{value_in}
 use Rattle.ipl_meaning.specs.Chart.{Chart}
@@ -30,10 +30,11 @@ layouts_say places c it m laid stands =
     let one = laid_once places c stands.layout it stands.laid laid in record {
       pages = λ u page low few. subst
           (λ (shape : Shape). Shows c it.committed u shape page (page_in m u page))
-          (one.units u low)
+          (one.units u (omega (arith, low, one.count)))
           (shows_for c stands.layout.committed it.committed u page (stands.layout.units u)
-          (page_in m u page) one.committed (stands.says.pages u page low few));
-      nowhere_else = stands.says.nowhere_else;
+          (page_in m u page) one.committed
+          (stands.says.pages u page (omega (arith, low, one.count)) few));
+      nowhere_else = λ n high. stands.says.nowhere_else n (omega (arith, high, one.count));
     }
 
 pub resting_layouts_say : RestingLayoutsSay

@@ -84,6 +84,7 @@ opens_done places c t after new none laid (y, told, is) = (
     none = none;
     laid = laid;
     now = is.now;
+    count = is.passed.count;
     mirrors = is.mirrors;
     pages = is.pages;
     exact = is.exact;

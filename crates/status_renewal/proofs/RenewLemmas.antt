@@ -1,5 +1,5 @@
 -- All units passed, and a new status place with the numbers that are kept.
-use Rattle.std.proofs.Common.{◌≡◌, ◌≤◌, ◌-◌, ◌∙◌, ℕ, Bool, IsTrue, List, Result, Ok, Err, OnOk, OnErr, MatchResult, refl, sym, ap, subst}
+use Rattle.std.proofs.Common.{◌≡◌, ◌≤◌, ◌∙◌, ℕ, Bool, IsTrue, List, Result, Ok, Err, OnOk, OnErr, MatchResult, refl, sym, ap, subst, arith}
 use Rattle.chip_trait.specs.Told.{Told}
 use Rattle.ipl_base.specs.declared.fault.ChipFault.{ChipFault}
 use Rattle.ipl_meaning.specs.Chart.{Chart, chart_of}
@@ -13,16 +13,21 @@ use Rattle.selective_merge.specs.Throughout.{ChartsThroughout}
 use Rattle.selective_merge.proofs.TakenLemmas.{told_not}
 use Rattle.status_renewal.specs.Passes.{HasPassed, HasRenewed, HasStopped, TellsChart, PassEnds}
 use Rattle.status_renewal.specs.Renewed.{with_tables, MayRenew, Renews}
+use Rattle.kept_numbers.specs.Keeps.{KeepsBelow}
 use Rattle.kept_numbers.proofs.KeepsLemmas.{kept_numbers_keep, kept_numbers_are_exact}
 use Rattle.status_renewal.proofs.ReadyLemmas.{kept_numbers_are_old}
 
 module _ (places : ℕ) (c : Chart) (it : Layout) (t : Tables) (kept : List ℕ) (mid : Told)
-    (between : Tables) (was : HasPassed places (places - 4) c it t kept mid between) where
+    (between : Tables) (was : HasPassed places it.count c it t kept mid between) where
+  -- all units were passed
+  keeps_all : KeepsBelow was.now.count was.now kept
+  keeps_all = subst (λ (n : ℕ). KeepsBelow n was.now kept) (sym was.passed.count) was.keeps
+
   -- the numbers may be kept
-  pub may_renew : MayRenew places was.now between kept
+  pub may_renew : MayRenew was.now between kept
   may_renew = record {
-    keeps = kept_numbers_keep places was.now kept was.keeps;
-    may = kept_numbers_are_old places (places - 4) (chart_of was.contents) was.now between kept
+    keeps = kept_numbers_keep was.now kept keeps_all;
+    may = kept_numbers_are_old places it.count (chart_of was.contents) was.now between kept
         was.mirrors was.keeps;
   }
 
@@ -39,15 +44,17 @@ module _ (places : ℕ) (c : Chart) (it : Layout) (t : Tables) (kept : List ℕ)
           record {
             now = with_status was.now status.place switched.head (among kept);
             mirrors = switched.mirrors;
-            pages = λ u page values low few shows. switched.pages may_renew.keeps u page values low
-                few (was.pages u page values low few shows);
+            pages = λ u page values low few shows. switched.pages may_renew.keeps u page values
+                (omega (arith, low, was.passed.count)) few
+                (was.pages u page values low few shows);
             passed = record {
+              count = was.passed.count;
               same = λ u low either. was.passed.same u low either;
               merged = λ u before full. was.passed.merged u before full;
             };
             committed = ap among was.kept_is;
             exact = λ tid.
-                let both = kept_numbers_are_exact places was.now kept was.keeps tid in (
+                let both = kept_numbers_are_exact was.now kept keeps_all tid in (
                   λ is. let (committed, logged) = both.0 is in
                       (subst (λ (f : ℕ → Bool). IsTrue (f tid)) was.committed committed, logged),
                   λ is. both.1
@@ -67,10 +74,11 @@ module _ (places : ℕ) (c : Chart) (it : Layout) (t : Tables) (kept : List ℕ)
           y,
           told_y,
           record {
-            units = places - 4;
+            units = it.count;
             now = was.now;
             mirrors = (stays was.now was.mirrors).0;
-            pages = λ u page values low few shows. (stays was.now was.mirrors).1 u page values low few
+            pages = λ u page values low few shows. (stays was.now was.mirrors).1 u page values
+                (omega (arith, low, was.passed.count)) few
                 (was.pages u page values low few shows);
             passed = was.passed;
             committed = was.committed;

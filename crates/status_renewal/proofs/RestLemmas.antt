@@ -18,7 +18,7 @@ use Rattle.status_renewal.proofs.UnitLemmas.{repacked_is_carried}
 use Rattle.status_renewal.proofs.PreserveLemmas.{same_told}
 
 pub passed_logs_are_same_or_carried : PassedLogsAreSameOrCarried
-passed_logs_are_same_or_carried places n active numbers it now passed u low =
+passed_logs_are_same_or_carried n active numbers it now passed u low =
     elim (cases_lt u n) [
       | inl before ↦ elim (cases_Bool (has_room numbers it u)) [
         | inl room ↦ inl (ap (λ (s : Shape). records_of s.log) (passed.same u low (inr room)))
@@ -31,7 +31,7 @@ passed_logs_are_same_or_carried places n active numbers it now passed u low =
 -- ---- numbers
 
 pub exact_numbers_keep : ExactNumbersKeep
-exact_numbers_keep places it new exact u low k none within =
+exact_numbers_keep it new exact u low k none within =
     let r : Record = get_or (records_of (new.units u).log) k none in
     let has : Contains (records_of (new.units u).log) r =
     Contains-get_or (records_of (new.units u).log) k none within in

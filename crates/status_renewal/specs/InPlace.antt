@@ -12,17 +12,17 @@ use Rattle.unit_io.specs.Reads.{OfContents}
 use Rattle.status_renewal.specs.Passes.{IsRenewalFault}
 
 -- this is wrong with a unit whose numbers don't fit, and the tables then have it where it was
-pub record IsFaultInPlace (places : ℕ) (x : Contents) (it : Layout) (t after : Tables)
+pub record IsFaultInPlace (x : Contents) (it : Layout) (t after : Tables)
     (e : ChipFault) : Type 0 where
-  pub is : IsRenewalFault places x it t e
+  pub is : IsRenewalFault x it t e
   pub stays : slice_index after.places.current is.unit ≡ (it.units is.unit).home
 
 -- it is such a fault, unless a call of the chip failed
-abbrev pub FailsInPlace : ℕ → Contents → Layout → Tables → Tables → ChipFault → Type 0
-FailsInPlace places x it t after e = ¬ IsFailedCall e → IsFaultInPlace places x it t after e
+abbrev pub FailsInPlace : Contents → Layout → Tables → Tables → ChipFault → Type 0
+FailsInPlace x it t after e = ¬ IsFailedCall e → IsFaultInPlace x it t after e
 
 -- over contents that the tables mirror it fails so alone
 abbrev pub RenewalFailsInPlace : {T : Type 0} → ℕ → Tables → Tables → Result T ChipFault → Told
     → Type 0
 RenewalFailsInPlace places t after result told = OfContents told (λ x. (it : Layout)
-    → Mirrors places (chart_of x) it t → IfErr result (FailsInPlace places x it t after))
+    → Mirrors places (chart_of x) it t → IfErr result (FailsInPlace x it t after))

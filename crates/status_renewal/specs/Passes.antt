@@ -1,6 +1,6 @@
 -- What a pass over the units makes of a chip and of its tables.
-use Rattle.std.specs.Prelude.{ℕ, zero, suc, ◌≡◌, ◌≢◌, ◌⊎◌, ◌↔◌, ◌<◌, ◌≤◌, ◌-◌, ◌*◌, nat_le, Bool, true, false, IsTrue, List, [], length, Some, Result, MatchResult, IfErr, if◌then◌else◌}
-use Rattle.ipl_base.specs.declared.limits.TheConstants.{RESERVED_PLACES, PAGES, FIRST_LOG_SECTOR, KEPT_NUMBERS}
+use Rattle.std.specs.Prelude.{ℕ, zero, suc, ◌≡◌, ◌≢◌, ◌⊎◌, ◌↔◌, ◌<◌, ◌≤◌, ◌*◌, nat_le, Bool, true, false, IsTrue, List, [], length, Some, Result, MatchResult, IfErr, if◌then◌else◌}
+use Rattle.ipl_base.specs.declared.limits.TheConstants.{PAGES, FIRST_LOG_SECTOR, KEPT_NUMBERS}
 use Rattle.chip_trait.specs.Story.{Story, Contents}
 use Rattle.chip_trait.specs.Told.{History, Told, Rose}
 use Rattle.ipl_base.specs.declared.fault.ChipFault.{ChipFault}
@@ -53,10 +53,11 @@ pub record IsRepacked (active : List ℕ) (u : ℕ) (old new : Shape) : Type 0 w
   pub log_is : new.log ≡ entries_from new.home u new.head.generation FIRST_LOG_SECTOR serial
       (packs_of active (records_of old.log))
 
--- Of the first n units those whose numbers fit are as they were, and the others were merged; all
--- units behind them are as they were.
-pub record ArePassed (places n : ℕ) (active numbers : List ℕ) (it now : Layout) : Type 0 where
-  pub same : (u : ℕ) → u < places - RESERVED_PLACES → (n ≤ u) ⊎ IsTrue (has_room numbers it u)
+-- There are as many units. Of the first n those whose numbers fit are as they were, and the others
+-- were merged; all units behind them are as they were.
+pub record ArePassed (n : ℕ) (active numbers : List ℕ) (it now : Layout) : Type 0 where
+  pub count : now.count ≡ it.count
+  pub same : (u : ℕ) → u < it.count → (n ≤ u) ⊎ IsTrue (has_room numbers it u)
       → now.units u ≡ it.units u
   pub merged : (u : ℕ) → u < n → has_room numbers it u ≡ false
       → IsRepacked active u (it.units u) (now.units u)
@@ -73,7 +74,7 @@ pub record HasPassed (places n : ℕ) (c : Chart) (it : Layout) (t : Tables) (ke
   pub now : Layout
   pub mirrors : Mirrors places (chart_of contents) now after
   pub pages : KeepsPages places c it (chart_of contents) now
-  pub passed : ArePassed places n t.active t.status.numbers it now
+  pub passed : ArePassed n t.active t.status.numbers it now
   pub committed : now.committed ≡ it.committed
   pub kept_is : kept ≡ kept_below t.status.numbers it n
   pub keeps : KeepsBelow n now kept
@@ -86,7 +87,7 @@ pub record HasStopped (places : ℕ) (c : Chart) (it : Layout) (t after : Tables
   pub now : Layout
   pub mirrors : Mirrors places y now after
   pub pages : KeepsPages places c it y now
-  pub passed : ArePassed places units t.active t.status.numbers it now
+  pub passed : ArePassed units t.active t.status.numbers it now
   pub committed : now.committed ≡ it.committed
 
 -- the chip tells contents whose chart is so
@@ -97,7 +98,7 @@ TellsChart F new = (y : Contents) × (new.contents ≡ Some y) × F (chart_of y)
 -- has are kept
 abbrev pub KeepsAll : ℕ → Tables → List ℕ → Told → Type 0
 KeepsAll places t kept told = OfContents told (λ x. (it : Layout)
-    → Mirrors places (chart_of x) it t → KeepsBelow (places - RESERVED_PLACES) it kept)
+    → Mirrors places (chart_of x) it t → KeepsBelow it.count it kept)
 
 -- over contents that are told: done, or it ended before; and where a write failed nothing is
 -- promised
@@ -121,10 +122,10 @@ pub record HasRenewed (places : ℕ) (c : Chart) (it : Layout) (t after : Tables
   pub now : Layout
   pub mirrors : Mirrors places y now after
   pub pages : KeepsPages places c it y now
-  pub passed : ArePassed places (places - RESERVED_PLACES) t.active t.status.numbers it now
-  pub committed : now.committed ≡ among (kept_below t.status.numbers it (places - RESERVED_PLACES))
+  pub passed : ArePassed it.count t.active t.status.numbers it now
+  pub committed : now.committed ≡ among (kept_below t.status.numbers it it.count)
   pub exact : (tid : ℕ) → IsTrue (now.committed tid)
-      ↔ (IsTrue (it.committed tid) × IsLoggedBelow (places - RESERVED_PLACES) now tid)
+      ↔ (IsTrue (it.committed tid) × IsLoggedBelow now.count now tid)
 
 -- whatever layout the tables mirrored, the status was renewed
 abbrev pub RenewsAny : ℕ → Tables → Tables → Chart → Chart → Type 0
@@ -161,37 +162,36 @@ pub record HoldsRenewed (places : ℕ) (before : Tables) (result : Result (Unit 
 -- ---- why it fails over what the chip holds
 
 -- each unit from the n-th on has the bytes that it had
-abbrev pub SparesUnits : ℕ → ℕ → Contents → Layout → Told → Type 0
-SparesUnits places n x it new = (y : Contents) → new.contents ≡ Some y
-    → (u : ℕ) → u < places - RESERVED_PLACES → n ≤ u
+abbrev pub SparesUnits : ℕ → Contents → Layout → Told → Type 0
+SparesUnits n x it new = (y : Contents) → new.contents ≡ Some y
+    → (u : ℕ) → u < it.count → n ≤ u
     → (s : ℕ) → y (it.units u).home s ≡ x (it.units u).home s
 
 -- this is wrong with a unit whose numbers don't fit: a page, or how many log sectors are carried
-pub record IsRenewalFault (places : ℕ) (x : Contents) (it : Layout) (t : Tables)
-    (e : ChipFault) : Type 0 where
+pub record IsRenewalFault (x : Contents) (it : Layout) (t : Tables) (e : ChipFault) : Type 0 where
   pub unit : ℕ
-  pub low : unit < places - RESERVED_PLACES
+  pub low : unit < it.count
   pub full : has_room t.status.numbers it unit ≡ false
   pub fault : merge_fault x t (it.units unit) unit ≡ Some e
 
 -- it is such a fault, unless a call of the chip failed
-abbrev pub FailsAsPass : ℕ → Contents → Layout → Tables → ChipFault → Type 0
-FailsAsPass places x it t e = ¬ IsFailedCall e → IsRenewalFault places x it t e
+abbrev pub FailsAsPass : Contents → Layout → Tables → ChipFault → Type 0
+FailsAsPass x it t e = ¬ IsFailedCall e → IsRenewalFault x it t e
 
 -- over contents that the tables mirror it fails so alone
 abbrev pub FailsAsRenewal : ℕ → Tables → Result (Unit {0}) ChipFault → Told → Type 0
 FailsAsRenewal places t result told = OfContents told (λ x. (it : Layout)
-    → Mirrors places (chart_of x) it t → IfErr result (FailsAsPass places x it t))
+    → Mirrors places (chart_of x) it t → IfErr result (FailsAsPass x it t))
 
 -- each unit's pages show values, and at most 12 log sectors of it would be carried
-abbrev pub AreMergeable : ℕ → Chart → Layout → Tables → Type 0
-AreMergeable places c it t = (u : ℕ) → u < places - 4 → IsMergeable c it.committed t (it.units u) u
+abbrev pub AreMergeable : Chart → Layout → Tables → Type 0
+AreMergeable c it t = (u : ℕ) → u < it.count → IsMergeable c it.committed t (it.units u) u
 
 -- over contents that the tables mirror, where all units are such, it fails only where a call of the
 -- chip failed
 abbrev pub CompletesRenewal : ℕ → Tables → Result (Unit {0}) ChipFault → Told → Type 0
 CompletesRenewal places t result told = OfContents told (λ x. (it : Layout)
-    → Mirrors places (chart_of x) it t → AreMergeable places (chart_of x) it t
+    → Mirrors places (chart_of x) it t → AreMergeable (chart_of x) it t
     → FailsByChipAlone result)
 
 -- ---- costs

@@ -1,6 +1,6 @@
 -- What an opening leaves that ends with a new status place.
-use Rattle.std.specs.Prelude.{ℕ, ◌≡◌, ◌≢◌, ◌⊎◌, ◌↔◌, ◌<◌, ◌≤◌, ◌-◌, [], true, IsTrue, is_ok, List, length, Contains, Some, None, Result, MatchResult, IfErr}
-use Rattle.ipl_base.specs.declared.limits.TheConstants.{RESERVED_PLACES, KEPT_NUMBERS}
+use Rattle.std.specs.Prelude.{ℕ, ◌≡◌, ◌≢◌, ◌⊎◌, ◌↔◌, ◌<◌, ◌≤◌, [], true, IsTrue, is_ok, List, length, Contains, Some, None, Result, MatchResult, IfErr}
+use Rattle.ipl_base.specs.declared.limits.TheConstants.{KEPT_NUMBERS}
 use Rattle.chip_trait.specs.Story.{Contents}
 use Rattle.chip_trait.specs.Told.{History, Told, Rose}
 use Rattle.ipl_base.specs.declared.fault.ChipFault.{ChipFault}
@@ -32,17 +32,18 @@ use Rattle.status_renewal.specs.Passes.{TellsChart}
 
 -- ---- what the chip holds
 
--- The chart had no fault, and was laid out so. All pages show what they showed, and of the numbers
--- that were committed exactly those are so still that a live record has; the tables mirror the new
--- chart.
+-- The chart had no fault, and was laid out so. There are as many units, all pages show what they
+-- showed, and of the numbers that were committed exactly those are so still that a live record has;
+-- the tables mirror the new chart.
 pub record HasOpened (places : ℕ) (c : Chart) (after : Tables) (y : Chart) : Type 0 where
   pub none : first_fault c places ≡ None
   pub laid : Laid places c (layout_in c places)
   pub now : Layout
+  pub count : now.count ≡ (layout_in c places).count
   pub mirrors : Mirrors places y now after
   pub pages : KeepsPages places c (layout_in c places) y now
   pub exact : (tid : ℕ) → IsTrue (now.committed tid)
-      ↔ (IsTrue ((layout_in c places).committed tid) × IsLoggedBelow (places - RESERVED_PLACES) now tid)
+      ↔ (IsTrue ((layout_in c places).committed tid) × IsLoggedBelow now.count now tid)
 
 -- it is what is wrong with the first page of a unit that doesn't read well or, with its committed
 -- records, is more than a page holds
@@ -50,7 +51,7 @@ pub record IsPageFault (places : ℕ) (x : Contents) (e : ImageFault) : Type 0 w
   pub fault : ChipFault
   pub is : e ≡ Chip fault
   pub unit : ℕ
-  pub low : unit < places - RESERVED_PLACES
+  pub low : unit < (layout_in (chart_of x) places).count
   pub page : unit_fault x (layout_in (chart_of x) places) unit ≡ Some fault
 
 -- the fault is the first one of the chart; or it has none, and it is that of a page of a unit
@@ -89,7 +90,7 @@ CompletesOpening places result told = OfContents told (λ x. (m : Map)
 abbrev pub NumbersFit : ℕ → Chart → Type 0
 NumbersFit places c = (numbers : List ℕ) × (length numbers ≤ KEPT_NUMBERS)
     × ((tid : ℕ) → IsTrue ((layout_in c places).committed tid)
-    → IsLoggedBelow (places - RESERVED_PLACES) (layout_in c places) tid → Contains numbers tid)
+    → IsLoggedBelow (layout_in c places).count (layout_in c places) tid → Contains numbers tid)
 
 -- over contents whose numbers fit it reads each sector at most once, whatever else it does
 abbrev pub ReadsOnceWhereFit : ℕ → Told → Told → Type 0

@@ -1,6 +1,5 @@
 -- Laws of passes and renewals, and what they leave of a story that rests on a map.
-use Rattle.std.specs.Prelude.{ℕ, ◌≡◌, ◌⊎◌, ◌↔◌, ◌<◌, ◌-◌, IsTrue, List, All, Result}
-use Rattle.ipl_base.specs.declared.limits.TheConstants.{RESERVED_PLACES}
+use Rattle.std.specs.Prelude.{ℕ, ◌≡◌, ◌⊎◌, ◌↔◌, ◌<◌, IsTrue, List, All, Result}
 use Rattle.chip_trait.specs.Told.{History, Told}
 use Rattle.ipl_base.specs.declared.fault.ChipFault.{ChipFault}
 use Rattle.ipl_rules.specs.State.{Map}
@@ -37,18 +36,18 @@ pub record RestsStopped (places : ℕ) (m : Map) (c : Chart) (it : Layout) (t af
 
 -- each unit's log has the records that it had, or those that a merge carries
 abbrev pub PassedLogsAreSameOrCarried : Type 0
-PassedLogsAreSameOrCarried = (places n : ℕ) (active numbers : List ℕ) (it new : Layout)
-    → ArePassed places n active numbers it new → (u : ℕ) → u < places - RESERVED_PLACES
+PassedLogsAreSameOrCarried = (n : ℕ) (active numbers : List ℕ) (it new : Layout)
+    → ArePassed n active numbers it new → (u : ℕ) → u < it.count
     → (records_of (new.units u).log ≡ records_of (it.units u).log)
     ⊎ (records_of (new.units u).log ≡ carried (among active) (records_of (it.units u).log))
 
 -- where exactly the committed numbers of live records are committed still, each live record is
 -- committed exactly where it was
 abbrev pub ExactNumbersKeep : Type 0
-ExactNumbersKeep = (places : ℕ) (it new : Layout)
+ExactNumbersKeep = (it new : Layout)
     → ((tid : ℕ) → IsTrue (new.committed tid)
-    ↔ (IsTrue (it.committed tid) × IsLoggedBelow (places - RESERVED_PLACES) new tid))
-    → (u : ℕ) → u < places - RESERVED_PLACES
+    ↔ (IsTrue (it.committed tid) × IsLoggedBelow new.count new tid))
+    → (u : ℕ) → u < new.count
     → All (λ r. new.committed r.tid ≡ it.committed r.tid) (records_of (new.units u).log)
 
 -- over a story that rests on a map, a renewal says of the story what it says of the contents

@@ -41,8 +41,8 @@ pub record MovesStatus (before : Places) (old : Status) (next : ℕ) (kept : Lis
 
 -- the numbers may be kept: of those in live log sectors they are the committed ones, they were
 -- drawn, and none is of an open session
-pub record MayRenew (places : ℕ) (it : Layout) (t : Tables) (kept : List ℕ) : Type 0 where
-  pub keeps : KeepsNumbers places it (among kept)
+pub record MayRenew (it : Layout) (t : Tables) (kept : List ℕ) : Type 0 where
+  pub keeps : KeepsNumbers it (among kept)
   pub may : MayKeep t kept
 
 -- ---- what the chip holds
@@ -51,7 +51,7 @@ pub record MayRenew (places : ℕ) (it : Layout) (t : Tables) (kept : List ℕ) 
 -- they mirror the new chart, and it has the pages of the old one
 abbrev pub Renews : ℕ → Places → Status → ℕ → List ℕ → Places → Status → ℕ → Chart → Chart → Type 0
 Renews places directory status next kept after new drawn c y = (it : Layout) (t : Tables)
-    → HasTables t directory status next → Mirrors places c it t → MayRenew places it t kept
+    → HasTables t directory status next → Mirrors places c it t → MayRenew it t kept
     → Switched places c y it (with_tables t after new drawn) new.place next kept
 
 -- ---- what a power cut leaves
@@ -64,7 +64,7 @@ abbrev pub RenewsInSteps : ℕ → Places → Status → ℕ → List ℕ → Pl
 RenewsInSteps places directory status next kept after new drawn result old told =
     (m : Map) (it : Layout) (t : Tables) (h : History)
     → IsSteady h old → HasTables t directory status next
-    → StoryRests places m h → Agrees places h it t → MayRenew places it t kept
+    → StoryRests places m h → Agrees places h it t → MayRenew it t kept
     → Steps (EachStands places m) t (with_tables t after new drawn)
     (λ done k. RestsSwitched places m it (with_tables t after new drawn) new.place next kept k)
     (λ k. RestsAgreeing places m it (with_tables t after new drawn) k) h result old told

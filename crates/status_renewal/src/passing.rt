@@ -1,5 +1,5 @@
 //! The pass over the units, which finds the numbers that a new status place keeps.
-ghost use Rattle.std.specs.Prelude.{◌≡◌, ◌<◌, ◌≤◌, ◌+◌, ◌*◌, ◌-◌, ◌^◌, ℕ, Some, true, IfErr, OnOk};
+ghost use Rattle.std.specs.Prelude.{◌≡◌, ◌<◌, ◌≤◌, ◌+◌, ◌*◌, ◌^◌, ℕ, length, Some, true, IfErr, OnOk};
 ghost use Rattle.std.specs.Bool.{OnTrue};
 ghost use Rattle.ipl_base.specs.declared.limits.TheConstants.{MOST_UNITS};
 ghost use Rattle.chip_trait.specs.Story.{Contents};
@@ -32,7 +32,7 @@ fn take_unit<C: Chip>(
     unit: u32,
 ) -> Result<(), ChipFault>
     requires known { KnowsPlaces (C.told chip.old).places (tables_of parts.old) }
-    requires unit { unit + 4 < (C.told chip.old).places }
+    requires unit { unit < length parts.old.directory.current }
     requires left { parts.old.counter + 13 < 2 ^ 64 }
     ensures passes { (places : ℕ) (c : Chart) (it : Layout) (t : Tables)
         → (C.told chip.old).places ≡ places → Holds places t (tables_of parts.old)
@@ -43,22 +43,22 @@ fn take_unit<C: Chip>(
     ensures spares { (places : ℕ) (x : Contents) (it : Layout) (t : Tables)
         → (C.told chip.old).places ≡ places
         → HasPassed places unit (chart_of x) it t kept.old (C.told chip.old) (tables_of parts.old)
-        → SparesUnits places unit x it (C.told chip.old)
-        → OnOk result (SparesUnits places (unit + 1) x it (C.told chip.new)) }
+        → SparesUnits unit x it (C.told chip.old)
+        → OnOk result (SparesUnits (unit + 1) x it (C.told chip.new)) }
     ensures fault { (places : ℕ) (x : Contents) (it : Layout) (t : Tables)
         → (C.told chip.old).places ≡ places → Holds places t (tables_of parts.old)
         → HasPassed places unit (chart_of x) it t kept.old (C.told chip.old) (tables_of parts.old)
-        → SparesUnits places unit x it (C.told chip.old)
-        → IfErr result (FailsAsPass places x it t) }
+        → SparesUnits unit x it (C.told chip.old)
+        → IfErr result (FailsAsPass x it t) }
     ensures stays { (places : ℕ) (x : Contents) (it : Layout) (t : Tables)
         → (C.told chip.old).places ≡ places → Holds places t (tables_of parts.old)
         → HasPassed places unit (chart_of x) it t kept.old (C.told chip.old) (tables_of parts.old)
-        → SparesUnits places unit x it (C.told chip.old)
-        → IfErr result (FailsInPlace places x it t (tables_of parts.new)) }
+        → SparesUnits unit x it (C.told chip.old)
+        → IfErr result (FailsInPlace x it t (tables_of parts.new)) }
     ensures complete { (places : ℕ) (c : Chart) (it : Layout) (t : Tables)
         → (C.told chip.old).places ≡ places → Holds places t (tables_of parts.old)
         → HasPassed places unit c it t kept.old (C.told chip.old) (tables_of parts.old)
-        → AreMergeable places c it t → FailsByChipAlone result }
+        → AreMergeable c it t → FailsByChipAlone result }
     ensures steps { (places : ℕ) → (C.told chip.old).places ≡ places
         → KeepsInSteps places (tables_of parts.old) (tables_of parts.new)
         (C.told chip.old) result (C.told chip.new) }
@@ -94,7 +94,7 @@ fn pass<C: Chip>(chip: &mut C, parts: &mut Parts, kept: &mut KeptNumbers) -> Res
         → Mirrors places (chart_of x) it (tables_of parts.old)
         → PassEnds places (chart_of x) it (tables_of parts.old) result (C.told chip.new)
         (tables_of parts.new)
-        (HasPassed places (places - 4) (chart_of x) it (tables_of parts.old) kept.new
+        (HasPassed places it.count (chart_of x) it (tables_of parts.old) kept.new
         (C.told chip.new) (tables_of parts.new)) }
     ensures goes_on { GoesOnTelling result (C.told chip.old) (C.told chip.new) }
     ensures fault { FailsAsRenewal (C.told chip.old).places (tables_of parts.old) result
@@ -109,7 +109,7 @@ fn pass<C: Chip>(chip: &mut C, parts: &mut Parts, kept: &mut KeptNumbers) -> Res
     ensures holds { Holds (C.told chip.old).places (tables_of parts.old) (tables_of parts.new) }
     ensures draws { (parts.old.counter ≤ parts.new.counter)
         × (parts.new.counter ≤ parts.old.counter + 13 * MOST_UNITS) }
-    ensures costs { Spends (ErasesAtMost ((C.told chip.old).places - 4))
+    ensures costs { Spends (ErasesAtMost (length parts.old.directory.current))
         (C.told chip.old) (C.told chip.new) }
     ensures tidy { Tidies (tables_of parts.old) result (tables_of parts.new)
         (C.told chip.old) (C.told chip.new) }
@@ -117,7 +117,7 @@ fn pass<C: Chip>(chip: &mut C, parts: &mut Parts, kept: &mut KeptNumbers) -> Res
 {
     parts.directory.facts();
     kept.clear();
-    for unit in 0..chip.units() - 4 {
+    for unit in 0..parts.directory.units() {
         take_unit(chip, parts, kept, unit)?;
     }
     Ok(())
@@ -140,7 +140,7 @@ pub fn find_numbers<C: Chip>(
         → Mirrors places (chart_of x) it (tables_of parts.old)
         → PassEnds places (chart_of x) it (tables_of parts.old) result (C.told chip.new)
         (tables_of parts.new)
-        (HasPassed places (places - 4) (chart_of x) it (tables_of parts.old) kept.new
+        (HasPassed places it.count (chart_of x) it (tables_of parts.old) kept.new
         (C.told chip.new) (tables_of parts.new)) }
     ensures goes_on { GoesOnTelling result (C.told chip.old) (C.told chip.new) }
     ensures fault { FailsAsRenewal (C.told chip.old).places (tables_of parts.old) result
@@ -155,7 +155,7 @@ pub fn find_numbers<C: Chip>(
     ensures holds { Holds (C.told chip.old).places (tables_of parts.old) (tables_of parts.new) }
     ensures draws { (parts.old.counter ≤ parts.new.counter)
         × (parts.new.counter ≤ parts.old.counter + 13 * MOST_UNITS) }
-    ensures costs { Spends (ErasesAtMost ((C.told chip.old).places - 4))
+    ensures costs { Spends (ErasesAtMost (length parts.old.directory.current))
         (C.told chip.old) (C.told chip.new) }
     ensures tidy { Tidies (tables_of parts.old) result (tables_of parts.new)
         (C.told chip.old) (C.told chip.new) }

@@ -75,10 +75,11 @@ pub fn renew_place<C: Chip>(
 {
     directory_laws();
     directory.facts();
+    let units = directory.units();
     let old = status.place();
     let generation = counter.draw();
     let place = take_place(chip, directory)?;
-    match status.switch(chip, counter, place, generation, kept) {
+    match status.switch(chip, counter, units, place, generation, kept) {
         Ok(()) => {
             directory.give_back(old);
             Ok(())

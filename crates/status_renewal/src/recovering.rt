@@ -1,5 +1,6 @@
 //! The opening of a chip.
-ghost use Rattle.std.specs.Prelude.{◌≡◌, ◌≤◌, ◌<◌, ◌+◌, ◌-◌, ◌^◌, [], length, OnOk, is_ok, true};
+ghost use Rattle.std.specs.Prelude.{◌≡◌, ◌≤◌, ◌<◌, ◌+◌, ◌^◌, [], length, OnOk, is_ok, true};
+ghost use Rattle.ipl_base.specs.Places.{KeepsUnits, units_on};
 ghost use Rattle.ipl_meaning.specs.Chart.{chart_of};
 ghost use Rattle.ipl_meaning.specs.Tables.{IsCountedClean};
 ghost use Rattle.opening_rules.specs.Faults.{greatest_found};
@@ -38,7 +39,7 @@ pub fn recover<C: Chip>(
 ) -> Result<(), ImageFault>
     requires scratch { scratch.old ≡ (C.told chip.old).places }
     requires directory { length parts.old.directory.in_use ≡ (C.told chip.old).places }
-    requires overflow { length parts.old.overflow.spots + 4 ≡ (C.told chip.old).places }
+    requires overflow { KeepsUnits (C.told chip.old).places (length parts.old.overflow.spots) }
     requires active { parts.old.active ≡ [] }
 
     // What the chip holds then, and what a power cut leaves.
@@ -63,9 +64,9 @@ pub fn recover<C: Chip>(
     ensures left { OnOk result (parts.new.counter ≤ 2 ^ 63 + 2 ^ 14) }
     ensures sized { (scratch.new ≡ scratch.old)
         × (length parts.new.directory.in_use ≡ (C.told chip.old).places)
-        × (length parts.new.overflow.spots + 4 ≡ (C.told chip.old).places) }
+        × KeepsUnits (C.told chip.old).places (length parts.new.overflow.spots) }
     // At most one erase a unit, and one for the status place.
-    ensures costs { Spends (ErasesAtMost ((C.told chip.old).places - 3))
+    ensures costs { Spends (ErasesAtMost (units_on (C.told chip.old).places + 1))
         (C.told chip.old) (C.told chip.new) }
     // Where the committed numbers that live records have are at most 3,840, it reads each sector at
     // most once, from the first header to the seal of the status place.

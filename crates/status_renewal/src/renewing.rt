@@ -1,5 +1,5 @@
 //! The renewal of the status place.
-ghost use Rattle.std.specs.Prelude.{◌≡◌, ◌<◌, ◌≤◌, ◌+◌, ◌-◌, ◌^◌, true, OnOk};
+ghost use Rattle.std.specs.Prelude.{◌≡◌, ◌<◌, ◌≤◌, ◌+◌, ◌^◌, length, true, OnOk};
 ghost use Rattle.std.specs.Bool.{OnTrue};
 ghost use Rattle.merge_rules.specs.Known.{KnowsPlaces};
 ghost use Rattle.selective_merge.specs.Moving.{tables_of};
@@ -44,7 +44,7 @@ pub(crate) fn renew_with<C: Chip>(
         (tables_of parts.new) }
     ensures draws { (parts.old.counter ≤ parts.new.counter)
         × (parts.new.counter ≤ parts.old.counter + 2 ^ 14) }
-    ensures costs { Spends (ErasesAtMost ((C.told chip.old).places - 3))
+    ensures costs { Spends (ErasesAtMost (length parts.old.directory.current + 1))
         (C.told chip.old) (C.told chip.new) }
     ensures renewed { OnOk result (Spends (HasErased parts.new.status.place)
         (C.told chip.old) (C.told chip.new)) }
@@ -101,7 +101,7 @@ pub fn renew<C: Chip>(
     ensures draws { (parts.old.counter ≤ parts.new.counter)
         × (parts.new.counter ≤ parts.old.counter + 2 ^ 14) }
     // At most one erase a unit, and one for the status place.
-    ensures costs { Spends (ErasesAtMost ((C.told chip.old).places - 3))
+    ensures costs { Spends (ErasesAtMost (length parts.old.directory.current + 1))
         (C.told chip.old) (C.told chip.new) }
     // Done, the place that the status has was erased.
     ensures renewed { OnOk result (Spends (HasErased parts.new.status.place)

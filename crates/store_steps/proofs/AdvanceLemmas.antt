@@ -1,5 +1,5 @@
 -- What calls of a store leave, joined.
-use Rattle.std.proofs.Common.{◌≡◌, ℕ, Result, Ok, Err, Some, is_ok, refl, sym, ◌∙◌, subst}
+use Rattle.std.proofs.Common.{◌≡◌, ℕ, ◌≤◌, ◌*◌, Result, Ok, Err, Some, is_ok, refl, sym, ◌∙◌, subst, arith}
 use Rattle.chip_trait.specs.Story.{Contents, held}
 use Rattle.chip_trait.specs.Told.{History, Told, Counts, adds_all}
 use Rattle.ipl_rules.specs.State.{Map, State}
@@ -22,14 +22,23 @@ pub shows_same : (places : ℕ) (c : Chart) (it : Layout) (m n : Map) → n ≡ 
     → ShowsNext places c it m c it n
 shows_same places c it m n same =
     subst (ShowsNext places c it m c it) (sym same)
-    (record { pages = λ u page low few shows. shows; nowhere_else = λ name high none. none })
+    (record {
+      count = refl;
+      pages = λ u page low few shows. shows;
+      nowhere_else = λ name high none. none;
+    })
 
 pub shows_then : (places : ℕ) (c y z : Chart) (it new last : Layout) (k m n : Map)
     → ShowsNext places c it k y new m → ShowsNext places y new m z last n
     → ShowsNext places c it k z last n
 shows_then places c y z it new last k m n one two = record {
-  pages = λ u page low few shows. two.pages u page low few (one.pages u page low few shows);
-  nowhere_else = λ name high none. two.nowhere_else name high (one.nowhere_else name high none);
+  count = two.count ∙ one.count;
+  pages = λ u page low few shows.
+      let then = rw (← one.count) at low in
+      two.pages u page then few (one.pages u page low few shows);
+  nowhere_else = λ name high none.
+      let then : 960 * new.count ≤ name = omega (arith, high, one.count) in
+      two.nowhere_else name then (one.nowhere_else name high none);
 }
 
 -- ---- reads

@@ -1,5 +1,5 @@
 -- Several sessions that are committed together.
-use Rattle.std.proofs.Common.{◌≡◌, ℕ, ◌-◌, ◌++◌, Bool, List, [], ◌∷◌, Option, Some, None, inl, inr, refl, sym, ◌∙◌, ap, subst}
+use Rattle.std.proofs.Common.{◌≡◌, ℕ, ◌++◌, Bool, List, [], ◌∷◌, Option, Some, None, inl, inr, refl, sym, ◌∙◌, ap, subst}
 use Rattle.std.specs.List.{All, Contains}
 use Rattle.std.proofs.lemmas.List.Elements.{All-append, All-contains, Contains-append_left, Contains-append_right}
 use Rattle.std.proofs.lemmas.Option.{same_Some}
@@ -99,7 +99,7 @@ settled_in_turn places c it frames later slots numbers state (s ∷ ss) committe
     let (tid, between, mine, out, joins, rest) = join in
     let (middle, first, others) = settles in
     let here = contains_here s ss in
-    let all = all_settled (places - 4) c it waits.tables frames numbers state s tid
+    let all = all_settled it.count c it waits.tables frames numbers state s tid
     (written_of slots s) waits.pending waits.framed mine (λ n is. left.listed s n here is) middle
     (first tid (sym (left.number s here) ∙ mine)) in
     let logs = logs_stay tid frames middle all in (

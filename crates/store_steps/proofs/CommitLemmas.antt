@@ -1,7 +1,7 @@
 -- The end of a commit: the numbers of sessions are added, and the sessions are closed.
 use Rattle.std.specs.List.{All, Contains, list_any}
 use Rattle.std.specs.Option.{option_map_or}
-use Rattle.std.proofs.Common.{◌≡◌, ℕ, ◌-◌, ◌<◌, ◌≤◌, ◌+◌, ◌||◌, Bool, true, false, List, [], eqb, Option, Some, None, Result, Ok, Err, inl, inr, refl, sym, ◌∙◌, ap, ap₂, subst, arith, if◌then◌else◌}
+use Rattle.std.proofs.Common.{◌≡◌, ℕ, ◌<◌, ◌≤◌, ◌+◌, ◌||◌, Bool, true, false, List, [], eqb, Option, Some, None, Result, Ok, Err, inl, inr, refl, sym, ◌∙◌, ap, ap₂, subst, arith, if◌then◌else◌}
 use Rattle.std.proofs.lemmas.Bool.{cases_eq, eq-eqb, ne_eqb}
 use Rattle.std.proofs.lemmas.List.Elements.{All-contains}
 use Rattle.chip_trait.specs.Told.{History, Told}
@@ -47,10 +47,10 @@ use Rattle.store_steps.proofs.BatchLemmas.{all_written, numbers_hold, settled_in
 
 pub names_out_suffice : NamesOutSuffice
 names_out_suffice places c it memory state s tid fits mine out =
-    changed_pages_suffice (places - 4) it (logs_of memory.frames) (number_of memory.slots) state s
+    changed_pages_suffice it.count it (logs_of memory.frames) (number_of memory.slots) state s
     tid fits.pending mine changed (λ u page past. outside u page past (memory.frames u page) refl)
   where
-    changed : (u page slot : ℕ) → u < places - 4 → wrote state s (name_at u page slot) ≡ true
+    changed : (u page slot : ℕ) → u < it.count → wrote state s (name_at u page slot) ≡ true
         → page < 15 → slot < 64 → logs_of memory.frames u page ≡ []
     changed u page slot low by_s few less =
         let n = name_at u page slot in
@@ -60,7 +60,7 @@ names_out_suffice places c it memory state s tid fits mine out =
         ap₂ (logs_of memory.frames) (sym unit) (sym of_page)
         ∙ All-contains (IsOut memory.frames) (written_of memory.slots s) n out there
 
-    outside : (u page : ℕ) → places - 4 ≤ u → (o : Option Frame) → memory.frames u page ≡ o
+    outside : (u page : ℕ) → it.count ≤ u → (o : Option Frame) → memory.frames u page ≡ o
         → logs_of memory.frames u page ≡ []
     outside u page past None is = ap (λ o. option_map_or (λ f. f.log) o []) is
     outside u page past (Some f) is =
@@ -175,9 +175,10 @@ module _ (ss : List ℕ) (before : Memory) (opened : AreOpenSessions before.slot
     shows_added : (y : Chart) → Added places c y it t tids (1 + t.next) (others_of t tids)
         → ShowsNext places c it state.map y (layout_added it tids) (after_batch state ss).map
     shows_added y added = record {
+      count = refl;
       pages = λ u page low few shows.
           added.pages u page _ low few
-          (batch_shows (places - 4) c it (logs_of before.frames) (number_of before.slots) state ss
+          (batch_shows it.count c it (logs_of before.frames) (number_of before.slots) state ss
           committed fits.pending fits.filled one_writer join_all u page low few shows);
       nowhere_else = λ name high none.
           batches_keep state ss name (λ s there. fits.pending.nowhere_else s name high) ∙ none;

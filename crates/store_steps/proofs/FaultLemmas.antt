@@ -1,11 +1,12 @@
 -- A store whose chip was opened, and faults, as a run over a script asks for them.
-use Rattle.std.proofs.Common.{◌≡◌, ℕ, ◌+◌, arith, true, false, [], Err, inl, refl, sym, ◌∙◌, ap, subst}
+use Rattle.std.proofs.Common.{◌≡◌, ℕ, arith, true, false, [], Err, inl, refl, sym, ◌∙◌, ap, subst}
 use Rattle.chip_trait.specs.Moment.{Leaves}
 use Rattle.chip_trait.specs.Chart.{says}
 use Rattle.chip_trait.specs.Story.{Contents, held}
 use Rattle.chip_trait.specs.Told.{History, Told, adds_all}
 use Rattle.chip_trait.proofs.HistoryLemmas.{same_history}
 use Rattle.chip_trait.proofs.MomentLemmas.{at_start}
+use Rattle.ipl_base.specs.Places.{places_for}
 use Rattle.ipl_rules.specs.State.{Limits}
 use Rattle.ipl_model.specs.declared.reply.Reply.{Reply}
 use Rattle.ipl_format.specs.Sector.{sector_in}
@@ -31,7 +32,7 @@ opened_stores_keep units t slots told h m none_lost none closed sessions shown s
         sessions = sessions;
         shows = record {
           layout = it;
-          fits = openings_fit (units + 4) (chart_of (held h.start h.story)) it t slots m mirrors
+          fits = openings_fit (places_for units) (chart_of (held h.start h.story)) it t slots m mirrors
               none_lost none closed sessions;
           says = says;
         };
@@ -76,14 +77,14 @@ faults_that_leave_down c before after fault old new suits units up down preserve
     state h keeps =
     subst (λ (l : Limits). WorksFor store_keeping l state c before h (Err fault) after old new)
     (sym keeps.limits_are) (record {
-      leaves = work_leaves {T = Reply} {E = Fault} (KeepsMapOf (before.units + 4) state)
-          (λ v k. StoryRests (before.units + 4) state.map k)
-          (λ k. StoryRests (before.units + 4) state.map k) before after h (Err fault) old new _ way
+      leaves = work_leaves {T = Reply} {E = Fault} (KeepsMapOf (places_for before.units) state)
+          (λ v k. StoryRests (places_for before.units) state.map k)
+          (λ k. StoryRests (places_for before.units) state.map k) before after h (Err fault) old new _ way
           (λ later e split x image. inl (way.each_moment later e split x image));
       ends = λ unrisen. record {
         limits_are = ap limits_of (sym units);
         steady = way.steady unrisen;
-        rests = subst (λ (n : ℕ). StoryRests (n + 4) state.map (adds_all way.added h)) (sym units)
+        rests = subst (λ (n : ℕ). StoryRests (places_for n) state.map (adds_all way.added h)) (sym units)
             (way.ends unrisen);
         up = λ runs. absurd (let clash : true ≡ false = sym down ∙ runs in cc clash);
       };
@@ -97,6 +98,6 @@ faults_that_leave_down c before after fault old new suits units up down preserve
     here : IsAt before old state h
     here = is_at before old h state up own
 
-    way : Preserves {T = Reply} (before.units + 4) state.map before.memory.tables
+    way : Preserves {T = Reply} (places_for before.units) state.map before.memory.tables
         after.memory.tables h (Err fault) old new
     way = preserves h here.shown.layout state here.steady here.story

@@ -1,11 +1,12 @@
 -- What calls of a store leave, as a run over a script asks for it.
 use Rattle.std.specs.FinMap.{get}
-use Rattle.std.proofs.Common.{◌≡◌, ℕ, ◌⊎◌, ◌+◌, ◌<◌, ◌*◌, true, false, [], ◌∷◌, Option, List, Result, MatchResult, IfOk, Ok, Err, is_ok, sym, ap, subst}
+use Rattle.std.proofs.Common.{◌≡◌, ℕ, ◌⊎◌, ◌<◌, ◌≤◌, ◌*◌, true, false, [], ◌∷◌, Option, List, Result, MatchResult, IfOk, Ok, Err, is_ok, sym, ap, subst, arith}
 use Rattle.std.proofs.lemmas.Result.{IfErr-weaker}
 use Rattle.chip_trait.specs.Moment.{AtEachMoment, Leaves}
 use Rattle.chip_trait.specs.Chart.{says}
 use Rattle.chip_trait.specs.Story.{Story, Contents, held}
 use Rattle.chip_trait.specs.Told.{History, Told, Unrisen, adds_all}
+use Rattle.ipl_base.specs.Places.{places_for}
 use Rattle.ipl_rules.specs.State.{Map, State, Limits}
 use Rattle.ipl_model.specs.declared.command.Command.{Command}
 use Rattle.ipl_model.specs.declared.reply.Reply.{Reply}
@@ -39,12 +40,15 @@ done_settles (Ok v) old new done = tt
 done_settles (Err e) old new done = absurd (cc done)
 
 -- pages that showed all of the one map show all of the other
-says_next : (places : ℕ) (c y : Chart) (it new : Layout) (state next : State)
+pub says_next : (places : ℕ) (c y : Chart) (it new : Layout) (state next : State)
     → ShowsNext places c it state.map y new next.map → Says places c it state.map
     → Says places y new next.map
 says_next places c y it new state next shows says = record {
-  pages = λ u page low few. shows.pages u page low few (says.pages u page low few);
-  nowhere_else = λ n high. shows.nowhere_else n high (says.nowhere_else n high);
+  pages = λ u page low few.
+      let was = rw shows.count at low in shows.pages u page was few (says.pages u page was few);
+  nowhere_else = λ n high.
+      let was : 960 * it.count ≤ n = omega (arith, high, shows.count) in
+      shows.nowhere_else n was (says.nowhere_else n was);
 }
 
 rests_then : {T E : Type 0} (result : Result T E) (places : ℕ) (next : State → State)
@@ -62,7 +66,7 @@ pub record IsAt (store : View) (old : Told) (state : State) (h : History) : Type
   pub steady : IsSteady h old
   pub sessions : AreSessionsOf store.memory.slots state
   pub shown : ShowsState store state (held h.start h.story)
-  pub story : MemoryFitsStory (store.units + 4) h shown.layout store.memory state
+  pub story : MemoryFitsStory (places_for store.units) h shown.layout store.memory state
 
 pub is_at : (store : View) (old : Told) (h : History) (state : State) → store.down ≡ false
     → KeepsStore (limits_of store.units) store old h state → IsAt store old state h
@@ -96,11 +100,11 @@ work_leaves Each Then Else before after h result old new P did moments = record 
 
 module _ {T E : Type 0} (Each : ℕ → State → History → Type 0) (next : State → State)
     (before after : View) (result : Result T E) (old new : Told) (state : State) (h : History)
-    (at : IsAt before old state h) (suits : before.units + 4 ≡ old.places)
+    (at : IsAt before old state h) (suits : places_for before.units ≡ old.places)
     (units : after.units ≡ before.units)
     (advances : Advances Each next before.memory old result after.memory new) where
   abbrev places : ℕ
-  places = before.units + 4
+  places = places_for before.units
 
   -- what is left over the story
   did : Steps (Each places state) before.memory.tables after.memory.tables
@@ -120,9 +124,9 @@ module _ {T E : Type 0} (Each : ℕ → State → History → Type 0) (next : St
       let at_end = had at.shown.layout state at.shown.fits in
       let showing : ShowsState after then y = record {
         layout = at_end.layout;
-        fits = subst (λ (n : ℕ). MemoryFits (n + 4) (chart_of y) at_end.layout after.memory then)
+        fits = subst (λ (n : ℕ). MemoryFits (places_for n) (chart_of y) at_end.layout after.memory then)
             (sym units) at_end.fits;
-        says = subst (λ (n : ℕ). Says (n + 4) (chart_of y) at_end.layout then.map) (sym units)
+        says = subst (λ (n : ℕ). Says (places_for n) (chart_of y) at_end.layout then.map) (sym units)
             (says_next places (now h) (chart_of y) at.shown.layout at_end.layout state then
             at_end.shows at.shown.says);
       } in
@@ -130,7 +134,7 @@ module _ {T E : Type 0} (Each : ℕ → State → History → Type 0) (next : St
       let steady = did.steady settled in record {
         limits_are = ap limits_of (sym units);
         steady = steady;
-        rests = subst (λ (n : ℕ). StoryRests (n + 4) then.map k) (sym units)
+        rests = subst (λ (n : ℕ). StoryRests (places_for n) then.map k) (sym units)
             (rests_then result places next state k (did.ends settled));
         up = λ runs. record {
           sessions = at_end.fits.sessions;
@@ -159,11 +163,11 @@ leads_are_work c next before after result old new suits units up leads steps dra
     h keeps =
     subst (λ (l : Limits). WorksFor store_keeping l state c before h result after old new)
     (sym keeps.limits_are) (record {
-      leaves = work_leaves (TurnsMapOf next (before.units + 4) state)
-          (λ v k. StoryRests (before.units + 4) (next state).map k)
-          (λ k. StoryRests (before.units + 4) state.map k) before after h result old new _ way
+      leaves = work_leaves (TurnsMapOf next (places_for before.units) state)
+          (λ v k. StoryRests (places_for before.units) (next state).map k)
+          (λ k. StoryRests (places_for before.units) state.map k) before after h result old new _ way
           (subst (λ (m : Map). AtEachMoment (Leaves (says sector_in) (λ x.
-          Stands (before.units + 4) (chart_of x) state.map ⊎ Stands (before.units + 4) (chart_of x) m)
+          Stands (places_for before.units) (chart_of x) state.map ⊎ Stands (places_for before.units) (chart_of x) m)
           h) way.added) (step_map (limits_of before.units) state c (next state) result own_step)
           way.each_moment);
       ends = by_end result own_step
@@ -183,9 +187,9 @@ leads_are_work c next before after result old new suits units up leads steps dra
     here : IsAt before old state h
     here = is_at before old h state up own
 
-    way : Steps (TurnsMapOf next (before.units + 4) state) before.memory.tables after.memory.tables
-        (λ v k. StoryRests (before.units + 4) (next state).map k)
-        (λ k. StoryRests (before.units + 4) state.map k) h result old new
+    way : Steps (TurnsMapOf next (places_for before.units) state) before.memory.tables after.memory.tables
+        (λ v k. StoryRests (places_for before.units) (next state).map k)
+        (λ k. StoryRests (places_for before.units) state.map k) h result old new
     way = did (TurnsMapOf next) next before after result old new state h here suits units leads
 
     then : History
@@ -211,9 +215,9 @@ keepers_look_up n before after result old new suits units up slots keeper finds 
     state h keeps low =
     subst (λ (l : Limits). LooksUpFor store_keeping l state n before h result after old new)
     (sym keeps.limits_are) (record {
-      leaves = work_leaves (KeepsMapOf (before.units + 4) state)
-          (λ v k. StoryRests (before.units + 4) state.map k)
-          (λ k. StoryRests (before.units + 4) state.map k) before after h result old new _ way
+      leaves = work_leaves (KeepsMapOf (places_for before.units) state)
+          (λ v k. StoryRests (places_for before.units) state.map k)
+          (λ k. StoryRests (places_for before.units) state.map k) before after h result old new _ way
           way.each_moment;
       ends = by_end result finds
           (keeps_then KeepsMapOf (λ state. state) before after result old new state h here suits
@@ -234,9 +238,9 @@ keepers_look_up n before after result old new suits units up slots keeper finds 
         (memory_of after.memory.tables after.memory.frames s) new) (sym slots)
         (keeper before.memory.slots)
 
-    way : Steps (KeepsMapOf (before.units + 4) state) before.memory.tables after.memory.tables
-        (λ v k. StoryRests (before.units + 4) state.map k)
-        (λ k. StoryRests (before.units + 4) state.map k) h result old new
+    way : Steps (KeepsMapOf (places_for before.units) state) before.memory.tables after.memory.tables
+        (λ v k. StoryRests (places_for before.units) state.map k)
+        (λ k. StoryRests (places_for before.units) state.map k) h result old new
     way = did KeepsMapOf (λ state. state) before after result old new state h here suits units whole
 
     then : History

@@ -1,5 +1,5 @@
 -- Calls that keep each state.
-use Rattle.std.proofs.Common.{◌≡◌, ℕ, ◌-◌, ◌<◌, [], Result, Ok, Err, is_ok, Some, None, refl, sym, subst, arith}
+use Rattle.std.proofs.Common.{◌≡◌, ℕ, ◌<◌, [], length, Result, Ok, Err, is_ok, Some, None, refl, sym, subst, arith}
 use Rattle.chip_trait.specs.Told.{Told, Counts}
 use Rattle.ipl_base.specs.declared.fault.ChipFault.{ChipFault}
 use Rattle.ipl_rules.specs.State.{Map, State}
@@ -13,7 +13,9 @@ use Rattle.ipl_meaning.specs.Tables.{Tables}
 use Rattle.unit_io.specs.Reads.{OfContents}
 use Rattle.unit_io.specs.ReadsAt.{Anywhere, ReadsAt}
 use Rattle.unit_io.proofs.ReadsAtLemmas.{at_none}
-use Rattle.pending_writes.specs.Frames.{Frame, Frames, logs_of, with_frame_at, IsFrameOf}
+use Rattle.pending_writes.specs.Pending.{HasPending}
+use Rattle.pending_writes.specs.Room.{PagesHaveRoom}
+use Rattle.pending_writes.specs.Frames.{Frame, Frames, logs_of, with_frame_at, IsFrameOf, AreFramesOf}
 use Rattle.pending_writes.specs.Fits.{is_active, Fits}
 use Rattle.pending_writes.proofs.ActiveLemmas.{still_active, waits_for}
 use Rattle.pending_writes.proofs.ChipFitLemmas.{log_sectors_fit}
@@ -34,10 +36,11 @@ still_fits : {T E : Type 0} (result : Result T E) (memory : Memory) (places : �
 still_fits (Ok v) memory places c it state fits = fits
 still_fits (Err e) memory places c it state fits = fits
 
--- pages that are kept show the same map
-pub kept_shows : (places : ℕ) (c y : Chart) (it new : Layout) (m : Map) → KeepsPages places c it y new
-    → ShowsNext places c it m y new m
-kept_shows places c y it new m keeps = record {
+-- pages that are kept, of as many units, show the same map
+pub kept_shows : (places : ℕ) (c y : Chart) (it new : Layout) (m : Map) → new.count ≡ it.count
+    → KeepsPages places c it y new → ShowsNext places c it m y new m
+kept_shows places c y it new m count keeps = record {
+  count = count;
   pages = λ u page low few shows. keeps u page (page_in m u page) low few shows;
   nowhere_else = λ name high none. none;
 }
@@ -117,7 +120,7 @@ pub reads_anywhere_keep_states : ReadsKeepStates
 reads_anywhere_keep_states = reads_keep_states Anywhere
 
 pub loads_keep_states : (At : ℕ → ℕ → Type 0) (t : Tables) (frames : Frames) (u page : ℕ)
-    (f : Frame) (old new : Told) → ReadsAt At old new → u < old.places - 4 → page < 15
+    (f : Frame) (old new : Told) → ReadsAt At old new → u < length t.places.current → page < 15
     → frames u page ≡ None → f.log ≡ []
     → OfContents old (λ x. (it : Layout) → Mirrors old.places (chart_of x) it t
     → IsFrameOf (chart_of x) it (logs_of frames) (is_active t) u page f.values f.pending)
@@ -130,7 +133,7 @@ loads_keep_states At t frames u page f old new did low few none empty read slots
       reads = did;
       fits = λ places same x told it state fits.
           loads_fit places (chart_of x) it t frames slots state u page f fits
-          (subst (λ (n : ℕ). u < n - 4) same low) few none empty
+          (subst (λ (n : ℕ). u < n) fits.mirrors.directory.units low) few none empty
           (read x told it (subst (λ (n : ℕ). Mirrors n (chart_of x) it t) (sym same)
           fits.mirrors));
       map = λ places c it state fits. refl;
@@ -161,21 +164,24 @@ turned_fits places c y it t after frames slots state fits on =
     let still = still_active (number_of slots) t after on.active fits.active in record {
       mirrors = on.mirrors;
       none_lost = on.none_lost;
-      pending = renewals_keep_pending (places - 4) it on.layout (logs_of frames) (number_of slots)
-          state (is_active t) fits.pending (sessions_are_sound slots state fits.sessions).0
-          fits.active on.alike on.kept
-          (waits_for on.layout (number_of slots) after still on.mirrors.numbers.waits);
-      filled = room_kept (places - 4) c y it on.layout state state on.pages (λ n. omega arith)
-          fits.filled;
+      pending = subst (λ (n : ℕ). HasPending n on.layout (logs_of frames) (number_of slots) state)
+          (sym on.count)
+          (renewals_keep_pending it.count it on.layout (logs_of frames) (number_of slots) state
+          (is_active t) fits.pending (sessions_are_sound slots state fits.sessions).0 fits.active
+          on.alike on.kept
+          (waits_for on.layout (number_of slots) after still on.mirrors.numbers.waits));
+      filled = subst (λ (n : ℕ). PagesHaveRoom n y on.layout state) (sym on.count)
+          (room_kept it.count c y it on.layout state state on.pages (λ n. omega arith) fits.filled);
       active = still;
-      framed = frames_still (places - 4) y on.layout t after frames on.active (record {
-        within = fits.framed.within;
-        each = λ u page f is.
-            let (low, few, was) = placed (places - 4) c it (is_active t) frames fits.framed u page f
-            is in
-            other_steps_keep_frames places c y it on.layout (logs_of frames) (is_active t) u page
-            f.values f.pending (on.alike u low) on.pages low few was;
-      });
+      framed = subst (λ (n : ℕ). AreFramesOf n y on.layout (is_active after) frames) (sym on.count)
+          (frames_still it.count y on.layout t after frames on.active (record {
+            within = fits.framed.within;
+            each = λ u page f is.
+                let (low, few, was) = placed it.count c it (is_active t) frames fits.framed u page f
+                is in
+                other_steps_keep_frames places c y it on.layout (logs_of frames) (is_active t) u
+                page f.values f.pending (on.alike u low) on.pages low few was;
+          }));
       sessions = fits.sessions;
     }
 
@@ -193,7 +199,7 @@ table_calls_keep_states t after frames result old new turns preserves slots = re
                   (turned_fits places (chart_of x) (chart_of y) it t after frames slots state fits
                   on);
               shows = same_map_shows result places (chart_of x) (chart_of y) it on.layout state
-                  on.pages;
+                  on.count on.pages;
             },
       );
   steps = λ places h it state same steady story.
@@ -202,10 +208,10 @@ table_calls_keep_states t after frames result old new turns preserves slots = re
 }
   where
     same_map_shows : {T E : Type 0} (result : Result T E) (places : ℕ) (c y : Chart)
-        (it new : Layout) (state : State) → KeepsPages places c it y new
+        (it new : Layout) (state : State) → new.count ≡ it.count → KeepsPages places c it y new
         → ShowsNext places c it state.map y new (state_then result (λ state. state) state).map
-    same_map_shows (Ok v) places c y it new state keeps = kept_shows places c y it new state.map keeps
-    same_map_shows (Err e) places c y it new state keeps = kept_shows places c y it new state.map keeps
+    same_map_shows (Ok v) places c y it new state = kept_shows places c y it new state.map
+    same_map_shows (Err e) places c y it new state = kept_shows places c y it new state.map
 
 -- ---- a log sector
 
@@ -222,7 +228,7 @@ log_sectors_keep_states t after frames u page f old new there logged preserves s
                   u page f is.entry fits there is.records_are is.mirrors is.none_lost is.active
                   is.pages;
               shows = kept_shows places (chart_of x) (chart_of y) it (with_log it u is.entry)
-                  state.map is.pages;
+                  state.map refl is.pages;
             },
       );
   steps = λ places h it state same steady story.

@@ -1,9 +1,9 @@
 -- What is known of a state that a store keeps which isn't down.
-use Rattle.std.proofs.Common.{◌≡◌, ℕ, ◌+◌, false, [], ◌∷◌, List, Option, Some, None, Ok, sym, ◌∙◌, ap, arith}
+use Rattle.std.proofs.Common.{◌≡◌, ℕ, false, [], ◌∷◌, List, Option, Some, None, Ok, sym, ◌∙◌, ap, arith}
 use Rattle.std.specs.FinMap.{get}
 use Rattle.chip_trait.specs.Story.{held}
 use Rattle.chip_trait.specs.Told.{History, Told}
-use Rattle.ipl_base.specs.Places.{home_of}
+use Rattle.ipl_base.specs.Places.{home_of, places_for}
 use Rattle.ipl_rules.specs.Refusals.{refuses_get, refuses_share}
 use Rattle.ipl_rules.specs.State.{Limits, State, see}
 use Rattle.ipl_model.specs.declared.command.Command.TheVariants as command
@@ -50,13 +50,13 @@ name_of_home n = omega arith
 -- whatever the call answered
 pub kept_frames_tell_on : {T E : Type 0} (v : T) (n : ℕ) (store : View) (t : Tables)
     (later : Frames) (f : Frame) (h : History) (state : State) (old new : Told)
-    → store.units + 4 ≡ old.places → store.down ≡ false
+    → places_for store.units ≡ old.places → store.down ≡ false
     → KeepsState {T = T} {E = E} store.memory.tables store.memory.frames old (Ok v) t later new
     → later (home_of n).unit (home_of n).page ≡ Some f
     → KeepsStore (limits_of store.units) store old h state
     → TellsName store.memory.slots state n f
 kept_frames_tell_on v n store t later f h state old new suits up keeper there keeps =
-    let places = store.units + 4 in
+    let places = places_for store.units in
     let home = home_of n in
     let x = held h.start h.story in
     let shown = kept_shown (limits_of store.units) store old h state up keeps in
@@ -66,7 +66,8 @@ kept_frames_tell_on v n store t later f h state old new suits up keeper there ke
     let (low, few) = on.fits.framed.within home.unit home.page f there in
     let tells = frames_tell_state places (chart_of x) (chart_of y) shown.layout state.map
     (record { tables = t; frames = later; slots = store.memory.slots }) state home.unit home.page
-    home.slot f on (shown.says.pages home.unit home.page low few) there (omega arith) in
+    home.slot f on (shown.says.pages home.unit home.page (rw on.shows.count at low) few) there
+    (omega arith) in
     let same = name_of_home n in record {
       committed = tells.committed ∙ ap (get state.map) same;
       seen = λ s tid mine. tells.seen s tid mine ∙ ap (see state s) same;

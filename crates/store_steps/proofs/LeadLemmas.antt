@@ -101,7 +101,8 @@ restarts_lead before t slots old new none closed sessions opens preserves = reco
               layout = is.layout;
               fits = openings_fit places (chart_of y) is.layout t slots state.map is.mirrors
                   is.none_lost none closed (sessions state.map);
-              shows = kept_shows places (chart_of x) (chart_of y) it is.layout state.map is.pages;
+              shows = kept_shows places (chart_of x) (chart_of y) it is.layout state.map is.count
+                  is.pages;
             },
       );
   steps = λ places h it state same steady story.

@@ -1,5 +1,5 @@
 -- A page with no name that a session wrote has nothing of it.
-use Rattle.std.proofs.Common.{◌≡◌, ◌≢◌, ◌⊎◌, ℕ, ◌-◌, ◌<◌, true, false, eqb, List, Option, Some, None, inl, inr, refl, sym, ◌∙◌, ap, subst, arith}
+use Rattle.std.proofs.Common.{◌≡◌, ◌≢◌, ◌⊎◌, ℕ, ◌<◌, true, false, eqb, List, Option, Some, None, inl, inr, refl, sym, ◌∙◌, ap, subst, arith}
 use Rattle.std.specs.List.{All, Contains, filter}
 use Rattle.std.proofs.lemmas.Bool.{cases_eq, eq-eqb, not-true}
 use Rattle.std.proofs.lemmas.List.Elements.{All-contains, Contains-append_right}
@@ -181,6 +181,6 @@ module _ (units : ℕ) (c : Chart) (it : Layout) (t : Tables) (frames : Frames) 
 
 pub named_aborts_suffice : NamedAbortsSuffice
 named_aborts_suffice places c it memory later state s tid fits mine change =
-    all_dropped (places - 4) c it memory.tables memory.frames (number_of memory.slots) state s tid
+    all_dropped it.count c it memory.tables memory.frames (number_of memory.slots) state s tid
     (written_of memory.slots s) fits.pending fits.framed mine
     (wrote_listed memory.slots state fits.sessions s) later change

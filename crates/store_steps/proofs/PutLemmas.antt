@@ -1,9 +1,9 @@
 -- Puts, once their page was brought into a frame: refused, written, or failed.
-use Rattle.std.proofs.Common.{◌≡◌, ℕ, ◌+◌, Bool, true, false, [], ◌∷◌, List, Option, Some, None, Ok, refl, sym, ◌∙◌, ap, subst, if◌then◌else◌}
+use Rattle.std.proofs.Common.{◌≡◌, ℕ, Bool, true, false, [], ◌∷◌, List, Option, Some, None, Ok, refl, sym, ◌∙◌, ap, subst, if◌then◌else◌}
 use Rattle.std.specs.Option.{option_map_or}
 use Rattle.chip_trait.specs.Story.{held}
 use Rattle.chip_trait.specs.Told.{History, Told}
-use Rattle.ipl_base.specs.Places.{home_of}
+use Rattle.ipl_base.specs.Places.{home_of, places_for}
 use Rattle.ipl_base.specs.declared.fault.ChipFault.{ChipFault}
 use Rattle.ipl_base.specs.declared.fault.Refusal.{Refusal}
 use Rattle.ipl_base.specs.declared.fault.Refusal.TheVariants.{PageFull}
@@ -33,7 +33,7 @@ use Rattle.store_steps.proofs.ViewLemmas.{frames_tell_full}
 -- a put answers by what the frame of its page has, where that was brought in, whatever the call
 -- answered
 pub puts_answer_on : {T E : Type 0} (v : T) (s n : ℕ) (bytes : List ℕ) (store : View) (t : Tables)
-    (later : Frames) (f : Frame) (old new : Told) → store.units + 4 ≡ old.places
+    (later : Frames) (f : Frame) (old new : Told) → places_for store.units ≡ old.places
     → KeepsState {T = T} {E = E} store.memory.tables store.memory.frames old (Ok v) t later new
     → later (home_of n).unit (home_of n).page ≡ Some f
     → sessions_refuse_put (limits_of store.units) store.memory.slots s n bytes ≡ None
@@ -44,13 +44,13 @@ pub puts_answer_on : {T E : Type 0} (v : T) (s n : ℕ) (bytes : List ℕ) (stor
     else (after_write state s (n, Some bytes), reply.Ok ∷ [])))
 puts_answer_on v s n bytes store t later f old new suits keeper there passes x told state shown =
     let home = home_of n in
-    let (y, told_then, had) = (keeper store.memory.slots).fits (store.units + 4) (sym suits) tt x
+    let (y, told_then, had) = (keeper store.memory.slots).fits (places_for store.units) (sym suits) tt x
     told in
     let on = had shown.layout state shown.fits in
     let (low, few) = on.fits.framed.within home.unit home.page f there in
-    let tells = frames_tell_full (store.units + 4) (chart_of x) (chart_of y) shown.layout state.map
+    let tells = frames_tell_full (places_for store.units) (chart_of x) (chart_of y) shown.layout state.map
     (record { tables = t; frames = later; slots = store.memory.slots }) state n bytes f on
-    (shown.says.pages home.unit home.page low few) there in
+    (shown.says.pages home.unit home.page (rw on.shows.count at low) few) there in
     accepted_are_done (limits_of store.units) store.memory.slots state (command.Put s n bytes)
     shown.fits.sessions passes
     ∙ ap (λ (full : Bool). if full then (state, reply.Refused PageFull ∷ [])
@@ -63,7 +63,7 @@ puts_answer = puts_answer_on tt
 
 -- a store that keeps a state answers so
 kept_answer : (s n : ℕ) (bytes : List ℕ) (store : View) (t : Tables) (later : Frames) (f : Frame) (old mid : Told)
-    (h : History) (state : State) (full : Bool) → store.units + 4 ≡ old.places → store.down ≡ false
+    (h : History) (state : State) (full : Bool) → places_for store.units ≡ old.places → store.down ≡ false
     → KeepsState {T = Unit {0}} {E = ChipFault} store.memory.tables store.memory.frames old (Ok tt) t later mid
     → later (home_of n).unit (home_of n).page ≡ Some f
     → sessions_refuse_put (limits_of store.units) store.memory.slots s n bytes ≡ None

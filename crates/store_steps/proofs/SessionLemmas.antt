@@ -2,7 +2,7 @@
 use Rattle.std.specs.FinMap.{get}
 use Rattle.std.specs.List.{All, Contains, list_any}
 use Rattle.std.specs.Option.{option_map, option_map_or}
-use Rattle.std.proofs.Common.{◌≡◌, ℕ, ◌+◌, ◌-◌, ◌<◌, ◌==◌, Bool, true, false, not, List, [], ◌∷◌, Option, Some, None, is_some, refl, sym, ◌∙◌, ap, subst, arith, if◌then◌else◌}
+use Rattle.std.proofs.Common.{◌≡◌, ℕ, ◌+◌, ◌<◌, ◌==◌, Bool, true, false, not, List, [], ◌∷◌, Option, Some, None, is_some, refl, sym, ◌∙◌, ap, subst, arith, if◌then◌else◌}
 use Rattle.std.proofs.lemmas.Bool.{both_ways, false_from_ne_true}
 use Rattle.ipl_base.specs.declared.fault.Refusal.TheVariants.{NotOpen}
 use Rattle.ipl_rules.specs.Operations as rules
@@ -97,8 +97,8 @@ writes_lead s u r f g before old within mine low valid there written room locked
     (memory_of before.tables (with_frame_at before.frames u r.page (Some g))
     (after_record before.slots s u r)) old
     (λ places c it state same fits. writes_fit places c it before.tables before.frames before.slots
-    state s u r f g fits within mine (subst (λ (n : ℕ). u < n - 4) same low) valid there written
-    room locked)
+    state s u r f g fits within mine (subst (λ (n : ℕ). u < n) fits.mirrors.directory.units low) valid
+    there written room locked)
     (λ places c it state fits. map_written state s (name_at u r.page r.slot, r.change))
     (λ p k counted. counted)
 

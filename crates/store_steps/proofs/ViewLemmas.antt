@@ -1,5 +1,5 @@
 -- Frames of memory as the frames of pending writes.
-use Rattle.std.proofs.Common.{◌-◌, ◌≡◌, ℕ, refl, ap}
+use Rattle.std.proofs.Common.{◌≡◌, ℕ, refl, ap}
 use Rattle.ipl_base.specs.Places.{home_of}
 use Rattle.ipl_format.specs.Page.{Slots, value_in}
 use Rattle.record_locks.specs.Held.{number_of}
@@ -40,10 +40,10 @@ pub frames_tell_state : FramesTellState
 frames_tell_state places c y it m memory state u page slot f on shows there less =
     let fits = on.fits in
     let (low, few) = fits.framed.within u page f there in
-    frames_tell (places - 4) y on.layout (logs_of memory.frames) (number_of memory.slots) state
+    frames_tell on.layout.count y on.layout (logs_of memory.frames) (number_of memory.slots) state
     (is_active memory.tables) u page slot f.values f.pending fits.pending
     (sessions_are_sound memory.slots state fits.sessions).0 fits.active
-    (on.shows.pages u page low few shows) low few less (fits.framed.each u page f there)
+    (on.shows.pages u page (rw on.shows.count at low) few shows) low few less (fits.framed.each u page f there)
 
 pub frames_tell_full : FramesTellFull
 frames_tell_full places c y it m memory state n bytes f on shows there =

@@ -1,7 +1,7 @@
 -- What each call of a store leaves: from each state that its memory fits, the next one.
-use Rattle.std.specs.Prelude.{ℕ, ◌≡◌, ◌<◌, ◌≤◌, ◌-◌, ◌*◌, None, All, Result, Ok, Err}
+use Rattle.std.specs.Prelude.{ℕ, ◌≡◌, ◌<◌, ◌≤◌, ◌*◌, None, All, Result, Ok, Err}
 use Rattle.std.specs.FinMap.{get}
-use Rattle.ipl_base.specs.declared.limits.TheConstants.{RESERVED_PLACES, PAGES, UNIT_NAMES}
+use Rattle.ipl_base.specs.declared.limits.TheConstants.{PAGES, UNIT_NAMES}
 use Rattle.chip_trait.specs.Told.{History, Told}
 use Rattle.ipl_rules.specs.State.{Map, State}
 use Rattle.record_locks.specs.Held.{Slots}
@@ -43,14 +43,15 @@ MemoryFitsStory places h it memory state =
 
 -- ---- pages
 
--- Each page that the one chart shows as the one map has it, the other chart shows as the other map
--- has it. No name past the last page gets a record.
+-- There are as many units as before. Each page that the one chart shows as the one map has it, the
+-- other chart shows as the other map has it. No name past the last page gets a record.
 pub record ShowsNext (places : ℕ) (c : Chart) (it : Layout) (m : Map) (y : Chart) (new : Layout)
     (n : Map) : Type 0 where
-  pub pages : (u page : ℕ) → u < places - RESERVED_PLACES → page < PAGES
+  pub count : new.count ≡ it.count
+  pub pages : (u page : ℕ) → u < it.count → page < PAGES
       → Shows c it.committed u (it.units u) page (page_in m u page)
       → Shows y new.committed u (new.units u) page (page_in n u page)
-  pub nowhere_else : (name : ℕ) → UNIT_NAMES * (places - RESERVED_PLACES) ≤ name → get m name ≡ None
+  pub nowhere_else : (name : ℕ) → UNIT_NAMES * it.count ≤ name → get m name ≡ None
       → get n name ≡ None
 
 -- In some layout the memory fits the new chart. The pages that showed the map before show that of
@@ -121,18 +122,19 @@ pub record ReadsInto {T E : Type 0} (At : ℕ → ℕ → Type 0) (next : State 
 
 -- ---- calls that know the tables alone
 
--- In some layout the tables mirror the new chart, no place is lost, and the same sessions are open.
--- Each unit has the records that it had, or those that a merge carries; of these the same are
--- committed; and each page is kept.
+-- In some layout, of as many units, the tables mirror the new chart, no place is lost, and the same
+-- sessions are open. Each unit has the records that it had, or those that a merge carries; of these
+-- the same are committed; and each page is kept.
 pub record KeepsTablesOn (places : ℕ) (c : Chart) (it : Layout) (t : Tables) (y : Chart)
     (after : Tables) : Type 0 where
   pub layout : Layout
+  pub count : layout.count ≡ it.count
   pub mirrors : Mirrors places y layout after
   pub none_lost : NoneIsLost places after
   pub active : after.active ≡ t.active
-  pub alike : (u : ℕ) → u < places - RESERVED_PLACES
+  pub alike : (u : ℕ) → u < it.count
       → IsSameOrMerged (is_active t) (it.units u) (layout.units u)
-  pub kept : (u : ℕ) → u < places - RESERVED_PLACES
+  pub kept : (u : ℕ) → u < it.count
       → All (λ r. layout.committed r.tid ≡ it.committed r.tid) (records_of (layout.units u).log)
   pub pages : KeepsPages places c it y layout
 

@@ -2,7 +2,7 @@
 use Rattle.std.specs.Prelude.{ℕ, ◌≡◌, ◌≢◌, ◌<◌, ◌≤◌, ◌+◌, ◌*◌, Bool, true, false, [], ◌∷◌, ◌++◌, List, Option, Some, None, refl, Result, Ok, Err, IfOk, IfErr}
 use Rattle.std.specs.FinMap.{get}
 use Rattle.std.proofs.Common.{sym, ◌∙◌, ap, subst, arith}
-use Rattle.ipl_base.specs.declared.limits.TheConstants.{RESERVED_PLACES, UNIT_NAMES, SESSIONS}
+use Rattle.ipl_base.specs.declared.limits.TheConstants.{UNIT_NAMES, SESSIONS}
 use Rattle.chip_trait.specs.Chart.{says}
 use Rattle.chip_trait.specs.Moment.{Leaves}
 use Rattle.chip_trait.specs.Story.{Story, Contents, held}
@@ -11,7 +11,7 @@ use Rattle.ipl_base.specs.declared.fault.ChipFault.{ChipFault}
 use Rattle.ipl_base.specs.declared.fault.ChipFault.TheVariants.{ReadFault, Stopped, Damaged, Malformed, WornOut}
 use Rattle.ipl_base.specs.declared.fault.ImageFault.{ImageFault}
 use Rattle.ipl_base.specs.declared.fault.ImageFault.TheVariants as image
-use Rattle.ipl_base.specs.Places.{home_of}
+use Rattle.ipl_base.specs.Places.{home_of, places_for}
 use Rattle.ipl_rules.specs.State.{Map, State, Limits, at_rest, see}
 use Rattle.ipl_model.specs.declared.command.Command.{Command}
 use Rattle.ipl_model.specs.declared.reply.Reply.{Reply}
@@ -54,8 +54,8 @@ limits_of units = record { sessions = SESSIONS; names = UNIT_NAMES * units; unit
 -- the memory fits what the chip holds, and the pages say the map
 pub record ShowsState (store : View) (state : State) (x : Contents) : Type 0 where
   pub layout : Layout
-  pub fits : MemoryFits (store.units + RESERVED_PLACES) (chart_of x) layout store.memory state
-  pub says : Says (store.units + RESERVED_PLACES) (chart_of x) layout state.map
+  pub fits : MemoryFits (places_for store.units) (chart_of x) layout store.memory state
+  pub says : Says (places_for store.units) (chart_of x) layout state.map
 
 -- What a store keeps that isn't down. The sessions are the state's; what the chip holds shows the
 -- state; and what is counted as clean is clean after the story.
@@ -70,7 +70,7 @@ pub record KeepsStore (limits : Limits) (store : View) (t : Told) (h : History) 
     : Type 0 where
   pub limits_are : limits ≡ limits_of store.units
   pub steady : IsSteady h t
-  pub rests : StoryRests (store.units + RESERVED_PLACES) state.map h
+  pub rests : StoryRests (places_for store.units) state.map h
   pub up : store.down ≡ false → IsUp store h state
 
 -- the store of a chip that was opened: no page is in a frame
@@ -172,7 +172,7 @@ keeps_still limits store old new h state still keeps = record {
         ∙ ap Some (sym (said_held h.start still.pieces h.story));
     settled = still.settled ∙ keeps.steady.settled;
   };
-  rests = said_rests (store.units + RESERVED_PLACES) state.map still.pieces h keeps.rests;
+  rests = said_rests (places_for store.units) state.map still.pieces h keeps.rests;
   up = λ runs.
       let was = keeps.up runs in record {
         sessions = was.sessions;
@@ -183,24 +183,24 @@ keeps_still limits store old new h state still keeps = record {
 
 pub keeps_each : (limits : Limits) (store : View) (t : Told) (h : History) (state : State)
     → KeepsStore limits store t h state
-    → Leaves (says sector_in) (λ x. Stands (limits.units + RESERVED_PLACES) (chart_of x) state.map) h []
+    → Leaves (says sector_in) (λ x. Stands (places_for limits.units) (chart_of x) state.map) h []
 keeps_each limits store t h state keeps =
     subst (λ (l : Limits). Leaves (says sector_in)
-    (λ x. Stands (l.units + RESERVED_PLACES) (chart_of x) state.map) h []) (sym keeps.limits_are)
+    (λ x. Stands (places_for l.units) (chart_of x) state.map) h []) (sym keeps.limits_are)
     keeps.rests.each
 
 -- ---- the seam
 
 -- the store is made for a chip of so many places, and isn't down
 pub record IsUpFor (store : View) (places : ℕ) : Type 0 where
-  pub places_are : store.units + RESERVED_PLACES ≡ places
+  pub places_are : places_for store.units ≡ places
   pub up : store.down ≡ false
 
 -- such a store, as a run knows it
 abbrev pub store_keeping : Keeping View
 store_keeping = record {
   checks = says sector_in;
-  stands = λ limits x m. Stands (limits.units + RESERVED_PLACES) (chart_of x) m;
+  stands = λ limits x m. Stands (places_for limits.units) (chart_of x) m;
   holds = KeepsStore;
   suits = IsUpFor;
   clean = λ store p s. IsCountedClean store.memory.tables p s;
@@ -215,11 +215,11 @@ store_keeping = record {
 -- a store whose chip was opened keeps the state at rest of the map that the chip stands for
 abbrev pub OpenedStoresKeep : Type 0
 OpenedStoresKeep = (units : ℕ) (t : Tables) (slots : Slots) (told : Told) (h : History) (m : Map)
-    → NoneIsLost (units + RESERVED_PLACES) t → t.active ≡ [] → ((s : ℕ) → number_of slots s ≡ None)
+    → NoneIsLost (places_for units) t → t.active ≡ [] → ((s : ℕ) → number_of slots s ≡ None)
     → AreSessionsOf slots (at_rest m)
-    → OfContents told (λ x. (it : Layout) × Mirrors (units + RESERVED_PLACES) (chart_of x) it t
-    × Says (units + RESERVED_PLACES) (chart_of x) it m)
-    → IsSteady h told → StoryRests (units + RESERVED_PLACES) m h → IsTidy h.story t
+    → OfContents told (λ x. (it : Layout) × Mirrors (places_for units) (chart_of x) it t
+    × Says (places_for units) (chart_of x) it m)
+    → IsSteady h told → StoryRests (places_for units) m h → IsTidy h.story t
     → KeepsStore (limits_of units) (opened_with units t slots) told h (at_rest m)
 
 -- A fault of a call has its excuse, where the store keeps a state.
@@ -245,7 +245,7 @@ StepsAs limits state c next (Err fault) = (step limits state c).0.map ≡ next.m
 abbrev pub LeadsAreWork : Type 0
 LeadsAreWork = (c : Command) (next : State → State) (before after : View)
     (result : Result Reply Fault) (old new : Told)
-    → before.units + RESERVED_PLACES ≡ old.places → after.units ≡ before.units
+    → places_for before.units ≡ old.places → after.units ≡ before.units
     → before.down ≡ false → LeadsTo next before.memory old result after.memory new
     → ((h : History) (state : State) → KeepsStore (limits_of before.units) before old h state
     → StepsAs (limits_of before.units) state c (next state) result)
@@ -262,7 +262,7 @@ pub record TellsName (slots : Slots) (state : State) (n : ℕ) (f : Frame) : Typ
 -- after a call that keeps each state and was done
 abbrev pub KeptFramesTell : Type 0
 KeptFramesTell = (n : ℕ) (store : View) (t : Tables) (later : Frames) (f : Frame) (h : History)
-    (state : State) (old new : Told) → store.units + RESERVED_PLACES ≡ old.places → store.down ≡ false
+    (state : State) (old new : Told) → places_for store.units ≡ old.places → store.down ≡ false
     → KeepsState {T = Unit {0}} {E = ChipFault} store.memory.tables store.memory.frames old (Ok tt)
     t later new
     → later (home_of n).unit (home_of n).page ≡ Some f
@@ -274,7 +274,7 @@ KeptFramesTell = (n : ℕ) (store : View) (t : Tables) (later : Frames) (f : Fra
 abbrev pub KeepersLookUp : Type 0
 KeepersLookUp = (n : ℕ) (before after : View) (result : Result (Option (List ℕ)) Fault)
     (old new : Told)
-    → before.units + RESERVED_PLACES ≡ old.places → after.units ≡ before.units
+    → places_for before.units ≡ old.places → after.units ≡ before.units
     → before.down ≡ false → after.memory.slots ≡ before.memory.slots
     → KeepsState before.memory.tables before.memory.frames old result after.memory.tables
     after.memory.frames new
@@ -301,11 +301,11 @@ IdleFaultsLookUp = (n : ℕ) (store : View) (told : Told)
 -- few numbers and has its excuse
 abbrev pub FaultsThatLeaveDown : Type 0
 FaultsThatLeaveDown = (c : Command) (before after : View) (fault : Fault) (old new : Told)
-    → before.units + RESERVED_PLACES ≡ old.places → after.units ≡ before.units
+    → places_for before.units ≡ old.places → after.units ≡ before.units
     → before.down ≡ false → after.down ≡ true
     → ((h : History) (it : Layout) (state : State) → IsSteady h old
-    → MemoryFitsStory (before.units + RESERVED_PLACES) h it before.memory state
-    → Preserves {T = Reply} (before.units + RESERVED_PLACES) state.map before.memory.tables after.memory.tables h
+    → MemoryFitsStory (places_for before.units) h it before.memory state
+    → Preserves {T = Reply} (places_for before.units) state.map before.memory.tables after.memory.tables h
     (Err fault) old new)
     → after.memory.tables.next ≤ before.memory.tables.next + WORK_DRAWS
     → IsExcused WORK_DRAWS before old new fault

@@ -1,6 +1,6 @@
 -- How what calls of a store leave is joined.
-use Rattle.std.specs.Prelude.{ℕ, ◌≡◌, ◌<◌, ◌-◌, [], List, Option, Some, None, Result, Ok, Err, All, is_ok}
-use Rattle.ipl_base.specs.declared.limits.TheConstants.{RESERVED_PLACES, PAGES, SLOTS}
+use Rattle.std.specs.Prelude.{ℕ, ◌≡◌, ◌<◌, [], List, length, Option, Some, None, Result, Ok, Err, All, is_ok}
+use Rattle.ipl_base.specs.declared.limits.TheConstants.{PAGES, SLOTS}
 use Rattle.chip_trait.specs.Told.{History, Told, Counts}
 use Rattle.ipl_base.specs.Places.{home_of}
 use Rattle.ipl_base.specs.declared.fault.ChipFault.{ChipFault}
@@ -66,7 +66,7 @@ ReadsKeepStates = (t : Tables) (frames : Frames) (result : Result (Unit {0}) Chi
 -- a page that was read into a frame, where it was in none
 abbrev pub LoadsKeepStates : Type 0
 LoadsKeepStates = (t : Tables) (frames : Frames) (u page : ℕ) (f : Frame) (old new : Told)
-    → ReadsAt Anywhere old new → u < old.places - RESERVED_PLACES → page < PAGES
+    → ReadsAt Anywhere old new → u < length t.places.current → page < PAGES
     → frames u page ≡ None → f.log ≡ []
     → OfContents old (λ x. (it : Layout) → Mirrors old.places (chart_of x) it t
     → IsFrameOf (chart_of x) it (logs_of frames) (is_active t) u page f.values f.pending)
@@ -172,10 +172,12 @@ AnswersAreAlike = (next : State → State) (before after : Memory)
     → is_ok result ≡ is_ok answer → LeadsTo next before old result after new
     → LeadsTo next before old answer after new
 
--- In some layout these tables mirror the new chart, no place is lost, and each page is kept.
+-- In some layout, of as many units, these tables mirror the new chart, no place is lost, and each
+-- page is kept.
 pub record IsReopened (places : ℕ) (c : Chart) (it : Layout) (y : Chart) (t : Tables)
     : Type 0 where
   pub layout : Layout
+  pub count : layout.count ≡ it.count
   pub mirrors : Mirrors places y layout t
   pub none_lost : NoneIsLost places t
   pub pages : KeepsPages places c it y layout

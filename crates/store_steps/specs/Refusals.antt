@@ -1,9 +1,9 @@
 -- What a store refuses: its sessions tell it, as the model's state does.
-use Rattle.std.specs.Prelude.{ℕ, ◌≡◌, ◌<◌, ◌≤◌, ◌+◌, ◌*◌, [], ◌∷◌, List, Contains, Bool, true, false, length, Option, Some, None, Ok, Err, if◌then◌else◌}
+use Rattle.std.specs.Prelude.{ℕ, ◌≡◌, ◌<◌, ◌≤◌, ◌*◌, [], ◌∷◌, List, Contains, Bool, true, false, length, Option, Some, None, Ok, Err, if◌then◌else◌}
 use Rattle.std.specs.Option.{option_or}
-use Rattle.ipl_base.specs.declared.limits.TheConstants.{RESERVED_PLACES, SESSIONS, UNIT_NAMES, VALUE_LEN}
+use Rattle.ipl_base.specs.declared.limits.TheConstants.{SESSIONS, UNIT_NAMES, VALUE_LEN}
 use Rattle.chip_trait.specs.Told.{Told, Counts}
-use Rattle.ipl_base.specs.Places.{home_of}
+use Rattle.ipl_base.specs.Places.{home_of, places_for}
 use Rattle.ipl_base.specs.Sizes.{size_in_page}
 use Rattle.ipl_base.specs.declared.fault.ChipFault.{ChipFault}
 use Rattle.ipl_base.specs.declared.fault.Refusal.{Refusal}
@@ -118,7 +118,7 @@ AcceptedAreDone = (limits : Limits) (slots : Slots) (state : State) (c : Command
 -- the frame has tells whether it is refused, wherever the contents that are told show the state.
 abbrev pub PutsAnswer : Type 0
 PutsAnswer = (s n : ℕ) (bytes : List ℕ) (store : View) (t : Tables) (later : Frames) (f : Frame)
-    (old new : Told) → store.units + RESERVED_PLACES ≡ old.places
+    (old new : Told) → places_for store.units ≡ old.places
     → KeepsState {T = Unit {0}} {E = ChipFault} store.memory.tables store.memory.frames old (Ok tt)
     t later new
     → later (home_of n).unit (home_of n).page ≡ Some f
@@ -132,7 +132,7 @@ PutsAnswer = (s n : ℕ) (bytes : List ℕ) (store : View) (t : Tables) (later :
 -- So a call that brought the page and found it full is the work of the put.
 abbrev pub FullPutsAreWork : Type 0
 FullPutsAreWork = (s n : ℕ) (bytes : List ℕ) (before after : View) (f : Frame) (old new : Told)
-    → before.units + RESERVED_PLACES ≡ old.places → after.units ≡ before.units
+    → places_for before.units ≡ old.places → after.units ≡ before.units
     → before.down ≡ false → after.memory.slots ≡ before.memory.slots
     → KeepsState {T = Unit {0}} {E = ChipFault} before.memory.tables before.memory.frames old (Ok tt)
     after.memory.tables after.memory.frames new
@@ -146,7 +146,7 @@ FullPutsAreWork = (s n : ℕ) (bytes : List ℕ) (before after : View) (f : Fram
 abbrev pub WrittenPutsAreWork : Type 0
 WrittenPutsAreWork = (s n : ℕ) (bytes : List ℕ) (before after : View) (t : Tables) (later : Frames)
     (f : Frame) (old mid new : Told)
-    → before.units + RESERVED_PLACES ≡ old.places → after.units ≡ before.units
+    → places_for before.units ≡ old.places → after.units ≡ before.units
     → before.down ≡ false → Counts old mid
     → KeepsState {T = Unit {0}} {E = ChipFault} before.memory.tables before.memory.frames old (Ok tt)
     t later mid

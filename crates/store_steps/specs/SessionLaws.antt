@@ -1,6 +1,6 @@
 -- What commands leave that a store does in memory alone.
-use Rattle.std.specs.Prelude.{ℕ, ◌≡◌, ◌<◌, ◌≤◌, ◌+◌, ◌-◌, List, [], length, Some, None, Ok}
-use Rattle.ipl_base.specs.declared.limits.TheConstants.{RESERVED_PLACES, VERSION}
+use Rattle.std.specs.Prelude.{ℕ, ◌≡◌, ◌<◌, ◌≤◌, ◌+◌, List, [], length, Some, None, Ok}
+use Rattle.ipl_base.specs.declared.limits.TheConstants.{VERSION}
 use Rattle.chip_trait.specs.Told.{Told}
 use Rattle.ipl_base.specs.declared.fault.ChipFault.{ChipFault}
 use Rattle.ipl_rules.specs.Operations as rules
@@ -42,7 +42,7 @@ SharesLead = (s n : ℕ) (before : Memory) (old : Told) → s < length before.sl
 abbrev pub WritesLead : Type 0
 WritesLead = (s u : ℕ) (r : Record) (f g : Frame) (before : Memory) (old : Told)
     → s < length before.slots → number_of before.slots s ≡ Some r.tid
-    → u < old.places - RESERVED_PLACES
+    → u < length before.tables.places.current
     → IsRecord VERSION r → before.frames u r.page ≡ Some f → IsWrittenFrame r f g
     → PageHasRoomFor (marks_in before.slots) u r f.values
     → LocksHold (after_record before.slots s u r)

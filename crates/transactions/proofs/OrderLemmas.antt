@@ -1,9 +1,9 @@
 -- Memory in order: what of it decides that it is, and calls in memory that keep it so.
-use Rattle.std.proofs.Common.{◌≡◌, ℕ, ◌<◌, Option, Some, None, Ok, Contains, ◌⊎◌, refl, sym, ◌∙◌, ap, subst}
+use Rattle.std.proofs.Common.{◌≡◌, ℕ, ◌<◌, length, Option, Some, None, Ok, Contains, ◌⊎◌, refl, sym, ◌∙◌, ap, subst}
 use Rattle.chip_trait.specs.Told.{Told}
 use Rattle.ipl_base.specs.declared.fault.ChipFault.{ChipFault}
 use Rattle.ipl_rules.specs.State.{State}
-use Rattle.ipl_meaning.specs.Tables.{Status, Tables, IsFree, overflow_places, IsCountedClean}
+use Rattle.ipl_meaning.specs.Tables.{Places, Status, Tables, IsFree, overflow_places, IsCountedClean}
 use Rattle.record_locks.specs.Held.{Slots, numbers_in}
 use Rattle.merge_rules.specs.Known.{KnowsPlaces}
 use Rattle.buffer_pool.specs.Holding.{KeepsPins}
@@ -94,7 +94,8 @@ pub still_ready : (places : ℕ) (old new : Pages) → SamePlaces (tables_in old
 still_ready places old new same pins had ready = record {
   known = places_known places (tables_in old) (tables_in new) same ready.known;
   within = λ u page f is.
-      let was = had u page f is in ready.within u page was.0 was.1;
+      let was = had u page f is in
+      subst (λ (d : Places). u < length d.current) (sym same.places) (ready.within u page was.0 was.1);
   rest = rest_stays old.pool new.pool pins ready.rest;
 }
 

@@ -1,5 +1,5 @@
 -- What a write makes of the memory of a store.
-use Rattle.std.proofs.Common.{◌≡◌, ◌≢◌, ℕ, ◌<◌, ◌≤◌, ◌-◌, ◌*◌, Some, None, IsSome, Ok, Err, inl, inr, refl, sym, ◌∙◌, ap, subst, arith}
+use Rattle.std.proofs.Common.{◌≡◌, ◌≢◌, ℕ, ◌<◌, ◌≤◌, ◌*◌, length, Some, None, IsSome, Ok, Err, inl, inr, refl, sym, ◌∙◌, ap, subst, arith}
 use Rattle.std.specs.Prelude.{IfSome}
 use Rattle.chip_trait.specs.Told.{Told}
 use Rattle.chip_trait.proofs.CountsLemmas.{counts_none}
@@ -37,6 +37,7 @@ use Rattle.frame_changes.specs.Changes.{FrameChanges, MayPut, PutHasRoom}
 use Rattle.frame_changes.proofs.RoomLemmas.{puts_by_marks_have_room}
 use Rattle.page_frames.specs.declared.pages.Pages.{Pages}
 use Rattle.page_frames.specs.Pages.{tables_in, frames_in, IsFramed, KeepsValues, Upholds}
+use Rattle.page_frames.proofs.UpholdLemmas.{units_stay}
 use Rattle.transactions.specs.declared.transactions.Transactions.{Transactions}
 use Rattle.page_frames.specs.Asks.{AsksToPrepare}
 use Rattle.transactions.specs.Costs.{HasRoomFor, AsksToWrite}
@@ -178,7 +179,7 @@ unframed_put n it (Some bytes) (f, was, fits) some none =
 -- a record was put behind those of its page, which has room for it
 pub was_put : (s n u : ℕ) (r : Record) (old new : Transactions) (told : Told)
     → IsInOrder told.places old → s < 32 → number_of old.sessions s ≡ Some r.tid
-    → u < told.places - 4 → IsRecord VERSION r → name_at u r.page r.slot ≡ n
+    → u < length old.pages.parts.directory.current → IsRecord VERSION r → name_at u r.page r.slot ≡ n
     → new.sessions ≡ after_write old.sessions s n (size_in_page r.change) → LocksHold new.sessions
     → new.pages.parts ≡ old.pages.parts
     → (did : FrameChanges (IsWrittenFrame r) (frames_in old.pages) (frames_in new.pages) u r.page)
@@ -223,7 +224,7 @@ was_put s n u r old new told order low mine of_unit valid home slots locks parts
 -- after the record's page was brought into its frame
 pub was_written : (s n u : ℕ) (r : Record) (old new : Transactions) (mid : Pages)
     (before after : Told) → IsInOrder before.places old → s < 32 → number_of old.sessions s ≡ Some r.tid
-    → n < 960 * (before.places - 4) → n ≡ name_at u r.page r.slot → IsRecord VERSION r
+    → n < 960 * length old.pages.parts.directory.current → n ≡ name_at u r.page r.slot → IsRecord VERSION r
     → Upholds 14 old.pages before (Ok (tt {0})) mid after
     → new.sessions ≡ after_write old.sessions s n (size_in_page r.change) → LocksHold new.sessions
     → new.pages.parts ≡ mid.parts
@@ -236,9 +237,9 @@ was_written s n u r old new mid before after order low mine within home valid di
     changes room pins =
     let between : Transactions = record { pages = mid; sessions = old.sessions } in
     let next = λ (state : State). rules.after_write state s (n, r.change) in
-    let places = did.accounts.counts.places in
+    let units = units_stay before.places old.pages mid order.ready.known did.ready.known in
     upheld_then next 14 0 old between new (Ok tt) before after after did refl
     (was_put s n u r between new after
     (upheld_order_then 14 old between (Ok tt) before after order did refl) low mine
-    (omega (arith, within, home, places, valid.page, valid.slot)) valid (sym home) slots locks parts
+    (omega (arith, within, home, units, valid.page, valid.slot)) valid (sym home) slots locks parts
     changes room pins)

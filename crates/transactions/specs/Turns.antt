@@ -59,7 +59,7 @@ CompletesFor it result told = OfContents told (λ x. (layout : Layout) (state : 
 abbrev pub TellsFaultsFor : {T : Type 0} → Transactions → Result T ChipFault → Told → Pages → Type 0
 TellsFaultsFor it result told new = OfContents told (λ x. (layout : Layout) (state : State)
     → MemoryFits told.places (chart_of x) layout (memory_in it) state
-    → IfErr result (FailsByPage told.places x layout (tables_in new)))
+    → IfErr result (FailsByPage x layout (tables_in new)))
 
 -- A call that leads from each state that memory and chip stand for to the next one. Whatever the chip
 -- tells: its events are lawful by the tables, the memory is in order, the same pages are held, at most

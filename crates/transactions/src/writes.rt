@@ -1,5 +1,5 @@
 //! A name is changed.
-ghost use Rattle.std.specs.Prelude.{◌≡◌, ◌<◌, ◌+◌, ◌-◌, ◌*◌, ◌^◌, ◌≤◌, length, slice_index, None, OnOk, OnErr};
+ghost use Rattle.std.specs.Prelude.{◌≡◌, ◌<◌, ◌+◌, ◌*◌, ◌^◌, ◌≤◌, length, slice_index, None, OnOk, OnErr};
 ghost use Rattle.ipl_base.specs.declared.fault.ChipFault.TheVariants.{Malformed};
 ghost use Rattle.ipl_base.specs.declared.limits.TheConstants.{VALUE_LEN, VERSION, SESSIONS};
 ghost use Rattle.ipl_base.specs.Places.{home_of};
@@ -37,7 +37,7 @@ impl Transactions {
     ) -> Result<(), ChipFault>
         requires order { IsInOrder (C.told chip.old).places self.old }
         requires session { s < SESSIONS }
-        requires name { name.0 < 960 * ((C.told chip.old).places - 4) }
+        requires name { name.0 < 960 * length self.old.pages.parts.directory.current }
         requires unrefused { refuses_write self.old.sessions s name.0
             (size_in_page (change_of change)) ≡ None }
         requires room { MayTake self.old name.0 (change_of change) }

@@ -212,7 +212,7 @@ added_in_steps places status next numbers result old new are least room leads st
     let then = adds_chart places status next numbers (now h) y are least room refl it t active mirrors has ready.may in
     let worn : WornAreIdle places h.story y = worn_by_layout places h.story y (layout_added it numbers) then.mirrors.laid (λ q on.
     let idle = ready.rests.worn it mirrors.laid q on in
-    idle_still places (now h) y it (layout_added it numbers) q (λ s. rw (ne_eqb status.place q (λ is. idle.not_status (sym at ∙ is))) refl) refl (λ u low. (refl, refl)) idle) in
+    idle_still places (now h) y it (layout_added it numbers) q (λ s. rw (ne_eqb status.place q (λ is. idle.not_status (sym at ∙ is))) refl) refl refl (λ u low. (refl, refl)) idle) in
     let apart : (base : Story) → AreClean (IsCountedClean t) base → (a : Story)
     → Programs status.place (IsSpot status.first) true a
     → AreClean (IsCountedClean (with_added t numbers (1 + next) active)) (a ++ base) =

@@ -91,7 +91,7 @@ pub record IsPrepared (places : ℕ) (c y : Chart) (it : Layout) (t : Tables) (p
   pub each : AreLong kept
   pub most : length kept ≤ 3840
   pub parts : HasParts p t.next (t.next + 1) kept (parts_of kept) c y
-  pub is_head : IsStatusHead (places - 4) t.next head
+  pub is_head : IsStatusHead (length t.places.current) t.next head
 
 module _ (places : ℕ) (c y : Chart) (it : Layout) (t : Tables) (p : ℕ) (kept : List ℕ)
     (head : Sector) (is : IsPrepared places c y it t p kept head) where
@@ -203,7 +203,7 @@ module _ (places : ℕ) (c y : Chart) (it : Layout) (t : Tables) (p : ℕ) (kept
       few : (i : ℕ) → i < parts_of kept → 1 + i < 256
       few i low = omega (arith, is.most, low)
 
-  may_switch : MaySwitch places y p head (among kept)
+  may_switch : MaySwitch places it.count y p head (among kept)
   may_switch = status_headers_may_go places y it t p head
       (among kept) mirrors_written is.within no_header is.is_head.kind is.is_head.counts
       (omega (arith, is.is_head.serial)) status_there
@@ -259,7 +259,7 @@ module _ (places : ℕ) (c y : Chart) (it : Layout) (t : Tables) (p : ℕ) (kept
     pub switched_then : Switched places c (with_sector y p 0 head) it after p t.next kept
     switched_then = record {
       head = head;
-      is_head = is.is_head;
+      is_head = subst (λ (units : ℕ). IsStatusHead units t.next head) is.mirrors.directory.units is.is_head;
       mirrors = mirrors_then;
       pages = λ keeps u page now low in_unit shows.
           (status_headers_switch places y it p head (among kept) kept_still.0 may_switch).1 u page
@@ -268,10 +268,10 @@ module _ (places : ℕ) (c y : Chart) (it : Layout) (t : Tables) (p : ℕ) (kept
           (kept_still.1 u page now low in_unit shows));
     }
 
-  pub stands_then : (m : Map) → Says places c it m → KeepsNumbers places it (among kept)
+  pub stands_then : (m : Map) → Says places c it m → KeepsNumbers it (among kept)
       → Stands places (with_sector y p 0 head) m
   stands_then m says keeps = stands_after_renewals places y it m p head (among kept) kept_still.0
-      (kept_pages_keep_the_map places c y it it m kept_still.1 says) may_switch keeps
+      (kept_pages_keep_the_map places c y it it m kept_still.1 refl says) may_switch keeps
 
   -- worn places are idle with the header too, since this one isn't worn
   pub worn_then : (story : Story) → WornAreIdle places story y → is_worn story p ≡ false

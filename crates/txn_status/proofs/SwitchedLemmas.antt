@@ -1,5 +1,5 @@
 -- What a switch leaves: the parts and the header.
-use Rattle.std.proofs.Common.{◌≡◌, ◌≢◌, ℕ, ◌<◌, ◌≤◌, ◌+◌, ◌-◌, true, false, List, ◌++◌, length, slice_index, Result, Ok, Err, IfErr, is_ok, inl, inr, sym, ◌∙◌, ap, subst, arith}
+use Rattle.std.proofs.Common.{◌≡◌, ◌≢◌, ℕ, ◌<◌, ◌≤◌, ◌+◌, true, false, List, ◌++◌, length, slice_index, Result, Ok, Err, IfErr, is_ok, inl, inr, sym, ◌∙◌, ap, subst, arith}
 use Rattle.std.specs.Prelude.{◌⊎◌}
 use Rattle.std.specs.List.{Contains}
 use Rattle.chip_trait.specs.Chart.{with_sector}
@@ -38,7 +38,7 @@ use Rattle.txn_status.proofs.SwitchLemmas.{AreLong, IsPrepared, mirrors_then, sw
 not_counted : (places : ℕ) (c : Chart) (it : Layout) (t : Tables) (p s : ℕ) → Mirrors places c it t
     → IsTaken places c it t p → IsCountedClean t p s → ⊥
 not_counted places c it t p s mirrors taken (small, inl (u, low, at, high)) =
-    let within : u < places - 4 = omega (arith, low, mirrors.directory.units) in
+    let within : u < it.count = omega (arith, low, mirrors.directory.units) in
     taken.idle.not_home u within (sym (mirrors.directory.current u within) ∙ sym at)
 not_counted places c it t p s mirrors taken (small, inr (inl (first, there, high))) =
     taken.not_overflow (map_contains t.overflow.in_use p first there)
@@ -85,11 +85,11 @@ counted_apart places c it t after p own from mirrors taken renewed q s counted =
 
 -- ---- both calls
 
-module _ (places : ℕ) (status : Status) (next p : ℕ) (kept : List ℕ) (within : p < places)
+module _ (places units : ℕ) (status : Status) (next p : ℕ) (kept : List ℕ) (within : p < places)
     (each : AreLong kept) (most : length kept ≤ 3840) (old mid new : Told) (h : History)
     (it : Layout) (t after : Tables) (m : Map) (steady : IsSteady h old)
-    (has : HasStatus t status next) (ready : IsReadyToSwitch places h it t m p kept)
-    (switched : IsSwitched t after p next kept) where
+    (has : HasStatus t status next) (many : length t.places.current ≡ units)
+    (ready : IsReadyToSwitch places h it t m p kept) (switched : IsSwitched t after p next kept) where
   abbrev Holds : Unit {0} → History → Type 0
   Holds done k = RestsSwitched places m it after p next kept k
 
@@ -98,7 +98,7 @@ module _ (places : ℕ) (status : Status) (next p : ℕ) (kept : List ℕ) (with
     pub rests : StoryRests places m k
     pub parts : HasParts p next (next + 1) kept (parts_of kept) (now h) (now k)
 
-  prepared : (k : History) (head : Sector) → IsKept k → IsStatusHead (places - 4) next head
+  prepared : (k : History) (head : Sector) → IsKept k → IsStatusHead units next head
       → IsPrepared places (now h) (now k) it t p kept head
   prepared k head is is_head = record {
     mirrors = ready.agrees.mirrors;
@@ -109,7 +109,8 @@ module _ (places : ℕ) (status : Status) (next p : ℕ) (kept : List ℕ) (with
     most = most;
     parts = subst (λ (g : ℕ). HasParts p g (g + 1) kept (parts_of kept) (now h) (now k))
         (sym has.next_is) is.parts;
-    is_head = subst (λ (g : ℕ). IsStatusHead (places - 4) g head) (sym has.next_is) is_head;
+    is_head = subst (λ (g : ℕ). IsStatusHead (length t.places.current) g head) (sym has.next_is)
+        (subst (λ (n : ℕ). IsStatusHead n next head) (sym many) is_head);
   }
 
   one : (result : Result (Unit {0}) ChipFault)
@@ -138,13 +139,13 @@ module _ (places : ℕ) (status : Status) (next p : ℕ) (kept : List ℕ) (with
     pub record IsSealed (k : History) : Type 0 where
       pub rests : StoryRests places m k
       pub head : Sector
-      pub is_head : IsStatusHead (places - 4) next head
+      pub is_head : IsStatusHead units next head
       pub before : History
       pub kept_there : IsKept before
       pub gains : Gains p 0 head (now before) (now k)
 
     two : (result : Result (Unit {0}) ChipFault)
-        → LeadsHeader places p (places - 4) next mid result new
+        → LeadsHeader places p units next mid result new
         → Leads (EachStands places m) (Programs p (IsStatusSpot (parts_of kept)))
         (λ done k. IsSealed k) h old result new
     unfolding first
@@ -157,7 +158,7 @@ module _ (places : ℕ) (status : Status) (next p : ℕ) (kept : List ℕ) (with
         (Programs p (IsSpot 0)) (Programs p (IsStatusSpot (parts_of kept)))
         (λ done then. StoryRests places m then
         × HasParts p next (next + 1) kept (parts_of kept) (now h) (now then))
-        (λ done then. StoryRests places m then × IsHeaded p (places - 4) next (now k) (now then))
+        (λ done then. StoryRests places m then × IsHeaded p units next (now k) (now then))
         (λ done then. IsSealed then) h tt old mid new result first
         (seals m k first.ends.0 first.ends.1.0 clean (λ head is_head.
         let so = prepared k head there is_head in (
@@ -198,7 +199,8 @@ module _ (places : ℕ) (status : Status) (next p : ℕ) (kept : List ℕ) (with
     unfolding renewed
     rests_switched a programs is = record {
       head = is.head;
-      is_head = is.is_head;
+      is_head = subst (λ (n : ℕ). IsStatusHead n next is.head)
+          (sym many ∙ ready.agrees.mirrors.directory.units) is.is_head;
       stands = record {
         rests = is.rests;
         agrees = record {
@@ -212,7 +214,7 @@ module _ (places : ℕ) (status : Status) (next p : ℕ) (kept : List ℕ) (with
     }
 
     pub switched_in_steps : (result : Result (Unit {0}) ChipFault)
-        → LeadsHeader places p (places - 4) next mid result new
+        → LeadsHeader places p units next mid result new
         → IfErr result (λ fault. IsStopped fault old new)
         → StepsSwitching places it after m p next kept h result old new
     switched_in_steps result seals stopped =
@@ -224,17 +226,17 @@ module _ (places : ℕ) (status : Status) (next p : ℕ) (kept : List ℕ) (with
 
 -- ---- what is told of the contents
 
-pub switches_told : (places : ℕ) (status : Status) (next p : ℕ) (kept : List ℕ) → p < places
+pub switches_told : (places units : ℕ) (status : Status) (next p : ℕ) (kept : List ℕ) → p < places
     → AreLong kept → length kept ≤ 3840 → (old mid new : Told)
     → Charts (HasParts p next (next + 1) kept (parts_of kept)) old mid
-    → Charts (IsHeaded p (places - 4) next) mid new
-    → Charts (Switches places status next p kept) old new
-switches_told places status next p kept within each most old mid new parts seal = λ x told.
+    → Charts (IsHeaded p units next) mid new
+    → Charts (Switches places units status next p kept) old new
+switches_told places units status next p kept within each most old mid new parts seal = λ x told.
     let (y, told_y, there) = parts x told in
     let (z, told_z, sealed) = seal y told_y in (
       z,
       told_z,
-      λ it t after mirrors has taken may switched.
+      λ it t after mirrors has many taken may switched.
           let is : IsPrepared places (chart_of x) (chart_of y) it t p kept sealed.0 = record {
             mirrors = mirrors;
             taken = taken;
@@ -244,8 +246,8 @@ switches_told places status next p kept within each most old mid new parts seal 
             most = most;
             parts = subst (λ (g : ℕ). HasParts p g (g + 1) kept (parts_of kept) (chart_of x)
                 (chart_of y)) (sym has.next_is) there;
-            is_head = subst (λ (g : ℕ). IsStatusHead (places - 4) g sealed.0)
-                (sym has.next_is) sealed.1;
+            is_head = subst (λ (g : ℕ). IsStatusHead (length t.places.current) g sealed.0)
+                (sym has.next_is) (subst (λ (n : ℕ). IsStatusHead n next sealed.0) (sym many) sealed.1);
           } in
           subst (λ (c : Chart). Switched places (chart_of x) c it after p next kept) (sym sealed.2)
           (subst (λ (g : ℕ). Switched places (chart_of x)

@@ -1,7 +1,6 @@
 -- What a new status place makes of a chart, of the tables, and of what a power cut leaves.
-use Rattle.std.specs.Prelude.{ℕ, ◌≡◌, ◌<◌, ◌≤◌, ◌+◌, ◌-◌, List, Some, None, All, Contains, Result, is_ok}
+use Rattle.std.specs.Prelude.{ℕ, ◌≡◌, ◌<◌, ◌≤◌, ◌+◌, List, length, Some, None, All, Contains, Result, is_ok}
 use Rattle.chip_trait.specs.Lawful.{Clean, age}
-use Rattle.ipl_base.specs.declared.limits.TheConstants.{RESERVED_PLACES}
 use Rattle.chip_trait.specs.Told.{History, Told}
 use Rattle.ipl_base.specs.declared.fault.ChipFault.{ChipFault}
 use Rattle.ipl_format.specs.Header.{SpellsUnits}
@@ -75,15 +74,15 @@ pub record IsSwitched (t after : Tables) (p generation : ℕ) (kept : List ℕ) 
 pub record Switched (places : ℕ) (c y : Chart) (it : Layout) (after : Tables)
     (p generation : ℕ) (kept : List ℕ) : Type 0 where
   pub head : Sector
-  pub is_head : IsStatusHead (places - RESERVED_PLACES) generation head
+  pub is_head : IsStatusHead it.count generation head
   pub mirrors : Mirrors places y (with_status it p head (among kept)) after
-  pub pages : KeepsNumbers places it (among kept)
+  pub pages : KeepsNumbers it (among kept)
       → KeepsPages places c it y (with_status it p head (among kept))
 
--- whatever tables of this status and counter mirrored the old chart
-abbrev pub Switches : ℕ → Status → ℕ → ℕ → List ℕ → Chart → Chart → Type 0
-Switches places status next p kept c y = (it : Layout) (t after : Tables)
-    → Mirrors places c it t → HasStatus t status next
+-- whatever tables of this status and counter, and of so many units, mirrored the old chart
+abbrev pub Switches : ℕ → ℕ → Status → ℕ → ℕ → List ℕ → Chart → Chart → Type 0
+Switches places units status next p kept c y = (it : Layout) (t after : Tables)
+    → Mirrors places c it t → HasStatus t status next → length t.places.current ≡ units
     → IsTaken places c it t p → MayKeep t kept → IsSwitched t after p next kept
     → Switched places c y it after p next kept
 
@@ -99,13 +98,13 @@ pub record IsReadyToSwitch (places : ℕ) (h : History) (it : Layout) (t : Table
   pub taken : IsTaken places (now h) it t p
   pub clean : (s : ℕ) → age h.story p s ≡ Clean
   pub may : MayKeep t kept
-  pub keeps : KeepsNumbers places it (among kept)
+  pub keeps : KeepsNumbers it (among kept)
 
 -- the story rests on the same map, and the tables with the new status agree
 pub record RestsSwitched (places : ℕ) (m : Map) (it : Layout) (after : Tables)
     (p generation : ℕ) (kept : List ℕ) (k : History) : Type 0 where
   pub head : Sector
-  pub is_head : IsStatusHead (places - RESERVED_PLACES) generation head
+  pub is_head : IsStatusHead it.count generation head
   pub stands : RestsAgreeing places m (with_status it p head (among kept)) after k
 
 -- At each moment a power cut leaves the map, and done, the story rests on it and the tables with
@@ -120,10 +119,11 @@ StepsSwitching places it after m p generation kept h result old new =
     h old new
 
 -- whatever layout, tables and map it began with
-abbrev pub SwitchesInSteps : ℕ → Status → ℕ → ℕ → List ℕ → Result (Unit {0}) ChipFault
+abbrev pub SwitchesInSteps : ℕ → ℕ → Status → ℕ → ℕ → List ℕ → Result (Unit {0}) ChipFault
     → Told → Told → Type 0
-SwitchesInSteps places status next p kept result old new =
+SwitchesInSteps places units status next p kept result old new =
     (h : History) (it : Layout) (t after : Tables) (m : Map)
-    → IsSteady h old → HasStatus t status next → IsReadyToSwitch places h it t m p kept
+    → IsSteady h old → HasStatus t status next → length t.places.current ≡ units
+    → IsReadyToSwitch places h it t m p kept
     → IsSwitched t after p next kept
     → StepsSwitching places it after m p next kept h result old new

@@ -1,21 +1,22 @@
 -- What the calls on a directory make of it, and what always holds.
-use Rattle.std.specs.Prelude.{ℕ, ◌≡◌, ◌<◌, ◌≤◌, ◌+◌, ◌-◌, true, false, nat_lt, List, length, slice_index, slice_set, replicate, Option, Some, None, if◌then◌else◌}
-use Rattle.ipl_base.specs.declared.limits.TheConstants.{RESERVED_PLACES, FIRST_LOG_SECTOR, LOG_SECTORS}
-use Rattle.ipl_base.specs.Places.{IsGeometry}
+use Rattle.std.specs.Prelude.{ℕ, ◌≡◌, ◌<◌, ◌≤◌, ◌+◌, true, false, nat_lt, List, length, slice_index, slice_set, replicate, Option, Some, None, if◌then◌else◌}
+use Rattle.ipl_base.specs.declared.limits.TheConstants.{FIRST_LOG_SECTOR, LOG_SECTORS}
+use Rattle.ipl_base.specs.Places.{IsGeometry, KeepsUnits}
 use Rattle.ipl_meaning.specs.Tables.{Places, with_use, masks_in}
 
 -- a place none of whose log sectors names a page
 abbrev pub no_masks : List ℕ
 no_masks = replicate LOG_SECTORS 0
 
--- no place is in use, each unit has place 0 and generation 0, and no log sector is known clean, nor names a page
-abbrev pub empty_places : ℕ → Places
-empty_places places = record {
-  current = replicate (places - RESERVED_PLACES) 0;
+-- with so many places and units: no place is in use, each unit has place 0 and generation 0, and no log sector is known
+-- clean, nor names a page
+abbrev pub empty_places : ℕ → ℕ → Places
+empty_places places units = record {
+  current = replicate units 0;
   in_use = replicate places false;
-  written = replicate (places - RESERVED_PLACES) LOG_SECTORS;
-  generations = replicate (places - RESERVED_PLACES) 0;
-  masks = replicate (places - RESERVED_PLACES) no_masks;
+  written = replicate units LOG_SECTORS;
+  generations = replicate units 0;
+  masks = replicate units no_masks;
 }
 
 -- the place is in use and the unit's, of this generation, and no log sector of it is known clean, nor names a page; the
@@ -46,7 +47,7 @@ next_log it u = if nat_lt (slice_index it.written u) LOG_SECTORS then Some (FIRS
 -- place has 15 log sectors
 pub record IsSoundDirectory (it : Places) : Type 0 where
   pub places : IsGeometry (length it.in_use)
-  pub units : length it.current + RESERVED_PLACES ≡ length it.in_use
+  pub units : KeepsUnits (length it.in_use) (length it.current)
   pub logs : length it.written ≡ length it.current
   pub within : (u : ℕ) → u < length it.current → slice_index it.current u < length it.in_use
   pub few : (u : ℕ) → u < length it.current → slice_index it.written u ≤ LOG_SECTORS

@@ -20,8 +20,8 @@ FreePlacesCount = (it : Places) (p : ℕ) → IsFree it p → 0 < free_count it.
 
 -- at first each place of the chip is free
 abbrev pub AllAreFreeAtFirst : Type 0
-AllAreFreeAtFirst = (places : ℕ) → (free_count (empty_places places).in_use ≡ places)
-    × ((q : ℕ) → IsFree (empty_places places) q ↔ (q < places))
+AllAreFreeAtFirst = (places units : ℕ) → (free_count (empty_places places units).in_use ≡ places)
+    × ((q : ℕ) → IsFree (empty_places places units) q ↔ (q < places))
 
 -- a place that is used is taken
 abbrev pub UsesTake : Type 0

@@ -12,7 +12,7 @@ use std::marker::Model;
 /// of each unit's place, from the first on, count as written: the others are known clean. The
 /// generation that the header there has; and for each of these 15, which pages its records name, as a
 /// mask. A contract sees them as lists, by unit, by place, and by unit and sector; there are 5 to 1028
-/// places, and four units fewer, always the same. Memory is taken by `new` alone.
+/// places, and as many units as are kept on them, always the same. Memory is taken by `new` alone.
 #[derive(Drop)]
 pub struct Directory {
     current: Vec<u32>,
@@ -51,7 +51,7 @@ impl Model for Directory {
 impl Directory {
     /// No place is in use. Until a unit adopts a place it has place 0, with no log sector known clean.
     pub fn new(alloc: Global, geometry: Geometry) -> Result<Directory, OutOfMemory>
-        ensures { IfOk result (λ directory. directory ≡ empty_places geometry) }
+        ensures { IfOk result (λ directory. directory ≡ empty_places geometry.places geometry.units) }
     {
         let units = geometry.units() as usize;
         let places = geometry.places() as usize;
@@ -74,7 +74,7 @@ impl Directory {
 
     /// Makes it as `new` does. It takes no memory.
     pub fn reset(&mut self)
-        ensures { self.new ≡ empty_places (length self.old.in_use) }
+        ensures { self.new ≡ empty_places (length self.old.in_use) (length self.old.current) }
     {
         self.current.fill(0);
         self.in_use.fill(false);
@@ -85,12 +85,19 @@ impl Directory {
         }
     }
 
-    /// What always holds: the chip has 5 to 1028 places, all but four have a unit, each unit has a
+    /// What always holds: the chip has 5 to 1028 places, as many units as are kept on them, each has a
     /// place of the chip, and at most 15 log sectors count as written.
     pub fn facts(&self)
         ensures { IsSoundDirectory self.now }
     {
         let _ = &self.current;
+    }
+
+    /// How many units have a place.
+    pub fn units(&self) -> u32
+        ensures { result ≡ length self.now.current }
+    {
+        self.current.len() as u32
     }
 
     /// The place that is current for a unit, one of the chip's.

@@ -57,7 +57,7 @@ one_entry log e f rise (i, in_i, is) (j, in_j, also) same = elim (cases_eq i j) 
         rw (at_j, at_i) at (rise j i f less within) in omega (arith, below, same)
 
 module _ (places : ℕ) (c : Chart) (it : Layout) (t : Tables) (u end : ℕ)
-    (mirrors : Mirrors places c it t) (low : u < places - 4) (end_is : end ≡ first_log t u)
+    (mirrors : Mirrors places c it t) (low : u < it.count) (end_is : end ≡ first_log t u)
     (most : end ≤ 256) where
   abbrev g : ℕ
   g = (it.units u).head.generation
@@ -72,7 +72,7 @@ module _ (places : ℕ) (c : Chart) (it : Layout) (t : Tables) (u end : ℕ)
   home_is : slice_index t.places.current u ≡ (it.units u).home
   home_is = mirrors.directory.current u low
 
-  unit_there : IsUnit c places u (it.units u)
+  unit_there : IsUnit c places it.count u (it.units u)
   unit_there = mirrors.laid.each u low
 
   -- a live sector stands at one of the spots

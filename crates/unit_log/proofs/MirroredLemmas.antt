@@ -1,5 +1,5 @@
 -- What is read of a unit's log, where tables mirror the chip.
-use Rattle.std.proofs.Common.{◌≡◌, ◌<◌, ◌≤◌, ◌+◌, ◌-◌, ℕ, List, [], length, map, slice_index, Option, Some, None, IfSome, IfNone, unwrap_or, sym, ◌∙◌, ap, ap₂, subst, arith}
+use Rattle.std.proofs.Common.{◌≡◌, ◌<◌, ◌≤◌, ◌+◌, ℕ, List, [], length, map, slice_index, Option, Some, None, IfSome, IfNone, unwrap_or, sym, ◌∙◌, ap, ap₂, subst, arith}
 use Rattle.ipl_meaning.specs.Chart.{Chart}
 use Rattle.ipl_meaning.specs.Layout.{Layout}
 use Rattle.ipl_meaning.specs.Tables.{Places, OverflowLists, Tables, first_log, spots_of}
@@ -16,7 +16,7 @@ module _ (places place u : ℕ) (c : Chart) (it : Layout) (t : Tables) (director
     (overflow : OverflowLists)
     (are : AreMirrored places c it t directory overflow) (low : u < length directory.current)
     (at : place ≡ slice_index directory.current u) where
-  within : u < places - 4
+  within : u < it.count
   within =
       omega (
         arith,
@@ -38,7 +38,7 @@ module _ (places place u : ℕ) (c : Chart) (it : Layout) (t : Tables) (director
         here = ap (λ (p : ℕ). c p 0) home ∙ there.chosen.here;
         kind = there.chosen.fits.0;
         unit = there.chosen.fits.1;
-        units = places - 4;
+        units = it.count;
         spelled = there.counts;
       }
 

@@ -64,7 +64,7 @@ listed_filter page f (x ∷ spots) = elim (cases_Bool (has_page (f x) page)) [
 
 -- ---- what is read at spots where log sectors of the log stand
 
-module _ (places : ℕ) (c : Chart) (it : Layout) (u : ℕ) (there : IsUnit c places u (it.units u)) where
+module _ (places : ℕ) (c : Chart) (it : Layout) (u : ℕ) (there : IsUnit c places it.count u (it.units u)) where
   abbrev g : ℕ
   g = (it.units u).head.generation
 
@@ -161,8 +161,8 @@ module _ (places : ℕ) (c : Chart) (it : Layout) (u : ℕ) (there : IsUnit c pl
 -- ---- by the masks
 
 module _ (places : ℕ) (c : Chart) (it : Layout) (t : Tables) (u page : ℕ)
-    (mirrors : Mirrors places c it t) (low : u < places - 4) where
-  unit_is : IsUnit c places u (it.units u)
+    (mirrors : Mirrors places c it t) (low : u < it.count) where
+  unit_is : IsUnit c places it.count u (it.units u)
   unit_is = mirrors.laid.each u low
 
   abbrev own : List (ℕ × ℕ)

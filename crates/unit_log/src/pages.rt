@@ -1,5 +1,6 @@
 //! Which log sectors of a unit name a page.
-ghost use Rattle.std.specs.Prelude.{◌≡◌, ◌≤◌, ◌<◌, ◌+◌, ◌++◌, ℕ, length, map, slice_index, [], All};
+ghost use Rattle.std.specs.Prelude.{◌≡◌, ◌≤◌, ◌<◌, ◌++◌, ℕ, length, map, slice_index, [], All};
+ghost use Rattle.ipl_base.specs.Places.{places_for};
 ghost use Rattle.ipl_base.specs.declared.limits.TheConstants.{LIVE_SECTORS};
 ghost use Rattle.ipl_meaning.specs.Masks.{has_page, mask_of};
 ghost use Rattle.ipl_meaning.specs.Tables.{masks_in};
@@ -59,7 +60,7 @@ fn add_listed(spots: &mut ArrayVec<Spot, LIVE_SECTORS>, overflow: &Overflow, uni
     ensures spots { map pair_of spots.new.items ≡ map pair_of spots.old.items
         ++ listed_with page (spots_in overflow.now unit) (masks_at overflow.now unit) }
     ensures few { length spots.new.items ≤ LIVE_SECTORS }
-    ensures within { AreWithin (length overflow.now.spots + 4) (spots_in overflow.now unit) }
+    ensures within { AreWithin (places_for (length overflow.now.spots)) (spots_in overflow.now unit) }
 {
     let all = overflow.list(unit);
     let listed = all.as_slice();

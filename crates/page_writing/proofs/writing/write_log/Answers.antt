@@ -1,4 +1,4 @@
-use Rattle.std.proofs.Common.{◌+◌, ℕ, slice_index, Ok, Err, refl, subst, arith}
+use Rattle.std.proofs.Common.{◌+◌, ℕ, slice_index, Ok, Err, refl, subst}
 use Rattle.std.proofs.lemmas.Result.{err_from_is_err_and}
 use Rattle.ipl_meaning.specs.TableSteps.{with_next}
 use Rattle.sector_format.specs.Decode.{sector_of}
@@ -53,7 +53,7 @@ returns-in_err-program_log-clause-steps g c =
     let says = c.in_err-program_log.ensures in
     rw (e.1, e.2) (log_steps old.places c.args.unit at payload t (with_next t c.draw.new.self)
     (sector_of head payload.bytes) old
-    (g.C.Chip.told c.program_log.new.chip) (omega (arith, c.requires.unit)) is
+    (g.C.Chip.told c.program_log.new.chip) c.requires.unit is
     (Err c.in_err-program_log.field-0.0) c.requires.spot tt says.keeps says.accounts.cause)
 
 pub returns-in_err-program_log-clause-holds : goal.returns-in_err-program_log-clause-holds
@@ -79,7 +79,7 @@ returns-clause-steps g c =
     let says = c.in_ok-program_log.ensures in
     log_steps old.places u at payload t after (sector_of head payload.bytes) old
     (g.C.Chip.told c.program_log.new.chip)
-    (omega (arith, c.requires.unit)) is (Ok tt) c.requires.spot tables says.keeps
+    c.requires.unit is (Ok tt) c.requires.spot tables says.keeps
     says.accounts.cause
 
 pub returns-clause-tells : goal.returns-clause-tells
@@ -101,7 +101,7 @@ returns-clause-tells g c =
     c.requires.known after tables in
     log_told old.places u at payload t after (sector_of head payload.bytes) old
     (g.C.Chip.told c.program_log.new.chip)
-    (omega (arith, c.requires.unit)) is tables holds.known.none_lost
+    c.requires.unit is tables holds.known.none_lost
     c.in_ok-program_log.ensures.tells
 
 pub returns-clause-holds : goal.returns-clause-holds

@@ -1,4 +1,4 @@
-use Rattle.std.proofs.Common.{ℕ, Result, Ok, Err, ◌∙◌, subst, arith}
+use Rattle.std.proofs.Common.{ℕ, Result, Ok, Err, ◌∙◌, subst}
 use Rattle.std.proofs.lemmas.Result.{err_from_is_err_and}
 use Rattle.chip_trait.proofs.CountsLemmas.{counts_then}
 use Rattle.unit_io.specs.Charts.{Charts}
@@ -244,7 +244,7 @@ returns-in_err-at-clause-stays g c = λ x told it mirrors.
     e.0 c.in_err-at.field-0.0 e.2
     (unplaced_stays (tables_of c.args.parts.now) c.args.unit (tables_of c.log_place.new.parts)
     (g.C.Chip.told c.args.chip.now).places (g.C.Chip.told c.args.chip.now)
-    (g.C.Chip.told c.log_place.new.chip) c.in_err-at.field-0.0 (omega (arith, c.requires.unit))
+    (g.C.Chip.told c.log_place.new.chip) c.in_err-at.field-0.0 c.requires.unit
     c.in_err-at.ensures.tells x told it mirrors))
 
 pub returns-in_err-write_log-clause-stays : goal.returns-in_err-write_log-clause-stays

@@ -56,7 +56,7 @@ pub returns-in_err-gathered-clause-fault : goal.returns-in_err-gathered-clause-f
 returns-in_err-gathered-clause-fault g c =
     let e = err_from_is_err_and c.from_residual.result c.from_residual.ensures.1 in
     let same = c.loop-place.invariant.reads in
-    let all : length c.args.heads.now * 256 ≡ c.args.geometry * 256 = omega (arith, c.requires.heads) in
+    let all : length c.args.heads.now * 256 ≡ c.args.geometry.places * 256 = omega (arith, c.requires.heads) in
     rw (e.1, e.2) (λ x told image.
     subst (λ (n : ℕ). first_below (log_fault (at c.args.heads.now) (at c.args.current.now) (chart_of x)) n ≡ Some c.in_err-gathered.field-0.0) all
     (c.in_err-gathered.ensures.fault x (same.contents ∙ told) c.args.least (c.loop-place.invariant.scanned x told) image))

@@ -16,6 +16,6 @@ invariant-loop-place g l =
       once : ReadsOnce (InPlacesBelow (at l.heads) (at l.current) l.place) (told l.fn.chip) (told l.chip);
       scanned : OfContents (told l.fn.chip) (λ x. IsScanned x (at l.heads) (at l.current) l.status.numbers l.least (l.place * 256) l.noted l.directory l.overflow l.numbers l.gathered.fits l.gathered.greatest);
       roomy : IsRoomy (at l.current) (l.place * 256) l.noted l.overflow;
-      sized : AreSized (length l.current) l.fn.geometry l.noted l.overflow;
+      sized : AreSized (length l.current) l.fn.geometry.places l.noted l.overflow;
       places : SamePlaces l.fn.directory l.directory;
     }

@@ -1,4 +1,4 @@
-use Rattle.std.proofs.Common.{◌<◌, ◌-◌, List, length, slice_index, sym, ◌∙◌, ap, arith}
+use Rattle.std.proofs.Common.{◌<◌, List, length, slice_index, sym, ◌∙◌, ap, arith}
 use Rattle.std.proofs.lemmas.Result.{err_from_is_err_and}
 use Rattle.ipl_meaning.specs.Tables.{Places}
 use Rattle.unit_log.specs.declared.scratch.LogSector.{LogSector}
@@ -14,7 +14,7 @@ returns-in_err-head-clause-learns g c = λ x told it t are.
 pub returns-clause-learns : goal.returns-clause-learns
 returns-clause-learns g c = λ x told it t are.
     let u = c.args.unit in
-    let low : u < (g.C.Chip.told c.args.chip.now).places - 4 =
+    let low : u < it.count =
     omega (
       arith,
       c.requires.unit,

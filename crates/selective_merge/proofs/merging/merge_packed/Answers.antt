@@ -33,16 +33,16 @@ use Rattle.selective_merge.proofs.TidyLemmas.{moves_tidily, gives_back_tidily, u
 use Rattle.selective_merge.proofs.merging.merge_packed.Goals as goal
 
 -- what the chip tells once the place was taken and the unit written there
-written_told : (old mid new : Told) (p generation serial : ℕ) (from : Source)
+written_told : (old mid new : Told) (units p generation serial : ℕ) (from : Source)
     (payloads : List Versioned) (result : Result (Unit {0}) ChipFault) → Counts old mid
     → Charts (IsCleared p) old mid
-    → ChartsThroughout (λ done. TellsWritten mid.places from p generation serial payloads) (IsAside p)
+    → ChartsThroughout (λ done. TellsWritten mid.places units from p generation serial payloads) (IsAside p)
     result mid new
-    → ChartsThroughout (λ done. WasWritten old.places p generation serial from payloads) (IsUnsealed p)
+    → ChartsThroughout (λ done. WasWritten old.places units p generation serial from payloads) (IsUnsealed p)
     result old new
-written_told old mid new p generation serial from payloads result counts first second =
-    unit_told old.places p generation serial from payloads old mid new result first
-    (subst (λ (q : ℕ). ChartsThroughout (λ done. TellsWritten q from p generation serial payloads)
+written_told old mid new units p generation serial from payloads result counts first second =
+    unit_told old.places units p generation serial from payloads old mid new result first
+    (subst (λ (q : ℕ). ChartsThroughout (λ done. TellsWritten q units from p generation serial payloads)
     (IsAside p) result mid new) counts.places second)
 
 pub take_place-requires-clause-places : goal.take_place-requires-clause-places
@@ -54,13 +54,12 @@ take_place-requires-clause-free g c =
 
 pub write_unit-requires-clause-home : goal.write_unit-requires-clause-home
 write_unit-requires-clause-home g c =
-    let low : c.args.unit < length c.args.parts.now.directory.current =
-    omega (arith, c.requires.unit, c.requires.known.suits.units) in
-    let within = c.facts.ensures.within c.args.unit low in
+    let within = c.facts.ensures.within c.args.unit c.requires.unit in
     omega (arith, c.requires.place, within, c.requires.known.suits.all)
 
 -- the place that was taken isn't where the unit stands
-home_apart : (places : ℕ) (t : Tables) (u place p : ℕ) → KnowsPlaces places t → u + 4 < places
+home_apart : (places : ℕ) (t : Tables) (u place p : ℕ) → KnowsPlaces places t
+    → u < length t.places.current
     → place ≡ slice_index t.places.current u → IsFree t.places p → place ≢ p
 home_apart places t u place p known low at free same =
     home_used places t u known low (subst (IsFree t.places) (sym same ∙ at) free)
@@ -82,9 +81,7 @@ move_unit-requires-clause-overflow g c =
     omega (
       arith,
       c.requires.known.suits.overflow,
-      c.requires.known.suits.all,
-      length-set c.args.parts.now.directory.in_use c.in_ok-place.place true,
-      ap (λ (d : Places). length d.in_use) c.in_ok-place.ensures.taken.places_is,
+      ap (λ (d : Places). length d.current) c.in_ok-place.ensures.taken.places_is,
     )
 
 pub returns-in-Ok-clause-steps : goal.returns-in-Ok-clause-steps
@@ -131,7 +128,8 @@ returns-in-Ok-clause-steps g c = λ m it h steady rests agrees source.
     (tells_packs places (now h) it t _ after u p drawn serial from payloads c.masks_of-masks.result what
     c.masks_of-masks.ensures c.move_unit.ensures.told c.in_ok-place.ensures.taken.places_is refl)
     (omega (arith, c.in-Ok.ensures.drawn, c.move_unit.ensures.counter))
-    (unit_joined it t u p drawn serial from payloads m h old (g.C.Chip.told c.take_place.new.chip)
+    (unit_joined c.units-units.result it t u p drawn serial from payloads
+    (sym c.units-units.ensures) m h old (g.C.Chip.told c.take_place.new.chip)
     (g.C.Chip.told c.write_unit.new.chip) c.in_ok-place.ensures.taken.lowest steady
     (record { rests = rests; agrees = agrees }) c.in_ok-place.ensures.takes
     c.in_ok-place.ensures.accounts.counts what (Ok tt) c.in-Ok.ensures.writes)
@@ -140,8 +138,8 @@ pub returns-in-Ok-clause-tells : goal.returns-in-Ok-clause-tells
 returns-in-Ok-clause-tells g c = λ x told.
     let (y, told_y, written) =
     written_told (g.C.Chip.told c.args.chip.now) (g.C.Chip.told c.take_place.new.chip)
-    (g.C.Chip.told c.write_unit.new.chip) c.in_ok-place.place c.draw-generation.result
-    c.draw-generation.new.self (from_home c.args.home.now c.args.parts.now.status.numbers
+    (g.C.Chip.told c.write_unit.new.chip) c.units-units.result c.in_ok-place.place
+    c.draw-generation.result c.draw-generation.new.self (from_home c.args.home.now c.args.parts.now.status.numbers
     c.args.parts.now.scratch.log) c.payloads-payloads.result.now (Ok tt)
     c.in_ok-place.ensures.accounts.counts c.in_ok-place.ensures.tells c.in-Ok.ensures.tells x told in (
       y,
@@ -186,7 +184,7 @@ returns-in-Ok-clause-tells g c = λ x told.
           (tells_packs places (chart_of x) it t _ after u p drawn serial from payloads c.masks_of-masks.result what
           c.masks_of-masks.ensures c.move_unit.ensures.told c.in_ok-place.ensures.taken.places_is refl)
           (omega (arith, c.in-Ok.ensures.drawn, c.move_unit.ensures.counter))
-          (written it t u what),
+          (written it t u (sym c.units-units.ensures) what),
     )
 
 pub returns-in-Ok-clause-holds : goal.returns-in-Ok-clause-holds
@@ -268,7 +266,8 @@ returns-in-Err-clause-steps g c = λ m it h steady rests agrees source.
       c.draw-generation.ensures.next,
       c.in-Err.ensures.draws.0,
     ))
-    (unit_joined it t u p drawn serial from payloads m h old (g.C.Chip.told c.take_place.new.chip)
+    (unit_joined c.units-units.result it t u p drawn serial from payloads
+    (sym c.units-units.ensures) m h old (g.C.Chip.told c.take_place.new.chip)
     (g.C.Chip.told c.write_unit.new.chip) c.in_ok-place.ensures.taken.lowest steady
     (record { rests = rests; agrees = agrees }) c.in_ok-place.ensures.takes
     c.in_ok-place.ensures.accounts.counts what (Err c.in-Err.fault) c.in-Err.ensures.writes)
@@ -277,8 +276,8 @@ pub returns-in-Err-clause-tells : goal.returns-in-Err-clause-tells
 returns-in-Err-clause-tells g c = λ soft x told.
     let (y, told_y, left) =
     written_told (g.C.Chip.told c.args.chip.now) (g.C.Chip.told c.take_place.new.chip)
-    (g.C.Chip.told c.write_unit.new.chip) c.in_ok-place.place c.draw-generation.result
-    c.draw-generation.new.self (from_home c.args.home.now c.args.parts.now.status.numbers
+    (g.C.Chip.told c.write_unit.new.chip) c.units-units.result c.in_ok-place.place
+    c.draw-generation.result c.draw-generation.new.self (from_home c.args.home.now c.args.parts.now.status.numbers
     c.args.parts.now.scratch.log) c.payloads-payloads.result.now (Err c.in-Err.fault)
     c.in_ok-place.ensures.accounts.counts c.in_ok-place.ensures.tells c.in-Err.ensures.tells soft x
     told in

@@ -10,6 +10,7 @@ free_one-requires c =
     (omega (
       arith,
       c.requires.overflow,
+      c.facts.ensures.units,
       in_use_moved c.args.parts.now.directory c.args.unit
           c.args.place c.args.generation c.args.used c.move_home.new.directory c.move_home.ensures,
     ))
@@ -22,6 +23,7 @@ free_one-requires-2 c =
     (omega (
       arith,
       c.requires.overflow,
+      c.facts.ensures.units,
       first,
       in_use_moved c.args.parts.now.directory c.args.unit
           c.args.place c.args.generation c.args.used c.move_home.new.directory c.move_home.ensures,

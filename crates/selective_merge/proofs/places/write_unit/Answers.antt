@@ -14,7 +14,7 @@ use Rattle.selective_merge.proofs.TidyLemmas.{tidy_sealed, tidy_unsealed}
 use Rattle.selective_merge.proofs.places.write_unit.Goals as goal
 
 pub returns-in_err-pieces-clause-writes : goal.returns-in_err-pieces-clause-writes
-returns-in_err-pieces-clause-writes g c = λ m it t u h steady rests clean what.
+returns-in_err-pieces-clause-writes g c = λ m it t u h steady rests clean all what.
     let old = g.C.Chip.told c.args.chip.now in
     let from = from_home c.args.home.now c.args.status.now.numbers c.args.log.now in
     let e = err_from_is_err_and c.from_residual.result c.from_residual.ensures.1 in
@@ -23,7 +23,7 @@ returns-in_err-pieces-clause-writes g c = λ m it t u h steady rests clean what.
     e.0 (c.in_err-pieces.ensures.fills m h steady rests clean))
 
 pub returns-clause-writes : goal.returns-clause-writes
-returns-clause-writes g c = λ m it t u h steady rests clean what.
+returns-clause-writes g c = λ m it t u h steady rests clean all what.
     let old = g.C.Chip.told c.args.chip.now in
     let mid = g.C.Chip.told c.fill.new.chip in
     let new = g.C.Chip.told c.seal_unit.new.chip in
@@ -37,8 +37,8 @@ returns-clause-writes g c = λ m it t u h steady rests clean what.
     w.generation pieces c.count_of-carried.result mid c.seal_unit.result new)
     c.written-head.ensures c.seal_unit.ensures.seals in
     unit_written old.places c.args.units c.args.place c.args.generation c.args.counter.now
-    c.count_of-carried.result from c.args.payloads.now pieces c.requires.sized filled.few
-    c.count_of-carried.ensures m it t u h old mid new c.seal_unit.result what rests clean
+    c.count_of-carried.result from c.args.payloads.now pieces filled.few
+    c.count_of-carried.ensures m it t u h old mid new c.seal_unit.result all what rests clean
     filled.accounts.counts (fills m h steady rests clean)
     (subst (λ (q : ℕ). SealsUnit q c.args.place c.args.units from.unit c.args.generation pieces
     c.count_of-carried.result mid c.seal_unit.result new) filled.accounts.counts.places seals)
@@ -53,7 +53,7 @@ returns-clause-tells g c =
     let pieces = c.in_ok-pieces.pieces in
     let filled = c.in_ok-pieces.ensures in
     written_told old.places c.args.units c.args.place c.args.generation c.args.counter.now
-    c.count_of-carried.result from c.args.payloads.now pieces c.requires.sized filled.few
+    c.count_of-carried.result from c.args.payloads.now pieces filled.few
     c.count_of-carried.ensures old mid new c.seal_unit.result
     (subst (λ (w : Head). Charts (GainsUnit from c.args.place w.generation c.args.counter.now pieces
     c.args.payloads.now) old mid) c.written-head.ensures filled.tells)

@@ -1,9 +1,8 @@
-use Rattle.std.proofs.Common.{◌-◌, ◌∙◌, Ok, refl, sym, subst, arith}
+use Rattle.std.proofs.Common.{◌∙◌, Ok, length, refl, sym, subst, arith}
 use Rattle.std.proofs.lemmas.Bool.{OnTrue_from, false≢true}
 use Rattle.chip_trait.proofs.CountsLemmas.{counts_none}
 use Rattle.ipl_meaning.specs.Chart.{chart_of}
 use Rattle.ipl_meaning.specs.Mirrors.{Mirrors}
-use Rattle.kept_numbers.specs.Keeps.{KeepsBelow}
 use Rattle.selective_merge.specs.Moving.{tables_of}
 use Rattle.steps.proofs.MapLemmas.{nothing_keeps}
 use Rattle.unit_io.specs.Costs.{Spends}
@@ -19,9 +18,8 @@ pub returns-then-found-clause-passes : goal.returns-then-found-clause-passes
 returns-then-found-clause-passes g c = λ places x it same is mirrors.
     passed_all places x it (tables_of c.args.parts.now) mirrors c.args.kept.now
     c.rises.ensures.rising c.rises.ensures.few
-    (subst (λ n. KeepsBelow (n - 4) it c.args.kept.now) same
     (c.requires.exact c.if-found.true x is it
-    (subst (λ n. Mirrors n (chart_of x) it (tables_of c.args.parts.now)) (sym same) mirrors)))
+    (subst (λ n. Mirrors n (chart_of x) it (tables_of c.args.parts.now)) (sym same) mirrors))
     (g.C.Chip.told c.args.chip.now) is
 
 pub returns-then-found-clause-goes_on : goal.returns-then-found-clause-goes_on
@@ -40,7 +38,7 @@ returns-then-found-clause-holds g c =
 pub returns-then-found-clause-costs : goal.returns-then-found-clause-costs
 returns-then-found-clause-costs g c =
     let told = g.C.Chip.told c.args.chip.now in
-    erases_more 0 (told.places - 4) told told (omega arith) (erases_none told)
+    erases_more 0 (length c.args.parts.now.directory.current) told told (omega arith) (erases_none told)
 
 pub returns-then-found-clause-tidy : goal.returns-then-found-clause-tidy
 returns-then-found-clause-tidy g c =

@@ -1,4 +1,4 @@
-use Rattle.std.proofs.Common.{◌≡◌, ◌+◌, ◌-◌, ◌∙◌, ℕ, List, Ok, Err, refl, sym, ap, subst, arith}
+use Rattle.std.proofs.Common.{◌≡◌, ◌+◌, ◌∙◌, ℕ, List, length, Ok, Err, refl, sym, ap, subst, arith}
 use Rattle.std.proofs.lemmas.Result.{err_from_is_err_and}
 use Rattle.chip_trait.proofs.CountsLemmas.{counts_none, counts_then}
 use Rattle.ipl_meaning.specs.Chart.{chart_of}
@@ -27,9 +27,20 @@ loop-unit-init g c =
           subst (λ (kept : List ℕ). HasPassed places 0 (chart_of x) it t kept told t)
           (sym c.clear.ensures) (passed_none places (chart_of x) it t x told refl is mirrors);
       goes_on = goes_on_same (Ok tt) told told refl;
-      spares = λ places x it same is mirrors. spared_none places 0 x it told is;
+      spares = λ places x it same is mirrors. spared_none 0 x it told is;
       steps = λ places same m it h steady rests agrees. nothing_keeps places m t h told steady rests;
     }
+
+pub take_unit-requires-clause-unit : goal.take_unit-requires-clause-unit
+take_unit-requires-clause-unit g c =
+    omega (
+      arith,
+      c.loop-unit-test.true,
+      c.loop-unit.auto.unit-end,
+      c.units-unit-end.ensures,
+      c.requires.known.suits.units,
+      c.loop-unit.invariant.holds.known.suits.units,
+    )
 
 pub returns-in_err-take_unit-clause-passes : goal.returns-in_err-take_unit-clause-passes
 returns-in_err-take_unit-clause-passes g c = λ places x it same is mirrors.
@@ -103,12 +114,12 @@ loop-unit-preserved g c =
 
 pub returns-clause-passes : goal.returns-clause-passes
 returns-clause-passes g c = λ places x it same is mirrors.
-    let all : c.loop-unit.unit ≡ places - 4 = omega (
+    let all : c.loop-unit.unit ≡ it.count = omega (
       arith,
       c.loop-unit-test.false,
       c.loop-unit.auto.unit-end,
       c.units-unit-end.ensures,
-      same,
+      mirrors.directory.units,
     ) in
     let t = tables_of c.args.parts.now in
     subst (λ n. HasPassed places n (chart_of x) it t c.loop-unit.kept
@@ -121,13 +132,13 @@ returns-in_err-take_unit-clause-costs g c =
     let mid = g.C.Chip.told c.loop-unit.chip in
     let new = g.C.Chip.told c.take_unit.new.chip in
     let so_far = c.loop-unit.invariant in
-    erases_more (c.loop-unit.unit + 1) (old.places - 4) old new
+    erases_more (c.loop-unit.unit + 1) (length c.args.parts.now.directory.current) old new
     (omega (arith, c.loop-unit-test.true, c.loop-unit.auto.unit-end, c.units-unit-end.ensures))
     (erases_then c.loop-unit.unit 1 old mid new so_far.costs c.take_unit.ensures.costs)
 
 pub returns-clause-costs : goal.returns-clause-costs
 returns-clause-costs g c =
-    erases_more c.loop-unit.unit ((g.C.Chip.told c.args.chip.now).places - 4)
+    erases_more c.loop-unit.unit (length c.args.parts.now.directory.current)
     (g.C.Chip.told c.args.chip.now) (g.C.Chip.told c.loop-unit.chip)
     (omega (arith, c.loop-unit.auto.unit-end, c.units-unit-end.ensures))
     c.loop-unit.invariant.costs

@@ -29,7 +29,7 @@ invariant-loop-unit g l = record {
   spares : (places : ℕ) (x : Contents) (it : Layout) → (g.C.Chip.told l.fn.chip).places ≡ places
       → (g.C.Chip.told l.fn.chip).contents ≡ Some x
       → Mirrors places (chart_of x) it (tables_of l.fn.parts)
-      → SparesUnits places l.unit x it (g.C.Chip.told l.chip);
+      → SparesUnits l.unit x it (g.C.Chip.told l.chip);
   steps : (places : ℕ) → (g.C.Chip.told l.fn.chip).places ≡ places
       → KeepsInSteps places (tables_of l.fn.parts) (tables_of l.parts)
       (g.C.Chip.told l.fn.chip) (Ok tt) (g.C.Chip.told l.chip);

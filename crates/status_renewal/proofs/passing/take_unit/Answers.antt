@@ -1,4 +1,4 @@
-use Rattle.std.proofs.Common.{◌≡◌, ◌<◌, ◌+◌, ◌-◌, ◌∙◌, ℕ, List, Ok, Err, length, refl, sym, ap, subst, arith}
+use Rattle.std.proofs.Common.{◌≡◌, ◌<◌, ◌+◌, ◌∙◌, ℕ, List, Ok, Err, length, refl, sym, ap, subst, arith}
 use Rattle.std.proofs.lemmas.Result.{err_from_is_err_and}
 use Rattle.ipl_base.specs.Calls.{IsFailedCall}
 use Rattle.ipl_meaning.specs.Chart.{chart_of}
@@ -70,7 +70,7 @@ returns-then-join-clause-passes g c = λ places chart it t same holds was.
     let unit = c.args.unit in
     let old = g.C.Chip.told c.args.chip.now in
     let mid = g.C.Chip.told c.read_live.new.chip in
-    let low : unit < places - 4 = omega (arith, c.requires.unit, same) in
+    let within : unit < was.now.count = omega (arith, c.requires.unit, was.mirrors.directory.units) in
     let live = c.in_ok-read_live.ensures.exact was.contents was.told was.now (tables_of parts)
     (record {
       mirrors = subst (λ n. Mirrors n (chart_of was.contents) was.now (tables_of parts)) (sym same)
@@ -82,8 +82,8 @@ returns-then-join-clause-passes g c = λ places chart it t same holds was.
     let records : records_kept c.sectors.result.now ≡ records_of log =
     ap records_kept (c.sectors.ensures.sectors ∙ live.log)
     ∙ records_are_logged (chart_of was.contents) places unit (was.now.units unit).home
-    (was.now.units unit).head.generation log (was.mirrors.laid.each unit low).log.each in
-    passed_joined places chart it t unit low c.args.kept.now mid (tables_of parts)
+    (was.now.units unit).head.generation log (was.mirrors.laid.each unit within).log.each in
+    passed_joined places chart it t unit (omega (arith, within, was.passed.count)) c.args.kept.now mid (tables_of parts)
     (passed_read places chart it t unit c.args.kept.now old mid (tables_of parts)
     c.read_live.ensures.looks.reads.contents was)
     (records_kept c.sectors.result.now) c.join.new.self holds.status records
@@ -115,7 +115,7 @@ returns-clause-passes g c = λ places chart it t same holds was.
     let mid = g.C.Chip.told c.read_live.new.chip in
     let new = g.C.Chip.told c.merge.new.chip in
     let after = tables_of c.merge.new.parts in
-    let low : unit < places - 4 = omega (arith, c.requires.unit, same) in
+    let within : unit < was.now.count = omega (arith, c.requires.unit, was.mirrors.directory.units) in
     let live = c.in_ok-read_live.ensures.exact was.contents was.told was.now (tables_of parts)
     (record {
       mirrors = subst (λ n. Mirrors n (chart_of was.contents) was.now (tables_of parts)) (sym same)
@@ -127,7 +127,7 @@ returns-clause-passes g c = λ places chart it t same holds was.
     let records : records_kept c.sectors.result.now ≡ records_of log =
     ap records_kept (c.sectors.ensures.sectors ∙ live.log)
     ∙ records_are_logged (chart_of was.contents) places unit (was.now.units unit).home
-    (was.now.units unit).head.generation log (was.mirrors.laid.each unit low).log.each in
+    (was.now.units unit).head.generation log (was.mirrors.laid.each unit within).log.each in
     let there = passed_read places chart it t unit c.args.kept.now old mid (tables_of parts)
     c.read_live.ensures.looks.reads.contents was in
     let many : 3840 < length (joined parts.status.numbers (records_of log) c.args.kept.now) =
@@ -135,7 +135,7 @@ returns-clause-passes g c = λ places chart it t same holds was.
     records (too_many c.join.result _ c.join.ensures.fits c.if-join.false) in
     subst (λ (k : List ℕ). PassEnds places chart it t c.merge.result new after
     (HasPassed places (unit + 1) chart it t k new after)) (sym c.if-join.ensures.same)
-    (merge_ends places chart it t unit low c.args.kept.now mid (tables_of parts) there
+    (merge_ends places chart it t unit (omega (arith, within, was.passed.count)) c.args.kept.now mid (tables_of parts) there
     c.merge.result new after holds.status holds.active many
     (subst (λ n. ChartsThroughout (λ done. Merges n unit (tables_of parts) after)
     (StaysMirrored n (tables_of parts) after) c.merge.result mid new)
@@ -205,7 +205,12 @@ returns-clause-complete g c = λ places chart it t same holds was all.
     let reads = c.read_live.ensures.looks.reads in
     merge_is_complete places c.args.unit chart it t c.args.kept.now
     (g.C.Chip.told c.args.chip.now) (g.C.Chip.told c.read_live.new.chip)
-    (tables_of c.args.parts.now) c.merge.result (omega (arith, c.requires.unit, same)) holds.active
+    (tables_of c.args.parts.now) c.merge.result (omega (
+      arith,
+      c.requires.unit,
+      was.mirrors.directory.units,
+      was.passed.count,
+    )) holds.active
     (reads.counts.places ∙ same) reads.contents was all c.merge.ensures.complete
 
 pub returns-in_err-read_live-clause-stays : goal.returns-in_err-read_live-clause-stays
@@ -222,12 +227,12 @@ returns-in_err-read_live-clause-stays g c = λ places x it t same holds was spar
 
 pub returns-in_err-read_live-clause-fault : goal.returns-in_err-read_live-clause-fault
 returns-in_err-read_live-clause-fault g c = λ places x it t same holds was spared.
-    in_place_fails places x it t (tables_of c.args.parts.now) c.from_residual.result
+    in_place_fails x it t (tables_of c.args.parts.now) c.from_residual.result
     (returns-in_err-read_live-clause-stays g c places x it t same holds was spared)
 
 pub returns-then-join-clause-spares : goal.returns-then-join-clause-spares
 returns-then-join-clause-spares g c = λ places x it t same was spared.
-    spared_read places c.args.unit x it (g.C.Chip.told c.args.chip.now)
+    spared_read c.args.unit x it (g.C.Chip.told c.args.chip.now)
     (g.C.Chip.told c.read_live.new.chip) c.read_live.ensures.looks.reads.contents spared
 
 pub returns-clause-spares : goal.returns-clause-spares
@@ -245,7 +250,7 @@ returns-clause-stays g c = λ places x it t same holds was spared.
     let unit = c.args.unit in
     let mid = g.C.Chip.told c.read_live.new.chip in
     let reads = c.read_live.ensures.looks.reads in
-    let low : unit < places - 4 = omega (arith, c.requires.unit, same) in
+    let within : unit < was.now.count = omega (arith, c.requires.unit, was.mirrors.directory.units) in
     let live = c.in_ok-read_live.ensures.exact was.contents was.told was.now (tables_of parts)
     (record {
       mirrors = subst (λ n. Mirrors n (chart_of was.contents) was.now (tables_of parts)) (sym same)
@@ -257,13 +262,13 @@ returns-clause-stays g c = λ places x it t same holds was spared.
     let records : records_kept c.sectors.result.now ≡ records_of log =
     ap records_kept (c.sectors.ensures.sectors ∙ live.log)
     ∙ records_are_logged (chart_of was.contents) places unit (was.now.units unit).home
-    (was.now.units unit).head.generation log (was.mirrors.laid.each unit low).log.each in
+    (was.now.units unit).head.generation log (was.mirrors.laid.each unit within).log.each in
     let many : 3840 < length (joined parts.status.numbers (records_of log) c.args.kept.now) =
     subst (λ (rs : List Record). 3840 < length (joined parts.status.numbers rs c.args.kept.now))
     records (too_many c.join.result _ c.join.ensures.fits c.if-join.false) in
     merge_in_place places unit x it t c.args.kept.now (g.C.Chip.told c.args.chip.now) mid
     (tables_of parts) (subst (λ n. KnowsPlaces n (tables_of parts)) same c.requires.known) was
-    spared reads.contents low holds.active holds.status c.merge.result
+    spared reads.contents (omega (arith, within, was.passed.count)) holds.active holds.status c.merge.result
     (g.C.Chip.told c.merge.new.chip) (tables_of c.merge.new.parts) many
     (reads.counts.places ∙ same)
     (merge_fails_so mid.places (tables_of parts) unit c.merge.result mid c.merge.ensures.fault)
@@ -271,7 +276,7 @@ returns-clause-stays g c = λ places x it t same holds was spared.
 
 pub returns-clause-fault : goal.returns-clause-fault
 returns-clause-fault g c = λ places x it t same holds was spared.
-    in_place_fails places x it t (tables_of c.merge.new.parts) c.merge.result
+    in_place_fails x it t (tables_of c.merge.new.parts) c.merge.result
     (returns-clause-stays g c places x it t same holds was spared)
 
 pub returns-in_err-read_live-clause-tidy : goal.returns-in_err-read_live-clause-tidy

@@ -1,4 +1,4 @@
-use Rattle.std.proofs.Common.{◌≡◌, ◌<◌, ◌+◌, ◌∙◌, ℕ, List, true, false, Result, Ok, Err, refl, sym, ap, subst, arith}
+use Rattle.std.proofs.Common.{◌≡◌, ◌<◌, ◌+◌, ◌∙◌, ℕ, List, length, true, false, Result, Ok, Err, refl, sym, ap, subst, arith}
 use Rattle.std.proofs.lemmas.Result.{err_from_is_err_and}
 use Rattle.chip_trait.specs.Told.{Told}
 use Rattle.ipl_base.specs.declared.fault.ChipFault.{ChipFault}
@@ -15,14 +15,15 @@ use Rattle.status_renewal.proofs.PlaceStepLemmas.{renews_in_steps, failed_in_ste
 use Rattle.status_renewal.proofs.TidyLemmas.{tidy_renewed, tidy_unrenewed, tidy_not_taken}
 use Rattle.status_renewal.proofs.place.renew_place.Goals as goal
 
--- what a switch leaves, at the places of the first chip and the number that was drawn
-switch_leaves : (places q generation next p : ℕ) (status : Status) (kept : List ℕ)
-    (result : Result (Unit {0}) ChipFault) (mid told : Told) → q ≡ places → generation ≡ next
-    → SwitchesInSteps q status generation p kept result mid told
-    → SwitchesInSteps places status next p kept result mid told
-switch_leaves places q generation next p status kept result mid told at drawn says =
-    subst (λ (n : ℕ). SwitchesInSteps places status n p kept result mid told) drawn
-    (subst (λ (n : ℕ). SwitchesInSteps n status generation p kept result mid told) at says)
+-- what a switch leaves, at the places of the first chip, its units and the number that was drawn
+switch_leaves : (places q units many generation next p : ℕ) (status : Status) (kept : List ℕ)
+    (result : Result (Unit {0}) ChipFault) (mid told : Told) → q ≡ places → many ≡ units
+    → generation ≡ next → SwitchesInSteps q many status generation p kept result mid told
+    → SwitchesInSteps places units status next p kept result mid told
+switch_leaves places q units many generation next p status kept result mid told at all drawn says =
+    subst (λ (n : ℕ). SwitchesInSteps places units status n p kept result mid told) drawn
+    (subst (λ (n : ℕ). SwitchesInSteps places n status generation p kept result mid told) all
+    (subst (λ (n : ℕ). SwitchesInSteps n many status generation p kept result mid told) at says))
 
 -- ---- no place was taken
 
@@ -77,10 +78,14 @@ returns-in-Ok-clause-tells g c =
     (omega (arith, c.in-Ok.ensures.drawn, c.draw-generation.ensures.next)) in
     let mid = g.C.Chip.told c.take_place.new.chip in
     let told = g.C.Chip.told c.switch.new.chip in
-    let switches = subst (λ (n : ℕ). Charts (Switches old.places status n p kept) mid told)
-    c.draw-generation.ensures.drawn
-    (subst (λ (n : ℕ). Charts (Switches n status c.draw-generation.result p kept) mid told)
-    c.in_ok-place.ensures.accounts.counts.places c.in-Ok.ensures.switches) in
+    let many = c.units-units.result in
+    let generation = c.draw-generation.result in
+    let switches = subst (λ (n : ℕ). Charts (Switches old.places (length d.current) status n p kept)
+    mid told) c.draw-generation.ensures.drawn
+    (subst (λ (n : ℕ). Charts (Switches old.places n status generation p kept) mid told)
+    c.units-units.ensures
+    (subst (λ (n : ℕ). Charts (Switches n many status generation p kept) mid told)
+    c.in_ok-place.ensures.accounts.counts.places c.in-Ok.ensures.switches)) in
     renews_told c.directory_laws.ensures.takes c.directory_laws.ensures.gives_back old.places p d
     status next kept c.requires.size from.free low after new drawn is old mid told
     c.in_ok-place.ensures.tells switches
@@ -108,8 +113,9 @@ returns-in-Ok-clause-steps g c =
     renews_in_steps c.directory_laws.ensures.takes c.directory_laws.ensures.gives_back p d status next
     kept old mid told c.requires.size from.lowest from.free from.within counts
     c.in_ok-place.ensures.takes after new drawn is
-    (switch_leaves old.places mid.places c.draw-generation.result next p status kept (Ok tt) mid told
-    counts.places c.draw-generation.ensures.drawn c.in-Ok.ensures.steps)
+    (switch_leaves old.places mid.places (length d.current) c.units-units.result
+    c.draw-generation.result next p status kept (Ok tt) mid told counts.places c.units-units.ensures
+    c.draw-generation.ensures.drawn c.in-Ok.ensures.steps)
 
 pub returns-in-Ok-clause-known : goal.returns-in-Ok-clause-known
 returns-in-Ok-clause-known g c =
@@ -193,8 +199,9 @@ returns-in-Err-clause-steps g c =
     c.args.directory.now c.args.status.now c.args.counter.now c.args.kept.now old mid told
     c.requires.size from.lowest from.free from.within counts c.in_ok-place.ensures.takes
     c.give_back-in-Err.new.self c.switch.new.self c.switch.new.counter c.in-Err.fault c.in-Err.fault
-    (switch_leaves old.places mid.places c.draw-generation.result c.args.counter.now p
-    c.args.status.now c.args.kept.now (Err c.in-Err.fault) mid told counts.places
+    (switch_leaves old.places mid.places (length c.args.directory.now.current) c.units-units.result
+    c.draw-generation.result c.args.counter.now p c.args.status.now c.args.kept.now
+    (Err c.in-Err.fault) mid told counts.places c.units-units.ensures
     c.draw-generation.ensures.drawn c.in-Err.ensures.steps)
 
 pub returns-in-Err-clause-known : goal.returns-in-Err-clause-known

@@ -1,14 +1,14 @@
-use Rattle.std.proofs.Common.{◌≡◌, ◌-◌, ◌∙◌, true, false, Ok, Err, sym, ap, subst, arith}
+use Rattle.std.proofs.Common.{◌≡◌, ◌+◌, ◌∙◌, length, true, false, Ok, Err, sym, ap, subst, arith}
 use Rattle.std.proofs.lemmas.Bool.{false≢true}
 use Rattle.std.proofs.lemmas.Result.{err_from_is_err_and}
+use Rattle.ipl_base.specs.Places.{units_on}
 use Rattle.ipl_meaning.specs.Chart.{chart_of}
 use Rattle.opening_rules.specs.LaidOut.{layout_in}
 use Rattle.selective_merge.specs.Moving.{tables_of}
-use Rattle.unit_io.specs.Costs.{Spends}
 use Rattle.unit_io.specs.ReadsAt.{Anywhere}
 use Rattle.unit_io.proofs.UnreadLemmas.{once_alone}
-use Rattle.status_renewal.specs.Passes.{KeepsAll, RenewsTold, KeepsInSteps, FailsAsRenewal, CompletesRenewal, ErasesAtMost}
-use Rattle.status_renewal.proofs.CostLemmas.{reads_erase, reads_then_erase, reads_then_renewed}
+use Rattle.status_renewal.specs.Passes.{KeepsAll, RenewsTold, KeepsInSteps, FailsAsRenewal, CompletesRenewal}
+use Rattle.status_renewal.proofs.CostLemmas.{erases_more, reads_erase, reads_then_erase, reads_then_renewed}
 use Rattle.status_renewal.proofs.RecoverLemmas.{of_parts, opened_parts, opens_told, opens_done, fault_looks, sound_looks, reads_recover, recovers_done, recovers_failed}
 use Rattle.status_renewal.proofs.CompleteLemmas.{all_mergeable, call_failed, reading_failed}
 use Rattle.status_renewal.proofs.FaultLemmas.{opening_fault}
@@ -47,7 +47,7 @@ pub returns-in_err-found-clause-costs : goal.returns-in_err-found-clause-costs
 returns-in_err-found-clause-costs g c =
     let old = g.C.Chip.told c.args.chip.now in
     let mid = g.C.Chip.told c.recover.new.chip in
-    reads_erase Anywhere (old.places - 3) old mid
+    reads_erase Anywhere (units_on old.places + 1) old mid
     c.recover.ensures.looks.reads
 
 pub returns-in_err-renew_with-clause-looks : goal.returns-in_err-renew_with-clause-looks
@@ -85,10 +85,12 @@ returns-in_err-renew_with-clause-costs g c =
     let old = g.C.Chip.told c.args.chip.now in
     let mid = g.C.Chip.told c.recover.new.chip in
     let new = g.C.Chip.told c.renew_with.new.chip in
-    reads_then_erase Anywhere (old.places - 3) old mid new
-    c.recover.ensures.looks.reads
-    (subst (λ n. Spends (ErasesAtMost (n - 3)) mid new)
-    c.recover.ensures.looks.reads.counts.places c.renew_with.ensures.costs)
+    let reads = c.recover.ensures.looks.reads in
+    let before = length c.recover.new.directory.current in
+    reads_then_erase Anywhere (units_on old.places + 1) old mid new reads
+    (erases_more (before + 1) (units_on old.places + 1) mid new
+    (omega (arith, reads.counts.places, c.in_ok-found.ensures.known.suits.units))
+    c.renew_with.ensures.costs)
 
 pub returns-clause-tells : goal.returns-clause-tells
 returns-clause-tells g c = λ x told.
@@ -144,10 +146,12 @@ returns-clause-costs g c =
     let old = g.C.Chip.told c.args.chip.now in
     let mid = g.C.Chip.told c.recover.new.chip in
     let new = g.C.Chip.told c.renew_with.new.chip in
-    reads_then_erase Anywhere (old.places - 3) old mid new
-    c.recover.ensures.looks.reads
-    (subst (λ n. Spends (ErasesAtMost (n - 3)) mid new)
-    c.recover.ensures.looks.reads.counts.places c.renew_with.ensures.costs)
+    let reads = c.recover.ensures.looks.reads in
+    let before = length c.recover.new.directory.current in
+    reads_then_erase Anywhere (units_on old.places + 1) old mid new reads
+    (erases_more (before + 1) (units_on old.places + 1) mid new
+    (omega (arith, reads.counts.places, c.in_ok-found.ensures.known.suits.units))
+    c.renew_with.ensures.costs)
 
 pub returns-clause-renewed : goal.returns-clause-renewed
 returns-clause-renewed g c =

@@ -1,4 +1,4 @@
-use Rattle.std.proofs.Common.{◌≡◌, ◌+◌, ◌-◌, ◌∙◌, ℕ, List, Some, Err, refl, sym, ap, subst, arith}
+use Rattle.std.proofs.Common.{◌≡◌, ◌+◌, ◌∙◌, ℕ, List, length, Some, Err, refl, sym, ap, subst, arith}
 use Rattle.std.proofs.lemmas.Result.{err_from_is_err_and, on_ok_weaker}
 use Rattle.ipl_meaning.specs.Chart.{chart_of}
 use Rattle.ipl_meaning.specs.Rests.{now}
@@ -61,7 +61,7 @@ returns-clause-tells g c =
     (goes_on_from (λ done. Renews old.places between.places between.status between.next kept directory
     status drawn) (λ d y. y ≡ d) c.renew_place.result mid new renews))
     (λ x it told mirrors. renew_ends old.places (chart_of x) it t kept mid between
-    (subst (λ (k : List ℕ). HasPassed old.places (old.places - 4) (chart_of x) it t k mid between)
+    (subst (λ (k : List ℕ). HasPassed old.places it.count (chart_of x) it t k mid between)
     (sym c.as_slice.ensures.numbers)
     (c.in_ok-find_numbers.ensures.passes old.places x it refl told mirrors))
     directory status drawn new c.renew_place.result renews c.renew_place.ensures.same
@@ -80,9 +80,9 @@ returns-clause-steps g c = λ m it h steady rests agrees.
     let drawn = c.renew_place.new.counter in
     let after = with_tables between directory status drawn in
     passed_then old.places m h it t between after old mid new c.renew_place.result
-    (old.places - 4) kept c.find_numbers.ensures.accounts.counts steady
+    it.count kept c.find_numbers.ensures.accounts.counts steady
     agrees
-    (λ x told mirrors. subst (λ (k : List ℕ). HasPassed old.places (old.places - 4) (chart_of x)
+    (λ x told mirrors. subst (λ (k : List ℕ). HasPassed old.places it.count (chart_of x)
     it t k mid between) (sym c.as_slice.ensures.numbers)
     (c.in_ok-find_numbers.ensures.passes old.places x it refl told mirrors))
     (c.in_ok-find_numbers.ensures.steps old.places refl m it h steady rests agrees)
@@ -125,9 +125,9 @@ returns-clause-holds g c =
 
 pub returns-in_err-find_numbers-clause-costs : goal.returns-in_err-find_numbers-clause-costs
 returns-in_err-find_numbers-clause-costs g c =
-    let old = g.C.Chip.told c.args.chip.now in
-    erases_more (old.places - 4) (old.places - 3) old (g.C.Chip.told c.find_numbers.new.chip)
-    (omega arith) c.find_numbers.ensures.costs
+    let units = length c.args.parts.now.directory.current in
+    erases_more units (units + 1) (g.C.Chip.told c.args.chip.now)
+    (g.C.Chip.told c.find_numbers.new.chip) (omega arith) c.find_numbers.ensures.costs
 
 pub returns-clause-costs : goal.returns-clause-costs
 returns-clause-costs g c =
@@ -135,16 +135,15 @@ returns-clause-costs g c =
     let mid = g.C.Chip.told c.find_numbers.new.chip in
     let new = g.C.Chip.told c.renew_place.new.chip in
     let one = c.renew_place.ensures.costs in
-    erases_more (old.places - 4 + 1) (old.places - 3) old new
-    (omega (arith, c.requires.known.suits.units))
-    (erases_then (old.places - 4) 1 old mid new c.find_numbers.ensures.costs
-    (place_erases one.0 _ mid new one.2))
+    erases_then (length c.args.parts.now.directory.current) 1 old mid new
+    c.find_numbers.ensures.costs (place_erases one.0 _ mid new one.2)
 
 pub returns-clause-renewed : goal.returns-clause-renewed
 returns-clause-renewed g c =
     let old = g.C.Chip.told c.args.chip.now in
     let one = c.renew_place.ensures.costs in
-    renewed_then (ErasesAtMost (old.places - 4)) one.0 c.renew_place.new.status.place
+    renewed_then (ErasesAtMost (length c.args.parts.now.directory.current)) one.0
+    c.renew_place.new.status.place
     (first_free c.find_numbers.new.parts.directory.in_use) old (g.C.Chip.told c.find_numbers.new.chip)
     (g.C.Chip.told c.renew_place.new.chip) c.renew_place.result c.find_numbers.ensures.costs one.1
     (on_ok_weaker c.renew_place.result
@@ -173,7 +172,7 @@ returns-in_err-find_numbers-clause-fault g c = λ x told it mirrors.
 
 pub returns-clause-fault : goal.returns-clause-fault
 returns-clause-fault g c = λ x told it mirrors.
-    pass_written (g.C.Chip.told c.args.chip.now).places x it (tables_of c.args.parts.now)
+    pass_written x it (tables_of c.args.parts.now)
     (g.C.Chip.told c.find_numbers.new.chip) (g.C.Chip.told c.renew_place.new.chip) c.renew_place.result
     c.renew_place.ensures.accounts.cause
 
@@ -202,7 +201,7 @@ returns-in_err-find_numbers-clause-stays g c = λ x told it mirrors.
 
 pub returns-clause-stays : goal.returns-clause-stays
 returns-clause-stays g c = λ x told it mirrors.
-    place_written (g.C.Chip.told c.args.chip.now).places x it (tables_of c.args.parts.now)
+    place_written x it (tables_of c.args.parts.now)
     (with_tables (tables_of c.find_numbers.new.parts) c.renew_place.new.directory c.renew_place.new.status
     c.renew_place.new.counter)
     (g.C.Chip.told c.find_numbers.new.chip) (g.C.Chip.told c.renew_place.new.chip) c.renew_place.result

@@ -1,5 +1,6 @@
-use Rattle.std.proofs.Common.{◌≡◌, ◌+◌, length, map, slice_index, inl, inr, refl, sym, ◌∙◌, ap, subst, arith}
+use Rattle.std.proofs.Common.{◌≡◌, length, map, slice_index, inl, inr, refl, sym, ◌∙◌, ap, subst, arith}
 use Rattle.std.proofs.lemmas.Result.{err_from_is_err_and}
+use Rattle.ipl_base.specs.Places.{places_for}
 use Rattle.ipl_meaning.specs.Chart.{chart_of}
 use Rattle.overflow.specs.Lists.{pair_of, spots_in, AreWithin}
 use Rattle.unit_io.proofs.ReadsAtLemmas.{at_none, at_wider}
@@ -14,7 +15,7 @@ pub read_sectors-requires-clause-within : goal.read_sectors-requires-clause-with
 read_sectors-requires-clause-within g c =
     let spots = spots_in c.args.overflow.now c.args.unit in
     let size :
-    length c.args.overflow.now.spots + 4 ≡ (g.C.Chip.told c.read_header.new.chip).places =
+    places_for (length c.args.overflow.now.spots) ≡ (g.C.Chip.told c.read_header.new.chip).places =
     omega (
       arith,
       c.requires.units,

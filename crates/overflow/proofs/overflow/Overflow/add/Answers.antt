@@ -1,6 +1,7 @@
 use Rattle.std.proofs.Common.{◌≡◌, ◌+◌, [], ◌∷◌, ◌++◌, ◌<◌, map, length, sym, ◌∙◌, ap, subst, arith}
 use Rattle.std.specs.List.{refill}
 use Rattle.std.proofs.lemmas.List.{get_or_read}
+use Rattle.ipl_base.specs.Places.{places_for}
 use Rattle.ipl_meaning.specs.Tables.{OverflowLists}
 use Rattle.overflow.specs.Lists.{first_of, clean_behind, spots_in, masks_at}
 use Rattle.overflow.proofs.FillLemmas.{refilled}
@@ -19,7 +20,7 @@ invariant_of-self c =
     let s = c.args.spot in
     let low : u < length inside.spots.items =
     omega (arith, ap (λ (v : OverflowLists). length v.spots) c.self.view_is, c.requires.unit) in
-    let place : s.place < length inside.spots.items + 4 =
+    let place : s.place < places_for (length inside.spots.items) =
     omega (
       arith,
       ap (λ (v : OverflowLists). length v.spots) c.self.view_is,

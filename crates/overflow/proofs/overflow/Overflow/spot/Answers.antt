@@ -1,5 +1,6 @@
 use Rattle.std.proofs.Common.{ℕ, ◌<◌, ◌+◌, map, length, ◌∙◌, ap, subst, None}
 use Rattle.std.specs.Option.{IfSome}
+use Rattle.ipl_base.specs.Places.{places_for}
 use Rattle.ipl_meaning.specs.Tables.{OverflowLists}
 use Rattle.overflow.specs.Lists.{first_of, first_spot}
 use Rattle.overflow.proofs.SpotLemmas.{spot_stands, spot_in_range, spot_placed, spot_lowest, spot_none}
@@ -20,7 +21,7 @@ returns-clause-in_range c =
 
 pub returns-clause-placed : goal.returns-clause-placed
 returns-clause-placed c =
-    subst (λ (n : ℕ). IfSome c.first_spot.result (λ spot. spot.place < n + 4)) (ap (λ (it : OverflowLists). length it.spots) c.self.view_is)
+    subst (λ (n : ℕ). IfSome c.first_spot.result (λ spot. spot.place < places_for n)) (ap (λ (it : OverflowLists). length it.spots) c.self.view_is)
     (spot_placed (map first_of c.self.inside.in_use.items) _ c.first_spot.result c.self.invariant.placed (c.first_spot.ensures ∙ ap (λ l. first_spot None (map first_of l)) c.as_slice.ensures.value))
 
 pub returns-clause-lowest : goal.returns-clause-lowest

@@ -1,4 +1,4 @@
-use Rattle.std.proofs.Common.{true, false, ◌≡◌, ◌-◌, ℕ, Result, Ok, Err, ◌∙◌, ap, subst, arith}
+use Rattle.std.proofs.Common.{true, false, ◌≡◌, ℕ, Result, Ok, Err, ◌∙◌, ap, subst, arith}
 use Rattle.std.proofs.lemmas.Result.{err_from_is_err_and}
 use Rattle.std.proofs.lemmas.List.Elements.{All-from_get_or}
 use Rattle.chip_trait.specs.Told.{Told}
@@ -10,7 +10,7 @@ use Rattle.unit_io.proofs.UnreadLemmas.{unread_then}
 use Rattle.place_taking.proofs.JoinLemmas.{fills_at_most, fills_programs, fills_then}
 use Rattle.txn_status.specs.Status.{parts_of}
 use Rattle.txn_status.specs.Switching.{HasParts}
-use Rattle.txn_status.specs.Writing.{LeadsParts, LeadsHeader, IsHeaded}
+use Rattle.txn_status.specs.Writing.{LeadsParts, LeadsHeader}
 use Rattle.txn_status.proofs.SwitchLemmas.{AreLong}
 use Rattle.txn_status.proofs.SwitchedLemmas.{parts_failed, switched_in_steps, switches_told}
 use Rattle.txn_status.proofs.TidyLemmas.{tidy_parts_only, tidy_switched}
@@ -18,14 +18,13 @@ use Rattle.txn_status.proofs.status.Status.switch.Goals as goal
 
 -- the clause of the header's call, at the places of the first chip
 header_leads : (places q p units next : ℕ) (mid new : Told) (result : Result (Unit {0}) ChipFault)
-    → q ≡ places → units ≡ places - 4 → LeadsHeader q p units next mid result new
-    → LeadsHeader places p (places - 4) next mid result new
-header_leads places q p units next mid new result at all says =
-    subst (λ (z : ℕ). LeadsHeader places p z next mid result new) all
-    (subst (λ (z : ℕ). LeadsHeader z p units next mid result new) at says)
+    → q ≡ places → LeadsHeader q p units next mid result new
+    → LeadsHeader places p units next mid result new
+header_leads places q p units next mid new result at says =
+    subst (λ (z : ℕ). LeadsHeader z p units next mid result new) at says
 
 pub returns-in_err-write_parts-clause-steps : goal.returns-in_err-write_parts-clause-steps
-returns-in_err-write_parts-clause-steps g c = λ h it t after m steady has ready switched.
+returns-in_err-write_parts-clause-steps g c = λ h it t after m steady has many ready switched.
     let kept = c.args.kept.now in
     let old = g.C.Chip.told c.args.chip.now in
     let mid = g.C.Chip.told c.write_parts.new.chip in
@@ -39,11 +38,11 @@ returns-in_err-write_parts-clause-steps g c = λ h it t after m steady has ready
     let e = err_from_is_err_and c.from_residual.result c.from_residual.ensures.1 in
     let stopped : IsStopped e.0 old mid =
     (e.2 ∙ parts.accounts.cause.0, parts.accounts.cause.1) in
-    rw e.1 (parts_failed old.places c.args.self.now next c.args.place kept c.requires.place each
-    c.requires.few old mid mid h it t after m steady has ready switched fault e.0 says stopped)
+    rw e.1 (parts_failed old.places c.args.units c.args.self.now next c.args.place kept
+    c.requires.place each c.requires.few old mid mid h it t after m steady has many ready switched fault e.0 says stopped)
 
 pub returns-in_err-seal_status-clause-steps : goal.returns-in_err-seal_status-clause-steps
-returns-in_err-seal_status-clause-steps g c = λ h it t after m steady has ready switched.
+returns-in_err-seal_status-clause-steps g c = λ h it t after m steady has many ready switched.
     let kept = c.args.kept.now in
     let old = g.C.Chip.told c.args.chip.now in
     let mid = g.C.Chip.told c.write_parts.new.chip in
@@ -56,20 +55,20 @@ returns-in_err-seal_status-clause-steps g c = λ h it t after m steady has ready
     let seals = c.in_err-seal_status.ensures in
     let says = subst (λ (z : ℕ). LeadsParts old.places c.args.place next z kept old (Ok tt) mid)
     c.requires.last parts.keeps in
-    let header = header_leads old.places _ c.args.place _ next mid new (Err fault)
-    parts.accounts.counts.places (ap (λ (k : ℕ). k - 4) c.units-units.ensures) seals.keeps in
+    let header = header_leads old.places _ c.args.place c.args.units next mid new (Err fault)
+    parts.accounts.counts.places seals.keeps in
     let stopped : IsStopped fault old new = (
       seals.accounts.cause.0,
       omega (arith, parts.accounts.counts.writes, seals.accounts.cause.1),
     ) in
     let e = err_from_is_err_and c.from_residual-in_err-seal_status.result
     c.from_residual-in_err-seal_status.ensures.1 in
-    rw (e.1 ∙ ap Err e.2) (switched_in_steps old.places c.args.self.now next c.args.place kept
-    c.requires.place each c.requires.few old mid new h it t after m steady has ready switched says
+    rw (e.1 ∙ ap Err e.2) (switched_in_steps old.places c.args.units c.args.self.now next
+    c.args.place kept c.requires.place each c.requires.few old mid new h it t after m steady has many ready switched says
     (Err fault) header stopped)
 
 pub returns-clause-steps : goal.returns-clause-steps
-returns-clause-steps g c = λ h it t after m steady has ready switched.
+returns-clause-steps g c = λ h it t after m steady has many ready switched.
     let kept = c.args.kept.now in
     let old = g.C.Chip.told c.args.chip.now in
     let mid = g.C.Chip.told c.write_parts.new.chip in
@@ -80,11 +79,10 @@ returns-clause-steps g c = λ h it t after m steady has ready switched.
     let parts = c.in_ok-write_parts.ensures in
     let says = subst (λ (z : ℕ). LeadsParts old.places c.args.place next z kept old (Ok tt) mid)
     c.requires.last parts.keeps in
-    let header = header_leads old.places _ c.args.place _ next mid new (Ok tt)
-    parts.accounts.counts.places (ap (λ (k : ℕ). k - 4) c.units-units.ensures)
-    c.in_ok-seal_status.ensures.keeps in
-    switched_in_steps old.places c.args.self.now next c.args.place kept c.requires.place
-    each c.requires.few old mid new h it t after m steady has ready switched says (Ok tt) header tt
+    let header = header_leads old.places _ c.args.place c.args.units next mid new (Ok tt)
+    parts.accounts.counts.places c.in_ok-seal_status.ensures.keeps in
+    switched_in_steps old.places c.args.units c.args.self.now next c.args.place kept
+    c.requires.place each c.requires.few old mid new h it t after m steady has many ready switched says (Ok tt) header tt
 
 pub returns-clause-switches : goal.returns-clause-switches
 returns-clause-switches g c =
@@ -98,10 +96,9 @@ returns-clause-switches g c =
     All-from_get_or IsLong kept 0 (λ i within. omega (arith, c.type_inv.kept i)) in
     let parts = subst (λ (z : ℕ). Charts (HasParts place next z kept (parts_of kept)) old mid)
     c.requires.last c.in_ok-write_parts.ensures.tells in
-    let seal = subst (λ (z : ℕ). Charts (IsHeaded place (z - 4) next) mid new)
-    c.units-units.ensures c.in_ok-seal_status.ensures.tells in
-    switches_told old.places c.args.self.now next place kept c.requires.place each c.requires.few
-    old mid new parts seal
+    let seal = c.in_ok-seal_status.ensures.tells in
+    switches_told old.places c.args.units c.args.self.now next place kept c.requires.place each
+    c.requires.few old mid new parts seal
 
 pub returns-in_err-write_parts-clause-costs : goal.returns-in_err-write_parts-clause-costs
 returns-in_err-write_parts-clause-costs g c =
