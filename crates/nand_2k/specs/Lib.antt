@@ -1,0 +1,5 @@
+pub mod Part
+pub mod Cached
+pub mod Answers
+pub mod Tells
+pub mod Views
