@@ -1,7 +1,8 @@
-//! Images of a small story, calls that are to fail, and chips that are altered.
+//! Images of a small story, calls that are to fail, chips that are altered, and one over a part.
 use chip_mem::{Choice, MemChip, Pick, PlainChip};
 use chip_trait::{Chip, Wear};
 use ipl_base::OutOfMemory;
+use nand_2k::{MemPart, Nand2k};
 use std::alloc::Global;
 use std::process::Abort;
 use std::test::Fail;
@@ -234,5 +235,24 @@ fn a_plain_chip_holds_what_was_written(rt: HostRuntime) -> Result<(), Fail> {
     assert!(rt; chip.barrier().is_ok());
     assert_eq!(rt; ends(&rt, &mut chip, 0, 255), Some((255, 255)));
     assert_eq!(rt; ends(&rt, &mut chip, 1, 255), Some((6, 6)));
+    Ok(())
+}
+
+/// Two sectors of a page are programmed in falling order, the second while the page is in memory.
+#[test]
+fn a_page_of_a_part_is_read_as_it_was_programmed_last(rt: HostRuntime) -> Result<(), Fail> {
+    let mut chip = Nand2k::new(MemPart::new(rt.alloc(), 2)?);
+    assert!(rt; programs(&rt, &mut chip, 1, 7, 7));
+    assert_eq!(rt; ends(&rt, &mut chip, 1, 7), Some((7, 7)));
+    assert!(rt; programs(&rt, &mut chip, 1, 6, 6));
+    for (sector, byte) in [(5, 255), (6, 6), (7, 7), (8, 255)] {
+        assert_eq!(rt;
+            ends(&rt, &mut chip, 1, sector),
+            Some((byte, byte)),
+            "{sector}"
+        );
+    }
+    assert!(rt; erases(&rt, &mut chip, 1));
+    assert_eq!(rt; ends(&rt, &mut chip, 1, 7), Some((255, 255)));
     Ok(())
 }
