@@ -34,8 +34,10 @@ const LOG: Head = Head {
     ..DATA
 };
 
-/// The same of version 1.
+/// The same of version 1, and a header of version 2.
 const FIRST_DATA: Head = Head { version: 1, ..DATA };
+
+const SECOND_DATA: Head = Head { version: 2, ..DATA };
 
 const FIRST_BASE: Head = Head { version: 1, ..BASE };
 
@@ -54,10 +56,18 @@ const COMMIT: Head = Head {
     ..STATUS
 };
 
-/// The first twenty bytes are the payload of a header whose first page has one base sector.
-const ONE_PIECE: [u8; 21] = [
-    0, 0, 0, 1, 1, 0, 0, 0, 0, 0, 0, 0, 0, 0, 0, 0, 0, 0, 0, 0, 0,
+/// The first 24 bytes are the payload of a header whose first page has one base sector, at a place that
+/// was erased once; before version 3 it is the first twenty.
+const ONE_PIECE: [u8; 25] = [
+    0, 0, 0, 1, 1, 0, 0, 0, 0, 0, 0, 0, 0, 0, 0, 0, 0, 0, 0, 0, 0, 0, 0, 1, 0,
 ];
+
+/// The payload of a status header whose place was erased once, with place 2 retired, which a chip of five
+/// places has not to spare. The first four bytes are one of version 2.
+const ONE_RETIRED: [u8; 13] = [0, 0, 0, 1, 0, 0, 0, 1, 1, 0, 0, 0, 2];
+
+/// The same with no place retired, and a byte left over.
+const NONE_RETIRED: [u8; 10] = [0, 0, 0, 1, 0, 0, 0, 1, 0, 0];
 
 /// The text of a page with the value `hi` in its first slot, in each version, and what a list says of
 /// it.
@@ -70,8 +80,8 @@ const RECORD: &[u8] = b"0 6869\nend\n";
 /// The first byte of each sector: with it, nothing is changed.
 const SAME: (usize, u8) = (0, b'I');
 
-/// There is no version 3.
-const NO_VERSION: (usize, u8) = (5, 3);
+/// There is no version 4.
+const NO_VERSION: (usize, u8) = (5, 4);
 
 const LAST: (usize, u8) = (511, 1);
 
@@ -99,12 +109,16 @@ fn spelled_chip(rt: &impl Abort, alloc: Global, spelled: Spelled<'_>) -> Result<
     let mut desk = MemDesk::new(alloc, MemChip::new(alloc, 5, ROOM)?, b"", &[])?;
     assert_eq!(rt; ends(alloc, "format ram:5", &mut desk)?, 0);
     let mut chip = left_by(alloc, &desk)?;
-    let (data, base, text) = match spelled.1.version {
-        1 => (FIRST_DATA, FIRST_BASE, FIRST_TEXT),
-        _ => (DATA, BASE, TEXT),
-    };
-    put(rt, &mut chip, ((0, 0), data, &ONE_PIECE[..20], SAME));
-    put(rt, &mut chip, ((0, 1), base, text, SAME));
+    let version = spelled.1.version;
+    let len = if version < VERSION { 20 } else { 24 };
+    let text = if version == 1 { FIRST_TEXT } else { TEXT };
+    let data = Head { version, ..DATA };
+    put(rt, &mut chip, ((0, 0), data, &ONE_PIECE[..len], SAME));
+    put(
+        rt,
+        &mut chip,
+        ((0, 1), Head { version, ..BASE }, text, SAME),
+    );
     put(rt, &mut chip, spelled);
     Ok(chip)
 }
@@ -128,7 +142,7 @@ fn check(rt: &impl Abort, alloc: Global, spelled: Spelled<'_>, fault: &str) -> R
 
 #[test]
 fn refused_spellings_are_malformed(rt: HostRuntime) -> Result<(), Fail> {
-    let cases: [(Spelled<'_>, &str); 20] = [
+    let cases: [(Spelled<'_>, &str); 26] = [
         // A page text with slots 3 and 0, with slot 3 twice, and with a value of 465 bytes.
         (
             ((0, 1), BASE, &[3, 0, 0, 0, 0, 0], SAME),
@@ -219,9 +233,10 @@ fn refused_spellings_are_malformed(rt: HostRuntime) -> Result<(), Fail> {
             ((1, 1), COMMIT, &[0; 12], SAME),
             "malformed place 1 sector 1",
         ),
-        // Headers of 19 and of 21 bytes, with 17 base sectors of a page, and with 13 carried sectors.
+        // Headers of 20 bytes, as of version 2, and of 25; with 17 base sectors of a page, and with 13
+        // carried sectors; and of versions 1 and 2 with 24 bytes.
         (
-            ((0, 0), DATA, &ONE_PIECE[..19], SAME),
+            ((0, 0), DATA, &ONE_PIECE[..20], SAME),
             "malformed place 0 sector 0",
         ),
         (
@@ -229,12 +244,38 @@ fn refused_spellings_are_malformed(rt: HostRuntime) -> Result<(), Fail> {
             "malformed place 0 sector 0",
         ),
         (
-            ((0, 0), DATA, &ONE_PIECE[..20], (36, 17)),
+            ((0, 0), DATA, &ONE_PIECE[..24], (36, 17)),
             "malformed place 0 sector 0",
         ),
         (
-            ((0, 0), DATA, &ONE_PIECE[..20], (51, 13)),
+            ((0, 0), DATA, &ONE_PIECE[..24], (51, 13)),
             "malformed place 0 sector 0",
+        ),
+        (
+            ((0, 0), FIRST_DATA, &ONE_PIECE[..24], SAME),
+            "malformed place 0 sector 0",
+        ),
+        (
+            ((0, 0), SECOND_DATA, &ONE_PIECE[..24], SAME),
+            "malformed place 0 sector 0",
+        ),
+        // Status headers of four bytes, as of version 2, of eight, with one left over, and with more
+        // retired places than there are to spare.
+        (
+            ((1, 0), STATUS, &ONE_RETIRED[..4], SAME),
+            "malformed place 1 sector 0",
+        ),
+        (
+            ((1, 0), STATUS, &ONE_RETIRED[..8], SAME),
+            "malformed place 1 sector 0",
+        ),
+        (
+            ((1, 0), STATUS, &NONE_RETIRED, SAME),
+            "malformed place 1 sector 0",
+        ),
+        (
+            ((1, 0), STATUS, &ONE_RETIRED, SAME),
+            "malformed place 1 sector 0",
         ),
     ];
     for (spelled, fault) in cases {
@@ -246,14 +287,19 @@ fn refused_spellings_are_malformed(rt: HostRuntime) -> Result<(), Fail> {
 #[test]
 fn strange_sectors_count_for_none(rt: HostRuntime) -> Result<(), Fail> {
     for change in [NO_VERSION, LAST] {
-        let cases: [(Spelled<'_>, &str); 7] = [
-            (((0, 0), DATA, &ONE_PIECE[..20], change), "missing unit 0"),
-            (((1, 0), STATUS, &[0, 0, 0, 1], change), "not formatted"),
+        let cases: [(Spelled<'_>, &str); 9] = [
+            (((0, 0), DATA, &ONE_PIECE[..24], change), "missing unit 0"),
+            (
+                ((1, 0), STATUS, &NONE_RETIRED[..9], change),
+                "not formatted",
+            ),
             (((0, 1), BASE, TEXT, change), "malformed place 0 sector 1"),
             (((0, 241), LOG, &[0], change), ""),
             (((1, 1), COMMIT, &[], change), ""),
-            (((0, 0), DATA, &ONE_PIECE[..20], SAME), ""),
+            (((0, 0), DATA, &ONE_PIECE[..24], SAME), ""),
             (((0, 0), FIRST_DATA, &ONE_PIECE[..20], SAME), ""),
+            (((0, 0), SECOND_DATA, &ONE_PIECE[..20], SAME), ""),
+            (((1, 0), STATUS, &NONE_RETIRED[..9], SAME), ""),
         ];
         for (spelled, fault) in cases {
             check(&rt, rt.alloc(), spelled, fault)?;

@@ -7,7 +7,7 @@ pub const SECTORS: u32 = 256;
 pub const PAYLOAD_LEN: usize = 480;
 
 /// The version of all that is written.
-pub const VERSION: u8 = 2;
+pub const VERSION: u8 = 3;
 
 /// The bytes of a value, at most.
 pub const VALUE_LEN: usize = 464;
@@ -29,6 +29,9 @@ pub const MOST_PLACES: u32 = 1028;
 
 /// The places of a chip that are no unit's: the status place, two overflow places, one to write anew.
 pub const RESERVED_PLACES: u32 = 4;
+
+/// The places of a chip that are kept for those that wear out, at most.
+pub const MOST_SPARES: u32 = 64;
 
 /// The units of a chip, at most.
 pub const MOST_UNITS: u32 = 1024;

@@ -5,9 +5,10 @@ use Rattle.ipl_format.specs.Numbers.{half, word, long, half_at, word_at, long_at
 use Rattle.ipl_format.specs.Sector.{front, is_formed, said_in, sector_in}
 use Rattle.ipl_format.specs.Record.{record_bytes, record_head}
 use Rattle.ipl_format.specs.Commit.{SpellsCommit}
-use Rattle.ipl_format.specs.Header.{SpellsDataHeader, data_header_bytes}
+use Rattle.ipl_format.specs.Header.{SpellsDataHeader, data_header_bytes, erases_bytes, retired_bytes, erases_said}
 use Rattle.ipl_format.specs.Page.{page_text, text_from}
-use Rattle.ipl_format.proofs.PayloadLemmas.{commits_have_sizes, data_headers_have_sizes}
+use Rattle.ipl_format.proofs.PayloadLemmas.{commits_have_sizes}
+use Rattle.ipl_format.proofs.HeaderOnceLemmas.{data_headers_have_sizes}
 
 -- the head of unit 0's data header after a format of five places, without its sum
 first_head : front (record { kind = 1; version = 1; unit = 0; generation = 1; serial = 1; payload = 0 ∷ 0 ∷ 0 ∷ 1 ∷ replicate 16 0 })
@@ -56,11 +57,11 @@ no_bytes numbers spelled = let size = commits_have_sizes [] numbers spelled in l
 twelve_bytes : (payload numbers : List ℕ) → length payload ≡ 12 → SpellsCommit payload numbers → ⊥
 twelve_bytes payload numbers twelve spelled = let size = commits_have_sizes payload numbers spelled in omega (arith, size, twelve)
 
--- no data header has another length than 20, as 19 or 21
-other_length : (version : ℕ) (payload : List ℕ) (units : ℕ) (pieces : List ℕ) → length payload ≢ 20
-    → SpellsDataHeader version units pieces payload → ⊥
-other_length version payload units pieces other spelled =
-    other (data_headers_have_sizes version payload units pieces spelled)
+-- no data header of version 1 has another length than 20, as 19 or 21
+other_length : (payload : List ℕ) (units : ℕ) (pieces : List ℕ) → length payload ≢ 20
+    → SpellsDataHeader 1 units pieces payload → ⊥
+other_length payload units pieces other spelled =
+    other (data_headers_have_sizes 1 payload units pieces spelled)
 
 -- ---- version 2
 
@@ -86,3 +87,27 @@ two_slots_of_two : page_text 2 (Some (104 ∷ 105 ∷ []) ∷ None ∷ None ∷ 
     ≡ 0 ∷ 0 ∷ 2 ∷ 104 ∷ 105 ∷ 3 ∷ 0 ∷ 0 ∷ []
 unfolding text_from half
 two_slots_of_two = refl
+
+-- ---- version 3
+
+-- unit 0's data header after a format of five places: its place was erased once
+first_payload_of_three : data_header_bytes 1 (replicate 15 0) 0 ++ erases_bytes 3 1 ≡ 0 ∷ 0 ∷ 0 ∷ 1 ∷ (replicate 16 0 ++ 0 ∷ 0 ∷ 0 ∷ 1 ∷ [])
+unfolding data_header_bytes erases_bytes word
+first_payload_of_three = refl
+
+-- a status header of one unit, at a place that was erased 258 times, with place 2 retired
+status_payload_of_three : word 1 ++ erases_bytes 3 258 ++ retired_bytes 3 (2 ∷ [])
+    ≡ 0 ∷ 0 ∷ 0 ∷ 1 ∷ 0 ∷ 0 ∷ 1 ∷ 2 ∷ 1 ∷ 0 ∷ 0 ∷ 0 ∷ 2 ∷ []
+unfolding erases_bytes retired_bytes word
+status_payload_of_three = refl
+
+-- no data header of version 3 has another length than 24, as 20
+other_length_of_three : (payload : List ℕ) (units : ℕ) (pieces : List ℕ) → length payload ≢ 24
+    → SpellsDataHeader 3 units pieces payload → ⊥
+other_length_of_three payload units pieces other spelled =
+    other (data_headers_have_sizes 3 payload units pieces spelled)
+
+-- a place counts as erased once where its header is of version 2
+said_of_two : erases_said (Some (record { kind = 3; version = 2; unit = 0; generation = 1; serial = 1; payload = 0 ∷ 0 ∷ 0 ∷ 1 ∷ 0 ∷ 0 ∷ 0 ∷ 7 ∷ [] })) ≡ 1
+unfolding erases_said
+said_of_two = refl

@@ -1,12 +1,12 @@
 -- Laws of the formats: what is spelled says what was spelled, and there is no other spelling.
-use Rattle.std.specs.Prelude.{ℕ, ◌≡◌, ◌≢◌, ◌↔◌, ◌<◌, ◌+◌, ◌*◌, List, [], ◌++◌, length, Some, None, All}
+use Rattle.std.specs.Prelude.{ℕ, ◌≡◌, ◌≢◌, ◌↔◌, ◌<◌, ◌≤◌, ◌+◌, ◌*◌, ◌^◌, nat_le, if◌then◌else◌, List, [], ◌++◌, length, Some, None, All}
 use Rattle.chip_trait.specs.Story.{blank}
-use Rattle.ipl_base.specs.declared.limits.TheConstants.{RECORD_HEAD, SLOTS, VERSION}
+use Rattle.ipl_base.specs.declared.limits.TheConstants.{MOST_PLACES, RECORD_HEAD, SLOTS, VERSION}
 use Rattle.ipl_format.specs.Numbers.{IsBytes}
 use Rattle.ipl_format.specs.Sector.{Sector, IsSector, sector_bytes, sector_in}
 use Rattle.ipl_format.specs.Record.{Record, IsRecord, SpellsLog, record_bytes, value_of}
 use Rattle.ipl_format.specs.Commit.{SpellsCommit}
-use Rattle.ipl_format.specs.Header.{SpellsDataHeader, SpellsUnits}
+use Rattle.ipl_format.specs.Header.{SpellsDataHeader, SpellsStatusHeader, SpellsOverflowHeader, erases_said}
 use Rattle.ipl_format.specs.Page.{Slots, IsShort, IsPage, SpellsPage, IsCutInto, empty_page, piece_of}
 
 -- ---- sectors
@@ -67,30 +67,79 @@ CommitsHaveSizes = (payload : List ℕ) (numbers : List ℕ) → SpellsCommit pa
 -- ---- headers
 
 -- a data header is one header
-pub record AreOneHeader (units u : ℕ) (pieces q : List ℕ) (carried k : ℕ) : Type 0 where
+pub record AreOneHeader (units u : ℕ) (pieces q : List ℕ) (carried k erases e : ℕ) : Type 0 where
   pub same_units : units ≡ u
   pub same_pieces : pieces ≡ q
   pub same_carried : carried ≡ k
+  pub same_erases : erases ≡ e
 
 abbrev pub DataHeadersSpellOnce : Type 0
 DataHeadersSpellOnce = (version : ℕ) (payload : List ℕ) (units u : ℕ) (pieces q : List ℕ)
     (one : SpellsDataHeader version units pieces payload)
     (other : SpellsDataHeader version u q payload)
-    → AreOneHeader units u pieces q one.carried other.carried
+    → AreOneHeader units u pieces q one.carried other.carried one.erases other.erases
 
--- each data header has 20 bytes
+-- how many bytes an erase count takes
+abbrev pub erases_size : ℕ → ℕ
+erases_size version = if nat_le 3 version then 4 else 0
+
+-- each data header has 20 bytes, and from version 3 on 24
 abbrev pub DataHeadersHaveSizes : Type 0
 DataHeadersHaveSizes = (version : ℕ) (payload : List ℕ) (units : ℕ) (pieces : List ℕ)
-    → SpellsDataHeader version units pieces payload → length payload ≡ 20
+    → SpellsDataHeader version units pieces payload → length payload ≡ 20 + erases_size version
 
--- a status or overflow header says one number, in four bytes
-abbrev pub UnitsSpellOnce : Type 0
-UnitsSpellOnce = (version : ℕ) (payload : List ℕ) (units u : ℕ)
-    → SpellsUnits version units payload → SpellsUnits version u payload → units ≡ u
+-- two readings of a status header are one
+pub record AreOneStatus (units u erases e : ℕ) (retired r : List ℕ) : Type 0 where
+  pub same_units : units ≡ u
+  pub same_erases : erases ≡ e
+  pub same_retired : retired ≡ r
 
-abbrev pub UnitsHaveSizes : Type 0
-UnitsHaveSizes = (version : ℕ) (payload : List ℕ) (units : ℕ)
-    → SpellsUnits version units payload → length payload ≡ 4
+-- a status header is one header
+abbrev pub StatusHeadersSpellOnce : Type 0
+StatusHeadersSpellOnce = (version places : ℕ) (payload : List ℕ) (units u : ℕ) → places ≤ MOST_PLACES
+    → (one : SpellsStatusHeader version places units payload)
+    → (other : SpellsStatusHeader version places u payload)
+    → AreOneStatus units u one.erases other.erases one.retired other.retired
+
+-- it has 4 bytes, and from version 3 on 9 and 4 for each retired place
+abbrev pub StatusHeadersHaveSizes : Type 0
+StatusHeadersHaveSizes = (version places : ℕ) (payload : List ℕ) (units : ℕ)
+    (spelled : SpellsStatusHeader version places units payload)
+    → length payload ≡ 4 + (if nat_le 3 version then 5 + 4 * length spelled.retired else 0)
+
+-- an overflow header is one header
+abbrev pub OverflowHeadersSpellOnce : Type 0
+OverflowHeadersSpellOnce = (version : ℕ) (payload : List ℕ) (units u : ℕ)
+    (one : SpellsOverflowHeader version units payload)
+    (other : SpellsOverflowHeader version u payload)
+    → (units ≡ u) × (one.erases ≡ other.erases)
+
+-- it has 4 bytes, and from version 3 on 8
+abbrev pub OverflowHeadersHaveSizes : Type 0
+OverflowHeadersHaveSizes = (version : ℕ) (payload : List ℕ) (units : ℕ)
+    → SpellsOverflowHeader version units payload → length payload ≡ 4 + erases_size version
+
+-- ---- erase counts
+
+-- the place of a header counts as erased as often as the header says
+abbrev pub DataHeadersSayErases : Type 0
+DataHeadersSayErases = (head : Sector) (units : ℕ) (pieces : List ℕ) → head.kind ≡ 1
+    → (spelled : SpellsDataHeader head.version units pieces head.payload)
+    → erases_said (Some head) ≡ spelled.erases
+
+abbrev pub StatusHeadersSayErases : Type 0
+StatusHeadersSayErases = (head : Sector) (places units : ℕ) → head.kind ≡ 2
+    → (spelled : SpellsStatusHeader head.version places units head.payload)
+    → erases_said (Some head) ≡ spelled.erases
+
+abbrev pub OverflowHeadersSayErases : Type 0
+OverflowHeadersSayErases = (head : Sector) (units : ℕ) → head.kind ≡ 3
+    → (spelled : SpellsOverflowHeader head.version units head.payload)
+    → erases_said (Some head) ≡ spelled.erases
+
+-- a count has 32 bits
+abbrev pub ErasesFit : Type 0
+ErasesFit = (head : Sector) → IsSector head → erases_said (Some head) < 2 ^ 32
 
 -- ---- pages
 

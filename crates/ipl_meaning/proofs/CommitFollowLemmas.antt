@@ -89,7 +89,7 @@ module _ (places : ℕ) (c : Chart) (it : Layout) (t : Tables) (sector : Sector)
   commit_followed : Mirrors places y jt tables
   commit_followed = record {
     laid = (commit_sectors_add places c it first sector numbers committed mirrors.laid may).0;
-    directory = let was = mirrors.directory in record { units = was.units; logs = was.logs; all = was.all; current = was.current; heads = was.heads; generation = was.generation; not_home = was.not_home; not_status = was.not_status; not_overflow = was.not_overflow };
+    directory = let was = mirrors.directory in record { units = was.units; logs = was.logs; all = was.all; counts = was.counts; current = was.current; heads = was.heads; generation = was.generation; not_home = was.not_home; not_status = was.not_status; not_overflow = was.not_overflow };
     overflow = overflow;
     status = status;
     numbers = numbers_there;

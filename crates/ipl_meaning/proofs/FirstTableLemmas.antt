@@ -74,6 +74,7 @@ module _ (places : ℕ) (least : 5 ≤ places) (most : places ≤ 1028) where
       units = length-range_with_len 0 (places - 4);
       logs = length-replicate (places - 4) 15;
       all = omega (arith, length-append (replicate (places - 4 + 1) true) (replicate 3 false), length-replicate (places - 4 + 1) true, length-replicate 3 false, least);
+      counts = length-replicate places 1;
       current = λ u low. get_or-range_with_len 0 (places - 4) u 0 low ∙ (let e : 0 + u ≡ u = omega arith in e);
       heads = length-range_with_len 1 (places - 4);
       generation = λ u low. get_or-range_with_len 1 (places - 4) u 0 low ∙ (let e : 1 + u ≡ u + 1 = omega arith in e);

@@ -6,7 +6,7 @@ use Rattle.std.proofs.lemmas.List.Elements.{All-replicate}
 use Rattle.std.specs.Ordering.{nat_cmp}
 use Rattle.std.specs.FinMap.{empty, get-empty}
 use Rattle.ipl_format.specs.Sector.{Sector}
-use Rattle.ipl_format.specs.Header.{IsCount}
+use Rattle.ipl_format.specs.Header.{AreErases, IsCount, AreRetired}
 use Rattle.ipl_base.specs.declared.limits.TheConstants.{VERSION}
 use Rattle.ipl_format.specs.Page.{empty_page, page_text, value_in}
 use Rattle.ipl_format.proofs.PageLemmas.{empty_pages_spell_nothing}
@@ -49,6 +49,19 @@ module _ (places : ℕ) (least : 5 ≤ places) (most : places ≤ 1028) where
   abbrev it : Layout
   it = record { status = places - 4; head = first_status places; committed = λ tid. false; count = places - 4; units = shape }
 
+  -- each place counts as erased once, and none is retired
+  once : AreErases VERSION 1
+  once = record { fits = omega arith; once = λ before. refl }
+
+  none_retired : AreRetired VERSION places (places - 4) []
+  none_retired = record {
+    rising = λ i j none before within. absurd (omega (arith, within));
+    within = λ k none within. absurd (omega (arith, within));
+    few = omega arith;
+    spare = omega (arith, least);
+    none = λ before. refl;
+  }
+
   unit : (u : ℕ) → u < places - 4 → IsUnit c places (places - 4) u (shape u)
   unit u low = record {
     chosen = record {
@@ -62,7 +75,16 @@ module _ (places : ℕ) (least : 5 ≤ places) (most : places ≤ 1028) where
         | inr status ↦ absurd (omega (arith, fits.0, ap (λ (z : Sector). z.kind) status.1))
       ];
     };
-    counts = record { carried = 0; bytes = refl; fits = omega (arith, most); fifteen = refl; each = All-replicate IsCount 15 0 (omega arith); few = omega arith };
+    counts = record {
+      carried = 0;
+      erases = 1;
+      bytes = refl;
+      fits = omega (arith, most);
+      fifteen = refl;
+      each = All-replicate IsCount 15 0 (omega arith);
+      few = omega arith;
+      counted = once;
+    };
     log = record {
       each = λ k none within. absurd (omega (arith, within));
       all = λ p s x live. absurd (never_live u u (u + 1) p s x live);
@@ -87,7 +109,7 @@ module _ (places : ℕ) (least : 5 ≤ places) (most : places ≤ 1028) where
         | inr status ↦ inr (ap (λ (z : Sector). z.serial) (sym status.1), omega (arith, status.0))
       ];
     };
-    counts = record { bytes = refl; fits = omega (arith, most) };
+    counts = record { erases = 1; retired = []; bytes = refl; fits = omega (arith, most); counted = once; listed = none_retired };
     commits = record {
       spelled = λ s x w. absurd (no_sector _ s x (λ none. omega (arith, w.where_it_is.0, none)) w.here);
       told = λ tid is_so. absurd (cc is_so);

@@ -46,6 +46,7 @@ module _ (places : ℕ) (c : Chart) (it : Layout) (t : Tables) (u next : ℕ) (s
     units = was.units;
     logs = length-set t.places.written u _ ∙ was.logs;
     all = was.all;
+    counts = was.counts;
     current = λ v less. was.current v less ∙ sym (same_home places c it u p s sector records may v);
     heads = was.heads;
     generation = λ v less. was.generation v less ∙ ap (λ (x : Sector). x.generation) (sym (same_head places c it u p s sector records may v));

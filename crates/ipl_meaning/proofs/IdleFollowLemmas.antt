@@ -1,5 +1,5 @@
 -- How the tables follow places that change, and places that are taken.
-use Rattle.std.proofs.Common.{◌≡◌, ◌≢◌, ℕ, ◌<◌, ◌≤◌, get_or, set, None, inl, inr, sym, ◌∙◌, arith, true}
+use Rattle.std.proofs.Common.{◌≡◌, ◌≢◌, ℕ, ◌<◌, ◌≤◌, get_or, set, List, length, None, inl, inr, sym, ◌∙◌, arith, true}
 use Rattle.std.specs.List.{Contains}
 use Rattle.std.proofs.lemmas.Bool.{cases_eq}
 use Rattle.std.proofs.lemmas.List.{length-set, get_or-set_same, get_or-set_other}
@@ -7,10 +7,10 @@ use Rattle.ipl_format.specs.Sector.{Sector}
 use Rattle.ipl_meaning.specs.Chart.{Chart}
 use Rattle.ipl_meaning.specs.Layout.{Layout, IsLiveIn}
 use Rattle.ipl_meaning.specs.Steps.{SameBut, IsIdle, ComesToNothing}
-use Rattle.ipl_meaning.specs.Tables.{IsFree, Tables, overflow_places, IsCountedClean}
+use Rattle.ipl_meaning.specs.Tables.{IsFree, one_more, Tables, overflow_places, IsCountedClean}
 use Rattle.ipl_meaning.specs.Mirrors.{Mirrors}
-use Rattle.ipl_meaning.specs.TableSteps.{with_next, taken}
-use Rattle.ipl_meaning.specs.MovingLaws.{TablesFollowIdlePlaces, PlacesMayBeTaken}
+use Rattle.ipl_meaning.specs.TableSteps.{with_next, with_erases, taken}
+use Rattle.ipl_meaning.specs.MovingLaws.{TablesFollowIdlePlaces, PlacesMayBeTaken, CountsAreFree}
 use Rattle.ipl_meaning.proofs.IdleLemmas.{idle_places_do_not_count}
 use Rattle.ipl_meaning.proofs.CounterLemmas.{bare_places_keep_the_counter}
 use Rattle.ipl_meaning.proofs.MirrorLemmas.{map_contains}
@@ -62,7 +62,7 @@ module _ (places : ℕ) (c : Chart) (it : Layout) (t : Tables) (p : ℕ) (y : Ch
   idle_followed : Mirrors places y it (with_next t next)
   idle_followed = record {
     laid = (idle_places_do_not_count places c it p y mirrors.laid idle same nothing).0;
-    directory = let was = mirrors.directory in record { units = was.units; logs = was.logs; all = was.all; current = was.current; heads = was.heads; generation = was.generation; not_home = was.not_home; not_status = was.not_status; not_overflow = was.not_overflow };
+    directory = let was = mirrors.directory in record { units = was.units; logs = was.logs; all = was.all; counts = was.counts; current = was.current; heads = was.heads; generation = was.generation; not_home = was.not_home; not_status = was.not_status; not_overflow = was.not_overflow };
     overflow = let was = mirrors.overflow in record {
       units = was.units;
       listed = λ v q n x low live away. was.listed v q n x low (live_before v q n x (live_apart v q n x low live) live) away;
@@ -105,6 +105,7 @@ module _ (places : ℕ) (c : Chart) (it : Layout) (t : Tables) (p : ℕ) (mirror
       units = was.units;
       logs = was.logs;
       all = length-set t.places.in_use p true ∙ was.all;
+      counts = length-set t.places.erases p (one_more (get_or t.places.erases p 0)) ∙ was.counts;
       current = was.current;
       heads = was.heads;
       generation = was.generation;
@@ -121,3 +122,25 @@ module _ (places : ℕ) (c : Chart) (it : Layout) (t : Tables) (p : ℕ) (mirror
 
 pub places_may_be_taken : PlacesMayBeTaken
 places_may_be_taken places c it t p mirrors low = place_taken places c it t p mirrors low
+
+pub counts_are_free : CountsAreFree
+counts_are_free places c it t erases mirrors sized = record {
+  laid = mirrors.laid;
+  directory = let was = mirrors.directory in record {
+    units = was.units;
+    logs = was.logs;
+    all = was.all;
+    counts = sized;
+    current = was.current;
+    heads = was.heads;
+    generation = was.generation;
+    not_home = was.not_home;
+    not_status = was.not_status;
+    not_overflow = was.not_overflow;
+  };
+  overflow = let was = mirrors.overflow in record { units = was.units; listed = was.listed; only = was.only; once = was.once; few = was.few; in_overflow = was.in_overflow; headed = was.headed; two = was.two; apart = was.apart };
+  status = let was = mirrors.status in record { place = was.place; generation = was.generation; numbers = was.numbers };
+  numbers = let was = mirrors.numbers in record { above = was.above; below = was.below; once = was.once; waits = was.waits };
+  masks = let was = mirrors.masks in record { units = was.units; lists = was.lists; sectors = was.sectors; home = was.home; elsewhere = was.elsewhere };
+  counted_clean = mirrors.counted_clean;
+}

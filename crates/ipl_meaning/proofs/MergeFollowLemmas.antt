@@ -116,6 +116,7 @@ module _ (places : ℕ) (c : Chart) (it : Layout) (t after : Tables) (u p used :
     units = units;
     logs = ap (λ (l : List ℕ). length l) moved.written ∙ length-set t.places.written u used ∙ was.logs;
     all = moved.all ∙ was.all;
+    counts = ap (λ (l : List ℕ). length l) moved.erases ∙ was.counts;
     current = current;
     heads = ap (λ (l : List ℕ). length l) told.generation ∙ length-set t.places.generations u fresh.head.generation ∙ was.heads;
     generation = generation told;

@@ -6,7 +6,7 @@ use Rattle.std.proofs.lemmas.List.Elements.{All-contains, Contains-append_left, 
 use Rattle.std.proofs.lemmas.Bool.{cases_eq}
 use Rattle.ipl_format.specs.Sector.{Sector}
 use Rattle.ipl_format.specs.Record.{Record}
-use Rattle.ipl_format.specs.Header.{SpellsDataHeader, SpellsUnits}
+use Rattle.ipl_format.specs.Header.{SpellsDataHeader, SpellsStatusHeader}
 use Rattle.ipl_meaning.specs.Chart.{Chart}
 use Rattle.ipl_meaning.specs.Layout.{Entry, Layout, IsLiveIn}
 use Rattle.ipl_meaning.specs.Steps.{IsIdle, MayLog}
@@ -146,7 +146,7 @@ status_headers_may_go places c it t p head committed mirrors within bare fits co
   within = within;
   free = bare;
   fits = fits;
-  counts = subst (λ (n : ℕ). SpellsUnits head.version n head.payload) mirrors.directory.units counts;
+  counts = subst (λ (n : ℕ). SpellsStatusHeader head.version places n head.payload) mirrors.directory.units counts;
   newest = λ q other less there it_fits. (new_serials_are_greatest places c it t.next head.serial mirrors.numbers.above new).0 q other less there (omega (arith, it_fits), omega (arith, it_fits));
   commits = commits;
 }

@@ -15,7 +15,7 @@ use Rattle.ipl_meaning.specs.Layout.{Shape, Entry, IsBelow, AllRise, IsEntry, Is
 use Rattle.ipl_meaning.specs.Stands.{Shows, Stands, page_in}
 use Rattle.ipl_meaning.specs.Laws.{StandsOnce, LaidOnce}
 use Rattle.ipl_format.proofs.RecordLemmas.{logs_spell_once}
-use Rattle.ipl_format.proofs.PayloadLemmas.{data_headers_spell_once, units_spell_once}
+use Rattle.ipl_format.proofs.HeaderOnceLemmas.{data_headers_spell_once, status_headers_spell_once}
 use Rattle.ipl_format.proofs.PageLemmas.{pages_spell_once, pieces_say_once}
 use Rattle.ipl_meaning.proofs.SwitchLemmas.{same_applied}
 
@@ -133,7 +133,7 @@ module _ (places : ℕ) (c : Chart) (it jt : Layout) (one : Laid places c it) (o
   pub same_count : it.count ≡ jt.count
   same_count =
       let mine = rw same_status.1 at one.counts in
-      units_spell_once jt.head.version jt.head.payload it.count jt.count mine other.counts
+      (status_headers_spell_once jt.head.version places jt.head.payload it.count jt.count one.most mine other.counts).same_units
 
   same_committed : (tid : ℕ) → it.committed tid ≡ jt.committed tid
   same_committed tid =

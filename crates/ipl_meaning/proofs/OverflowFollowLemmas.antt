@@ -77,6 +77,7 @@ module _ (places : ℕ) (c : Chart) (it : Layout) (t : Tables) (p next : ℕ) (h
       units = was.units;
       logs = was.logs;
       all = was.all;
+      counts = was.counts;
       current = was.current;
       heads = was.heads;
       generation = was.generation;

@@ -47,6 +47,7 @@ module _ (places : ℕ) (c : Chart) (it : Layout) (t : Tables) (u p s next : ℕ
     units = was.units;
     logs = was.logs;
     all = was.all;
+    counts = was.counts;
     current = λ v less. was.current v less ∙ sym (same_home places c it u p s sector records may v);
     heads = was.heads;
     generation = λ v less. was.generation v less ∙ ap (λ (x : Sector). x.generation) (sym (same_head places c it u p s sector records may v));

@@ -3,7 +3,7 @@ use Rattle.std.proofs.Common.{◌≡◌, ℕ, ◌<◌, Option, Some, None, inl, 
 use Rattle.std.proofs.lemmas.Bool.{cases_Bool}
 use Rattle.ipl_format.specs.Sector.{Sector}
 use Rattle.ipl_format.specs.Record.{Record}
-use Rattle.ipl_format.proofs.PayloadLemmas.{units_spell_once}
+use Rattle.ipl_format.proofs.HeaderOnceLemmas.{status_headers_spell_once}
 use Rattle.ipl_meaning.specs.Chart.{Chart, IsChosen, IsDataHeader, IsStatusHeader}
 use Rattle.ipl_meaning.specs.Layout.{IsCommitted, Layout, Laid, IsLiveIn}
 use Rattle.ipl_meaning.specs.Steps.{IsPart, SameOff, LeftAt, KeepsPages, IsIdle, ComesToNothing, MayLog}
@@ -27,7 +27,7 @@ module _ (places : ℕ) (c h : Chart) (part : IsPart c h) (jt it : Layout) (less
   pub same_count : jt.count ≡ it.count
   same_count =
       let mine = rw same_status.1 at less.counts in
-      units_spell_once it.head.version it.head.payload jt.count it.count mine whole.counts
+      (status_headers_spell_once it.head.version places it.head.payload jt.count it.count less.most mine whole.counts).same_units
 
   -- a unit of the part is one of the whole
   unit_there : (u : ℕ) → u < jt.count → u < it.count

@@ -46,6 +46,7 @@ module _ (places : ℕ) (c : Chart) (it : Layout) (t after : Tables) (p first : 
     units = rw renewed.current was.units;
     logs = rw renewed.written was.logs;
     all = renewed.all ∙ was.all;
+    counts = rw renewed.erases was.counts;
     current = λ v less. rw renewed.current (was.current v less);
     heads = rw renewed.generations was.heads;
     generation = λ v less. rw renewed.generations (was.generation v less);

@@ -23,6 +23,7 @@ first_tables places = record {
   places = record {
     current = range_with_len 0 (units_on places);
     in_use = replicate (units_on places + 1) true ++ replicate 3 false;
+    erases = replicate places 1;
     written = replicate (units_on places) LOG_SECTORS;
     generations = range_with_len 1 (units_on places);
     masks = replicate (units_on places) (replicate LOG_SECTORS 0);

@@ -1,9 +1,9 @@
--- A chip that was just formatted.
-use Rattle.std.specs.Prelude.{ℕ, ◌+◌, List, replicate, Option, Some, None, if◌then◌else◌, ◌==◌, nat_lt}
+-- A chip that was just formatted: each place counts as erased once, and none is retired.
+use Rattle.std.specs.Prelude.{ℕ, ◌+◌, List, [], ◌++◌, replicate, Option, Some, None, if◌then◌else◌, ◌==◌, nat_lt}
 use Rattle.ipl_base.specs.declared.limits.TheConstants.{PAGES, VERSION}
 use Rattle.ipl_base.specs.Places.{units_on}
 use Rattle.ipl_format.specs.Numbers.{word}
-use Rattle.ipl_format.specs.Header.{data_header_bytes}
+use Rattle.ipl_format.specs.Header.{data_header_bytes, erases_bytes, retired_bytes}
 use Rattle.ipl_format.specs.Sector.{Sector}
 use Rattle.ipl_meaning.specs.Chart.{Chart}
 
@@ -19,7 +19,7 @@ first_head places u = record {
   unit = u;
   generation = u + 1;
   serial = u + 1;
-  payload = data_header_bytes (units_on places) no_pieces 0;
+  payload = data_header_bytes (units_on places) no_pieces 0 ++ erases_bytes VERSION 1;
 }
 
 -- the status header, with the next number
@@ -30,7 +30,7 @@ first_status places = record {
   unit = 0;
   generation = units_on places + 1;
   serial = units_on places + 1;
-  payload = word (units_on places);
+  payload = word (units_on places) ++ erases_bytes VERSION 1 ++ retired_bytes VERSION [];
 }
 
 -- each unit's header stands at the place of its number, and the status header after them

@@ -6,7 +6,7 @@ use Rattle.ipl_base.specs.Places.{KeepsUnits}
 use Rattle.ipl_format.specs.Sector.{Sector}
 use Rattle.ipl_format.specs.Record.{Record, SpellsLog}
 use Rattle.ipl_format.specs.Commit.{SpellsCommit}
-use Rattle.ipl_format.specs.Header.{SpellsDataHeader, SpellsUnits}
+use Rattle.ipl_format.specs.Header.{SpellsDataHeader, SpellsStatusHeader}
 use Rattle.ipl_format.specs.Page.{Slots, IsPage, IsCutInto, page_text, piece_of}
 use Rattle.ipl_format.specs.Place.{base_sector_of}
 use Rattle.ipl_meaning.specs.Chart.{Chart, IsChosen, IsDataHeader, IsStatusHeader, IsLive}
@@ -110,7 +110,7 @@ pub record Laid (places : ℕ) (c : Chart) (it : Layout) : Type 0 where
   pub most : places ≤ MOST_PLACES
   pub count : KeepsUnits places it.count
   pub chosen : IsChosen c places IsStatusHeader it.status it.head
-  pub counts : SpellsUnits it.head.version it.count it.head.payload
+  pub counts : SpellsStatusHeader it.head.version places it.count it.head.payload
   pub commits : IsStatus c it.status it.head.generation it.committed
   pub each : (u : ℕ) → u < it.count → IsUnit c places it.count u (it.units u)
   -- at most two overflow places hold live sectors: these are all

@@ -12,11 +12,12 @@ use Rattle.ipl_meaning.specs.Tables.{IsFree, Tables, masks_in, spots_of, masks_o
 abbrev pub AreApart : {X : Type 0} → X → X → Type 0
 AreApart x y = x ≢ y
 
--- the directory has each unit's place and generation, and no place in use is free
+-- the directory has each unit's place and generation, and a count for each place; no place in use is free
 pub record MirrorsPlaces (places : ℕ) (it : Layout) (t : Tables) : Type 0 where
   pub units : length t.places.current ≡ it.count
   pub logs : length t.places.written ≡ it.count
   pub all : length t.places.in_use ≡ places
+  pub counts : length t.places.erases ≡ places
   pub current : (u : ℕ) → u < it.count
       → slice_index t.places.current u ≡ (it.units u).home
   pub heads : length t.places.generations ≡ it.count

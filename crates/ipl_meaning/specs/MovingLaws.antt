@@ -1,5 +1,5 @@
 -- How the tables follow places that are taken, and units that move.
-use Rattle.std.specs.Prelude.{ℕ, ◌≡◌, ◌↔◌, ◌<◌, ◌≤◌, ◌+◌, Bool, false, IsTrue, length, None, All, Contains}
+use Rattle.std.specs.Prelude.{ℕ, ◌≡◌, ◌↔◌, ◌<◌, ◌≤◌, ◌+◌, Bool, false, IsTrue, List, length, None, All, Contains}
 use Rattle.ipl_base.specs.declared.limits.TheConstants.{SECTORS, FIRST_LOG_SECTOR, OVERFLOW_PLACES}
 use Rattle.chip_trait.specs.Chart.{with_sector}
 use Rattle.ipl_format.specs.Sector.{Sector}
@@ -9,7 +9,7 @@ use Rattle.ipl_meaning.specs.Found.{MentionsBelow, IsPlaceBelow}
 use Rattle.ipl_meaning.specs.Steps.{SameBut, with_unit, with_status, IsIdle, MaySwitch, MayOpenOverflow}
 use Rattle.ipl_meaning.specs.Tables.{IsFree, Tables, overflow_places}
 use Rattle.ipl_meaning.specs.Mirrors.{Mirrors}
-use Rattle.ipl_meaning.specs.TableSteps.{IsReady, with_next, taken, IsMoved, TellsShape, IsRenewed, with_overflow, CountedMove}
+use Rattle.ipl_meaning.specs.TableSteps.{IsReady, with_next, with_erases, taken, IsMoved, TellsShape, IsRenewed, with_overflow, CountedMove}
 
 -- a place that is no one's may change, but for a header, and numbers may be drawn
 abbrev pub TablesFollowIdlePlaces : Type 0
@@ -22,6 +22,11 @@ TablesFollowIdlePlaces =
 abbrev pub PlacesMayBeTaken : Type 0
 PlacesMayBeTaken = (places : ℕ) (c : Chart) (it : Layout) (t : Tables) (p : ℕ) → Mirrors places c it t → p < places
     → Mirrors places c it (taken t p)
+
+-- erase counts are nothing that the tables and a chart must agree on
+abbrev pub CountsAreFree : Type 0
+CountsAreFree = (places : ℕ) (c : Chart) (it : Layout) (t : Tables) (erases : List ℕ) → Mirrors places c it t
+    → length erases ≡ places → Mirrors places c it (with_erases t erases)
 
 -- the tables mirror the chart after the header of a unit's new place
 abbrev pub TablesFollowMerges : Type 0

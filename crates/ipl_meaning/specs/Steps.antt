@@ -5,7 +5,7 @@ use Rattle.chip_trait.specs.Chart.{IsPartOf}
 use Rattle.ipl_format.specs.Sector.{Sector}
 use Rattle.ipl_format.specs.Record.{Record, SpellsLog}
 use Rattle.ipl_format.specs.Commit.{SpellsCommit}
-use Rattle.ipl_format.specs.Header.{SpellsDataHeader, SpellsUnits}
+use Rattle.ipl_format.specs.Header.{SpellsDataHeader, SpellsStatusHeader}
 use Rattle.ipl_format.specs.Page.{Slots, value_in}
 use Rattle.ipl_meaning.specs.Chart.{Chart, Beats, IsDataHeader, IsStatusHeader, IsOverflowHeader, IsOverflow}
 use Rattle.ipl_meaning.specs.Values.{Values, after_records}
@@ -179,7 +179,7 @@ pub record MaySwitch (places count : ℕ) (c : Chart) (p : ℕ) (head : Sector) 
   pub within : p < places
   pub free : c p 0 ≡ None
   pub fits : IsStatusHeader head
-  pub counts : SpellsUnits head.version count head.payload
+  pub counts : SpellsStatusHeader head.version places count head.payload
   pub newest : (q : ℕ) (other : Sector) → q < places → c q 0 ≡ Some other → IsStatusHeader other
       → other.serial < head.serial
   pub commits : IsStatus c p head.generation committed

@@ -4,7 +4,7 @@ use Rattle.ipl_base.specs.declared.limits.TheConstants.{SECTORS, LEAST_PLACES, M
 use Rattle.ipl_format.specs.Sector.{Sector}
 use Rattle.ipl_format.specs.Record.{Record}
 use Rattle.ipl_format.specs.Commit.{SpellsCommit}
-use Rattle.ipl_format.specs.Header.{SpellsUnits}
+use Rattle.ipl_format.specs.Header.{SpellsStatusHeader}
 use Rattle.ipl_meaning.specs.Chart.{Chart, IsStatusHeader, IsOverflowHeader}
 use Rattle.ipl_meaning.specs.Layout.{Shape, Layout, IsStatus}
 use Rattle.ipl_meaning.specs.Formatted.{formatted}
@@ -58,7 +58,7 @@ StatusHeadersMayGo =
     (places : ℕ) (c : Chart) (it : Layout) (t : Tables) (p : ℕ) (head : Sector) (committed : ℕ → Bool)
     → Mirrors places c it t
     → p < places → c p 0 ≡ None → IsStatusHeader head
-    → SpellsUnits head.version (length t.places.current) head.payload → t.next ≤ head.serial
+    → SpellsStatusHeader head.version places (length t.places.current) head.payload → t.next ≤ head.serial
     → IsStatus c p head.generation committed
     → MaySwitch places it.count c p head committed
 

@@ -7,7 +7,7 @@ use Rattle.ipl_format.specs.Header.{SpellsDataHeader}
 use Rattle.ipl_meaning.specs.Chart.{Chart, IsDataHeader, IsLive}
 use Rattle.ipl_meaning.specs.Layout.{Entry, Shape, Layout, AllRise, IsEntry}
 use Rattle.ipl_meaning.specs.Masks.{mask_at}
-use Rattle.ipl_meaning.specs.Tables.{IsFree, with_use, with_written, with_mask, Tables, spots_of, masks_of, overflow_places, first_log, IsCountedClean}
+use Rattle.ipl_meaning.specs.Tables.{IsFree, with_use, with_erased, with_written, with_mask, Tables, spots_of, masks_of, overflow_places, first_log, IsCountedClean}
 use Rattle.ipl_meaning.specs.Mirrors.{AreApart}
 
 -- a log sector as the counter and the open sessions make it
@@ -92,15 +92,20 @@ CountedMove t after p s from = (q n : ℕ) → IsCountedClean after q n
 abbrev pub with_next : Tables → ℕ → Tables
 with_next t next = record { places = t.places; overflow = t.overflow; status = t.status; next = next; active = t.active }
 
--- the place was taken
+-- the places were erased so often
+abbrev pub with_erases : Tables → List ℕ → Tables
+with_erases t erases = record { places = record t.places { erases = erases }; overflow = t.overflow; status = t.status; next = t.next; active = t.active }
+
+-- the place was taken, and erased for it
 abbrev pub taken : Tables → ℕ → Tables
-taken t p = record { places = with_use t.places p true; overflow = t.overflow; status = t.status; next = t.next; active = t.active }
+taken t p = record { places = with_erased (with_use t.places p true) p; overflow = t.overflow; status = t.status; next = t.next; active = t.active }
 
 -- the tables once the unit stands at its new place, with this many log sectors written there
 pub record IsMoved (t after : Tables) (u p used : ℕ) : Type 0 where
   pub current : after.places.current ≡ slice_set t.places.current u p
   pub written : after.places.written ≡ slice_set t.places.written u used
   pub all : length after.places.in_use ≡ length t.places.in_use
+  pub erases : after.places.erases ≡ t.places.erases
   -- what is free now was free, or was the unit's place, or was an overflow place that no list names any more
   pub free : (q : ℕ) → IsFree after.places q
       → IsFree t.places q ⊎ (q ≡ slice_index t.places.current u)
@@ -132,6 +137,7 @@ pub record IsRenewed (t after : Tables) (p own from : ℕ) : Type 0 where
   pub generations : after.places.generations ≡ t.places.generations
   pub masks : after.places.masks ≡ t.places.masks
   pub all : length after.places.in_use ≡ length t.places.in_use
+  pub erases : after.places.erases ≡ t.places.erases
   -- what is free now was free, or was the status place
   pub free : (q : ℕ) → IsFree after.places q → IsFree t.places q ⊎ (q ≡ t.status.place)
   pub overflow : after.overflow ≡ t.overflow

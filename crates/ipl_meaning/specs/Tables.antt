@@ -1,12 +1,13 @@
 -- What the tables in memory say, as lists.
-use Rattle.std.specs.Prelude.{ℕ, ◌≡◌, ◌⊎◌, ◌<◌, ◌≤◌, ◌+◌, ◌-◌, Bool, true, false, List, [], map, length, slice_index, slice_index_or, slice_set, Contains}
+use Rattle.std.specs.Prelude.{ℕ, ◌≡◌, ◌⊎◌, ◌<◌, ◌≤◌, ◌+◌, ◌-◌, ◌^◌, nat_lt, if◌then◌else◌, Bool, true, false, List, [], map, length, slice_index, slice_index_or, slice_set, Contains}
 use Rattle.ipl_base.specs.declared.limits.TheConstants.{SECTORS, FIRST_LOG_SECTOR}
 
--- the place of each unit, whether each place is in use, how many of the last 15 sectors of each unit's place count as
--- written, the generation of each unit, and by unit which pages each of these sectors names
+-- the place of each unit, whether each place is in use, how often each place was erased, how many of the last 15 sectors of
+-- each unit's place count as written, the generation of each unit, and by unit which pages each of these sectors names
 pub record Places : Type 0 where
   pub current : List ℕ
   pub in_use : List Bool
+  pub erases : List ℕ
   pub written : List ℕ
   pub generations : List ℕ
   pub masks : List (List ℕ)
@@ -18,6 +19,14 @@ IsFree it p = slice_index_or it.in_use p true ≡ false
 -- the place is used as told
 abbrev pub with_use : Places → ℕ → Bool → Places
 with_use it p used = record it { in_use = slice_set it.in_use p used }
+
+-- one erase more, as far as 32 bits count
+abbrev pub one_more : ℕ → ℕ
+one_more erases = if nat_lt erases (2 ^ 32 - 1) then erases + 1 else erases
+
+-- the place was erased once more
+abbrev pub with_erased : Places → ℕ → Places
+with_erased it p = record it { erases = slice_set it.erases p (one_more (slice_index it.erases p)) }
 
 -- one more log sector of the unit is written
 abbrev pub with_written : Places → ℕ → Places

@@ -1,12 +1,15 @@
 //! Tests of the program over desks in memory: what it says and notes, what power cuts, faults of the chip
-//! and worn places leave, what is opened of changed chips and of one of version 1, trials and serial
-//! views. They stand in a crate of their own so that the crates below are proved once.
+//! and worn places leave, how places wear in turn, what is opened of changed chips and of those of older
+//! versions, trials and serial views. They stand in a crate of their own so that the crates below are
+//! proved once.
 #![tactic(auto)]
 
 #[cfg(test)]
 mod batches;
 #[cfg(test)]
 mod chains;
+#[cfg(test)]
+mod counts;
 #[cfg(test)]
 mod cuts;
 #[cfg(test)]

@@ -63,10 +63,15 @@ const USED_UP: Head = Head {
 /// No sector is of this kind: it stands for one of zeros.
 const ZEROS: Head = Head { kind: 0, ..DATA };
 
-/// The payload of unit 0's first header, and that on a chip of two units.
-const FIRST: [u8; 20] = [0, 0, 0, 1, 0, 0, 0, 0, 0, 0, 0, 0, 0, 0, 0, 0, 0, 0, 0, 0];
+/// The payload of unit 0's first header, and that on a chip of two units. Their first twenty bytes are
+/// of version 2.
+const FIRST: [u8; 24] = [
+    0, 0, 0, 1, 0, 0, 0, 0, 0, 0, 0, 0, 0, 0, 0, 0, 0, 0, 0, 0, 0, 0, 0, 1,
+];
 
-const FOREIGN: [u8; 20] = [0, 0, 0, 2, 0, 0, 0, 0, 0, 0, 0, 0, 0, 0, 0, 0, 0, 0, 0, 0];
+const FOREIGN: [u8; 24] = [
+    0, 0, 0, 2, 0, 0, 0, 0, 0, 0, 0, 0, 0, 0, 0, 0, 0, 0, 0, 0, 0, 0, 0, 1,
+];
 
 /// A log record that deletes the last name of unit 0, without its last byte.
 const TOO_SHORT: &[u8] = &[14, 0xbf, 0, 0, 0, 0, 0, 0, 0, 0, 0];
@@ -138,7 +143,7 @@ fn the_first_fault_is_noted(rt: HostRuntime) -> Result<(), Fail> {
         (&[(0, 0, DATA, &FOREIGN)], "geometry"),
         (&[(1, 0, STATUS, &FOREIGN[..4])], "geometry"),
         (&[(0, 0, DATA, &FIRST[..3])], "malformed place 0 sector 0"),
-        (&[(0, 0, DATA, &FIRST[..19])], "malformed place 0 sector 0"),
+        (&[(0, 0, DATA, &FIRST[..20])], "malformed place 0 sector 0"),
         (&[(1, 0, STATUS, &FIRST[..5])], "malformed place 1 sector 0"),
         (&[(1, 1, COMMIT, &[0; 12])], "malformed place 1 sector 1"),
         (&[(1, 255, COMMIT, &[])], "malformed place 1 sector 255"),

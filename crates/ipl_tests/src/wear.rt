@@ -38,11 +38,12 @@ fn reads_before(events: &[Event]) -> usize {
     events.len()
 }
 
-/// A chip with one record, of which an opening takes place 2.
+/// A chip with one record, of which an opening takes place 3.
 fn with_record(rt: &impl Abort, alloc: Global) -> Result<MemChip, Fail> {
     let mut first = desk_with(alloc, ONE_SESSION, &[], ROOM)?;
     assert_eq!(rt; run(alloc, &mut first)?, 0);
-    // Its opening takes the place of the first run's first header.
+    // Its opening takes place 0, which was erased once as 3 and 4 were; 1 and 2, the places of the unit
+    // and of the status of before, were erased twice. Then 3 is the lowest of those that were erased once.
     let mut second = MemDesk::new(alloc, left_by(alloc, &first)?, b"", &[])?;
     assert_eq!(rt; ends(alloc, "run ram:5", &mut second)?, 0);
     left_by(alloc, &second)
@@ -52,13 +53,13 @@ fn with_record(rt: &impl Abort, alloc: Global) -> Result<MemChip, Fail> {
 fn an_opening_ends_at_a_worn_place(rt: HostRuntime) -> Result<(), Fail> {
     let alloc = rt.alloc();
     let mut chip = with_record(&rt, alloc)?;
-    chip.wear_out([2].to_vec(alloc)?);
+    chip.wear_out([3].to_vec(alloc)?);
     let mut desk = MemDesk::new(alloc, chip, ONE_SESSION, &[])?;
     assert_eq!(rt; ends(alloc, "run ram:5", &mut desk)?, 10);
     assert_eq!(rt; desk.noted(), WORN_OUT);
     assert_eq!(rt; said(alloc, &desk)?.len(), 0);
     let events = desk.chip().events();
-    assert!(rt; ends_worn(events, 2));
+    assert!(rt; ends_worn(events, 3));
     // The records stay, whatever is left of the worn place.
     let start = reads_before(events);
     cut_each(

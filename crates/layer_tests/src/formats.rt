@@ -1,4 +1,4 @@
-//! What a format asks of a small chip, also of one with a worn place, and the bytes of its first header.
+//! What a format asks of a small chip, also of one with a worn place, and the bytes of its headers.
 use chip_mem::MemChip;
 use chip_trait::Event;
 use ipl_base::FormatFault;
@@ -15,6 +15,16 @@ fn named(event: &Event) -> (&'static str, u32) {
         Event::Worn(place) => ("worn", *place),
         Event::Barrier => ("barrier", 0),
         Event::Said(_) => ("said", 0),
+    }
+}
+
+/// Whether an event programs a sector with this head, before its sum, and this payload.
+fn writes(event: &Event, head: &[u8], payload: &[u8]) -> bool {
+    match event {
+        Event::Program(_, _, bytes) => {
+            bytes[..28].starts_with(head) && bytes[32..].starts_with(payload)
+        }
+        _ => false,
     }
 }
 
@@ -38,14 +48,15 @@ fn five_places_are_erased_and_get_two_headers(rt: HostRuntime) -> Result<(), Fai
     for (event, case) in events.iter().zip(cases) {
         assert_eq!(rt; named(event), case);
     }
-    let Event::Program(_, _, bytes) = &events[6] else {
-        return Err(Fail::from("no header"));
-    };
-    let head = b"IPL1\x01\x02\x00\x14\0\0\0\0\0\0\0\0\0\0\0\x01\0\0\0\0\0\0\0\x01";
-    assert!(rt; &bytes[..28] == head.as_slice());
-    let mut payload = [0; 20];
+    // Of unit 0: one unit, no pages, nothing carried, and one erase of its place.
+    let head = b"IPL1\x01\x03\x00\x18\0\0\0\0\0\0\0\0\0\0\0\x01\0\0\0\0\0\0\0\x01";
+    let mut payload = [0; 24];
     payload[3] = 1;
-    assert!(rt; &bytes[32..52] == payload.as_slice());
+    payload[23] = 1;
+    assert!(rt; writes(&events[6], head, &payload));
+    // Of the status place: one unit, one erase, and no place is retired.
+    let head = b"IPL1\x02\x03\x00\x09\0\0\0\0\0\0\0\0\0\0\0\x02\0\0\0\0\0\0\0\x02";
+    assert!(rt; writes(&events[7], head, &[0, 0, 0, 1, 0, 0, 0, 1, 0]));
     Ok(())
 }
 

@@ -14,8 +14,11 @@ use std::test::Fail;
 use unit_directory::Directory;
 use unit_log::{Scratch, UnitHead, read_live};
 
-/// Two units; page 1 has one base sector, page 14 has two, and two log sectors were carried.
-const HEADER: [u8; 20] = [0, 0, 0, 2, 0, 1, 0, 0, 0, 0, 0, 0, 0, 0, 0, 0, 0, 0, 2, 2];
+/// Two units; page 1 has one base sector, page 14 has two, two log sectors were carried, and the place
+/// was erased once. Without its count it is a payload of version 2.
+const HEADER: [u8; 24] = [
+    0, 0, 0, 2, 0, 1, 0, 0, 0, 0, 0, 0, 0, 0, 0, 0, 0, 0, 2, 2, 0, 0, 0, 1,
+];
 
 /// The tables.
 #[derive(Drop)]
@@ -92,7 +95,7 @@ fn what_the_tables_do_not_say_is_malformed(rt: HostRuntime) -> Result<(), Fail> 
     let cases: [Put<'_>; 5] = [
         (at(1, 0), other, &HEADER),
         (at(1, 0), status, &HEADER),
-        (at(1, 0), header(), &[0, 0, 0, 2]),
+        (at(1, 0), header(), &HEADER[..20]),
         (at(4, 200), log(5, 20), &[]),
         (at(1, 250), log(5, 21), &[0]),
     ];

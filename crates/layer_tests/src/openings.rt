@@ -1,6 +1,8 @@
 //! What an opening of a small chip finds: the place of unit 0, the next number, a log sector in an
-//! overflow place, a committed number, and whether a live record has it. Its faults are what the
-//! program notes, so they are tried there.
+//! overflow place, a committed number, whether a live record has it, and how often each place was
+//! erased. Its faults are what the program notes, so they are tried there.
+ghost use Rattle.std.specs.Prelude.{◌≡◌, length};
+
 use crate::sectors::{Put, at, put_all};
 use chip_mem::MemChip;
 use chip_trait::Chip;
@@ -66,8 +68,24 @@ const OTHER_COMMIT: Head = Head {
     ..COMMIT
 };
 
-/// The payload of a data header that has no pages, on a chip of one unit.
-const NO_PAGES: &[u8] = &[0, 0, 0, 1, 0, 0, 0, 0, 0, 0, 0, 0, 0, 0, 0, 0, 0, 0, 0, 0];
+/// The status header at place 1.
+const STATUS: Head = Head {
+    kind: Head::STATUS_HEADER,
+    version: VERSION,
+    unit: 0,
+    generation: 2,
+    serial: 2,
+};
+
+/// The payload of a data header that has no pages, on a chip of one unit, at a place that was erased
+/// seven times. Without its count it is one of version 2.
+const NO_PAGES: &[u8] = &[
+    0, 0, 0, 1, 0, 0, 0, 0, 0, 0, 0, 0, 0, 0, 0, 0, 0, 0, 0, 0, 0, 0, 0, 7,
+];
+
+/// The payload of a status header without retired places, at a place that was erased 258 times; its
+/// first eight bytes are that of an overflow header.
+const NO_RETIRED: &[u8] = &[0, 0, 0, 1, 0, 0, 1, 2, 0];
 
 /// The number 20.
 const TWENTY: &[u8] = &[0, 0, 0, 0, 0, 0, 0, 20];
@@ -76,8 +94,8 @@ const TWENTY: &[u8] = &[0, 0, 0, 0, 0, 0, 0, 20];
 const RECORD: &[u8] = &[0, 0x85, 0, 0, 0, 0, 0, 0, 0, 0, 0, 20];
 
 /// What is found: the place of unit 0 and the next number, how many of its log sectors are listed in
-/// overflow places, whether the number 20 is committed, and how many committed numbers live records
-/// have.
+/// overflow places, whether the number 20 is committed, how many committed numbers live records have,
+/// and how often each place was erased.
 #[derive(Clone, Copy, Debug, PartialEq, Eq)]
 struct Found {
     place: u32,
@@ -85,9 +103,10 @@ struct Found {
     listed: u32,
     has_twenty: bool,
     kept: usize,
+    erases: [u32; 5],
 }
 
-/// Of a chip without a log.
+/// Of a chip without a log, whose places were erased by the format alone.
 fn bare(place: u32, next: u64) -> Found {
     Found {
         place,
@@ -95,7 +114,28 @@ fn bare(place: u32, next: u64) -> Found {
         listed: 0,
         has_twenty: false,
         kept: 0,
+        erases: [1; 5],
     }
+}
+
+/// Of a chip whose places were erased so often.
+fn worn(place: u32, next: u64, erases: [u32; 5]) -> Found {
+    Found {
+        erases,
+        ..bare(place, next)
+    }
+}
+
+/// How often each of the five places was erased.
+fn erases_of(rt: &impl Abort, directory: &Directory, geometry: Geometry) -> [u32; 5]
+    requires { length directory.now.in_use ≡ geometry.places }
+{
+    let mut erases = [0; 5];
+    for place in 0..5 {
+        assert!(rt; place < geometry.places());
+        erases[place as usize] = directory.erases(place);
+    }
+    erases
 }
 
 /// What is found of a chip that opens.
@@ -127,7 +167,19 @@ fn opens(rt: &impl Abort, alloc: Global, chip: &mut MemChip) -> Result<Found, Fa
         listed: overflow.count(0),
         has_twenty: status.is_committed(20),
         kept: kept.as_slice().len(),
+        erases: erases_of(rt, &directory, geometry),
     })
+}
+
+/// Of formatted chips into which these sectors are put this is found.
+fn check(rt: &impl Abort, alloc: Global, cases: &[(&[Put<'_>], Found)]) -> Result<(), Fail> {
+    for (number, (sectors, found)) in cases.iter().enumerate() {
+        let mut chip = MemChip::new(alloc, 5, 2000)?;
+        assert_eq!(rt; format(&mut chip), Ok(()));
+        put_all(rt, &mut chip, sectors);
+        assert_eq!(rt; opens(rt, alloc, &mut chip)?, *found, "case {number}");
+    }
+    Ok(())
 }
 
 #[test]
@@ -146,9 +198,9 @@ fn what_a_small_chip_holds_is_found(rt: HostRuntime) -> Result<(), Fail> {
     };
     let cases: [(&[Put<'_>], Found); 12] = [
         (&[], bare(0, 3)),
-        (&[(at(3, 0), FIRST, NO_PAGES)], bare(0, 3)),
-        (&[(at(3, 0), LATER, NO_PAGES)], bare(3, 10)),
-        (&[(at(3, 0), STRAY, NO_PAGES)], bare(0, 10)),
+        (&[(at(3, 0), FIRST, NO_PAGES)], worn(0, 3, [1, 1, 1, 7, 1])),
+        (&[(at(3, 0), LATER, NO_PAGES)], worn(3, 10, [1, 1, 1, 7, 1])),
+        (&[(at(3, 0), STRAY, NO_PAGES)], worn(0, 10, [1, 1, 1, 7, 1])),
         (&[(at(0, 241), LOG, &[])], bare(0, 4)),
         (&[(at(0, 241), DEAD, &[])], bare(0, 10)),
         (&[(at(2, 0), OVERFLOW, &[]), (at(2, 1), LOG, &[])], listed),
@@ -167,11 +219,47 @@ fn what_a_small_chip_holds_is_found(rt: HostRuntime) -> Result<(), Fail> {
             bare(0, 21),
         ),
     ];
-    for (sectors, found) in cases {
-        let mut chip = MemChip::new(rt.alloc(), 5, 2000)?;
-        assert_eq!(rt; format(&mut chip), Ok(()));
-        put_all(&rt, &mut chip, sectors);
-        assert_eq!(rt; opens(&rt, rt.alloc(), &mut chip)?, found);
-    }
-    Ok(())
+    check(&rt, rt.alloc(), &cases)
+}
+
+/// A place counts as erased as often as its header says, whatever else that is for, and once where its
+/// sector 0 doesn't say it.
+#[test]
+fn places_were_erased_as_often_as_their_headers_say(rt: HostRuntime) -> Result<(), Fail> {
+    let older = Head {
+        version: 2,
+        ..FIRST
+    };
+    let base = Head {
+        kind: Head::BASE,
+        ..LATER
+    };
+    let cases: [(&[Put<'_>], Found); 8] = [
+        (&[(at(0, 0), FIRST, NO_PAGES)], worn(0, 3, [7, 1, 1, 1, 1])),
+        (&[(at(0, 0), older, &NO_PAGES[..20])], bare(0, 3)),
+        (
+            &[(at(1, 0), STATUS, NO_RETIRED)],
+            worn(0, 3, [1, 258, 1, 1, 1]),
+        ),
+        (
+            &[(at(2, 0), OVERFLOW, &NO_RETIRED[..8])],
+            worn(0, 5, [1, 1, 258, 1, 1]),
+        ),
+        // Too short for its count, and longer than it should be.
+        (&[(at(2, 0), OVERFLOW, &NO_RETIRED[..7])], bare(0, 5)),
+        (
+            &[(at(2, 0), OVERFLOW, NO_RETIRED)],
+            worn(0, 5, [1, 1, 258, 1, 1]),
+        ),
+        // It is no header.
+        (&[(at(2, 0), base, NO_PAGES)], bare(0, 3)),
+        (
+            &[
+                (at(3, 0), STRAY, NO_PAGES),
+                (at(4, 0), OVERFLOW, &NO_RETIRED[..8]),
+            ],
+            worn(0, 10, [1, 1, 1, 7, 258]),
+        ),
+    ];
+    check(&rt, rt.alloc(), &cases)
 }

@@ -1,14 +1,15 @@
 -- A unit merged into a place that was free.
-use Rattle.std.specs.Prelude.{ℕ, ◌≡◌, ◌<◌, ◌≤◌, List, length}
+use Rattle.std.specs.Prelude.{ℕ, ◌≡◌, ◌<◌, ◌≤◌, List, length, slice_index, Some}
 use Rattle.log_records.specs.View.{Versioned}
 use Rattle.ipl_base.specs.declared.limits.TheConstants.{PAGES, FIRST_LOG_SECTOR, CARRIED_SECTORS, VERSION}
 use Rattle.ipl_format.specs.Sector.{Sector}
 use Rattle.ipl_format.specs.Record.{Record}
-use Rattle.ipl_format.specs.Header.{SpellsDataHeader, data_header_bytes}
+use Rattle.ipl_format.specs.Header.{SpellsDataHeader, erases_said}
 use Rattle.ipl_meaning.specs.Chart.{Chart}
 use Rattle.ipl_meaning.specs.Layout.{Shape, Layout, records_of}
 use Rattle.ipl_meaning.specs.Steps.{KeepsPages, with_unit}
 use Rattle.ipl_meaning.specs.Tables.{IsFree, Tables}
+use Rattle.ipl_meaning.specs.TableSteps.{taken}
 use Rattle.ipl_meaning.specs.Mirrors.{Mirrors}
 use Rattle.unit_io.specs.Charts.{IsCleared, Gains}
 use Rattle.merge_rules.specs.Pages.{IsFew}
@@ -18,16 +19,17 @@ use Rattle.merge_rules.specs.Moved.{Source, HasMoved}
 -- ---- what is written
 
 -- the header of a unit under a generation, in the version that is written, for pages of so many base
--- sectors and so many carried log sectors
-pub record IsUnitHead (units u generation : ℕ) (pieces : List ℕ) (carried : ℕ)
+-- sectors and so many carried log sectors; it says how often its place was erased
+pub record IsUnitHead (units u generation : ℕ) (pieces : List ℕ) (carried erases : ℕ)
     (head : Sector) : Type 0 where
   pub kind : head.kind ≡ 1
   pub version : head.version ≡ VERSION
   pub of_unit : head.unit ≡ u
   pub of_generation : head.generation ≡ generation
   pub serial : head.serial ≡ generation
-  pub payload : head.payload ≡ data_header_bytes units pieces carried
   pub counts : SpellsDataHeader head.version units pieces head.payload
+  pub carries : counts.carried ≡ carried
+  pub says : erases_said (Some head) ≡ erases
 
 -- the place was cleared, the unit's pages stand there, and the log sectors with what is carried
 pub record IsFilled (from : Source) (p generation serial : ℕ) (pieces : List ℕ)
@@ -106,7 +108,7 @@ pub record MayMerge (places : ℕ) (c y : Chart) (it : Layout) (t : Tables) (u p
   pub free : IsFree t.places p
   pub within : p < places
   pub head_is : IsUnitHead (length t.places.current) u head.generation pieces
-      (length (packs_in t (it.units u))) head
+      (length (packs_in t (it.units u))) (slice_index (taken t p).places.erases p) head
   pub new : t.next ≤ head.generation
   pub later : head.generation < serial
   pub few : IsFew pieces
@@ -124,17 +126,19 @@ pub record IsWritten (places : ℕ) (c z : Chart) (it : Layout) (t : Tables)
   pub may : MayMerge places c filled it t u p head pieces serial
   pub gains : Gains p 0 head filled z
 
--- The unit stands at a place that was free, under a new generation and with its log packed anew;
--- the tables mirror that, and each page that was shown is shown still.
+-- The unit stands at a place that was free, under a new generation and with its log packed anew, and
+-- its header says how often the tables have the place erased; the tables mirror that, and each page
+-- that was shown is shown still.
 pub record IsMergedUnit (places : ℕ) (c z : Chart) (it : Layout) (t : Tables) (u : ℕ)
     (after : Tables) : Type 0 where
   pub place : ℕ
   pub head : Sector
   pub pieces : List ℕ
   pub serial : ℕ
+  pub low : u < it.count
   pub free : IsFree t.places place
   pub head_is : IsUnitHead (length t.places.current) u head.generation pieces
-      (length (packs_in t (it.units u))) head
+      (length (packs_in t (it.units u))) (slice_index after.places.erases place) head
   pub new : t.next ≤ head.generation
   pub later : head.generation < serial
   pub mirrors : Mirrors places z (merged_layout t it u place head pieces serial) after

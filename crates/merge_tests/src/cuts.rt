@@ -29,15 +29,15 @@ enum Write {
     Barrier,
 }
 
-/// What a merge from place 1 to place 0 does, in this order: the place is erased; the base sector
+/// What a merge from place 3 to place 4 does, in this order: the place is erased; the base sector
 /// of page 1 and the log sector that is carried; the header, which makes them count.
 const MERGE: [Write; 7] = [
-    Write::Erase(0),
+    Write::Erase(4),
     Write::Barrier,
-    Write::Program(0, 17),
-    Write::Program(0, 241),
+    Write::Program(4, 17),
+    Write::Program(4, 241),
     Write::Barrier,
-    Write::Program(0, 0),
+    Write::Program(4, 0),
     Write::Barrier,
 ];
 
@@ -119,8 +119,8 @@ fn opens(rt: &impl Abort, alloc: Global, mut chip: MemChip, place: u32) -> Resul
     Ok(home(&parts) == place && shows(rt, alloc, &mut chip, &parts, Some(b"hi"), None)?)
 }
 
-/// A chip whose unit was merged to place 0, and how many events there were before. The unit stood
-/// at place 1, with a committed value and a record of the open session, and at place 0 before that.
+/// A chip whose unit was merged to place 4, and how many events there were before. The unit stood
+/// at place 3, with a committed value and a record of the open session, and at place 0 before that.
 fn merged(rt: &impl Abort, alloc: Global) -> Result<(MemChip, usize), Fail> {
     let mut chip = formatted(alloc)?;
     let mut parts = opened(rt, alloc, &mut chip)?;
@@ -131,13 +131,13 @@ fn merged(rt: &impl Abort, alloc: Global) -> Result<(MemChip, usize), Fail> {
         (Step::Put(DONE, 5, b"hi"), None),
         (Step::Open(&[DONE, WAITING]), None),
         (Step::Put(WAITING, 6, b"no"), None),
-        (Step::Merge, Some(1)),
+        (Step::Merge, Some(3)),
         (Step::Commit(DONE), None),
         (Step::Open(&[WAITING]), None),
     ];
     walk(rt, &mut chip, &mut parts, &before);
     let start = chip.events().len();
-    walk(rt, &mut chip, &mut parts, &[(Step::Merge, Some(0))]);
+    walk(rt, &mut chip, &mut parts, &[(Step::Merge, Some(4))]);
     Ok((chip, start))
 }
 
@@ -153,7 +153,7 @@ fn a_merge_is_cut_after_each_of_its_events(rt: HostRuntime) -> Result<(), Fail> 
     for at in start..count + 1 {
         for left in [Left::Old, Left::Whole, Left::Torn] {
             let is_new = at == count || (at + 1 == count && left == Left::Whole);
-            let place = if is_new { 0 } else { 1 };
+            let place = if is_new { 4 } else { 3 };
             let image = cut(alloc, &chip, at, left)?;
             assert!(rt; opens(&rt, alloc, image, place)?, "after {at} events");
         }

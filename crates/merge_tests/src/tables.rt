@@ -79,6 +79,20 @@ pub(crate) fn home(parts: &Parts) -> u32
     parts.directory.current(0)
 }
 
+/// How often each place was erased.
+pub(crate) fn wear(parts: &Parts) -> [u32; 5]
+    requires { KnowsPlaces 5 (tables_of parts.now) }
+{
+    let directory = &parts.directory;
+    [
+        directory.erases(0),
+        directory.erases(1),
+        directory.erases(2),
+        directory.erases(3),
+        directory.erases(4),
+    ]
+}
+
 /// A page of the unit, with its committed values.
 pub(crate) fn page(
     rt: &impl Abort,

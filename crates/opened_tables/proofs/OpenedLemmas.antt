@@ -54,7 +54,7 @@ module _ (places : ℕ) (c : Chart) (t : Tables) (it : AreOpened places c t) (la
 
   -- the unit's header, as it is found
   abbrev own : ℕ → Winner
-  own u = record { place = (lay.units u).home; head = head_of (units_on places) (lay.units u).head }
+  own u = record { place = (lay.units u).home; head = head_of places (lay.units u).head }
 
   own_is : (u : ℕ) → u < units_on places → current u ≡ Some (own u)
   own_is u low =
@@ -72,7 +72,7 @@ module _ (places : ℕ) (c : Chart) (t : Tables) (it : AreOpened places c t) (la
   not_status : (p : ℕ) → IsFree t.places p → lay.status ≢ p
   not_status p free =
       ((it.directory.free p (free_within p free)).0 free).not_status
-      (record { place = lay.status; head = head_of (units_on places) lay.head })
+      (record { place = lay.status; head = head_of places lay.head })
       (chosen_are_status c places lay.status lay.head laid.chosen)
 
   above : IsAbove places c lay t.next
@@ -258,6 +258,7 @@ module _ (places : ℕ) (c : Chart) (t : Tables) (it : AreOpened places c t) (la
       units = it.directory.units;
       logs = it.directory.logs;
       all = it.directory.all;
+      counts = it.directory.counts;
       current = it.directory.current;
       heads = it.directory.heads;
       generation = λ u low. it.directory.generation u low ∙ ap generation_of (own_is u low);

@@ -2,6 +2,7 @@
 use Rattle.std.specs.Prelude.{ℕ, ◌≡◌, ◌≢◌, ◌↔◌, ◌<◌, ◌≤◌, ◌+◌, ◌-◌, ◌*◌, false, [], length, map, slice_index, slice_index_or, Some, Contains}
 use Rattle.ipl_base.specs.declared.limits.TheConstants.{SECTORS, FIRST_LOG_SECTOR, LOG_SECTORS}
 use Rattle.ipl_base.specs.Places.{units_on}
+use Rattle.ipl_format.specs.Header.{erases_said}
 use Rattle.ipl_meaning.specs.Chart.{Chart}
 use Rattle.ipl_meaning.specs.Layout.{Laid}
 use Rattle.ipl_meaning.specs.Tables.{Places, masks_in, IsFree, OverflowLists, Status, Tables}
@@ -20,12 +21,13 @@ pub record IsUnused (places : ℕ) (c : Chart) (p : ℕ) : Type 0 where
   pub not_status : (winner : Winner) → status_at c places ≡ Some winner → winner.place ≢ p
   pub not_held : holds_live (header_at c places) (marks_in c places (places * SECTORS)) p ≡ false
 
--- the directory has each unit's place and generation, no log sector counts as clean, exactly the unused places are free, and the
--- counter is the number after the greatest found
+-- the directory has each unit's place and generation, and how often each place was erased, as its sector 0 says it; no log sector
+-- counts as clean, exactly the unused places are free, and the counter is the number after the greatest found
 pub record IsOpened (places : ℕ) (c : Chart) (directory : Places) (counter : ℕ) : Type 0 where
   pub units : length directory.current ≡ units_on places
   pub logs : length directory.written ≡ units_on places
   pub all : length directory.in_use ≡ places
+  pub counts : length directory.erases ≡ places
   pub current : (u : ℕ) → u < units_on places
       → slice_index directory.current u ≡ place_of (current_at c places u)
   pub heads : length directory.generations ≡ units_on places
@@ -33,6 +35,7 @@ pub record IsOpened (places : ℕ) (c : Chart) (directory : Places) (counter : �
       → slice_index directory.generations u ≡ generation_of (current_at c places u)
   pub written : (u : ℕ) → u < units_on places
       → slice_index directory.written u ≡ LOG_SECTORS
+  pub erases : (p : ℕ) → p < places → slice_index directory.erases p ≡ erases_said (c p 0)
   pub free : (p : ℕ) → p < places → IsFree directory p ↔ IsUnused places c p
   pub number : counter ≡ greatest_found c places + 1
 

@@ -15,12 +15,12 @@ pub record IsHeaderAt (c : Chart) (places p : ℕ) (head : KeptHeader) : Type 0 
   pub sector : Sector
   pub here : c p 0 ≡ Some sector
   pub of_kind : is_header sector ≡ true
-  pub kept : head_of (units_on places) sector ≡ head
+  pub kept : head_of places sector ≡ head
 
-header_from : (c : Chart) (places p : ℕ) (head : KeptHeader) (o : Option Sector) → c p 0 ≡ o → p < places → header_in (units_on places) o ≡ Some head → IsHeaderAt c places p head
+header_from : (c : Chart) (places p : ℕ) (head : KeptHeader) (o : Option Sector) → c p 0 ≡ o → p < places → header_in places o ≡ Some head → IsHeaderAt c places p head
 header_from c places p head None here within is = cc
 header_from c places p head (Some sector) here within is =
-    let parts : (is_header sector ≡ true) × (head_of (units_on places) sector ≡ head) = cond_some (is_header sector) (head_of (units_on places) sector) head is in
+    let parts : (is_header sector ≡ true) × (head_of places sector ≡ head) = cond_some (is_header sector) (head_of places sector) head is in
     record { within = within; sector = sector; here = here; of_kind = parts.0; kept = parts.1 }
 
 -- a header in the table stands on the chart
@@ -32,16 +32,16 @@ header_there c places p head is = elim (cases_Bool (nat_lt p places)) [
 
 -- one that stands on the chart is in the table
 pub header_kept : (c : Chart) (places p : ℕ) (sector : Sector) → p < places → c p 0 ≡ Some sector → is_header sector ≡ true
-    → header_at c places p ≡ Some (head_of (units_on places) sector)
+    → header_at c places p ≡ Some (head_of places sector)
 header_kept c places p sector within here kind = rw (lt-ltb p places within, here, kind) refl
 
 -- ---- the header that fits, as a test and as a fact
 
 module _ (c : Chart) (places : ℕ) (fits : KeptHeader → Bool) (Fits : Sector → Type 0)
-    (to : (s : Sector) → fits (head_of (units_on places) s) ≡ true → Fits s)
-    (from : (s : Sector) → Fits s → (is_header s ≡ true) × (fits (head_of (units_on places) s) ≡ true)) where
+    (to : (s : Sector) → fits (head_of places s) ≡ true → Fits s)
+    (from : (s : Sector) → Fits s → (is_header s ≡ true) × (fits (head_of places s) ≡ true)) where
   fits_too : (q : ℕ) (other : Sector) → q < places → c q 0 ≡ Some other → Fits other
-      → (header_at c places q ≡ Some (head_of (units_on places) other)) × (fits (head_of (units_on places) other) ≡ true)
+      → (header_at c places q ≡ Some (head_of places other)) × (fits (head_of places other) ≡ true)
   fits_too q other within here is = (header_kept c places q other within here (from other is).0, (from other is).1)
 
   pub picks_count : (winner : Winner) → chosen fits (header_at c places) places ≡ Some winner → IsWinnerOf c places Fits winner
@@ -58,16 +58,16 @@ module _ (c : Chart) (places : ℕ) (fits : KeptHeader → Bool) (Fits : Sector 
           best = λ q other within here fit.
               let too = fits_too q other within here fit in
               subst (λ (n : ℕ). (other.serial < n) ⊎ ((other.serial ≡ n) × (winner.place ≤ q))) (sym serial)
-              (it.best q (head_of (units_on places) other) within too.0 too.1);
+              (it.best q (head_of places other) within too.0 too.1);
         };
         head = sym stands.kept;
       }
 
   pub counts_picked : (p : ℕ) (head : Sector) → IsChosen c places Fits p head
-      → chosen fits (header_at c places) places ≡ Some (record { place = p; head = head_of (units_on places) head })
+      → chosen fits (header_at c places) places ≡ Some (record { place = p; head = head_of places head })
   counts_picked p head it =
       let mine = fits_too p head it.within it.here it.fits in
-      best_is_chosen fits (header_at c places) places (record { place = p; head = head_of (units_on places) head }) (record {
+      best_is_chosen fits (header_at c places) places (record { place = p; head = head_of places head }) (record {
         within = it.within;
         here = mine.0;
         of_kind = mine.1;
@@ -81,15 +81,15 @@ module _ (c : Chart) (places : ℕ) (fits : KeptHeader → Bool) (Fits : Sector 
   pub none_counts : chosen fits (header_at c places) places ≡ None → (p : ℕ) (head : Sector) → p < places → c p 0 ≡ Some head → Fits head → ⊥
   none_counts none p head within here is =
       let too = fits_too p head within here is in
-      both_ways (fits (head_of (units_on places) head)) (none_chosen fits (header_at c places) places none p (head_of (units_on places) head) within too.0) too.1
+      both_ways (fits (head_of places head)) (none_chosen fits (header_at c places) places none p (head_of places head) within too.0) too.1
 
 -- ---- data headers
 
-data_fits : (u units : ℕ) (s : Sector) → is_data_of u (head_of units s) ≡ true → IsDataHeader u s
-data_fits u units s is = let parts = and_parts _ _ is in (eqb-true s.kind 1 parts.0, eqb-true s.unit u parts.1)
+data_fits : (u places : ℕ) (s : Sector) → is_data_of u (head_of places s) ≡ true → IsDataHeader u s
+data_fits u places s is = let parts = and_parts _ _ is in (eqb-true s.kind 1 parts.0, eqb-true s.unit u parts.1)
 
-data_is : (u units : ℕ) (s : Sector) → IsDataHeader u s → (is_header s ≡ true) × (is_data_of u (head_of units s) ≡ true)
-data_is u units s is = (
+data_is : (u places : ℕ) (s : Sector) → IsDataHeader u s → (is_header s ≡ true) × (is_data_of u (head_of places s) ≡ true)
+data_is u places s is = (
   and_from _ _ (le-leb 1 s.kind (omega (arith, is.0))) (le-leb s.kind 3 (omega (arith, is.0))),
   and_from _ _ (eq-eqb s.kind 1 is.0) (eq-eqb s.unit u is.1),
 )
@@ -107,33 +107,33 @@ current_low c places u winner is = elim (cases_Bool (nat_lt u (units_on places))
 pub currents_are_chosen : CurrentsAreChosen
 currents_are_chosen c places u winner is =
     let low = current_low c places u winner is in
-    (low, picks_count c places (is_data_of u) (IsDataHeader u) (data_fits u (units_on places)) (data_is u (units_on places)) winner (sym (current_is c places u low) ∙ is))
+    (low, picks_count c places (is_data_of u) (IsDataHeader u) (data_fits u places) (data_is u places) winner (sym (current_is c places u low) ∙ is))
 
 pub chosen_are_current : ChosenAreCurrent
 chosen_are_current c places u p head low it =
-    current_is c places u low ∙ counts_picked c places (is_data_of u) (IsDataHeader u) (data_fits u (units_on places)) (data_is u (units_on places)) p head it
+    current_is c places u low ∙ counts_picked c places (is_data_of u) (IsDataHeader u) (data_fits u places) (data_is u places) p head it
 
 pub none_is_current : NoneIsCurrent
 none_is_current c places u p head low none within here =
-    none_counts c places (is_data_of u) (IsDataHeader u) (data_fits u (units_on places)) (data_is u (units_on places)) (sym (current_is c places u low) ∙ none) p head within here
+    none_counts c places (is_data_of u) (IsDataHeader u) (data_fits u places) (data_is u places) (sym (current_is c places u low) ∙ none) p head within here
 
 -- ---- status headers
 
-status_fits : (units : ℕ) (s : Sector) → is_status (head_of units s) ≡ true → IsStatusHeader s
-status_fits units s is = eqb-true s.kind 2 is
+status_fits : (places : ℕ) (s : Sector) → is_status (head_of places s) ≡ true → IsStatusHeader s
+status_fits places s is = eqb-true s.kind 2 is
 
-status_is : (units : ℕ) (s : Sector) → IsStatusHeader s → (is_header s ≡ true) × (is_status (head_of units s) ≡ true)
-status_is units s is = (
+status_is : (places : ℕ) (s : Sector) → IsStatusHeader s → (is_header s ≡ true) × (is_status (head_of places s) ≡ true)
+status_is places s is = (
   and_from _ _ (le-leb 1 s.kind (omega (arith, is))) (le-leb s.kind 3 (omega (arith, is))),
   eq-eqb s.kind 2 is,
 )
 
 pub statuses_are_chosen : StatusesAreChosen
-statuses_are_chosen c places winner is = picks_count c places is_status IsStatusHeader (status_fits (units_on places)) (status_is (units_on places)) winner is
+statuses_are_chosen c places winner is = picks_count c places is_status IsStatusHeader (status_fits places) (status_is places) winner is
 
 pub chosen_are_status : ChosenAreStatus
-chosen_are_status c places p head it = counts_picked c places is_status IsStatusHeader (status_fits (units_on places)) (status_is (units_on places)) p head it
+chosen_are_status c places p head it = counts_picked c places is_status IsStatusHeader (status_fits places) (status_is places) p head it
 
 pub none_is_status : NoneIsStatus
 none_is_status c places p head none within here =
-    none_counts c places is_status IsStatusHeader (status_fits (units_on places)) (status_is (units_on places)) none p head within here
+    none_counts c places is_status IsStatusHeader (status_fits places) (status_is places) none p head within here

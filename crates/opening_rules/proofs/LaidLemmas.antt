@@ -105,7 +105,7 @@ module _ (c : Chart) (places : ℕ) (it : Layout) (laid : Laid places c it) wher
   live k = live_at heads current c k
 
   abbrev own : ℕ → Winner
-  own u = record { place = (it.units u).home; head = head_of (units_on places) (it.units u).head }
+  own u = record { place = (it.units u).home; head = head_of places (it.units u).head }
 
   -- ---- live sectors and entries
 
@@ -231,30 +231,31 @@ module _ (c : Chart) (places : ℕ) (it : Layout) (laid : Laid places c it) wher
       subst (Contains laid.overflows) (theirs.place ∙ at) overflow
 
   abbrev status : Winner
-  status = record { place = it.status; head = head_of (units_on places) it.head }
+  status = record { place = it.status; head = head_of places it.head }
 
-  status_well : is_status_payload (units_on places) it.head.payload ≡ true
-  status_well = subst (λ (n : ℕ). is_status_payload n it.head.payload ≡ true) (count_is places it.count laid.count) (spelled_status_passes it.head.version it.count it.head.payload laid.counts)
+  status_well : is_status_payload it.head.version places (units_on places) it.head.payload ≡ true
+  status_well = subst (λ (n : ℕ). is_status_payload it.head.version places n it.head.payload ≡ true) (count_is places it.count laid.count)
+      (spelled_status_passes it.head.version places it.count it.head.payload laid.most laid.counts)
 
-  data_well : (u : ℕ) → u < units_on places → is_data_payload (units_on places) (it.units u).head.payload ≡ true
-  data_well u low = subst (λ (n : ℕ). is_data_payload n (it.units u).head.payload ≡ true) (count_is places it.count laid.count)
+  data_well : (u : ℕ) → u < units_on places → is_data_payload (it.units u).head.version (units_on places) (it.units u).head.payload ≡ true
+  data_well u low = subst (λ (n : ℕ). is_data_payload (it.units u).head.version n (it.units u).head.payload ≡ true) (count_is places it.count laid.count)
       (spelled_data_passes (it.units u).head.version it.count (it.units u).pieces (it.units u).head.payload (laid.each u (unit_kept places it.count u laid.count low)).counts).0
 
   status_geometry : other_geometry (Some status) ≡ None
   status_geometry = cond-false (begins_with_other_units (units_on places) it.head.payload) (Some Geometry) None
-      (own_units (units_on places) it.head.payload (eqb-true _ _ (and_parts _ _ status_well).1))
+      (own_units (units_on places) it.head.payload (eqb-true _ _ (and_parts _ _ (and_parts _ _ status_well).1).0))
 
   data_geometry : (u : ℕ) → u < units_on places → other_geometry (Some (own u)) ≡ None
   data_geometry u low = cond-false (begins_with_other_units (units_on places) (it.units u).head.payload) (Some Geometry) None
       (own_units (units_on places) (it.units u).head.payload (eqb-true _ _ (and_parts _ _ (and_parts _ _ (data_well u low)).1).0))
 
   status_good : bad_header (Some status) ≡ None
-  status_good = cond-true (is_head_payload (units_on places) it.head.kind it.head.payload) None (Some (malformed it.status 0))
-      (ap (λ (kind : ℕ). is_head_payload (units_on places) kind it.head.payload) laid.chosen.fits ∙ status_well)
+  status_good = cond-true (is_head_payload it.head.version places it.head.kind it.head.payload) None (Some (malformed it.status 0))
+      (ap (λ (kind : ℕ). is_head_payload it.head.version places kind it.head.payload) laid.chosen.fits ∙ status_well)
 
   data_good : (u : ℕ) → u < units_on places → bad_header (Some (own u)) ≡ None
-  data_good u low = cond-true (is_head_payload (units_on places) (it.units u).head.kind (it.units u).head.payload) None (Some (malformed (it.units u).home 0))
-      (ap (λ (kind : ℕ). is_head_payload (units_on places) kind (it.units u).head.payload) (laid.each u (unit_kept places it.count u laid.count low)).chosen.fits.0 ∙ data_well u low)
+  data_good u low = cond-true (is_head_payload (it.units u).head.version places (it.units u).head.kind (it.units u).head.payload) None (Some (malformed (it.units u).home 0))
+      (ap (λ (kind : ℕ). is_head_payload (it.units u).head.version places kind (it.units u).head.payload) (laid.each u (unit_kept places it.count u laid.count low)).chosen.fits.0 ∙ data_well u low)
 
   commit_good : (s : ℕ) → s < sectors → commit_fault c (Some status) s ≡ None
   commit_good s low = commit_none it.status s (commit_at c (Some status) s) (λ sector at.

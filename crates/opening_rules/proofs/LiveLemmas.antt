@@ -55,8 +55,8 @@ pub record IsHome (c : Chart) (places u : ℕ) (winner : Winner) : Type 0 where
   pub low : u < units_on places
   pub sector : Sector
   pub chosen : IsChosen c places (IsDataHeader u) winner.place sector
-  pub kept : winner.head ≡ head_of (units_on places) sector
-  pub head : header_at c places winner.place ≡ Some (head_of (units_on places) sector)
+  pub kept : winner.head ≡ head_of places sector
+  pub head : header_at c places winner.place ≡ Some (head_of places sector)
 
 pub home_of : (c : Chart) (places u : ℕ) (winner : Winner) → current_at c places u ≡ Some winner → IsHome c places u winner
 home_of c places u winner is =
@@ -72,7 +72,7 @@ home_of c places u winner is =
     }
 
 -- an overflow place is in the table
-pub overflow_head : (c : Chart) (places p : ℕ) → p < places → (over : IsOverflow c p) → header_at c places p ≡ Some (head_of (units_on places) over.0)
+pub overflow_head : (c : Chart) (places p : ℕ) → p < places → (over : IsOverflow c p) → header_at c places p ≡ Some (head_of places over.0)
 overflow_head c places p low (head, here, kind) =
     header_kept c places p head low here (and_from _ _ (le-leb 1 head.kind (omega (arith, kind))) (le-leb head.kind 3 (omega (arith, kind))))
 
@@ -192,7 +192,7 @@ live_where c places p s u winner (inl (v, other, v_is, same, high)) of_unit is =
     let it = home_of c places v other v_is in
     let fits = it.chosen.fits in
     let place = place_from (header_at c places p) u of_unit in
-    let head : head_of (units_on places) it.sector ≡ place.0 = same_Some _ _ (sym it.head ∙ (ap (header_at c places) (sym same) ∙ place.1)) in
+    let head : head_of places it.sector ≡ place.0 = same_Some _ _ (sym it.head ∙ (ap (header_at c places) (sym same) ∙ place.1)) in
     elim place.2 [
       | inl over ↦ absurd (omega (arith, over, fits.0, ap (λ (h : KeptHeader). h.kind) head))
       | inr unit ↦

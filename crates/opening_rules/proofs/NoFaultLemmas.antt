@@ -265,10 +265,10 @@ module _ (c : Chart) (places : ℕ) (bytes : IsByteChart places c) (fine : HasNo
       let head : Sector = it.home.sector in
       let here : c it.winner.place 0 ≡ Some head = it.home.chosen.here in
       let generation : it.winner.head.generation ≡ head.generation = ap (λ (h : KeptHeader). h.generation) it.home.kept in
-      let well_is : is_head_payload (units_on places) head.kind head.payload ≡ true =
+      let well_is : is_head_payload head.version places head.kind head.payload ≡ true =
       ap (λ (h : KeptHeader). h.well) (sym it.home.kept) ∙ header_well (current u) it.winner it.is (fine.formed.headers u low) in
-      let passes_it : is_data_payload (units_on places) head.payload ≡ true =
-      ap (λ (kind : ℕ). is_head_payload (units_on places) kind head.payload) (sym it.home.chosen.fits.0) ∙ well_is in
+      let passes_it : is_data_payload head.version (units_on places) head.payload ≡ true =
+      ap (λ (kind : ℕ). is_head_payload head.version places kind head.payload) (sym it.home.chosen.fits.0) ∙ well_is in
       let shape : Shape = record { home = it.winner.place; head = head; pieces = pieces_in head.payload; log = log_in c places u } in
       let same : shape ≡ shape_in c places u = ap₂ (λ (p : ℕ) (s : Sector). let x : Shape = record { home = p; head = s; pieces = pieces_in s.payload; log = log_in c places u } in x)
       (sym (ap place_of it.is)) (sym (sector_is (current u) it.winner head it.is here)) in
@@ -326,10 +326,10 @@ module _ (c : Chart) (places : ℕ) (bytes : IsByteChart places c) (fine : HasNo
         let head : Sector = it.sector in
         let here : c winner.place 0 ≡ Some head = it.counts.here in
         let generation : winner.head.generation ≡ head.generation = ap (λ (h : KeptHeader). h.generation) it.head in
-        let well_is : is_head_payload (units_on places) head.kind head.payload ≡ true =
+        let well_is : is_head_payload head.version places head.kind head.payload ≡ true =
         ap (λ (h : KeptHeader). h.well) (sym it.head) ∙ header_well (status_at c places) winner is fine.formed.header in
-        let passes_it : is_status_payload (units_on places) head.payload ≡ true =
-        ap (λ (kind : ℕ). is_head_payload (units_on places) kind head.payload) (sym it.counts.fits) ∙ well_is in
+        let passes_it : is_status_payload head.version places (units_on places) head.payload ≡ true =
+        ap (λ (kind : ℕ). is_head_payload head.version places kind head.payload) (sym it.counts.fits) ∙ well_is in
         let layout : Layout = record { status = winner.place; head = head; committed = committed_in c (Some winner); count = units_on places; units = shape_in c places } in
         let same : layout ≡ layout_in c places = ap₂ (λ (o : Option Winner) (s : Sector). let x : Layout = record { status = place_of o; head = s; committed = committed_in c o; count = units_on places; units = shape_in c places } in x)
         (sym is) (sym (sector_is (status_at c places) winner head is here)) in
@@ -338,7 +338,7 @@ module _ (c : Chart) (places : ℕ) (bytes : IsByteChart places c) (fine : HasNo
           most = fine.formed.most;
           count = units_are_kept places (fine.formed.least, fine.formed.most);
           chosen = it.counts;
-          counts = status_payloads_are_spelled head.version (units_on places) head.payload (bytes winner.place 0 head it.counts.within (omega arith) (inl refl) here) passes_it;
+          counts = status_payloads_are_spelled head.version places (units_on places) head.payload (bytes winner.place 0 head it.counts.within (omega arith) (inl refl) here) passes_it;
           commits = subst (λ (g : ℕ). IsStatus c winner.place g (committed_in c (Some winner))) generation status_is;
           each = unit_is;
           overflows = passing (holds_live heads all_marks) places;

@@ -5,7 +5,6 @@ use Rattle.std.proofs.Math.Nat.{le-max_left, le-max_right}
 use Rattle.std.proofs.lemmas.Bool.{cases_Bool, leb-true, le-leb, and_parts, and_from, cond-true, cond-false}
 use Rattle.std.proofs.lemmas.Option.{same_Some}
 use Rattle.std.proofs.lemmas.List.{length-map, get_or-map}
-use Rattle.ipl_base.specs.Places.{units_on}
 use Rattle.ipl_base.proofs.UnitLemmas.{unit_on, unit_kept}
 use Rattle.ipl_format.specs.Sector.{Sector}
 use Rattle.ipl_format.specs.Record.{Record, SpellsLog}
@@ -50,8 +49,8 @@ log_has sector records it =
     let read = spelled_logs_pass sector.version sector.payload records it in
     cond-true (is_log_payload sector.version sector.payload) (map tid_of (records_of sector.version sector.payload)) [] read.0 ∙ ap (map tid_of) read.1
 
-head-le : (units : ℕ) (sector : Sector) (n : ℕ) → IsHeader sector → Mentions sector n → n ≤ head_number (Some (head_of units sector))
-head-le units sector n kind mentions = elim mentions [
+head-le : (places : ℕ) (sector : Sector) (n : ℕ) → IsHeader sector → Mentions sector n → n ≤ head_number (Some (head_of places sector))
+head-le places sector n kind mentions = elim mentions [
   | inl own ↦ omega (arith, own, le-max_left sector.generation sector.serial)
   | inr other ↦ elim other [
     | inl own ↦ omega (arith, own, le-max_right sector.generation sector.serial)
@@ -97,13 +96,13 @@ log-le sector n kind mentions =
 
 module _ (c : Chart) (places : ℕ) (it : Layout) (laid : Laid places c it) where
   abbrev status : Winner
-  status = record { place = it.status; head = head_of (units_on places) it.head }
+  status = record { place = it.status; head = head_of places it.head }
 
   pub status_is : status_at c places ≡ Some status
   status_is = chosen_are_status c places it.status it.head laid.chosen
 
   abbrev home : ℕ → Winner
-  home u = record { place = (it.units u).home; head = head_of (units_on places) (it.units u).head }
+  home u = record { place = (it.units u).home; head = head_of places (it.units u).head }
 
   pub home_is : (u : ℕ) → u < it.count → current_at c places u ≡ Some (home u)
   home_is u low = chosen_are_current c places u (it.units u).home (it.units u).head (unit_on places it.count u laid.count low) (laid.each u low).chosen
@@ -122,10 +121,10 @@ module _ (c : Chart) (places : ℕ) (it : Layout) (laid : Laid places c it) wher
 
   header_below : (p : ℕ) (sector : Sector) (n : ℕ) → p < places → c p 0 ≡ Some sector → IsHeader sector → Mentions sector n → n ≤ greatest_found c places
   header_below p sector n low here kind mentions =
-      let kept : header_at c places p ≡ Some (head_of (units_on places) sector) =
+      let kept : header_at c places p ≡ Some (head_of places sector) =
       header_kept c places p sector low here (and_from _ _ (le-leb 1 sector.kind kind.0) (le-leb sector.kind 3 kind.1)) in
-      let own = head-le (units_on places) sector n kind mentions in
-      let same : head_number (header_at c places p) ≡ head_number (Some (head_of (units_on places) sector)) = ap head_number kept in
+      let own = head-le places sector n kind mentions in
+      let same : head_number (header_at c places p) ≡ head_number (Some (head_of places sector)) = ap head_number kept in
       let among : head_number (header_at c places p) ≤ heads_greatest = each-le 0 (λ q. head_number (header_at c places q)) places p low in
       omega (arith, own, same, among, heads-le)
 

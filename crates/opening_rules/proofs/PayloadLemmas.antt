@@ -1,21 +1,24 @@
 -- The tests of payloads are their grammars.
-use Rattle.std.proofs.Common.{◌≡◌, inl, inr, ◌≤◌, ◌<◌, ◌^◌, ℕ, zero, suc, ◌*◌, ◌/◌, ◌%◌, true, false, eqb, List, [], ◌∷◌, ◌++◌, Option, Some, None, ◌∙◌, ap, ap₂, sym, refl, subst, arith, length, take, drop, get_or, All, append_assoc, length-drop}
+use Rattle.std.proofs.Common.{◌≡◌, inl, inr, ◌≤◌, ◌<◌, ℕ, zero, suc, ◌+◌, ◌*◌, ◌/◌, ◌%◌, true, false, eqb, List, [], ◌∷◌, ◌++◌, Option, Some, None, ◌∙◌, ap, ap₂, sym, refl, subst, arith, length, take, drop, get_or, All, length-drop}
 use Rattle.std.specs.List.{list_all, flat_map}
 use Rattle.std.specs.Option.{option_map_or}
 use Rattle.std.proofs.lemmas.Bool.{eqb-true, leb-true, eq-eqb, le-leb, and_parts, and_from, or_cases, or_left, or_right}
-use Rattle.std.proofs.lemmas.List.{append-nil, take-append-drop, take_all, drop_at, length-take-le, nil_from_length}
+use Rattle.std.proofs.lemmas.List.{take-append-drop, drop_at, nil_from_length}
 use Rattle.std.proofs.lemmas.List.Elements.{All-nil, All-cons, All-head, All-tail}
-use Rattle.ipl_format.specs.Numbers.{IsBytes, word, long, word_at, long_at}
+use Rattle.ipl_format.specs.Numbers.{IsBytes, long, word_at, long_at}
 use Rattle.ipl_format.specs.Record.{Record, IsRecord, SpellsLog, record_bytes, log_bytes}
 use Rattle.ipl_format.specs.Commit.{IsLong}
-use Rattle.ipl_format.specs.Header.{IsCount, data_header_bytes}
-use Rattle.ipl_format.proofs.HeaderLemmas.{header_rebuilt, header_parts}
+use Rattle.ipl_format.specs.Header.{IsCount}
+use Rattle.ipl_format.specs.Laws.{erases_size}
+use Rattle.ipl_format.proofs.HeaderOnceLemmas.{data_headers_have_sizes}
 use Rattle.ipl_format.proofs.ListLemmas.{bytes-drop}
-use Rattle.ipl_format.proofs.NumberLemmas.{length-long, word_rebuilt, long_rebuilt, word_at-lt, long_at-lt, word_again, long_again}
-use Rattle.ipl_format.proofs.PayloadLemmas.{commits_have_sizes, data_headers_have_sizes, units_have_sizes}
+use Rattle.ipl_format.proofs.NumberLemmas.{length-long, long_rebuilt, long_at-lt, long_again}
+use Rattle.ipl_format.proofs.PayloadLemmas.{commits_have_sizes}
 use Rattle.log_records.specs.Reading.{record_at}
 use Rattle.log_records.proofs.RecordLemmas.{again, takes, shorter}
 use Rattle.log_records.proofs.RecordsLemmas.{records_list}
+use Rattle.unit_layout.proofs.HeaderLemmas.{data_read, data_number, data_parts}
+use Rattle.unit_layout.proofs.StatusLemmas.{status_spelled, status_passes}
 use Rattle.opening_rules.specs.Payloads.{pieces_in, is_count, numbers_within, is_list_within, is_log_payload}
 use Rattle.opening_rules.specs.PayloadLaws.{DataPayloadsAreSpelled, SpelledDataPasses, StatusPayloadsAreSpelled, SpelledStatusPasses, CommitPayloadsAreSpelled, SpelledCommitsPass, LogPayloadsAreSpelled, SpelledLogsPass}
 
@@ -34,30 +37,15 @@ data_payloads_are_spelled version units payload all is =
     let a = and_parts _ _ is in
     let b = and_parts _ _ a.1 in
     let d = and_parts _ _ b.1 in
-    let size : length payload ≡ 20 = eqb-true (length payload) 20 a.0 in
-    let same : word_at 0 payload ≡ units = eqb-true (word_at 0 payload) units b.0 in
-    record {
-      carried = get_or payload 19 0;
-      bytes = header_rebuilt payload size all ∙ ap (λ (n : ℕ). data_header_bytes n (pieces_in payload) (get_or payload 19 0)) same;
-      fits = let low = word_at-lt 0 payload all in omega (arith, low, same);
-      fifteen = length-take-le 15 (drop 4 payload) (omega (arith, length-drop 4 payload, size));
-      each = counts_are (pieces_in payload) d.0;
-      few = leb-true (get_or payload 19 0) 12 d.1;
-    }
-
--- the number that was written is read
-number_again : (units carried : ℕ) (pieces : List ℕ) → units < 2 ^ 32 → word_at 0 (data_header_bytes units pieces carried) ≡ units
-unfolding data_header_bytes
-number_again units carried pieces low = ap (word_at 0) (append_assoc (word units) pieces (carried ∷ [])) ∙ word_again units (pieces ++ carried ∷ []) low
+    (data_read version units (pieces_in payload) payload (eqb-true (length payload) (20 + erases_size version) a.0) all
+    (sym (eqb-true (word_at 0 payload) units b.0)) refl (counts_are (pieces_in payload) d.0) (leb-true (get_or payload 19 0) 12 d.1)).0
 
 pub spelled_data_passes : SpelledDataPasses
 spelled_data_passes version units pieces payload it =
     let size = data_headers_have_sizes version payload units pieces it in
-    let p = header_parts units it.carried pieces it.fifteen in
-    let number : word_at 0 payload ≡ units = ap (word_at 0) it.bytes ∙ number_again units it.carried pieces it.fits in
-    let same : pieces_in payload ≡ pieces = ap pieces_in it.bytes ∙ p.0 in
-    let last : get_or payload 19 0 ≡ it.carried = ap (λ (l : List ℕ). get_or l 19 0) it.bytes ∙ p.1 in (
-      and_from _ _ (eq-eqb (length payload) 20 size) (and_from _ _ (eq-eqb (word_at 0 payload) units number)
+    let number = data_number version units pieces payload it in
+    let (same, last) = data_parts version units pieces payload it in (
+      and_from _ _ (eq-eqb (length payload) (20 + erases_size version) size) (and_from _ _ (eq-eqb (word_at 0 payload) units number)
           (and_from _ _ (ap (list_all is_count) same ∙ counts_pass pieces it.each) (le-leb (get_or payload 19 0) 12 (let few = it.few in omega (arith, few, last))))),
       same,
     )
@@ -65,19 +53,15 @@ spelled_data_passes version units pieces payload it =
 -- ---- status headers
 
 pub status_payloads_are_spelled : StatusPayloadsAreSpelled
-status_payloads_are_spelled version units payload all is =
+status_payloads_are_spelled version places units payload all is =
     let a = and_parts _ _ is in
-    let size : length payload ≡ 4 = eqb-true (length payload) 4 a.0 in
-    let same : word_at 0 payload ≡ units = eqb-true (word_at 0 payload) units a.1 in
-    record {
-      bytes = sym (take_all 4 payload (omega (arith, size))) ∙ (word_rebuilt 0 payload (omega (arith, size)) all ∙ ap word same);
-      fits = let low = word_at-lt 0 payload all in omega (arith, same, low);
-    }
+    let b = and_parts _ _ a.1 in
+    (status_spelled version places units payload all a.0 (sym (eqb-true (word_at 0 payload) units b.0)) b.1).0
 
 pub spelled_status_passes : SpelledStatusPasses
-spelled_status_passes version units payload it =
-    and_from _ _ (eq-eqb (length payload) 4 (units_have_sizes version payload units it))
-    (eq-eqb (word_at 0 payload) units (ap (word_at 0) (it.bytes ∙ sym (append-nil (word units))) ∙ word_again units [] it.fits))
+spelled_status_passes version places units payload low it =
+    let passes = status_passes version places units payload (omega (arith, low)) it in
+    and_from _ _ passes.0 (and_from _ _ (eq-eqb (word_at 0 payload) units passes.1) passes.2)
 
 -- ---- commit sectors
 

@@ -30,7 +30,7 @@ pub record HasOtherUnits (c : Chart) (places : ℕ) : Type 0 where
 pub record HasBadHeader (c : Chart) (places p : ℕ) : Type 0 where
   pub head : Sector
   pub counts : HeaderCounts c places p head
-  pub bad : is_head_payload (units_on places) head.kind head.payload ≡ false
+  pub bad : is_head_payload head.version places head.kind head.payload ≡ false
 
 -- this commit sector is the first of the status place whose payload is not in its grammar
 pub record IsFirstBadCommit (c : Chart) (places p s : ℕ) : Type 0 where

@@ -2,6 +2,7 @@
 use Rattle.std.specs.Prelude.{ℕ, zero, suc, nat_lt, nat_le, ◌==◌, ◌&&◌, Bool, true, List, Option, Some, None, if◌then◌else◌}
 use Rattle.ipl_base.specs.Places.{units_on}
 use Rattle.ipl_format.specs.Sector.{Sector}
+use Rattle.ipl_format.specs.Header.{erases_said}
 use Rattle.ipl_meaning.specs.Chart.{Chart}
 use Rattle.opening_rules.specs.Payloads.{begins_with_other_units, is_data_payload, is_status_payload}
 
@@ -15,26 +16,32 @@ pub record KeptHeader : Type 0 where
   pub foreign : Bool
   -- its payload is in the grammar of its kind
   pub well : Bool
+  -- how often its place was erased
+  pub erases : ℕ
 
 -- a header, and its place
 pub record Winner : Type 0 where
   pub place : ℕ
   pub head : KeptHeader
 
--- a header's payload is in the grammar of its kind; that of an overflow header isn't tested
-abbrev pub is_head_payload : ℕ → ℕ → List ℕ → Bool
-is_head_payload units kind payload =
-    if kind == 1 then is_data_payload units payload else if kind == 2 then is_status_payload units payload else true
+-- a header's payload is in the grammar of its kind and version, on a chip of so many places; that of an overflow header
+-- isn't tested
+abbrev pub is_head_payload : ℕ → ℕ → ℕ → List ℕ → Bool
+is_head_payload version places kind payload =
+    if kind == 1 then is_data_payload version (units_on places) payload
+    else if kind == 2 then is_status_payload version places (units_on places) payload
+    else true
 
--- what is kept of this one, on a chip of so many units
+-- what is kept of this one, on a chip of so many places
 abbrev pub head_of : ℕ → Sector → KeptHeader
-head_of units sector = record {
+head_of places sector = record {
   kind = sector.kind;
   unit = sector.unit;
   generation = sector.generation;
   serial = sector.serial;
-  foreign = begins_with_other_units units sector.payload;
-  well = is_head_payload units sector.kind sector.payload;
+  foreign = begins_with_other_units (units_on places) sector.payload;
+  well = is_head_payload sector.version places sector.kind sector.payload;
+  erases = erases_said (Some sector);
 }
 
 -- the sector is of one of the three kinds of header
@@ -43,13 +50,13 @@ is_header sector = nat_le 1 sector.kind && nat_le sector.kind 3
 
 -- the header in a sector 0, if it is one
 abbrev pub header_in : ℕ → Option Sector → Option KeptHeader
-header_in units None = None
-header_in units (Some sector) = if is_header sector then Some (head_of units sector) else None
+header_in places None = None
+header_in places (Some sector) = if is_header sector then Some (head_of places sector) else None
 
 -- the header of each place
 abbrev pub header_at : Chart → ℕ → ℕ → Option KeptHeader
 header_at c places p =
-    if nat_lt p places then header_in (units_on places) (c p 0) else None
+    if nat_lt p places then header_in places (c p 0) else None
 
 -- it is a data header of the unit
 abbrev pub is_data_of : ℕ → KeptHeader → Bool

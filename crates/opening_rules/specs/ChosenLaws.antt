@@ -9,7 +9,7 @@ use Rattle.opening_rules.specs.Chosen.{Winner, head_of, current_at, status_at}
 pub record IsWinnerOf (c : Chart) (places : ℕ) (Fits : Sector → Type 0) (winner : Winner) : Type 0 where
   pub sector : Sector
   pub counts : IsChosen c places Fits winner.place sector
-  pub head : winner.head ≡ head_of (units_on places) sector
+  pub head : winner.head ≡ head_of places sector
 
 -- a current header is the one that counts for its unit
 abbrev pub CurrentsAreChosen : Type 0
@@ -21,7 +21,7 @@ CurrentsAreChosen =
 abbrev pub ChosenAreCurrent : Type 0
 ChosenAreCurrent =
     (c : Chart) (places u p : ℕ) (head : Sector) → u < units_on places → IsChosen c places (IsDataHeader u) p head
-    → current_at c places u ≡ Some (record { place = p; head = head_of (units_on places) head })
+    → current_at c places u ≡ Some (record { place = p; head = head_of places head })
 
 -- a unit without a current header has no header
 abbrev pub NoneIsCurrent : Type 0
@@ -39,7 +39,7 @@ StatusesAreChosen =
 abbrev pub ChosenAreStatus : Type 0
 ChosenAreStatus =
     (c : Chart) (places p : ℕ) (head : Sector) → IsChosen c places IsStatusHeader p head
-    → status_at c places ≡ Some (record { place = p; head = head_of (units_on places) head })
+    → status_at c places ≡ Some (record { place = p; head = head_of places head })
 
 -- where there is none, no place has one
 abbrev pub NoneIsStatus : Type 0

@@ -1,35 +1,37 @@
 -- The tests of payloads are their grammars.
-use Rattle.std.specs.Prelude.{ℕ, ◌≡◌, List, true}
+use Rattle.std.specs.Prelude.{ℕ, ◌≡◌, ◌≤◌, List, true}
+use Rattle.ipl_base.specs.declared.limits.TheConstants.{MOST_PLACES}
 use Rattle.ipl_format.specs.Numbers.{IsBytes}
 use Rattle.ipl_format.specs.Record.{Record, SpellsLog}
 use Rattle.ipl_format.specs.Commit.{SpellsCommit}
-use Rattle.ipl_format.specs.Header.{SpellsDataHeader, SpellsUnits}
+use Rattle.ipl_format.specs.Header.{SpellsDataHeader, SpellsStatusHeader}
 use Rattle.log_records.specs.Reading.{records_of}
 use Rattle.opening_rules.specs.Payloads.{pieces_in, is_data_payload, is_status_payload, numbers_in, is_commit_payload, is_log_payload}
 
 -- bytes that pass as a data header's payload say how many pieces each page has
 abbrev pub DataPayloadsAreSpelled : Type 0
 DataPayloadsAreSpelled =
-    (version units : ℕ) (payload : List ℕ) → IsBytes payload → is_data_payload units payload ≡ true
+    (version units : ℕ) (payload : List ℕ) → IsBytes payload → is_data_payload version units payload ≡ true
     → SpellsDataHeader version units (pieces_in payload) payload
 
 -- a data header's payload passes, and has its pieces
 abbrev pub SpelledDataPasses : Type 0
 SpelledDataPasses =
     (version units : ℕ) (pieces payload : List ℕ) → SpellsDataHeader version units pieces payload
-    → (is_data_payload units payload ≡ true) × (pieces_in payload ≡ pieces)
+    → (is_data_payload version units payload ≡ true) × (pieces_in payload ≡ pieces)
 
 -- bytes that pass as a status header's payload say how many units there are
 abbrev pub StatusPayloadsAreSpelled : Type 0
 StatusPayloadsAreSpelled =
-    (version units : ℕ) (payload : List ℕ) → IsBytes payload → is_status_payload units payload ≡ true
-    → SpellsUnits version units payload
+    (version places units : ℕ) (payload : List ℕ) → IsBytes payload → is_status_payload version places units payload ≡ true
+    → SpellsStatusHeader version places units payload
 
 -- a status header's payload passes
 abbrev pub SpelledStatusPasses : Type 0
 SpelledStatusPasses =
-    (version units : ℕ) (payload : List ℕ) → SpellsUnits version units payload
-    → is_status_payload units payload ≡ true
+    (version places units : ℕ) (payload : List ℕ) → places ≤ MOST_PLACES
+    → SpellsStatusHeader version places units payload
+    → is_status_payload version places units payload ≡ true
 
 -- bytes that pass as a commit sector's payload say its numbers
 abbrev pub CommitPayloadsAreSpelled : Type 0

@@ -1,10 +1,12 @@
 -- Tests of payloads, and what they hold, by computing.
-use Rattle.std.specs.Prelude.{ℕ, zero, suc, ◌/◌, ◌%◌, ◌==◌, ◌&&◌, ◌||◌, not, nat_le, Bool, false, if◌then◌else◌, List, [], ◌∷◌, take, drop, length, slice_index, map}
+use Rattle.std.specs.Prelude.{ℕ, zero, suc, ◌+◌, ◌/◌, ◌%◌, ◌==◌, ◌&&◌, ◌||◌, not, nat_le, Bool, false, if◌then◌else◌, List, [], ◌∷◌, take, drop, length, slice_index, map}
 use Rattle.std.specs.List.{list_all}
 use Rattle.std.specs.Option.{option_map_or}
 use Rattle.ipl_base.specs.declared.limits.TheConstants.{PAGES, PAGE_SECTORS, CARRIED_SECTORS, COMMIT_NUMBERS}
 use Rattle.ipl_format.specs.Numbers.{word_at, long_at}
 use Rattle.ipl_format.specs.Record.{Record}
+use Rattle.ipl_format.specs.Laws.{erases_size}
+use Rattle.unit_layout.specs.Retired.{retired_in, is_status_length, may_be_retired}
 use Rattle.log_records.specs.Reading.{record_at, records_of}
 
 -- ---- headers
@@ -21,16 +23,19 @@ pieces_in payload = take PAGES (drop 4 payload)
 abbrev pub is_count : ℕ → Bool
 is_count pieces = nat_le pieces PAGE_SECTORS
 
--- a data header's payload, on a chip of so many units: the number of units, a count for each of 15 pages, and at most
--- 12 carried log sectors
-abbrev pub is_data_payload : ℕ → List ℕ → Bool
-is_data_payload units payload =
-    (length payload == 20) && ((word_at 0 payload == units)
+-- a data header's payload, on a chip of so many units: the number of units, a count for each of 15 pages, at most 12
+-- carried log sectors, and from version 3 on how often its place was erased
+abbrev pub is_data_payload : ℕ → ℕ → List ℕ → Bool
+is_data_payload version units payload =
+    (length payload == 20 + erases_size version) && ((word_at 0 payload == units)
     && (list_all is_count (pieces_in payload) && nat_le (slice_index payload 19) CARRIED_SECTORS))
 
--- a status header's payload: the number of units
-abbrev pub is_status_payload : ℕ → List ℕ → Bool
-is_status_payload units payload = (length payload == 4) && (word_at 0 payload == units)
+-- a status header's payload, on a chip of so many places: the number of units, and from version 3 on how often its place
+-- was erased and which places are retired
+abbrev pub is_status_payload : ℕ → ℕ → ℕ → List ℕ → Bool
+is_status_payload version places units payload =
+    is_status_length version payload && ((word_at 0 payload == units)
+    && may_be_retired places units (retired_in version payload))
 
 -- ---- commit sectors
 

@@ -39,6 +39,7 @@ none_to_write u page pages t = record {
     inl (record {
       current = refl;
       in_use = refl;
+      erases = refl;
       written = refl;
       generations = refl;
       masks = λ v i low. refl;

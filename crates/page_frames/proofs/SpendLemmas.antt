@@ -6,7 +6,7 @@ use Rattle.unit_io.specs.Costs.{Costs, Spends}
 use Rattle.unit_io.specs.ReadsAt.{ReadsAt}
 use Rattle.unit_io.proofs.CostLemmas.{costs_none, costs_then, costs_at_most, spends_none, spends_then, spends_weaker, spends_reads}
 use Rattle.page_writing.specs.Spending.{ErasesAndLogs}
-use Rattle.page_writing.proofs.SpendLemmas.{nothing_lowest, both_lowest, no_kind}
+use Rattle.page_writing.proofs.SpendLemmas.{nothing_next, both_next, no_kind}
 
 pub reads_alone : (At : ℕ → ℕ → Type 0) (old new : Told) → ReadsAt At old new
     → Spends (Costs 0 0 0 []) old new
@@ -22,7 +22,7 @@ logs_of_reads before old new = spends_weaker (Costs 0 0 0 []) (ErasesAndLogs bef
     (λ added costs. record {
       costs = costs_at_most 0 1 0 1 0 3 [] (5 ∷ []) added (omega arith) (omega arith) (omega arith)
           no_kind costs;
-      lowest = nothing_lowest before added costs.erased;
+      next = nothing_next before added costs.erased;
     })
 
 pub logs_then_reads : (before : Places) (old mid new : Told)
@@ -33,5 +33,5 @@ logs_then_reads before old mid new = spends_then (ErasesAndLogs before) (Costs 0
       costs = costs_then 1 0 1 0 3 0 (5 ∷ []) later earlier does.costs
           (costs_at_most 0 0 0 0 0 0 [] (5 ∷ []) later (omega arith) (omega arith) (omega arith)
           no_kind costs);
-      lowest = both_lowest before later earlier (nothing_lowest before later costs.erased) does.lowest;
+      next = both_next before later earlier (nothing_next before later costs.erased) does.next;
     })

@@ -14,7 +14,7 @@ use Rattle.page_frames.specs.Changed.{changed_pages, HasHomesFor}
 
 -- A page's records written out: nothing, and all stays as it is, where it has none in memory; where
 -- a log sector is clean at its unit's home, at most one program, of a log sector, with no erase and
--- no barrier; else at most the erase of the lowest free place too.
+-- no barrier; else at most the erase of the least worn free place too.
 pub record AsksToWriteOut (u page : ℕ) (result : Result (Unit {0}) ChipFault) (old new : Pages)
     (before after : Told) : Type 0 where
   pub idle : logs_of (frames_in old) u page ≡ [] → (new ≡ old) × (after ≡ before)

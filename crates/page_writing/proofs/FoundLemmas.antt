@@ -9,7 +9,8 @@ use Rattle.ipl_meaning.specs.Rests.{now, EachStands, StoryRests}
 use Rattle.ipl_meaning.specs.Tables.{Tables}
 use Rattle.unit_io.specs.Charts.{Charts}
 use Rattle.steps.specs.Steps.{RestsAgreeing}
-use Rattle.selective_merge.specs.Placing.{Opens, IsPlaced, MakesRoom, RestsWithRoom, MakesRoomInSteps}
+use Rattle.selective_merge.specs.Merging.{StaysMirrored}
+use Rattle.selective_merge.specs.Placing.{IsPlaced, MakesRoom, RestsWithRoom, MakesRoomInSteps}
 use Rattle.store_steps.specs.Advances.{TurnsTables}
 use Rattle.store_steps.proofs.StepLemmas.{steps_weaker}
 use Rattle.page_writing.specs.Rooms.{MakesLogRoom, RestsWithLogRoom, FindsRoomInSteps}
@@ -29,7 +30,7 @@ module _ (places u : ℕ) (t after : Tables) (old new : Told) (none : NoneIsLost
       )
 
   -- and where there is none
-  pub unplaced_told : Charts (Opens places t after) old new
+  pub unplaced_told : Charts (StaysMirrored places t after) old new
       → Charts (TurnsTables places t after) old new
   unplaced_told stays x told =
       let (y, there, keeps) = stays x told in (

@@ -8,10 +8,11 @@ use Rattle.chip_trait.specs.Story.{Story}
 use Rattle.chip_trait.specs.Told.{Told}
 use Rattle.ipl_base.specs.declared.fault.ChipFault.{ChipFault}
 use Rattle.ipl_meaning.specs.Tables.{Places, Tables, first_log, masks_in, with_mask, with_written}
+use Rattle.unit_directory.specs.Free.{IsNextFree}
 use Rattle.unit_io.specs.Costs.{Costs, ProgramsAt, Spends, erases, is_tried}
 use Rattle.unit_io.specs.ReadsAt.{ReadsAt}
 use Rattle.unit_io.proofs.CostLemmas.{costs_at_most, costs_then, programs_at_cost, spends_reads, spends_then, spends_weaker, tried_joined}
-use Rattle.selective_merge.specs.Spending.{IsLowestFree, ErasesFree}
+use Rattle.selective_merge.specs.Spending.{ErasesFree}
 use Rattle.selective_merge.specs.Spotting.{HasHomeSpot}
 use Rattle.page_writing.specs.Spending.{ErasesAndLogs, KeepsMasks, UsesHome, RoomCosts, WritingCosts}
 use Rattle.page_writing.specs.Writing.{IsAfterLog}
@@ -28,16 +29,16 @@ none_tried p (Worn q ∷ older) none = absurd (omega (arith, none))
 none_tried p (Barrier ∷ older) none = none_tried p older none
 none_tried p (Said piece ∷ older) none = none_tried p older none
 
-pub nothing_lowest : (before : Places) (added : Story) → erases added ≤ 0 → (p : ℕ)
-    → is_tried added p ≡ true → IsLowestFree before p
-nothing_lowest before added none p is =
+pub nothing_next : (before : Places) (added : Story) → erases added ≤ 0 → (p : ℕ)
+    → is_tried added p ≡ true → IsNextFree before p
+nothing_next before added none p is =
     absurd (false≢true (sym (none_tried p added none) ∙ is))
 
-pub both_lowest : (before : Places) (later earlier : Story)
-    → ((p : ℕ) → is_tried later p ≡ true → IsLowestFree before p)
-    → ((p : ℕ) → is_tried earlier p ≡ true → IsLowestFree before p)
-    → (p : ℕ) → is_tried (later ++ earlier) p ≡ true → IsLowestFree before p
-both_lowest before later earlier one two p is = elim (cases_Bool (is_tried later p)) [
+pub both_next : (before : Places) (later earlier : Story)
+    → ((p : ℕ) → is_tried later p ≡ true → IsNextFree before p)
+    → ((p : ℕ) → is_tried earlier p ≡ true → IsNextFree before p)
+    → (p : ℕ) → is_tried (later ++ earlier) p ≡ true → IsNextFree before p
+both_next before later earlier one two p is = elim (cases_Bool (is_tried later p)) [
   | inl here ↦ one p here
   | inr none ↦ two p (ap (λ (b : Bool). b || is_tried earlier p) (sym none)
       ∙ (sym (tried_joined later earlier p) ∙ is))
@@ -57,7 +58,7 @@ frees_alone before old new = spends_weaker (ErasesFree before) (ErasesAndLogs be
     (λ added does. record {
       costs = costs_at_most 1 1 0 1 3 3 [] (5 ∷ []) added (omega arith) (omega arith) (omega arith)
           no_kind does.costs;
-      lowest = does.lowest;
+      next = does.next;
     })
 
 -- it was written behind
@@ -70,7 +71,7 @@ frees_then_logs before place old mid new = spends_then (ErasesFree before) (Prog
       costs = costs_then 1 0 0 1 3 0 (5 ∷ []) later earlier
           (costs_at_most 1 1 0 0 3 3 [] (5 ∷ []) earlier (omega arith) (omega arith) (omega arith)
           no_kind does.costs) costs;
-      lowest = both_lowest before later earlier (nothing_lowest before later costs.erased) does.lowest;
+      next = both_next before later earlier (nothing_next before later costs.erased) does.next;
     })
 
 -- ---- room, and whether the unit's home has some
@@ -120,6 +121,7 @@ pub log_uses : (t after : Tables) (u p s mask next : ℕ) → IsAfterLog t after
 log_uses t after u p s mask next (inl (home, is)) = inr (record {
   current = ap (λ (x : Tables). x.places.current) is;
   in_use = ap (λ (x : Tables). x.places.in_use) is;
+  erases = ap (λ (x : Tables). x.places.erases) is;
   written = ap (λ (x : Tables). x.places.written) is;
   generations = ap (λ (x : Tables). x.places.generations) is;
   masks = subst (λ (x : Tables). KeepsMasks t.places x.places) (sym is)
@@ -128,6 +130,7 @@ log_uses t after u p s mask next (inl (home, is)) = inr (record {
 log_uses t after u p s mask next (inr (over, is)) = inl (record {
   current = ap (λ (x : Tables). x.places.current) is;
   in_use = ap (λ (x : Tables). x.places.in_use) is;
+  erases = ap (λ (x : Tables). x.places.erases) is;
   written = ap (λ (x : Tables). x.places.written) is;
   generations = ap (λ (x : Tables). x.places.generations) is;
   masks = subst (λ (x : Tables). KeepsMasks t.places x.places) (sym is) (λ v i low. refl);

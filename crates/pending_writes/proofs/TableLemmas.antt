@@ -29,6 +29,7 @@ others_mirror places c it t next active was later below once waits = record {
     units = was.directory.units;
     logs = was.directory.logs;
     all = was.directory.all;
+    counts = was.directory.counts;
     current = was.directory.current;
     heads = was.directory.heads;
     generation = was.directory.generation;

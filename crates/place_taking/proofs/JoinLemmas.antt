@@ -1,10 +1,9 @@
 -- A place taken, and then written: for whoever takes one.
-use Rattle.std.proofs.Common.{◌≡◌, ◌≢◌, ◌≤◌, ◌+◌, ℕ, Bool, true, false, not, [], ◌∷◌, ◌++◌, Some, Result, Ok, Err, is_ok, inl, inr, refl, sym, ◌∙◌, ap, subst, arith}
+use Rattle.std.proofs.Common.{◌≡◌, ◌≢◌, ◌≤◌, ◌+◌, ℕ, Bool, true, false, [], ◌∷◌, ◌++◌, Result, Ok, Err, is_ok, inl, inr, refl, sym, ◌∙◌, ap, subst, arith}
 use Rattle.std.specs.Prelude.{◌⊎◌}
 use Rattle.std.specs.List.{All}
 use Rattle.std.proofs.lemmas.Bool.{false≢true}
 use Rattle.std.proofs.lemmas.List.Elements.{All-head, All-tail}
-use Rattle.std.proofs.lemmas.List.Quantifiers.{position-Some}
 use Rattle.chip_trait.specs.declared.event.Event.{Event}
 use Rattle.chip_trait.specs.declared.event.Event.TheVariants.{Read, Program, Erase, Worn, Barrier, Said}
 use Rattle.chip_trait.specs.Lawful.{Clean, age}
@@ -15,7 +14,8 @@ use Rattle.ipl_rules.specs.State.{Map}
 use Rattle.ipl_meaning.specs.Layout.{Layout}
 use Rattle.ipl_meaning.specs.Rests.{EachStands}
 use Rattle.ipl_meaning.specs.Tables.{Places, IsFree, Tables, IsCountedClean}
-use Rattle.unit_directory.specs.Free.{first_free}
+use Rattle.unit_directory.specs.Free.{IsNextFree}
+use Rattle.unit_directory.proofs.FreeLemmas.{one_is_next}
 use Rattle.unit_io.specs.Costs.{AreAt, ErasesOnce, ProgramsAt, Spends, barriers, is_erased}
 use Rattle.unit_io.specs.Leads.{IsSteady}
 use Rattle.unit_io.specs.ReadsAt.{IsReadAt, ReadsAt}
@@ -25,23 +25,8 @@ use Rattle.unit_io.proofs.SpotLemmas.{refills_from, rewrites_cleared}
 use Rattle.steps.specs.Steps.{Settled, Outcome, TidyWork, RestsAgreeing, KeepsTables}
 use Rattle.steps.proofs.StepLemmas.{failures_settle, outcome_then, outcome_weaker}
 use Rattle.place_taking.specs.Fills.{AreOf, FillsAt}
-use Rattle.place_taking.specs.Takes.{ClearsLowest, ErasesLowest, TakesPlace}
+use Rattle.place_taking.specs.Takes.{ClearsNext, ErasesNext, TakesPlace}
 use Rattle.place_taking.proofs.TakeLemmas.{counted_elsewhere}
-
--- ---- the place
-
--- the lowest free place is free
-pub first_is_free : (d : Places) (p : ℕ) → first_free d.in_use ≡ Some p → IsFree d p
-first_is_free d p found = is_false _ (position-Some not d.in_use p true found).1
-  where
-    is_false : (b : Bool) → not b ≡ true → b ≡ false
-    is_false true e = absurd (false≢true e)
-    is_false false e = refl
-
--- and one place
-pub same_lowest : (d : Places) (p q : ℕ) → first_free d.in_use ≡ Some p → first_free d.in_use ≡ Some q
-    → p ≡ q
-same_lowest d p q one two = let e : Some p ≡ Some q = sym one ∙ two in cc
 
 -- ---- what it costs: the place is taken, and then programmed
 
@@ -162,12 +147,12 @@ once_filled place a (Said piece ∷ later) earlier once are =
 
 -- the costs of a call that takes the place and then fills it, whether all was done or not
 pub costs_of_filled : (d : Places) (place b : ℕ) (done : Bool) (old mid new : Told)
-    → first_free d.in_use ≡ Some place → Spends (ErasesLowest d true) old mid
+    → IsNextFree d place → Spends (ErasesNext d true) old mid
     → Spends (FillsAt place b) mid new → Spends (ErasesOnce place (1 + b) done) old new
-costs_of_filled d place b done old mid new lowest =
-    spends_then (ErasesLowest d true) (FillsAt place b) (ErasesOnce place (1 + b) done) old mid new
+costs_of_filled d place b done old mid new next =
+    spends_then (ErasesNext d true) (FillsAt place b) (ErasesOnce place (1 + b) done) old mid new
     (λ later earlier first second.
-    let at : first.place ≡ place = same_lowest d first.place place first.lowest lowest in
+    let at : first.place ≡ place = one_is_next d first.place place first.next next in
     let here : ErasesOnce place 1 true earlier =
     subst (λ (p : ℕ). ErasesOnce p 1 true earlier) at first.once in
     let both = once_at_most place (1 + barriers later) (1 + b) true (later ++ earlier)
@@ -176,11 +161,11 @@ costs_of_filled d place b done old mid new lowest =
 
 -- and of one that couldn't take it
 pub costs_of_untaken : (d : Places) (b : ℕ) (old new : Told) → 1 ≤ b
-    → Spends (ErasesLowest d false) old new
-    → (place : ℕ) × (first_free d.in_use ≡ Some place) × Spends (ErasesOnce place b false) old new
+    → Spends (ErasesNext d false) old new
+    → (place : ℕ) × IsNextFree d place × Spends (ErasesOnce place b false) old new
 costs_of_untaken d b old new more did = (
   did.does.place,
-  did.does.lowest,
+  did.does.next,
   record {
     added = did.added;
     does = once_at_most did.does.place 1 b false did.added more did.does.once;
@@ -204,28 +189,28 @@ rewrites_filled p from Spot then done later earlier below first second =
 
 -- they are those of a place that was written anew
 pub rewrites_taken : (d : Places) (p from : ℕ) (Spot : ℕ → Type 0) (then done : Bool)
-    (later earlier : Story) → first_free d.in_use ≡ Some p → ((s : ℕ) → from ≤ s → Spot s → ⊥)
-    → ClearsLowest d true earlier → Programs p Spot then later → Rewrites p from done (later ++ earlier)
-rewrites_taken d p from Spot then done later earlier lowest below first =
+    (later earlier : Story) → IsNextFree d p → ((s : ℕ) → from ≤ s → Spot s → ⊥)
+    → ClearsNext d true earlier → Programs p Spot then later → Rewrites p from done (later ++ earlier)
+rewrites_taken d p from Spot then done later earlier next below first =
     rewrites_filled p from Spot then done later earlier below
-    (subst (λ (q : ℕ). Clears q true earlier) (same_lowest d first.place p first.lowest lowest)
+    (subst (λ (q : ℕ). Clears q true earlier) (one_is_next d first.place p first.next next)
     first.clears)
 
 -- of chips, whatever they tell
 pub tidy_taken : (d : Places) (p from : ℕ) (Spot : ℕ → Type 0) (then done : Bool) (old mid new : Told)
-    → first_free d.in_use ≡ Some p → ((s : ℕ) → from ≤ s → Spot s → ⊥)
-    → Spends (ClearsLowest d true) old mid → Spends (Programs p Spot then) mid new
+    → IsNextFree d p → ((s : ℕ) → from ≤ s → Spot s → ⊥)
+    → Spends (ClearsNext d true) old mid → Spends (Programs p Spot then) mid new
     → Spends (Rewrites p from done) old new
-tidy_taken d p from Spot then done old mid new lowest below =
-    spends_then (ClearsLowest d true) (Programs p Spot then) (Rewrites p from done) old mid new
-    (λ later earlier. rewrites_taken d p from Spot then done later earlier lowest below)
+tidy_taken d p from Spot then done old mid new next below =
+    spends_then (ClearsNext d true) (Programs p Spot then) (Rewrites p from done) old mid new
+    (λ later earlier. rewrites_taken d p from Spot then done later earlier next below)
 
-pub tidy_untaken : (d : Places) (p from : ℕ) (old new : Told) → first_free d.in_use ≡ Some p
-    → Spends (ClearsLowest d false) old new → Spends (Rewrites p from false) old new
-tidy_untaken d p from old new lowest =
-    spends_weaker (ClearsLowest d false) (Rewrites p from false) old new
+pub tidy_untaken : (d : Places) (p from : ℕ) (old new : Told) → IsNextFree d p
+    → Spends (ClearsNext d false) old new → Spends (Rewrites p from false) old new
+tidy_untaken d p from old new next =
+    spends_weaker (ClearsNext d false) (Rewrites p from false) old new
     (λ added did. rewrites_cleared p from added
-    (subst (λ (q : ℕ). Clears q false added) (same_lowest d did.place p did.lowest lowest) did.clears))
+    (subst (λ (q : ℕ). Clears q false added) (one_is_next d did.place p did.next next) did.clears))
 
 -- a place that was written anew: what counts as clean then was so before and stands elsewhere, or
 -- stands there from that sector on, where all was done
@@ -249,20 +234,20 @@ tidy_rewrites before after p from done Settles added moved did = record {
 -- the place was taken, and then a call programmed it, however that ended
 pub taken_then : (T E : Type 0) (Each Then Ends : History → Type 0) (d : Places) (p from : ℕ)
     (Spot : ℕ → Type 0) (t after : Tables) (h : History) (result : Result T E) (old mid new : Told)
-    → first_free d.in_use ≡ Some p → ((s : ℕ) → from ≤ s → Spot s → ⊥) → Counts old mid
-    → (first : Outcome Each (ClearsLowest d true) (Unit {0}) Then h old mid)
+    → IsNextFree d p → ((s : ℕ) → from ≤ s → Spot s → ⊥) → Counts old mid
+    → (first : Outcome Each (ClearsNext d true) (Unit {0}) Then h old mid)
     → Outcome Each (Programs p Spot (is_ok result)) (Settled result mid new) Ends
     (adds_all first.added h) mid new
     → (Settled result old new → (q s : ℕ) → IsCountedClean after q s
     → (IsCountedClean t q s × (q ≢ p)) ⊎ ((is_ok result ≡ true) × (q ≡ p) × (from ≤ s)))
     → Outcome Each (TidyWork (IsCountedClean t) (IsCountedClean after) (Settled result old new))
     (Settled result old new) Ends h old new
-taken_then T E Each Then Ends d p from Spot t after h result old mid new lowest below counts first
+taken_then T E Each Then Ends d p from Spot t after h result old mid new next below counts first
     second moved =
-    let both = outcome_then Each (ClearsLowest d true) (Programs p Spot (is_ok result))
+    let both = outcome_then Each (ClearsNext d true) (Programs p Spot (is_ok result))
     (Rewrites p from (is_ok result)) (Unit {0}) (Settled result mid new) Then Ends h old mid new first
     tt second
-    (λ a b one two. rewrites_taken d p from Spot (is_ok result) (is_ok result) b a lowest below one two)
+    (λ a b one two. rewrites_taken d p from Spot (is_ok result) (is_ok result) b a next below one two)
     in
     outcome_weaker Each Each (Rewrites p from (is_ok result))
     (TidyWork (IsCountedClean t) (IsCountedClean after) (Settled result old new))
@@ -285,8 +270,8 @@ untaken T F d m it t h e f old new steady is here takes =
     let did = takes m it t h steady is here in
     let p = did.does.place in
     let free : IsFree t.places p = subst (λ (b : Places). IsFree b p) (sym is)
-    (first_is_free d p did.does.lowest) in
-    outcome_weaker (EachStands old.places m) (EachStands old.places m) (ClearsLowest d false)
+    did.does.next.free in
+    outcome_weaker (EachStands old.places m) (EachStands old.places m) (ClearsNext d false)
     (TidyWork (IsCountedClean t) (IsCountedClean t) (Settled {T = ℕ} (Err e) old new))
     (Settled {T = ℕ} (Err e) old new) (Settled {T = ℕ} (Err e) old new)
     (RestsAgreeing old.places m it t) (RestsAgreeing old.places m it t) h old new (λ k is. is)
@@ -294,5 +279,5 @@ untaken T F d m it t h e f old new steady is here takes =
     (Settled {T = ℕ} (Err e) old new) a
     (λ _ q s counted. inl (counted, counted_elsewhere old.places m it h t p here free q s counted))
     (rewrites_cleared p 0 a (subst (λ (q : ℕ). Clears q false a)
-    (same_lowest d cleared.place p cleared.lowest did.does.lowest) cleared.clears)))
+    (one_is_next d cleared.place p cleared.next did.does.next) cleared.clears)))
     (λ is. is) (λ _ k is. is) did

@@ -1,5 +1,5 @@
 -- A place that was erased or found worn, and what the tables say of it.
-use Rattle.std.proofs.Common.{◌≡◌, ◌≢◌, ◌<◌, ℕ, Bool, true, false, Some, Result, Ok, Err, sym, ◌∙◌, ap, subst, arith}
+use Rattle.std.proofs.Common.{◌≡◌, ◌≢◌, ◌<◌, ℕ, Bool, true, false, Result, Ok, Err, sym, ◌∙◌, ap, subst, arith}
 use Rattle.std.specs.List.{Contains}
 use Rattle.std.proofs.lemmas.List.{set-set, set-get_or}
 use Rattle.std.specs.Prelude.{slice_set}
@@ -15,14 +15,14 @@ use Rattle.ipl_meaning.specs.Steps.{IsIdle}
 use Rattle.ipl_meaning.specs.Tables.{Places, IsFree, with_use, Tables, IsCountedClean, overflow_places}
 use Rattle.ipl_meaning.proofs.MirrorLemmas.{free_places_are_idle}
 use Rattle.ipl_meaning.proofs.IdleFollowLemmas.{counted_apart, tables_follow_idle_places, places_may_be_taken}
-use Rattle.unit_directory.specs.Free.{first_free}
+use Rattle.unit_directory.specs.Free.{IsNextFree}
 use Rattle.unit_io.specs.Charts.{Begun, IsCleared}
 use Rattle.unit_io.specs.Costs.{ErasesOnce, Spends}
 use Rattle.unit_io.specs.Leads.{IsSteady, Leads, RestsWith, IsStopped, is_done}
 use Rattle.unit_io.specs.Spots.{Clears}
 use Rattle.unit_io.proofs.CostLemmas.{spends_weaker}
 use Rattle.steps.specs.Steps.{RestsAgreeing}
-use Rattle.place_taking.specs.Takes.{ClearsLowest, ErasesLowest, RestsTaken, TakesPlace}
+use Rattle.place_taking.specs.Takes.{ClearsNext, ErasesNext, RestsTaken, TakesPlace}
 
 -- ---- the directory
 
@@ -86,19 +86,18 @@ BeginKeeps p old result new = (m : Map) (it : Layout) (h : History) → IsSteady
     → Leads (EachStands old.places m) (λ ok. Clears p (is_done result))
     (RestsWith old.places m (Begun p) h) h old result new
 
-module _ (d : Places) (p : ℕ) (old new : Told) (lowest : first_free d.in_use ≡ Some p)
-    (free : IsFree d p) where
+module _ (d : Places) (p : ℕ) (old new : Told) (next : IsNextFree d p) where
   -- it was erased
   pub place_taken : p < old.places → BeginKeeps p old (Ok Done) new → TakesPlace d old (Ok p) new
   place_taken within keeps m it t h steady is here =
-      let free_there : IsFree t.places p = subst (λ (e : Places). IsFree e p) (sym is) free in
+      let free_there : IsFree t.places p = subst (λ (e : Places). IsFree e p) (sym is) next.free in
       let did = keeps m it h steady here.rests here.agrees.mirrors.laid
       (idle old.places m it h t p here free_there) in
       record {
         added = did.added;
         history = did.history;
         each_moment = did.each_moment;
-        does = record { place = p; lowest = lowest; clears = did.does };
+        does = record { place = p; next = next; clears = did.does };
         steady = λ _. did.ends.0;
         ends = λ _. rests_taken old.places m it h t p here free_there did.added within did.does
             did.ends.1.0 did.ends.1.1;
@@ -107,14 +106,14 @@ module _ (d : Places) (p : ℕ) (old new : Told) (lowest : first_free d.in_use �
   -- it is worn
   pub place_worn : (e : ChipFault) → BeginKeeps p old (Ok Worn) new → TakesPlace d old (Err e) new
   place_worn e keeps m it t h steady is here =
-      let free_there : IsFree t.places p = subst (λ (e : Places). IsFree e p) (sym is) free in
+      let free_there : IsFree t.places p = subst (λ (e : Places). IsFree e p) (sym is) next.free in
       let did = keeps m it h steady here.rests here.agrees.mirrors.laid
       (idle old.places m it h t p here free_there) in
       record {
         added = did.added;
         history = did.history;
         each_moment = did.each_moment;
-        does = record { place = p; lowest = lowest; clears = did.does };
+        does = record { place = p; next = next; clears = did.does };
         steady = λ _. did.ends.0;
         ends = λ _. rests_untaken old.places m it h t p here free_there did.added did.does
             did.ends.1.0 did.ends.1.1;
@@ -124,25 +123,25 @@ module _ (d : Places) (p : ℕ) (old new : Told) (lowest : first_free d.in_use �
   pub place_stopped : (e f : ChipFault) → IsStopped e old new → BeginKeeps p old (Err e) new
       → TakesPlace d old (Err f) new
   place_stopped e f stopped keeps m it t h steady is here =
-      let free_there : IsFree t.places p = subst (λ (e : Places). IsFree e p) (sym is) free in
+      let free_there : IsFree t.places p = subst (λ (e : Places). IsFree e p) (sym is) next.free in
       let did = keeps m it h steady here.rests here.agrees.mirrors.laid
       (idle old.places m it h t p here free_there) in
       record {
         added = did.added;
         history = did.history;
         each_moment = did.each_moment;
-        does = record { place = p; lowest = lowest; clears = did.does };
+        does = record { place = p; next = next; clears = did.does };
         steady = λ unrisen. absurd (omega (arith, stopped.1, unrisen));
         ends = λ unrisen. absurd (omega (arith, stopped.1, unrisen));
       }
 
   -- its events
-  pub lowest_cleared : (done : Bool) → Spends (Clears p done) old new
-      → Spends (ClearsLowest d done) old new
-  lowest_cleared done = spends_weaker (Clears p done) (ClearsLowest d done) old new
-      (λ added clears. record { place = p; lowest = lowest; clears = clears })
+  pub next_cleared : (done : Bool) → Spends (Clears p done) old new
+      → Spends (ClearsNext d done) old new
+  next_cleared done = spends_weaker (Clears p done) (ClearsNext d done) old new
+      (λ added clears. record { place = p; next = next; clears = clears })
 
-  pub lowest_erased : (done : Bool) → Spends (ErasesOnce p 1 done) old new
-      → Spends (ErasesLowest d done) old new
-  lowest_erased done = spends_weaker (ErasesOnce p 1 done) (ErasesLowest d done) old new
-      (λ added once. record { place = p; lowest = lowest; once = once })
+  pub next_erased : (done : Bool) → Spends (ErasesOnce p 1 done) old new
+      → Spends (ErasesNext d done) old new
+  next_erased done = spends_weaker (ErasesOnce p 1 done) (ErasesNext d done) old new
+      (λ added once. record { place = p; next = next; once = once })

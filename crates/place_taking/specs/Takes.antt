@@ -1,5 +1,5 @@
 -- What is left where a place is taken.
-use Rattle.std.specs.Prelude.{ℕ, ◌≡◌, ◌≢◌, ◌<◌, Bool, true, length, Result, MatchResult, Some, is_ok}
+use Rattle.std.specs.Prelude.{ℕ, ◌≡◌, ◌≢◌, Bool, true, Result, MatchResult, is_ok}
 use Rattle.chip_trait.specs.Story.{Story}
 use Rattle.chip_trait.specs.Told.{History, Told}
 use Rattle.ipl_base.specs.declared.fault.ChipFault.{ChipFault}
@@ -8,9 +8,9 @@ use Rattle.ipl_rules.specs.State.{Map}
 use Rattle.ipl_meaning.specs.Chart.{Chart}
 use Rattle.ipl_meaning.specs.Layout.{Layout}
 use Rattle.ipl_meaning.specs.Rests.{now, EachStands}
-use Rattle.ipl_meaning.specs.Tables.{Places, IsFree, Tables, with_use}
+use Rattle.ipl_meaning.specs.Tables.{Places, Tables, with_use, with_erased}
 use Rattle.ipl_meaning.specs.TableSteps.{taken}
-use Rattle.unit_directory.specs.Free.{first_free}
+use Rattle.unit_directory.specs.Free.{IsNextFree}
 use Rattle.unit_io.specs.Charts.{Charts, IsCleared}
 use Rattle.unit_io.specs.Costs.{ErasesOnce}
 use Rattle.unit_io.specs.Leads.{IsSteady}
@@ -19,28 +19,26 @@ use Rattle.steps.specs.Steps.{Settled, EndsWith, Outcome, RestsAgreeing}
 
 -- ---- the directory
 
--- the lowest free place is in use then, and all else is as it was
+-- the least worn free place is in use then and erased once more, and all else is as it was
 pub record IsTakenFrom (before : Places) (place : ℕ) (after : Places) : Type 0 where
-  pub lowest : first_free before.in_use ≡ Some place
-  pub free : IsFree before place
-  pub within : place < length before.in_use
-  pub places_is : after ≡ with_use before place true
+  pub next : IsNextFree before place
+  pub places_is : after ≡ with_erased (with_use before place true) place
 
 -- ---- the events
 
--- The events erase the lowest free place or find it worn, and say nothing. They are lawful after any
--- lawful events, and what was clean elsewhere is so after them; and where all is done, each sector of
--- the place is clean.
-pub record ClearsLowest (before : Places) (done : Bool) (added : Story) : Type 0 where
+-- The events erase the least worn free place or find it worn, and say nothing. They are lawful after
+-- any lawful events, and what was clean elsewhere is so after them; and where all is done, each sector
+-- of the place is clean.
+pub record ClearsNext (before : Places) (done : Bool) (added : Story) : Type 0 where
   pub place : ℕ
-  pub lowest : first_free before.in_use ≡ Some place
+  pub next : IsNextFree before place
   pub clears : Clears place done added
 
--- The lowest free place is erased or found worn, at most once, and no other one, with at most one
--- barrier. Done, it was erased.
-pub record ErasesLowest (before : Places) (done : Bool) (added : Story) : Type 0 where
+-- The least worn free place is erased or found worn, at most once, and no other one, with at most
+-- one barrier. Done, it was erased.
+pub record ErasesNext (before : Places) (done : Bool) (added : Story) : Type 0 where
   pub place : ℕ
-  pub lowest : first_free before.in_use ≡ Some place
+  pub next : IsNextFree before place
   pub once : ErasesOnce place 1 done added
 
 -- ---- what the chip holds
@@ -64,5 +62,5 @@ pub record RestsTaken (places : ℕ) (m : Map) (it : Layout) (t : Tables) (c : C
 abbrev pub TakesPlace : Places → Told → Result ℕ ChipFault → Told → Type 0
 TakesPlace before old result new = (m : Map) (it : Layout) (t : Tables) (h : History)
     → IsSteady h old → t.places ≡ before → RestsAgreeing old.places m it t h
-    → Outcome (EachStands old.places m) (ClearsLowest before (is_ok result)) (Settled result old new)
+    → Outcome (EachStands old.places m) (ClearsNext before (is_ok result)) (Settled result old new)
     (EndsWith result (RestsTaken old.places m it t (now h)) (RestsAgreeing old.places m it t)) h old new

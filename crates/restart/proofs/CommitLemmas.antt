@@ -5,7 +5,6 @@ use Rattle.std.specs.Result.{IsErrAnd}
 use Rattle.std.specs.List.{Contains}
 use Rattle.std.proofs.lemmas.Option.{same_Some}
 use Rattle.chip_trait.specs.Told.{Told}
-use Rattle.ipl_base.specs.Places.{units_on}
 use Rattle.ipl_base.specs.declared.fault.ChipFault.{ChipFault}
 use Rattle.ipl_base.specs.declared.fault.ChipFault.TheVariants.{ReadFault, Stopped, Damaged, Malformed, WornOut}
 use Rattle.ipl_base.specs.declared.fault.ImageFault.{ImageFault}
@@ -89,7 +88,7 @@ pub opened_status : (c : Chart) (places : ℕ) (winner : Winner) (status : Statu
     → IsOpenedStatus places c status
 opened_status c places winner status is laid found =
     let lay = layout_in c places in
-    let own : Winner = record { place = lay.status; head = head_of (units_on places) lay.head } in
+    let own : Winner = record { place = lay.status; head = head_of places lay.head } in
     let one : winner ≡ own = same_Some winner own (is ∙ chosen_are_status c places lay.status lay.head laid.chosen) in
     let numbers : List ℕ = committed_numbers c (status_at c places) in
     let same : status.numbers ≡ with_numbers numbers [] =

@@ -15,6 +15,7 @@ pub mod CollectedLemmas
 pub mod LogLemmas
 pub mod MaskedLemmas
 pub mod FillLemmas
+pub mod CountLemmas
 pub mod OpenLemmas
 pub mod OverflowLemmas
 pub mod KnownLemmas

@@ -7,6 +7,7 @@ use Rattle.chip_trait.specs.Story.{Contents}
 use Rattle.chip_trait.specs.Told.{Told}
 use Rattle.ipl_base.specs.Places.{KeepsUnits, units_on}
 use Rattle.ipl_base.specs.declared.fault.ImageFault.{ImageFault}
+use Rattle.ipl_format.specs.Sector.{Sector}
 use Rattle.ipl_meaning.specs.Chart.{Chart, chart_of}
 use Rattle.ipl_meaning.specs.Layout.{Laid}
 use Rattle.ipl_meaning.specs.Tables.{Places, OverflowLists, IsFree}
@@ -28,11 +29,12 @@ use Rattle.restart.specs.Bytes.{IsRestWhole}
 use Rattle.restart.specs.Looks.{IsMissed}
 use Rattle.restart.specs.Notes.{Notes, IsNoted}
 use Rattle.opened_tables.specs.Found.{generation_of}
-use Rattle.restart.specs.Filled.{is_home, is_used, AreUsed, AreAdopted}
+use Rattle.restart.specs.Filled.{is_home, is_used, erases_by, AreUsed, AreCounted, AreAdopted}
 use Rattle.restart.specs.Shown.{ShowsHeaders, is_held, number_by, fault_by}
 use Rattle.opened_tables.specs.Opened.{IsUnused, IsOpened}
 use Rattle.opened_tables.proofs.ListLemmas.{count_alike}
 use Rattle.restart.specs.Opened.{HasFree}
+use Rattle.restart.proofs.CountLemmas.{said_by_header}
 use Rattle.restart.proofs.LookLemmas.{missed_not_image}
 
 -- a read that failed tells nothing
@@ -179,15 +181,18 @@ module _ (c : Chart) (places : ℕ) (heads : List (Option KeptHeader)) (current 
 
   pub opened : (notes : Notes) (lists : OverflowLists) → IsNoted notes lists (marks (at heads) (at current) c (places * 256)) → (d : Places) (units most counter greatest : ℕ) → KeepsUnits places units
       → AreUsed (is_used (at current) units status.place (is_held heads notes)) places most d.in_use → AreAdopted (at current) units units d
+      → AreCounted (at heads) places d → ((p : ℕ) (s : Sector) → c p 0 ≡ Some s → 1 ≤ s.kind)
       → greatest ≡ number_by c (at heads) (at current) (Some status) places → counter ≡ greatest + 1 → IsOpened places c d counter
-  opened notes lists noted d units most counter greatest keeps used adopted number next = record {
+  opened notes lists noted d units most counter greatest keeps used adopted counted kinds number next = record {
     units = omega (arith, adopted.units_are, keeps);
     logs = omega (arith, adopted.logs_are, keeps);
     all = used.all;
+    counts = counted.counts;
     current = λ u low. adopted.current_is u (omega (arith, low, keeps)) ∙ ap (λ (cur : ℕ → Option Winner). place_of (cur u)) shows.current_are;
     heads = omega (arith, adopted.heads_are, keeps);
     generation = λ u low. adopted.generation_is u (omega (arith, low, keeps)) ∙ ap (λ (cur : ℕ → Option Winner). generation_of (cur u)) shows.current_are;
     written = λ u low. adopted.written_is u (omega (arith, low, keeps));
+    erases = λ p low. counted.erases_are p low ∙ ap (λ (h : ℕ → Option KeptHeader). erases_by (h p)) shows.heads_are ∙ said_by_header c places p low (kinds p);
     free = λ p low. (unused_from notes lists noted d units most keeps used p low, unused_to notes lists noted d units most keeps used p low);
     number = next ∙ ap (λ (n : ℕ). n + 1) (number_found greatest number);
   }

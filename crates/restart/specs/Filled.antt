@@ -1,8 +1,8 @@
 -- A directory as an opening fills it, by the headers that count and the places that hold live log sectors.
-use Rattle.std.specs.Prelude.{ℕ, zero, suc, ◌≡◌, ◌<◌, ◌≤◌, ◌+◌, ◌==◌, ◌||◌, Bool, true, false, List, length, slice_index, slice_index_or, Option}
+use Rattle.std.specs.Prelude.{ℕ, zero, suc, ◌≡◌, ◌<◌, ◌≤◌, ◌+◌, ◌==◌, ◌||◌, Bool, true, false, List, length, slice_index, slice_index_or, Option, Some, None}
 use Rattle.ipl_base.specs.declared.limits.TheConstants.{LOG_SECTORS}
 use Rattle.ipl_meaning.specs.Tables.{Places}
-use Rattle.opening_rules.specs.Chosen.{Winner}
+use Rattle.opening_rules.specs.Chosen.{KeptHeader, Winner}
 use Rattle.opening_rules.specs.Live.{is_at}
 use Rattle.opening_rules.specs.LaidOut.{place_of}
 use Rattle.opened_tables.specs.Found.{generation_of}
@@ -23,8 +23,22 @@ pub record AreUsed (used : ℕ → Bool) (places most : ℕ) (in_use : List Bool
   pub used_are : (p : ℕ) → p < places → slice_index_or in_use p true ≡ used p
   pub most_are : places ≤ free_count in_use + most
 
--- only which places are in use is not as it was
-pub record OnlyInUse (old new : Places) : Type 0 where
+-- how often a place with this header was erased: once, where it has none
+abbrev pub erases_by : Option KeptHeader → ℕ
+erases_by None = 1
+erases_by (Some head) = head.erases
+
+-- each of these places was erased as often as its header says
+pub record AreCounted (heads : ℕ → Option KeptHeader) (places : ℕ) (it : Places) : Type 0 where
+  pub counts : length it.erases ≡ places
+  pub erases_are : (p : ℕ) → p < places → slice_index it.erases p ≡ erases_by (heads p)
+
+-- the directory with these counts
+abbrev pub with_counts : Places → List ℕ → Places
+with_counts it erases = record it { erases = erases }
+
+-- what the directory has of the units is as it was
+pub record SameUnits (old new : Places) : Type 0 where
   pub current : new.current ≡ old.current
   pub written : new.written ≡ old.written
   pub generations : new.generations ≡ old.generations

@@ -8,7 +8,7 @@ ghost use Rattle.opening_rules.specs.Live.{is_overflow_place};
 ghost use Rattle.opened_tables.specs.Found.{overflow_at};
 ghost use Rattle.restart.specs.Notes.{places_of, holds_one};
 ghost use Rattle.restart.specs.Shown.{is_held as is_held_place};
-ghost use Rattle.restart.specs.Filled.{is_home, is_used, AreUsed, OnlyInUse, AreAdopted};
+ghost use Rattle.restart.specs.Filled.{is_home, is_used, erases_by, with_counts, AreUsed, AreCounted, SameUnits, AreAdopted};
 ghost use Rattle.restart.specs.Masked.{NoneNamed};
 
 use crate::kept::{Header, Winner};
@@ -56,7 +56,8 @@ fn take_overflows(directory: &mut Directory, heads: &[Option<Header>], noted: &N
     ensures used { (used : ℕ → Bool) (most : ℕ) → AreUsed used (length heads.now) most directory.old.in_use
         → AreUsed (λ p. used p || (is_overflow_place (at heads.now p) && holds_one noted.now p)) (length heads.now)
         (most + count_below (λ p. is_overflow_place (at heads.now p) && holds_one noted.now p) (length heads.now)) directory.new.in_use }
-    ensures same { OnlyInUse directory.old directory.new }
+    ensures size { length directory.new.in_use ≡ length directory.old.in_use }
+    ensures same { SameUnits directory.old directory.new }
 {
     for place in 0..heads.len() {
         let place = place as u32;
@@ -66,9 +67,33 @@ fn take_overflows(directory: &mut Directory, heads: &[Option<Header>], noted: &N
     }
 }
 
-/// Takes what is in use beside the places of the units: the status place, and the overflow places that
-/// hold live log sectors.
-pub(crate) fn take_others(
+/// How often a place with this header was erased: once, where it has none.
+fn erases_of(header: Option<Header>) -> u32
+    ensures { result ≡ erases_by header }
+{
+    match header {
+        Some(header) => header.erases(),
+        None => 1,
+    }
+}
+
+/// Sets how often each place was erased, as its header says.
+fn count_erases(directory: &mut Directory, heads: &[Option<Header>])
+    requires small { length heads.now ≤ MOST_PLACES }
+    requires places { length heads.now ≡ length directory.old.in_use }
+    ensures counted { AreCounted (at heads.now) (length heads.now) directory.new }
+    ensures same { directory.new ≡ with_counts directory.old directory.new.erases }
+{
+    directory.facts();
+    for place in 0..heads.len() {
+        directory.set_erases(place as u32, erases_of(heads[place]));
+    }
+}
+
+/// Ends the directory by the headers: takes what is in use beside the places of the units, which is the
+/// status place and the overflow places that hold live log sectors, and sets how often each place was
+/// erased.
+pub(crate) fn fill_places(
     directory: &mut Directory,
     heads: &[Option<Header>],
     status: &Winner,
@@ -83,10 +108,12 @@ pub(crate) fn take_others(
         → AreUsed (is_used current units status.now.place (is_held_place heads.now noted.now))
         (length heads.now) (units + 1 + count_below (is_held_place heads.now noted.now) (length heads.now))
         directory.new.in_use }
-    ensures same { OnlyInUse directory.old directory.new }
+    ensures counted { AreCounted (at heads.now) (length heads.now) directory.new }
+    ensures same { SameUnits directory.old directory.new }
 {
     directory.take(status.place());
     take_overflows(directory, heads, noted);
+    count_erases(directory, heads);
 }
 
 /// Lists a place, if it is an overflow place that holds live log sectors.

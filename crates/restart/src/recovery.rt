@@ -28,7 +28,7 @@ ghost use Rattle.restart.specs.Collected.{numbers_below, AreKept, AreCollected};
 use crate::choosing::choose;
 use crate::collecting::Gathered;
 use crate::commits::read_commits;
-use crate::filling::{adopt_all, list_places, take_others};
+use crate::filling::{adopt_all, fill_places, list_places};
 use crate::headers::check_headers;
 use crate::kept::{Header, Winner};
 use crate::logs::scan;
@@ -179,7 +179,7 @@ fn open<C: Chip>(
     let gathered = read_rest(
         chip, geometry, heads, current, &winner, noted, directory, overflow, status, numbers,
     )?;
-    take_others(directory, heads, &winner, noted);
+    fill_places(directory, heads, &winner, noted);
     list_places(overflow, heads, noted);
     directory.facts();
     overflow.facts();
@@ -231,7 +231,8 @@ impl Scratch {
 ///
 /// Of a chip without a fault the directory then has the place of each unit, with no log sector known
 /// clean; the status place and the overflow places that hold live log sectors are in use too, and all
-/// other places are free. The overflow table lists each unit's live log sectors in overflow places,
+/// other places are free; and each place counts as erased as often as its header says, once where that
+/// doesn't say it. The overflow table lists each unit's live log sectors in overflow places,
 /// and these places; the status has the committed numbers; and no sector of these places is known
 /// clean. The counter is the number after the greatest that was found. After a fault, all of them
 /// hold anything, but are made for as many places as before.

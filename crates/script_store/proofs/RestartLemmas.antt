@@ -53,7 +53,7 @@ restarted (Err e) = Err (Image e)
 
 abbrev none_clean : ℕ → Tables
 none_clean next = record {
-  places = record { current = []; in_use = []; written = []; generations = []; masks = [] };
+  places = record { current = []; in_use = []; erases = []; written = []; generations = []; masks = [] };
   overflow = record { spots = []; masks = []; in_use = [] };
   status = record { place = 0; generation = 0; numbers = []; first = 256 };
   next = next;

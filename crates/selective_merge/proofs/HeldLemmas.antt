@@ -1,10 +1,10 @@
 -- The tables go on knowing each place, once a unit was moved or a place given back.
 use Rattle.std.proofs.Common.{◌≡◌, ◌<◌, ◌≤◌, ◌+◌, ℕ, zero, suc, true, false, List, [], ◌∷◌, length, get_or, slice_index, slice_set, inl, sym, ◌∙◌, ap, subst, arith}
-use Rattle.std.proofs.lemmas.List.{get_or-set_other, set-set}
+use Rattle.std.proofs.lemmas.List.{get_or-set_other, length-set, set-set}
 use Rattle.std.proofs.lemmas.List.Elements.{Contains-get_or}
 use Rattle.ipl_meaning.specs.Mirrors.{NoneIsLost}
-use Rattle.ipl_meaning.specs.Tables.{Places, IsFree, with_use, Tables}
-use Rattle.ipl_meaning.specs.TableSteps.{IsMoved, taken, with_next}
+use Rattle.ipl_meaning.specs.Tables.{Places, IsFree, one_more, with_use, with_erased, Tables}
+use Rattle.ipl_meaning.specs.TableSteps.{IsMoved, taken, with_erases, with_next}
 use Rattle.unit_directory.specs.Free.{free_count}
 use Rattle.unit_directory.specs.Laws.{UsesTake}
 use Rattle.merge_rules.specs.Known.{KnowsPlaces}
@@ -20,17 +20,29 @@ set_there [] p b d low is = absurd (omega (arith, low))
 set_there (x ∷ l) zero b d low is = ap (λ y. y ∷ l) (sym is)
 set_there (x ∷ l) (suc p) b d low is = ap (λ k. x ∷ k) (set_there l p b d (omega (arith, low)) is)
 
+-- but for the erase, the directory is as it was
 pub given_back : (it : Places) (p : ℕ) → p < length it.in_use → IsFree it p
-    → with_use (with_use it p true) p false ≡ it
+    → with_use (with_erased (with_use it p true) p) p false ≡ with_erased it p
 given_back it p low free =
-    ap (λ (l : List _). record it { in_use = l })
+    ap (λ (l : List _). record (with_erased it p) { in_use = l })
     (set-set it.in_use p true false ∙ set_there it.in_use p false true low free)
+
+-- the tables once numbers were drawn, and with other counts of erases
+abbrev pub recounted : Tables → List ℕ → ℕ → Tables
+recounted t erases next = with_next (with_erases t erases) next
+
+-- the counts with one erase more of a place
+abbrev pub erases_then : Tables → ℕ → List ℕ
+erases_then t p = (with_erased t.places p).erases
+
+pub as_many : (t : Tables) (p : ℕ) → length (erases_then t p) ≡ length t.places.erases
+as_many t p = length-set t.places.erases p (one_more (slice_index t.places.erases p))
 
 -- ---- the tables know each place still
 
-pub knows_next : (places : ℕ) (t : Tables) (next : ℕ) → KnowsPlaces places t
-    → KnowsPlaces places (with_next t next)
-knows_next places t next known = record {
+pub knows_next : (places : ℕ) (t : Tables) (erases : List ℕ) (next : ℕ) → KnowsPlaces places t
+    → KnowsPlaces places (recounted t erases next)
+knows_next places t erases next known = record {
   suits = record {
     all = known.suits.all;
     units = known.suits.units;
@@ -52,12 +64,12 @@ taken_but t p n places known q less other used =
     known.none_lost q less
     (λ free. used (get_or-set_other t.places.in_use p q true true other ∙ free))
 
-pub held_back : (places : ℕ) (t after : Tables) (n : ℕ) → after ≡ with_next t n
+pub held_back : (places : ℕ) (t after : Tables) (erases : List ℕ) (n : ℕ) → after ≡ recounted t erases n
     → KnowsPlaces places t → Holds places t after
-held_back places t after n is known = record {
+held_back places t after erases n is known = record {
   active = ap (λ (x : Tables). x.active) is;
   status = ap (λ (x : Tables). x.status) is;
-  known = subst (KnowsPlaces places) (sym is) (knows_next places t n known);
+  known = subst (KnowsPlaces places) (sym is) (knows_next places t erases n known);
 }
 
 -- the place of a unit is in use

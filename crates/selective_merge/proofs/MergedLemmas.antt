@@ -20,9 +20,9 @@ use Rattle.ipl_meaning.specs.Layout.{Layout, records_of}
 use Rattle.ipl_meaning.specs.Mirrors.{Mirrors}
 use Rattle.ipl_meaning.specs.Rests.{now}
 use Rattle.ipl_meaning.specs.Steps.{IsIdle, KeepsPages}
-use Rattle.ipl_meaning.specs.Tables.{Places, IsFree, with_use, OverflowLists, Status, Tables, overflow_places, IsCountedClean}
+use Rattle.ipl_meaning.specs.Tables.{Places, IsFree, with_use, with_erased, OverflowLists, Status, Tables, overflow_places, IsCountedClean}
 use Rattle.ipl_meaning.specs.TableSteps.{IsMoved, taken, with_next}
-use Rattle.ipl_meaning.proofs.IdleFollowLemmas.{counted_apart, tables_follow_idle_places}
+use Rattle.ipl_meaning.proofs.IdleFollowLemmas.{counted_apart, counts_are_free, tables_follow_idle_places}
 use Rattle.ipl_meaning.proofs.IdleLemmas.{idle_places_do_not_count}
 use Rattle.ipl_meaning.proofs.MirrorLemmas.{free_places_are_idle}
 use Rattle.unit_io.specs.Spots.{Rewrites}
@@ -37,6 +37,7 @@ use Rattle.selective_merge.proofs.MaskedLemmas.{packs_masks}
 use Rattle.selective_merge.specs.Merging.{StepsMerging}
 use Rattle.selective_merge.specs.Moving.{TellsUnit}
 use Rattle.selective_merge.specs.Throughout.{KeepsThroughout}
+use Rattle.selective_merge.proofs.HeldLemmas.{recounted}
 
 -- ---- what is clean then
 
@@ -137,7 +138,7 @@ pub record TellsPacks (t after : Tables) (u generation : ℕ) (packs : List (Lis
 pub tells_packs : (places : ℕ) (c : Chart) (it : Layout) (t taken_t after : Tables) (u p g serial : ℕ) (from : Source)
     (payloads : List Versioned) (masks : List ℕ) → IsToMerge places c it t u p g serial from payloads
     → masks ≡ masks_of_payloads 15 payloads → TellsUnit taken_t after u g masks
-    → taken_t.places ≡ with_use t.places p true → taken_t.overflow ≡ t.overflow
+    → taken_t.places ≡ with_erased (with_use t.places p true) p → taken_t.overflow ≡ t.overflow
     → TellsPacks t after u g (packs_in t (it.units u))
 tells_packs places c it t taken_t after u p g serial from payloads masks what are told taken same = record {
   generation_is = told.generation_is ∙ ap (λ (d : Places). slice_set d.generations u g) taken;
@@ -171,8 +172,9 @@ merged_there places it t u p g serial n after c z used moved tells more is =
       head = is.head;
       pieces = is.pieces;
       serial = serial;
+      low = is.may.low;
       free = is.may.free;
-      head_is = is.may.head_is;
+      head_is = rw moved.erases is.may.head_is;
       new = is.may.new;
       later = is.may.later;
       mirrors = rw is.gains follows.0;
@@ -228,12 +230,12 @@ module _ (places : ℕ) (m : Map) (it : Layout) (t : Tables) (u p g serial n : �
           ]
 
   -- it wasn't: the place was given back
-  pub merge_failed : (after : Tables) (next : ℕ) (e f : ChipFault) → after ≡ with_next t next
-      → t.next ≤ next
+  pub merge_failed : (after : Tables) (erases : List ℕ) (next : ℕ) (e f : ChipFault)
+      → after ≡ recounted t erases next → length erases ≡ length t.places.erases → t.next ≤ next
       → KeepsThroughout {T = Unit {0}} places m (Rewrites p (241 + n))
       (λ done c y. IsWritten places c y it t u p g serial) (IsUnsealed p) h (Err e) old new
       → StepsMerging {T = Unit {0}} places m it t u after h (Err f) old new
-  merge_failed after next e f is more did = record {
+  merge_failed after erases next e f is sized more did = record {
     added = did.added;
     history = did.history;
     each_moment = did.each_moment;
@@ -247,9 +249,11 @@ module _ (places : ℕ) (m : Map) (it : Layout) (t : Tables) (u p g serial n : �
         let ends = did.ends unrisen in record {
           rests = ends.0;
           agrees = record {
-            mirrors = rw is (tables_follow_idle_places places (now h) it t p
-                (now (adds_all did.added h)) next mirrors idle no_overflow ends.1.others
-                ends.1.bare more);
+            mirrors = rw is (counts_are_free places (now (adds_all did.added h)) it (with_next t next)
+                erases
+                (tables_follow_idle_places places (now h) it t p (now (adds_all did.added h)) next
+                mirrors idle no_overflow ends.1.others ends.1.bare more)
+                (sized ∙ mirrors.directory.counts));
             tidy = clean h.story tidy;
           };
         };
@@ -264,13 +268,16 @@ module _ (places : ℕ) (m : Map) (it : Layout) (t : Tables) (u p g serial n : �
           did.does.others base q s (apart q s (same q s counted)) (before q s (same q s counted))
 
 -- the tables mirror it, where the place was given back, and each page is shown still
-pub stays_mirrored : (places : ℕ) (c y : Chart) (it : Layout) (t after : Tables) (p next : ℕ)
-    → IsFree t.places p → after ≡ with_next t next → t.next ≤ next → IsUnsealed p c y
+pub stays_mirrored : (places : ℕ) (c y : Chart) (it : Layout) (t after : Tables) (erases : List ℕ)
+    (p next : ℕ) → IsFree t.places p → after ≡ recounted t erases next
+    → length erases ≡ length t.places.erases → t.next ≤ next → IsUnsealed p c y
     → Mirrors places c it t → Mirrors places y it after × KeepsPages places c it y it
-stays_mirrored places c y it t after p next free is more left mirrors =
+stays_mirrored places c y it t after erases p next free is sized more left mirrors =
     let idle = free_places_are_idle places c it t p mirrors free in (
-      rw is (tables_follow_idle_places places c it t p y next mirrors idle
-          (mirrors.directory.not_overflow p free) left.others left.bare more),
+      rw is (counts_are_free places y it (with_next t next) erases
+          (tables_follow_idle_places places c it t p y next mirrors idle
+          (mirrors.directory.not_overflow p free) left.others left.bare more)
+          (sized ∙ mirrors.directory.counts)),
       (idle_places_do_not_count places c it p y mirrors.laid idle left.others (record {
         unit_header = λ u low head there _. absurd (never head there);
         status = λ head there _. absurd (never head there);

@@ -102,6 +102,7 @@ frees_masked before after last o u masks same is = rw same (record {
   current = is.current;
   written = is.written;
   generations = is.generations;
+  erases = is.erases;
   all = is.all;
   free = is.free;
   still = is.still;
@@ -157,6 +158,7 @@ module _ (drops : DropsMove) (t after : Tables) (u p generation used : ℕ) (one
             ∙ ap (λ (x : Places). x.written) is.home;
         all = is.second.all ∙ is.first.all ∙ ap (λ (x : Places). length x.in_use) is.home
             ∙ length-set t.places.in_use (slice_index t.places.current u) false;
+        erases = is.second.erases ∙ is.first.erases ∙ ap (λ (x : Places). x.erases) is.home;
         free = λ q free. elim (is.second.free q free) [
           | inl was ↦ elim (is.first.free q was) [
             | inl before ↦ elim (cases_eq q (slice_index t.places.current u)) [
@@ -260,6 +262,7 @@ moved_from t after u p used low high less moved = record {
   current = moved.current;
   written = moved.written;
   all = moved.all;
+  erases = moved.erases;
   free = moved.free;
   spots = moved.spots;
   some = moved.some;

@@ -1,14 +1,18 @@
 -- A new overflow place.
-use Rattle.std.proofs.Common.{◌≡◌, ◌≢◌, ◌⊎◌, ◌<◌, ◌≤◌, ◌+◌, ℕ, zero, suc, true, [], ◌∷◌, ◌++◌, length, None, Some, Result, Ok, Err, IfErr, IfOk, OnOk, is_ok, inl, inr, refl, sym, ◌∙◌, ap, subst, arith}
+use Rattle.std.proofs.Common.{◌≡◌, ◌≢◌, ◌⊎◌, ◌<◌, ◌≤◌, ◌+◌, ℕ, zero, suc, true, [], ◌∷◌, ◌++◌, length, slice_index, None, Some, Result, Ok, Err, IfErr, IfOk, OnOk, is_ok, inl, inr, refl, sym, ◌∙◌, ap, subst, arith}
 use Rattle.std.specs.List.{Contains}
+use Rattle.std.proofs.lemmas.Bool.{eq-eqb}
 use Rattle.std.proofs.lemmas.List.Elements.{Contains-append_cases}
 use Rattle.chip_trait.specs.Chart.{with_sector}
 use Rattle.chip_trait.specs.Lawful.{Clean, age, AreClean}
 use Rattle.chip_trait.specs.Story.{Story}
 use Rattle.chip_trait.specs.Told.{History, Told, Counts, adds_all}
 use Rattle.ipl_base.specs.declared.fault.ChipFault.{ChipFault}
-use Rattle.ipl_format.specs.Header.{SpellsUnits}
+use Rattle.ipl_format.specs.Header.{SpellsOverflowHeader, erases_said}
+use Rattle.ipl_base.specs.declared.limits.TheConstants.{VERSION}
+use Rattle.ipl_format.proofs.HeaderOnceLemmas.{overflow_headers_say_erases}
 use Rattle.ipl_format.specs.Sector.{Sector}
+use Rattle.unit_layout.specs.Header.{SpellsOverflow}
 use Rattle.ipl_rules.specs.State.{Map}
 use Rattle.ipl_meaning.specs.Chart.{Chart, chart_of}
 use Rattle.ipl_meaning.specs.Found.{MentionsBelow}
@@ -27,16 +31,16 @@ use Rattle.ipl_meaning.proofs.StandsLemmas.{stands_after_overflows}
 use Rattle.ipl_meaning.proofs.StoryLemmas.{held_stands, either_is_kept}
 use Rattle.ipl_meaning.proofs.SwitchLemmas.{overflow_headers_wait}
 use Rattle.ipl_meaning.proofs.WornLemmas.{worn_by_layout, idle_after_overflows}
-use Rattle.unit_directory.specs.Free.{first_free}
+use Rattle.unit_directory.specs.Free.{IsNextFree}
+use Rattle.txn_status.specs.Switching.{HasCounts}
 use Rattle.unit_io.specs.Charts.{Charts, IsCleared, Gains}
 use Rattle.unit_io.specs.Leads.{IsSteady, SwitchesMap, IsStopped}
 use Rattle.unit_io.specs.Spots.{Programs, Clears, Rewrites, IsSpot}
 use Rattle.unit_io.proofs.LeadsLemmas.{leads_weaker}
 use Rattle.steps.specs.Steps.{Steps, RestsAgreeing}
 use Rattle.place_taking.specs.Takes.{TakesPlace}
-use Rattle.place_taking.proofs.JoinLemmas.{first_is_free}
 use Rattle.merge_rules.proofs.KnownLemmas.{taken_is_used}
-use Rattle.selective_merge.specs.Placing.{IsOpened, OpensPlace, RestsOpened}
+use Rattle.selective_merge.specs.Placing.{IsOpened, OpensPlace, SaysErases, RestsOpened}
 use Rattle.selective_merge.specs.Throughout.{KeepsThroughout}
 use Rattle.selective_merge.proofs.FillLemmas.{clean_bare, worn_apart}
 use Rattle.selective_merge.proofs.SealLemmas.{says_of}
@@ -45,31 +49,47 @@ use Rattle.selective_merge.proofs.ThroughoutLemmas.{so_far_and, keeps_written, k
 
 -- ---- on the chip
 
--- a header of an overflow place
-pub record IsOverflowHead (units g : ℕ) (head : Sector) : Type 0 where
+-- a header of an overflow place, which says how often it was erased
+pub record IsOverflowHead (units erases g : ℕ) (head : Sector) : Type 0 where
   pub kind : head.kind ≡ 3
   pub of_generation : head.generation ≡ g
   pub serial : head.serial ≡ g
-  pub counts : SpellsUnits head.version units head.payload
+  pub counts : SpellsOverflowHeader head.version units head.payload
+  pub says : erases_said (Some head) ≡ erases
 
-opened_by : (p units g : ℕ) (c y : Chart) (head : Sector) → IsOverflowHead units g head
-    → Gains p 0 head c y → IsOpened p units g c y
-opened_by p units g c y head is gains = record {
+-- a sector whose payload says what an overflow header says is one
+pub overflow_head : (units erases g : ℕ) (head : Sector) → head.kind ≡ 3 → head.version ≡ VERSION
+    → head.generation ≡ g → head.serial ≡ g → SpellsOverflow VERSION units erases head.payload
+    → IsOverflowHead units erases g head
+overflow_head units erases g head kind version generation serial spells =
+    let is : SpellsOverflow head.version units erases head.payload =
+    subst (λ (v : ℕ). SpellsOverflow v units erases head.payload) (sym version) spells in record {
+      kind = kind;
+      of_generation = generation;
+      serial = serial;
+      counts = is.spelled;
+      says = overflow_headers_say_erases head units kind is.spelled ∙ is.erases_are;
+    }
+
+opened_by : (p units erases g : ℕ) (c y : Chart) (head : Sector) → IsOverflowHead units erases g head
+    → Gains p 0 head c y → IsOpened p units erases g c y
+opened_by p units erases g c y head is gains = record {
   head = head;
   kind = is.kind;
   of_generation = is.of_generation;
   serial = is.serial;
   counts = is.counts;
+  says = is.says;
   gains = gains;
 }
 
-pub opened_told : (p units g : ℕ) (head : Sector) (old new : Told) → IsOverflowHead units g head
+pub opened_told : (p units erases g : ℕ) (head : Sector) (old new : Told) → IsOverflowHead units erases g head
     → (result : Result (Unit {0}) ChipFault) → OnOk result (Charts (Gains p 0 head) old new)
-    → OnOk result (Charts (IsOpened p units g) old new)
-opened_told p units g head old new is (Ok w) tells = λ x told.
+    → OnOk result (Charts (IsOpened p units erases g) old new)
+opened_told p units erases g head old new is (Ok w) tells = λ x told.
     let (y, told_y, gains) = tells x told in
-    (y, told_y, opened_by p units g (chart_of x) (chart_of y) head is gains)
-opened_told p units g head old new is (Err e) tells = tt
+    (y, told_y, opened_by p units erases g (chart_of x) (chart_of y) head is gains)
+opened_told p units erases g head old new is (Err e) tells = tt
 
 -- a cleared place that is free is laid out as before
 cleared_kept : (places p : ℕ) (c y : Chart) (it : Layout) (t : Tables) → Mirrors places c it t
@@ -85,6 +105,10 @@ cleared_kept places p c y it t mirrors free cleared =
     never : (s : ℕ) (sector : Sector) → y p s ≡ Some sector → ⊥
     never s sector here = let e : None ≡ Some sector = sym (cleared.bare s) ∙ here in cc
 
+-- the sector that was put there
+sector_here : (c : Chart) (p s : ℕ) (sector : Sector) → with_sector c p s sector p s ≡ Some sector
+sector_here c p s sector = rw (eq-eqb p p refl, eq-eqb s s refl) refl
+
 -- what the seal says
 abbrev pub HeaderSays : ℕ → ℕ → Sector → Told → Result (Unit {0}) ChipFault → Told → Type 0
 HeaderSays places p head old result new = (m n : Map) (h : History) → IsSteady h old
@@ -93,10 +117,10 @@ HeaderSays places p head old result new = (m n : Map) (h : History) → IsSteady
     → WornAreIdle places h.story (with_sector (now h) p 0 head)
     → SwitchesMap places m n (Programs p (IsSpot 0)) (λ done. Gains p 0 head) h old result new
 
-pub place_opened : (places p units g : ℕ) (head : Sector) (old new : Told)
-    (result : Result (Unit {0}) ChipFault) → IsOverflowHead units g head
-    → HeaderSays places p head old result new → OpensPlace places p units g old result new
-place_opened places p units g head old new result is seal m it h steady rests laid clean =
+pub place_opened : (places p units erases g : ℕ) (head : Sector) (old new : Told)
+    (result : Result (Unit {0}) ChipFault) → IsOverflowHead units erases g head
+    → HeaderSays places p head old result new → OpensPlace places p units erases g old result new
+place_opened places p units erases g head old new result is seal m it h steady rests laid clean =
     let may = overflow_headers_may_go places (now h) it p head (λ s. clean_bare h p s (clean s)) is.kind in
     let says = says_of places (now h) it m laid (held_stands places m h rests.each) in
     let worn = worn_by_layout places h.story (with_sector (now h) p 0 head) it
@@ -105,26 +129,26 @@ place_opened places p units g head old new result is seal m it h steady rests la
     (worn_apart h.story p q 0 (clean 0) worn) (rests.worn it laid q worn)) in
     leads_weaker (EachStandsEither places m m) (EachStands places m) (Programs p (IsSpot 0))
     (Programs p (IsSpot 0)) (λ done k. StoryRests places m k × Gains p 0 head (now h) (now k))
-    (λ done k. StoryRests places m k × IsOpened p units g (now h) (now k)) h old result new
+    (λ done k. StoryRests places m k × IsOpened p units erases g (now h) (now k)) h old result new
     (λ k either. either_is_kept places m k either) (λ done a does. does)
-    (λ done k both. (both.0, opened_by p units g (now h) (now k) head is both.1))
+    (λ done k both. (both.0, opened_by p units erases g (now h) (now k) head is both.1))
     (seal m m h steady rests (clean 0)
     (stands_after_overflows places (now h) it m p head laid says may) worn)
 
 -- the place was cleared, and then opened
-pub record WasOpened (p units g : ℕ) (c z : Chart) : Type 0 where
+pub record WasOpened (p units erases g : ℕ) (c z : Chart) : Type 0 where
   pub bare : Chart
   pub cleared : IsCleared p c bare
-  pub opened : IsOpened p units g bare z
+  pub opened : IsOpened p units erases g bare z
 
 -- ---- in the tables
 
 -- the tables mirror the chart with the header, and each page is shown still
-pub opened_mirrors : (places p units g : ℕ) (c z : Chart) (it : Layout) (t : Tables)
+pub opened_mirrors : (places p units erases g : ℕ) (c z : Chart) (it : Layout) (t : Tables)
     → Mirrors places c it t → IsFree t.places p → p < places → t.next ≤ g
-    → length t.overflow.in_use < 2 → WasOpened p units g c z
+    → length t.overflow.in_use < 2 → WasOpened p units erases g c z
     → Mirrors places z it (with_overflow (taken t p) p (g + 1)) × KeepsPages places c it z it
-opened_mirrors places p units g c z it t mirrors free within new two is =
+opened_mirrors places p units erases g c z it t mirrors free within new two is =
     let idle = free_places_are_idle places c it t p mirrors free in
     let no_overflow = mirrors.directory.not_overflow p free in
     let bare = tables_follow_idle_places places c it (taken t p) p is.bare t.next
@@ -146,6 +170,16 @@ opened_mirrors places p units g c z it t mirrors free within new two is =
           waits.1 u page values low few (kept u page values low few shows)),
     )
 
+-- and the header says what the tables count
+pub opened_says : (p units erases g : ℕ) (c z : Chart) (t after : Tables) (next : ℕ)
+    → HasCounts (taken t p) p units erases → after ≡ with_overflow (taken t p) p next
+    → WasOpened p units erases g c z → SaysErases after p z
+opened_says p units erases g c z t after next has is opened =
+    ap (λ (d : Chart). erases_said (d p 0)) opened.opened.gains
+    ∙ ap erases_said (sector_here opened.bare p 0 opened.opened.head)
+    ∙ opened.opened.says ∙ sym has.erases_are
+    ∙ sym (ap (λ (x : Tables). slice_index x.places.erases p) is)
+
 opened_counted : (t : Tables) (p next : ℕ) (q n : ℕ)
     → IsCountedClean (with_overflow (taken t p) p next) q n
     → IsCountedClean t q n ⊎ ((q ≡ p) × (1 ≤ n))
@@ -163,40 +197,40 @@ opened_counted t p next q n (small, inr (inl (first, has, above))) =
 opened_counted t p next q n (small, inr (inr status)) = inl (small, inr (inr status))
 
 -- what a power cut leaves
-module _ (p units g : ℕ) (m : Map) (it : Layout) (t : Tables) (h : History) (old mid new : Told)
-    (lowest : first_free t.places.in_use ≡ Some p) (steady : IsSteady h old)
+module _ (p units erases g : ℕ) (m : Map) (it : Layout) (t : Tables) (h : History) (old mid new : Told)
+    (next : IsNextFree t.places p) (steady : IsSteady h old)
     (here : RestsAgreeing old.places m it t h) (takes : TakesPlace t.places old (Ok p) mid)
     (counts : Counts old mid) (result : Result (Unit {0}) ChipFault)
-    (opens : OpensPlace mid.places p units g mid result new)
+    (opens : OpensPlace mid.places p units erases g mid result new)
     (stopped : IfErr result (λ fault. IsStopped fault mid new)) where
   free : IsFree t.places p
-  free = first_is_free t.places p lowest
+  free = next.free
 
   -- the place taken, and its header
-  opened_all : KeepsThroughout old.places m (Rewrites p 1) (λ done. WasOpened p units g) (λ c y. ⊥) h
+  opened_all : KeepsThroughout old.places m (Rewrites p 1) (λ done. WasOpened p units erases g) (λ c y. ⊥) h
       result old new
   opened_all =
       let Mirror : Chart → Type 0 = λ c. Mirrors old.places c it t in
       let first = so_far_and old.places m h (Clears p true) (IsCleared p) Mirror old mid
-      here.agrees.mirrors (taken_so_far t p m it h old mid lowest steady here takes) in
+      here.agrees.mirrors (taken_so_far t p m it h old mid next steady here takes) in
       let k = adds_all first.added h in
       let there = (first.ends tt).1 in
-      let says = subst (λ (q : ℕ). OpensPlace q p units g mid result new) counts.places opens in
+      let says = subst (λ (q : ℕ). OpensPlace q p units erases g mid result new) counts.places opens in
       keeps_then old.places m h (Clears p true) (Programs p (IsSpot 0)) (Rewrites p 1)
-      (λ c y. IsCleared p c y × Mirror c) (λ (done : Unit {0}). IsOpened p units g)
-      (λ done. WasOpened p units g) (λ c y. ⊥) (λ c y. ⊥) old mid new result first counts
-      (keeps_written old.places m k (Programs p (IsSpot 0)) (λ done. IsOpened p units g) (λ c y. ⊥) mid
+      (λ c y. IsCleared p c y × Mirror c) (λ (done : Unit {0}). IsOpened p units erases g)
+      (λ done. WasOpened p units erases g) (λ c y. ⊥) (λ c y. ⊥) old mid new result first counts
+      (keeps_written old.places m k (Programs p (IsSpot 0)) (λ done. IsOpened p units erases g) (λ c y. ⊥) mid
       new result
       (says m it k (first.steady tt) (first.ends tt).0
       (cleared_mirrors old.places (now h) (now k) it t p there.1 free there.0).laid
       (λ s. first.does.fresh refl h.story s)) stopped)
-      (λ a b one two. rewrites_below t p 1 (IsSpot 0) (is_ok result) b a lowest
+      (λ a b one two. rewrites_below t p 1 (IsSpot 0) (is_ok result) b a next
       (λ s above spot. omega (arith, above, spot)) one two)
       (each result) (λ c d e is none. none)
     where
       each : (r : Result (Unit {0}) ChipFault) → IfOk r (λ done. (c d e : Chart)
-          → IsCleared p c d × Mirrors old.places c it t → IsOpened p units g d e
-          → WasOpened p units g c e)
+          → IsCleared p c d × Mirrors old.places c it t → IsOpened p units erases g d e
+          → WasOpened p units erases g c e)
       each (Ok done) = λ c d e is opened. record { bare = d; cleared = is.0; opened = opened }
       each (Err e) = tt
 
@@ -206,25 +240,26 @@ module _ (p units g : ℕ) (m : Map) (it : Layout) (t : Tables) (h : History) (o
       (here.agrees.mirrors.directory.not_overflow p free)
 
 -- the place was opened
-pub opened_steps : (p units g : ℕ) (m : Map) (it : Layout) (t after : Tables) (h : History)
-    (old mid new : Told) → first_free t.places.in_use ≡ Some p → (steady : IsSteady h old)
+pub opened_steps : (p units erases g : ℕ) (m : Map) (it : Layout) (t after : Tables) (h : History)
+    (old mid new : Told) → IsNextFree t.places p → (steady : IsSteady h old)
     → RestsAgreeing old.places m it t h → TakesPlace t.places old (Ok p) mid → Counts old mid
-    → OpensPlace mid.places p units g mid (Ok tt) new → (T : Type 0) (v : T) → p < old.places
+    → OpensPlace mid.places p units erases g mid (Ok tt) new → (T : Type 0) (v : T) → p < old.places
     → t.next ≤ g → length t.overflow.in_use < 2 → after ≡ with_overflow (taken t p) p (g + 1)
+    → HasCounts (taken t p) p units erases
     → Steps {T = T} {E = ChipFault} (EachStands old.places m) t after
-    (λ v k. RestsOpened old.places m (now h) it after k)
+    (λ v k. RestsOpened old.places m (now h) it after p k)
     (λ k. RestsAgreeing old.places m it after k) h (Ok v) old new
-opened_steps p units g m it t after h old mid new lowest steady here takes counts opens T v within newer
-    two is =
-    let did = opened_all p units g m it t h old mid new lowest steady here takes counts (Ok tt) opens tt in
-    let free = first_is_free t.places p lowest in
-    let there = opened_mirrors old.places p units g (now h) (now (adds_all did.added h)) it t
+opened_steps p units erases g m it t after h old mid new next steady here takes counts opens T v within newer
+    two is has =
+    let did = opened_all p units erases g m it t h old mid new next steady here takes counts (Ok tt) opens tt in
+    let free = next.free in
+    let there = opened_mirrors old.places p units erases g (now h) (now (adds_all did.added h)) it t
     here.agrees.mirrors free within newer two (did.ends tt).1 in
     let clean : (base : Story) → AreClean (IsCountedClean t) base
     → AreClean (IsCountedClean after) (did.added ++ base) = λ base before q s counted.
     elim (opened_counted t p (g + 1) q s (rw is at counted)) [
       | inl was ↦ did.does.others base q s
-          (apart p units g m it t h old mid new lowest steady here takes counts (Ok tt) opens tt q s was)
+          (apart p units erases g m it t h old mid new next steady here takes counts (Ok tt) opens tt q s was)
           (before q s was)
       | inr (at, above) ↦ rw at (did.does.fresh refl base s above)
     ] in record {
@@ -241,20 +276,22 @@ opened_steps p units g m it t after h old mid new lowest steady here takes count
         rests = (did.ends tt).0;
         agrees = record { mirrors = rw is there.0; tidy = clean h.story here.agrees.tidy };
         keeps = there.1;
+        says = opened_says p units erases g (now h) (now (adds_all did.added h)) t after (g + 1) has is
+            (did.ends tt).1;
       };
     }
 
 -- it wasn't: a write failed
-pub open_failed : (p units g : ℕ) (m : Map) (it : Layout) (t after : Tables) (h : History)
-    (old mid new : Told) → first_free t.places.in_use ≡ Some p → (steady : IsSteady h old)
+pub open_failed : (p units erases g : ℕ) (m : Map) (it : Layout) (t after : Tables) (h : History)
+    (old mid new : Told) → IsNextFree t.places p → (steady : IsSteady h old)
     → RestsAgreeing old.places m it t h → TakesPlace t.places old (Ok p) mid → Counts old mid
     → (T : Type 0) (e f : ChipFault) → IsStopped e mid new
-    → OpensPlace mid.places p units g mid (Err e) new
+    → OpensPlace mid.places p units erases g mid (Err e) new
     → Steps {T = T} {E = ChipFault} (EachStands old.places m) t after
-    (λ v k. RestsOpened old.places m (now h) it after k)
+    (λ v k. RestsOpened old.places m (now h) it after p k)
     (λ k. RestsAgreeing old.places m it after k) h (Err f) old new
-open_failed p units g m it t after h old mid new lowest steady here takes counts T e f stopped opens =
-    let did = opened_all p units g m it t h old mid new lowest steady here takes counts (Err e) opens
+open_failed p units erases g m it t after h old mid new next steady here takes counts T e f stopped opens =
+    let did = opened_all p units erases g m it t h old mid new next steady here takes counts (Err e) opens
     stopped in record {
       added = did.added;
       history = did.history;
@@ -269,10 +306,10 @@ open_failed p units g m it t after h old mid new lowest steady here takes counts
     }
 
 -- what the chip tells once the place was taken and opened
-pub taken_told : (p units g : ℕ) (old mid new : Told) → Charts (IsCleared p) old mid
-    → Charts (IsOpened p units g) mid new → Charts (WasOpened p units g) old new
-taken_told p units g old mid new first second =
-    charts_then (IsCleared p) (IsOpened p units g) (WasOpened p units g) old mid new first second
+pub taken_told : (p units erases g : ℕ) (old mid new : Told) → Charts (IsCleared p) old mid
+    → Charts (IsOpened p units erases g) mid new → Charts (WasOpened p units erases g) old new
+taken_told p units erases g old mid new first second =
+    charts_then (IsCleared p) (IsOpened p units erases g) (WasOpened p units erases g) old mid new first second
     (λ c d e cleared opened. record { bare = d; cleared = cleared; opened = opened })
 
 pub tables_same : (t : Tables) (a b : Places) (x y : OverflowLists) (n k : ℕ) → a ≡ b → x ≡ y

@@ -1,18 +1,20 @@
 -- Where a log sector goes: room that there is, and room that is made.
-use Rattle.std.proofs.Common.{◌≡◌, ◌<◌, ◌≤◌, ℕ, true, false, nat_lt, [], ◌∷◌, ◌++◌, length, min, inl, inr, refl, sym, ◌∙◌, ap, subst, arith}
+use Rattle.std.proofs.Common.{◌≡◌, ◌<◌, ◌≤◌, ℕ, true, false, nat_lt, [], ◌∷◌, ◌++◌, length, slice_index, Some, min, inl, inr, refl, sym, ◌∙◌, ap, subst, arith}
 use Rattle.std.specs.List.{Contains}
-use Rattle.std.proofs.lemmas.Bool.{lt-ltb}
+use Rattle.std.proofs.lemmas.Bool.{eq-eqb, lt-ltb}
 use Rattle.std.proofs.lemmas.List.Elements.{Contains-append_right}
 use Rattle.ipl_meaning.specs.Chart.{Chart}
 use Rattle.ipl_meaning.specs.Last.{carried_count}
-use Rattle.ipl_meaning.specs.Layout.{Layout}
+use Rattle.ipl_format.specs.Header.{erases_said}
+use Rattle.ipl_meaning.specs.Layout.{Layout, Shape}
 use Rattle.ipl_meaning.specs.Mirrors.{Mirrors}
-use Rattle.ipl_meaning.specs.Steps.{KeepsPages}
+use Rattle.ipl_meaning.specs.Steps.{KeepsPages, with_unit}
 use Rattle.ipl_meaning.specs.Tables.{IsFree, OverflowLists, Tables, spots_of}
 use Rattle.ipl_meaning.specs.TableSteps.{taken, with_overflow}
-use Rattle.merge_rules.specs.Merged.{IsMergedUnit, merged_layout}
+use Rattle.ipl_meaning.proofs.MirrorLemmas.{map_contains}
+use Rattle.merge_rules.specs.Merged.{IsMergedUnit, merged_layout, merged_shape}
 use Rattle.merge_rules.specs.Packs.{among}
-use Rattle.selective_merge.specs.Placing.{HasRoom, IsElsewhere, IsPlaced}
+use Rattle.selective_merge.specs.Placing.{SaysErases, HasRoom, IsElsewhere, IsPlaced}
 use Rattle.selective_merge.specs.Spotting.{HasHomeSpot, IsHomeSpot, IsOverflowSpot, HasCleanSpot, IsLowest, MayOverflow}
 
 -- ---- what is to be had
@@ -63,6 +65,36 @@ room_merged places c y it t u after is = record {
   how = inr is;
 }
 
+-- ---- the header of a place that was free
+
+-- that of an overflow place, or of a unit's home, wasn't
+not_free_overflow : (places : ℕ) (c : Chart) (it : Layout) (t : Tables) (p s : ℕ) → Mirrors places c it t
+    → Contains t.overflow.in_use (p, s) → ¬ IsFree t.places p
+not_free_overflow places c it t p s mirrors has free =
+    mirrors.directory.not_overflow p free (map_contains t.overflow.in_use p s has)
+
+not_free_home : (places : ℕ) (c : Chart) (it : Layout) (t : Tables) (u p : ℕ) → Mirrors places c it t
+    → u < length t.places.current → p ≡ slice_index t.places.current u → ¬ IsFree t.places p
+not_free_home places c it t u p mirrors low is free =
+    let few : u < it.count = omega (arith, low, mirrors.directory.units) in
+    mirrors.directory.not_home p free u few (sym (is ∙ mirrors.directory.current u few))
+
+-- the unit's new one says its erases
+merged_says : (places : ℕ) (c y : Chart) (it : Layout) (t : Tables) (u : ℕ) (after : Tables) (p s : ℕ)
+    → IsHomeSpot after u p s → IsMergedUnit places c y it t u after → SaysErases after p y
+merged_says places c y it t u after p s spot is =
+    let shape = merged_shape t (it.units u) u is.place is.head is.pieces is.serial in
+    let own : (with_unit it u shape).units u ≡ shape = unit_here it u shape in
+    let at : p ≡ is.place = spot.place ∙ is.mirrors.directory.current u is.low
+    ∙ ap (λ (x : Shape). x.home) own in
+    let there = (is.mirrors.laid.each u is.low).chosen.here in
+    let headed : y is.place 0 ≡ Some is.head =
+    subst (λ (x : Shape). y x.home 0 ≡ Some x.head) own there in
+    subst (λ (q : ℕ). SaysErases after q y) (sym at) (ap erases_said headed ∙ is.head_is.says)
+  where
+    unit_here : (it : Layout) (u : ℕ) (shape : Shape) → (with_unit it u shape).units u ≡ shape
+    unit_here it u shape = rw (eq-eqb u u refl) refl
+
 -- ---- elsewhere
 
 pub elsewhere_clean : (places : ℕ) (c : Chart) (it : Layout) (t : Tables) (u p s : ℕ)
@@ -76,15 +108,16 @@ elsewhere_clean places c it t u p s (spot, lowest) mirrors = record {
     new = λ none. absurd (none (p, s, spot.first, spot.within.1));
   };
   merged = λ never. absurd (never (spot.few, inl (p, s, spot.first, spot.within.1)));
+  says = λ free. absurd (not_free_overflow places c it t p s mirrors spot.first free);
 }
 
 pub elsewhere_opened : (places : ℕ) (c y : Chart) (it : Layout) (t after : Tables)
     (u p s next : ℕ)
     → (length (spots_of t u) < 16) × (¬ HasCleanSpot t) × (length t.overflow.in_use < 2)
     → (s ≡ 1) × IsFree t.places p × (after ≡ with_overflow (taken t p) p next)
-    → Mirrors places y it after → KeepsPages places c it y it
+    → Mirrors places y it after → KeepsPages places c it y it → SaysErases after p y
     → IsElsewhere places c y it t u after p s
-elsewhere_opened places c y it t after u p s next (few, none, two) (one, free, is) mirrors keeps =
+elsewhere_opened places c y it t after u p s next (few, none, two) (one, free, is) mirrors keeps says =
     record {
       room = room_opened places c y it t u after mirrors keeps;
       overflow = λ may. record {
@@ -93,6 +126,7 @@ elsewhere_opened places c y it t after u p s next (few, none, two) (one, free, i
         new = λ _. (free, one, (next, is));
       };
       merged = λ never. absurd (never (few, inr two));
+      says = λ was. says;
     }
 
 pub elsewhere_merged : (places : ℕ) (c y : Chart) (it : Layout) (t after : Tables) (u p s : ℕ)
@@ -102,13 +136,15 @@ elsewhere_merged places c y it t after u p s never spot is = record {
   room = room_merged places c y it t u after is;
   overflow = λ may. absurd (never may);
   merged = λ _. (is, spot);
+  says = λ free. merged_says places c y it t u after p s spot is;
 }
 
 -- ---- by the rules
 
 pub placed_home : (places : ℕ) (c : Chart) (it : Layout) (t : Tables) (u p s : ℕ)
-    → IsHomeSpot t u p s → Mirrors places c it t → IsPlaced places c c it t u t p s
-placed_home places c it t u p s spot mirrors = record {
+    → u < length t.places.current → IsHomeSpot t u p s → Mirrors places c it t
+    → IsPlaced places c c it t u t p s
+placed_home places c it t u p s low spot mirrors = record {
   room = room_same places c it t u mirrors;
   rules = record {
     home = λ has. (refl, spot);
@@ -116,6 +152,7 @@ placed_home places c it t u p s spot mirrors = record {
     overflow = λ none _ _. absurd (none spot.left);
     merged = λ none _ _. absurd (none spot.left);
   };
+  says = λ free. absurd (not_free_home places c it t u p mirrors low spot.place free);
 }
 
 module _ (places : ℕ) (c y : Chart) (it : Layout) (t after : Tables) (u p s n : ℕ)
@@ -134,6 +171,7 @@ module _ (places : ℕ) (c y : Chart) (it : Layout) (t after : Tables) (u p s n 
       overflow = λ _ more _. absurd (omega (arith, low, count, more));
       merged = λ _ more _. absurd (omega (arith, low, count, more));
     };
+    says = λ free. merged_says places c y it t u after p s spot is;
   }
 
   pub placed_elsewhere : 7 < n → IsElsewhere places c y it t u after p s
@@ -146,4 +184,5 @@ module _ (places : ℕ) (c y : Chart) (it : Layout) (t after : Tables) (u p s n 
       overflow = λ _ _ may. is.overflow may;
       merged = λ _ _ never. is.merged never;
     };
+    says = is.says;
   }

@@ -16,7 +16,7 @@ use Rattle.steps.proofs.StepLemmas.{outcome_none, outcome_weaker}
 use Rattle.steps.proofs.TidyLemmas.{tidy_none}
 use Rattle.merge_rules.specs.Merged.{IsMergedUnit}
 use Rattle.selective_merge.specs.Merging.{Merges, StaysMirrored, RestsMerged, MergesInSteps}
-use Rattle.selective_merge.specs.Placing.{Opens, RestsOpened, OpensInSteps, IsPlaced, MakesRoom, RestsWithRoom, MakesRoomInSteps}
+use Rattle.selective_merge.specs.Placing.{Opens, SaysErases, RestsOpened, OpensInSteps, IsPlaced, MakesRoom, RestsWithRoom, MakesRoomInSteps}
 use Rattle.selective_merge.specs.Throughout.{ChartsThroughout}
 use Rattle.selective_merge.proofs.WholeLemmas.{steps_behind, read_failed}
 
@@ -105,25 +105,27 @@ module _ (Is : RoomOf) (places u : ℕ) (t after : Tables) (old new : Told) wher
   pub makes_by_opening : (result : Result Spot ChipFault)
       → OpensInSteps places t after old result new
       → IfOk result (λ spot. (c y : Chart) (it : Layout) → Mirrors places y it after
-      → KeepsPages places c it y it → Is places c y it t u after spot.place spot.sector)
+      → KeepsPages places c it y it → SaysErases after spot.place y
+      → Is places c y it t u after spot.place spot.sector)
       → MakesRoomInSteps Is places u t after old result new
   makes_by_opening (Ok spot) says is m it h steady rests agrees =
       steps_done (EachStands places m) t after
-      (λ (v : Spot) k. RestsOpened places m (now h) it after k)
+      (λ (v : Spot) k. RestsOpened places m (now h) it after v.place k)
       (λ v k. RestsWithRoom Is places m (now h) it t u after v k)
       (λ k. RestsAgreeing places m it after k) h spot spot old new
       (λ k done. record {
         rests = done.rests;
-        room = is (now h) (now k) it done.agrees.mirrors done.keeps;
+        room = is (now h) (now k) it done.agrees.mirrors done.keeps done.says;
         tidy = done.agrees.tidy;
       }) (says m it h steady rests agrees)
   makes_by_opening (Err e) says is m it h steady rests agrees = says m it h steady rests agrees
 
   pub told_by_opening : (result : Result Spot ChipFault)
-      → ChartsThroughout (λ (spot : Spot). Opens places t after) (StaysMirrored places t after)
+      → ChartsThroughout (λ (spot : Spot). Opens places t after spot.place) (StaysMirrored places t after)
       result old new
       → IfOk result (λ spot. (c y : Chart) (it : Layout) → Mirrors places y it after
-      → KeepsPages places c it y it → Is places c y it t u after spot.place spot.sector)
+      → KeepsPages places c it y it → SaysErases after spot.place y
+      → Is places c y it t u after spot.place spot.sector)
       → ChartsThroughout (MakesRoom Is places u t after) (StaysMirrored places t after)
       result old new
   told_by_opening (Ok spot) tells is = λ x there.
@@ -131,7 +133,7 @@ module _ (Is : RoomOf) (places u : ℕ) (t after : Tables) (old new : Told) wher
         y,
         told_y,
         λ it mirrors.
-            let made = opens it mirrors in is (chart_of x) (chart_of y) it made.0 made.1,
+            let made = opens it mirrors in is (chart_of x) (chart_of y) it made.0 made.1 made.2,
       )
   told_by_opening (Err e) tells is = tells
 

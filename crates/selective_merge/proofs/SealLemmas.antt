@@ -1,5 +1,5 @@
 -- A place sealed.
-use Rattle.std.proofs.Common.{◌≡◌, ◌≤◌, ◌*◌, ℕ, List, length, true, None, Result, Ok, Err, IfErr, IfOk, OnOk, is_ok, refl, sym, ◌∙◌, ap, subst, arith}
+use Rattle.std.proofs.Common.{◌≡◌, ◌≤◌, ◌*◌, ℕ, List, length, slice_index, true, None, Result, Ok, Err, IfErr, IfOk, OnOk, is_ok, refl, sym, ◌∙◌, ap, subst, arith}
 use Rattle.std.proofs.lemmas.List.{length-map}
 use Rattle.chip_trait.specs.Chart.{with_sector}
 use Rattle.chip_trait.specs.Lawful.{Clean, age}
@@ -8,7 +8,8 @@ use Rattle.log_records.specs.View.{Versioned}
 use Rattle.merge_rules.specs.Packs.{payload_of}
 use Rattle.ipl_base.specs.declared.fault.ChipFault.{ChipFault}
 use Rattle.ipl_rules.specs.State.{Map}
-use Rattle.ipl_format.specs.Header.{SpellsDataHeader, data_header_bytes}
+use Rattle.ipl_base.specs.declared.limits.TheConstants.{VERSION}
+use Rattle.ipl_format.proofs.HeaderOnceLemmas.{data_headers_say_erases}
 use Rattle.ipl_format.specs.Sector.{Sector}
 use Rattle.ipl_meaning.specs.Chart.{Chart}
 use Rattle.ipl_meaning.specs.Layout.{Layout, Laid, Shape, records_of}
@@ -17,6 +18,9 @@ use Rattle.ipl_meaning.specs.Stands.{Shows, Says, Stands, page_in}
 use Rattle.ipl_meaning.specs.Steps.{with_unit}
 use Rattle.ipl_meaning.specs.Tables.{Tables}
 use Rattle.ipl_meaning.specs.TableSteps.{taken, with_next}
+use Rattle.txn_status.specs.Switching.{HasCounts}
+use Rattle.unit_layout.specs.declared.header.DataHeader.{DataHeader}
+use Rattle.unit_layout.specs.Header.{SpellsHeader}
 use Rattle.ipl_meaning.proofs.MirrorLemmas.{headers_may_go}
 use Rattle.ipl_meaning.proofs.OnceLemmas.{laid_once}
 use Rattle.ipl_meaning.proofs.StoryLemmas.{held_stands, either_is_kept}
@@ -38,32 +42,49 @@ use Rattle.selective_merge.proofs.ThroughoutLemmas.{so_far_and, keeps_written, k
 
 -- ---- the header
 
+-- a sector whose payload says what a data header says is a unit's header
+pub unit_head : (header : DataHeader) (head : Sector) → head.kind ≡ 1 → head.version ≡ VERSION
+    → head.serial ≡ head.generation → SpellsHeader VERSION header head.payload
+    → IsUnitHead header.units head.unit head.generation header.pieces header.carried header.erases head
+unit_head header head kind version serial spells =
+    let is : SpellsHeader head.version header head.payload =
+    subst (λ (v : ℕ). SpellsHeader v header head.payload) (sym version) spells in record {
+      kind = kind;
+      version = version;
+      of_unit = refl;
+      of_generation = refl;
+      serial = serial;
+      counts = is.spelled;
+      carries = is.carried_is;
+      says = data_headers_say_erases head header.units header.pieces kind is.spelled ∙ is.erases_are;
+    }
+
 -- a header that switches a map to itself keeps it
-pub sealed_keeps : (places p units u g : ℕ) (pieces : List ℕ) (carried : ℕ) (head : Sector)
+pub sealed_keeps : (places p units erases u g : ℕ) (pieces : List ℕ) (carried : ℕ) (head : Sector)
     (old : Told) (result : Result (Unit {0}) ChipFault) (new : Told)
-    → IsUnitHead units u g pieces carried head
+    → IsUnitHead units u g pieces carried erases head
     → ((m n : Map) (h : History) → IsSteady h old → StoryRests places m h
     → age h.story p 0 ≡ Clean → Stands places (with_sector (now h) p 0 head) n
     → WornAreIdle places h.story (with_sector (now h) p 0 head)
     → SwitchesMap places m n (Programs p (IsSpot 0)) (λ done. Gains p 0 head) h old result new)
-    → SealsUnit places p units u g pieces carried old result new
-sealed_keeps places p units u g pieces carried head old result new is says m h steady rests clean
+    → SealsUnit places p units erases u g pieces carried old result new
+sealed_keeps places p units erases u g pieces carried head old result new is says m h steady rests clean
     stands =
     leads_weaker (EachStandsEither places m m) (EachStands places m)
     (Programs p (IsSpot 0)) (Programs p (IsSpot 0))
     (λ done k. StoryRests places m k × Gains p 0 head (now h) (now k))
-    (λ done k. StoryRests places m k × IsSealed p units u g pieces carried (now h) (now k))
+    (λ done k. StoryRests places m k × IsSealed p units erases u g pieces carried (now h) (now k))
     h old result new (λ k each. either_is_kept places m k each) (λ done a same. same)
     (λ done k held. (held.0, (head, is, held.1)))
     (says m m h steady rests clean (stands head is).0 (stands head is).1)
 
-pub sealed_tells : (p units u g : ℕ) (pieces : List ℕ) (carried : ℕ) (head : Sector) (old : Told)
-    (result : Result (Unit {0}) ChipFault) (new : Told) → IsUnitHead units u g pieces carried head
+pub sealed_tells : (p units erases u g : ℕ) (pieces : List ℕ) (carried : ℕ) (head : Sector) (old : Told)
+    (result : Result (Unit {0}) ChipFault) (new : Told) → IsUnitHead units u g pieces carried erases head
     → OnOk result (Charts (Gains p 0 head) old new)
-    → OnOk result (Charts (IsSealed p units u g pieces carried) old new)
-sealed_tells p units u g pieces carried head old (Ok v) new is tells =
+    → OnOk result (Charts (IsSealed p units erases u g pieces carried) old new)
+sealed_tells p units erases u g pieces carried head old (Ok v) new is tells =
     λ x told. let (z, there, gains) = tells x told in (z, there, (head, is, gains))
-sealed_tells p units u g pieces carried head old (Err e) new is tells = tt
+sealed_tells p units erases u g pieces carried head old (Err e) new is tells = tt
 
 -- ---- what a map says of the layout in hand
 
@@ -110,12 +131,23 @@ worn_after_filling places c it t u p head pieces serial m k may rests clean =
 
 -- ---- a unit written
 
-module _ (places units p g serial carried : ℕ) (from : Source) (payloads : List Versioned)
+-- the same header, by other words for its numbers
+same_head : (units v u w g h : ℕ) (pieces : List ℕ) (carried k erases e : ℕ) (head : Sector)
+    → units ≡ v → u ≡ w → g ≡ h → carried ≡ k → erases ≡ e
+    → IsUnitHead units u g pieces carried erases head → IsUnitHead v w h pieces k e head
+same_head units v u w g h pieces carried k erases e head one two three four five is =
+    subst (λ (x : ℕ). IsUnitHead x w h pieces k e head) one
+    (subst (λ (x : ℕ). IsUnitHead units x h pieces k e head) two
+    (subst (λ (x : ℕ). IsUnitHead units u x pieces k e head) three
+    (subst (λ (x : ℕ). IsUnitHead units u g pieces x e head) four
+    (subst (λ (x : ℕ). IsUnitHead units u g pieces carried x head) five is))))
+
+module _ (places units erases p g serial carried : ℕ) (from : Source) (payloads : List Versioned)
     (pieces : List ℕ) (few : IsFew pieces) (carried_is : carried ≡ length payloads) where
   -- what is known of a place that was filled gives what a merge asks
   may_merge : (c y : Chart) (it : Layout) (t : Tables) (u : ℕ) (head : Sector)
-      → length t.places.current ≡ units → IsToMerge places c it t u p g serial from payloads
-      → IsUnitHead units from.unit g pieces carried head
+      → HasCounts (taken t p) p units erases → IsToMerge places c it t u p g serial from payloads
+      → IsUnitHead units from.unit g pieces carried erases head
       → IsFilled from p g serial pieces payloads c y
       → MayMerge places c y it t u p head pieces serial
   may_merge c y it t u head all what is filled =
@@ -127,19 +159,9 @@ module _ (places units p g serial carried : ℕ) (from : Source) (payloads : Lis
         low = what.low;
         free = what.free;
         within = what.within;
-        head_is = record {
-          kind = is.kind;
-          version = is.version;
-          of_unit = is.of_unit ∙ unit;
-          of_generation = refl;
-          serial = is.serial ∙ sym gen;
-          payload = subst (λ (k : ℕ). head.payload ≡ data_header_bytes k pieces
-              (length (packs_in t (it.units u)))) (sym all)
-              (subst (λ (k : ℕ). head.payload ≡ data_header_bytes units pieces k)
-              (carried_is ∙ many) is.payload);
-          counts = subst (λ (k : ℕ). SpellsDataHeader head.version k pieces head.payload) (sym all)
-              is.counts;
-        };
+        head_is = same_head units (length t.places.current) from.unit u g head.generation pieces carried
+            (length (packs_in t (it.units u))) erases (slice_index (taken t p).places.erases p) head
+            (sym all.units_are) unit (sym gen) (carried_is ∙ many) (sym all.erases_are) is;
         new = omega (arith, what.new, gen);
         later = omega (arith, what.later, gen);
         few = few;
@@ -159,9 +181,9 @@ module _ (places units p g serial carried : ℕ) (from : Source) (payloads : Lis
       (record { bare = bare; others = λ q s apart. refl }) gains
 
   written : (c y z : Chart) (it : Layout) (t : Tables) (u : ℕ) → ((s : ℕ) → c p s ≡ None)
-      → length t.places.current ≡ units → IsToMerge places c it t u p g serial from payloads
+      → HasCounts (taken t p) p units erases → IsToMerge places c it t u p g serial from payloads
       → GainsUnit from p g serial pieces payloads c y
-      → IsSealed p units from.unit g pieces carried y z
+      → IsSealed p units erases from.unit g pieces carried y z
       → IsWritten places c z it t u p g serial
   written c y z it t u bare all what gains (head, is, sealed) = record {
     head = head;
@@ -177,13 +199,13 @@ module _ (places units p g serial carried : ℕ) (from : Source) (payloads : Lis
   Was it t u c = IsToMerge places c it t u p g serial from payloads × ((s : ℕ) → c p s ≡ None)
 
   pub unit_written : (m : Map) (it : Layout) (t : Tables) (u : ℕ) (h : History) (old mid new : Told)
-      (result : Result (Unit {0}) ChipFault) → length t.places.current ≡ units
+      (result : Result (Unit {0}) ChipFault) → HasCounts (taken t p) p units erases
       → IsToMerge places (now h) it t u p g serial from payloads → StoryRests places m h
       → IsCleanPlace p h → Counts old mid
       → KeepsThroughout {T = List ℕ} {E = ChipFault} places m
       (Programs p (IsFilledSpot (length payloads)))
       (λ pieces. GainsUnit from p g serial pieces payloads) (IsAside p) h (Ok pieces) old mid
-      → SealsUnit places p units from.unit g pieces carried mid result new
+      → SealsUnit places p units erases from.unit g pieces carried mid result new
       → IfErr result (λ fault. IsStopped fault mid new)
       → KeepsThroughout places m (Programs p (IsUnitSpot (length payloads)))
       (λ done c y. IsWritten places c y it t u p g serial) (IsAside p) h result old new
@@ -199,11 +221,11 @@ module _ (places units p g serial carried : ℕ) (from : Source) (payloads : Lis
       keeps_then places m h (Programs p (IsFilledSpot (length payloads)) true)
       (Programs p (IsSpot 0)) (Programs p (IsUnitSpot (length payloads)))
       (λ c y. GainsUnit from p g serial pieces payloads c y × Was it t u c)
-      (λ (done : Unit {0}). IsSealed p units from.unit g pieces carried)
+      (λ (done : Unit {0}). IsSealed p units erases from.unit g pieces carried)
       (λ done c y. IsWritten places c y it t u p g serial) (λ c y. ⊥) (IsAside p)
       old mid new result first counts
       (keeps_written places m k (Programs p (IsSpot 0))
-      (λ done. IsSealed p units from.unit g pieces carried) (λ c y. ⊥) mid new result
+      (λ done. IsSealed p units erases from.unit g pieces carried) (λ c y. ⊥) mid new result
       (seals m k (first.steady tt) (first.ends tt).0 ready
       (λ head is.
       let may = may_merge (now h) (now k) it t u head all what is
@@ -217,35 +239,35 @@ module _ (places units p g serial carried : ℕ) (from : Source) (payloads : Lis
     where
       each : (r : Result (Unit {0}) ChipFault) → IfOk r (λ done. (c d e : Chart)
           → GainsUnit from p g serial pieces payloads c d × Was it t u c
-          → IsSealed p units from.unit g pieces carried d e
+          → IsSealed p units erases from.unit g pieces carried d e
           → IsWritten places c e it t u p g serial)
       each (Ok done) = λ c d e is sealed. written c d e it t u is.1.1 all is.1.0 is.0 sealed
       each (Err e) = tt
 
   pub written_told : (old mid new : Told) (result : Result (Unit {0}) ChipFault)
       → Charts (GainsUnit from p g serial pieces payloads) old mid
-      → OnOk result (Charts (IsSealed p units from.unit g pieces carried) mid new)
+      → OnOk result (Charts (IsSealed p units erases from.unit g pieces carried) mid new)
       → IfErr result (λ fault. IsStopped fault mid new)
-      → ChartsThroughout (λ done. TellsWritten places units from p g serial payloads) (IsAside p)
+      → ChartsThroughout (λ done. TellsWritten places units erases from p g serial payloads) (IsAside p)
       result old new
   written_told old mid new result one two stopped =
       told_then (GainsUnit from p g serial pieces payloads)
-      (λ (done : Unit {0}). IsSealed p units from.unit g pieces carried)
-      (λ done. TellsWritten places units from p g serial payloads) (λ c y. ⊥) (IsAside p)
+      (λ (done : Unit {0}). IsSealed p units erases from.unit g pieces carried)
+      (λ done. TellsWritten places units erases from p g serial payloads) (λ c y. ⊥) (IsAside p)
       old mid new result one
-      (told_written (λ (done : Unit {0}). IsSealed p units from.unit g pieces carried) (λ c y. ⊥)
+      (told_written (λ (done : Unit {0}). IsSealed p units erases from.unit g pieces carried) (λ c y. ⊥)
       mid mid new result (on_ok result two) stopped) (each result) (λ c d e is none. absurd none)
     where
       on_ok : (r : Result (Unit {0}) ChipFault)
-          → OnOk r (Charts (IsSealed p units from.unit g pieces carried) mid new)
-          → IfOk r (λ done. Charts (IsSealed p units from.unit g pieces carried) mid new)
+          → OnOk r (Charts (IsSealed p units erases from.unit g pieces carried) mid new)
+          → IfOk r (λ done. Charts (IsSealed p units erases from.unit g pieces carried) mid new)
       on_ok (Ok done) is = is
       on_ok (Err e) is = tt
 
       each : (r : Result (Unit {0}) ChipFault) → IfOk r (λ done. (c d e : Chart)
           → GainsUnit from p g serial pieces payloads c d
-          → IsSealed p units from.unit g pieces carried d e
-          → TellsWritten places units from p g serial payloads c e)
+          → IsSealed p units erases from.unit g pieces carried d e
+          → TellsWritten places units erases from p g serial payloads c e)
       each (Ok done) = λ c d e gains sealed it t u bare all what.
           written c d e it t u bare all what gains sealed
       each (Err e) = tt

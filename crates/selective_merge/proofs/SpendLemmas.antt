@@ -8,11 +8,12 @@ use Rattle.chip_trait.specs.declared.event.Event.TheVariants.{Read, Program, Era
 use Rattle.chip_trait.specs.Story.{Story}
 use Rattle.chip_trait.specs.Told.{Told}
 use Rattle.ipl_meaning.specs.Tables.{Places}
+use Rattle.unit_directory.specs.Free.{IsNextFree}
 use Rattle.unit_io.specs.Costs.{ErasesOnce, ProgramsAt, Spends, is_erased, is_tried}
 use Rattle.unit_io.specs.ReadsAt.{IsReadAt, ReadsAt}
 use Rattle.unit_io.proofs.CostLemmas.{costs_at_most, costs_none, costs_reads, costs_then, erased_joined, nothing_at, once_at_most, spends_at_then, spends_none, spends_then, spends_weaker, tried_joined}
-use Rattle.place_taking.specs.Takes.{ErasesLowest}
-use Rattle.selective_merge.specs.Spending.{IsLowestFree, ErasesFree, ErasesFor}
+use Rattle.place_taking.specs.Takes.{ErasesNext}
+use Rattle.selective_merge.specs.Spending.{ErasesFree, ErasesFor}
 
 -- ---- reads
 
@@ -77,7 +78,7 @@ free_behind : (At : ℕ → ℕ → Type 0) (before : Places) (later earlier : S
     → All (IsReadAt At) earlier → ErasesFree before later → ErasesFree before (later ++ earlier)
 free_behind At before later earlier reads does = record {
   costs = costs_then 0 1 0 0 0 3 [] later earlier (costs_reads At [] earlier reads) does.costs;
-  lowest = λ p is. does.lowest p (or_false (is_tried later p)
+  next = λ p is. does.next p (or_false (is_tried later p)
       (ap (λ (b : Bool). is_tried later p || b) (sym (reads_try_none At p earlier reads))
       ∙ sym (tried_joined later earlier p) ∙ is));
 }
@@ -107,7 +108,7 @@ free_read : (At : ℕ → ℕ → Type 0) (before : Places) (added : Story) → 
 free_read At before added reads = record {
   costs = costs_at_most 0 1 0 0 0 3 [] [] added (omega arith) (omega arith) (omega arith)
       (λ kind has. has) (costs_reads At [] added reads);
-  lowest = λ p is. absurd (false≢true (sym (reads_try_none At p added reads) ∙ is));
+  next = λ p is. absurd (false≢true (sym (reads_try_none At p added reads) ∙ is));
 }
 
 -- reads alone
@@ -135,7 +136,7 @@ pub frees_none : (before : Places) (t : Told) → Spends (ErasesFree before) t t
 frees_none before t = spends_none (ErasesFree before) t (record {
   costs = costs_at_most 0 1 0 0 0 3 [] [] [] (omega arith) (omega arith) (omega arith)
       (λ kind has. has) (costs_none []);
-  lowest = λ p is. absurd (false≢true is);
+  next = λ p is. absurd (false≢true is);
 })
 
 pub for_none : (before : Places) (place : ℕ) (t : Told)
@@ -147,22 +148,22 @@ for_none before place t = record {
 }
 
 -- the place that was erased was free
-pub was_free : (before : Places) (place : ℕ) (done : Bool) (added : Story) → IsLowestFree before place
+pub was_free : (before : Places) (place : ℕ) (done : Bool) (added : Story) → IsNextFree before place
     → ErasesOnce place 3 done added → ErasesFree before added
 was_free before place done added free once = record {
   costs = once.costs;
-  lowest = λ p is. subst (IsLowestFree before) (sym (once.alone p is)) free;
+  next = λ p is. subst (IsNextFree before) (sym (once.alone p is)) free;
 }
 
 pub frees_once : (before : Places) (place : ℕ) (done : Bool) (old new : Told)
-    → IsLowestFree before place → Spends (ErasesOnce place 3 done) old new
+    → IsNextFree before place → Spends (ErasesOnce place 3 done) old new
     → Spends (ErasesFree before) old new
 frees_once before place done old new free =
     spends_weaker (ErasesOnce place 3 done) (ErasesFree before) old new
     (λ added. was_free before place done added free)
 
 -- done, it is where the unit stands
-pub for_unit : (before : Places) (place at : ℕ) (old new : Told) → IsLowestFree before place
+pub for_unit : (before : Places) (place at : ℕ) (old new : Told) → IsNextFree before place
     → at ≡ place → Spends (ErasesOnce place 3 true) old new
     → Spends (ErasesFor before at true) old new
 for_unit before place at old new free is =
@@ -173,7 +174,7 @@ for_unit before place at old new free is =
     })
 
 -- not done, it is nobody's
-pub for_nobody : (before : Places) (place at : ℕ) (old new : Told) → IsLowestFree before place
+pub for_nobody : (before : Places) (place at : ℕ) (old new : Told) → IsNextFree before place
     → Spends (ErasesOnce place 3 false) old new → Spends (ErasesFor before at false) old new
 for_nobody before place at old new free =
     spends_weaker (ErasesOnce place 3 false) (ErasesFor before at false) old new
@@ -183,19 +184,19 @@ for_nobody before place at old new free =
     })
 
 -- and where none could be taken
-pub frees_untaken : (before : Places) (old new : Told) → Spends (ErasesLowest before false) old new
+pub frees_untaken : (before : Places) (old new : Told) → Spends (ErasesNext before false) old new
     → Spends (ErasesFree before) old new
 frees_untaken before old new did =
-    frees_once before did.does.place false old new did.does.lowest (record {
+    frees_once before did.does.place false old new did.does.next (record {
       added = did.added;
       does = once_at_most did.does.place 1 3 false did.added (omega arith) did.does.once;
       history = did.history;
     })
 
-pub for_untaken : (before : Places) (at : ℕ) (old new : Told) → Spends (ErasesLowest before false) old new
+pub for_untaken : (before : Places) (at : ℕ) (old new : Told) → Spends (ErasesNext before false) old new
     → Spends (ErasesFor before at false) old new
 for_untaken before at old new did =
-    for_nobody before did.does.place at old new did.does.lowest (record {
+    for_nobody before did.does.place at old new did.does.next (record {
       added = did.added;
       does = once_at_most did.does.place 1 3 false did.added (omega arith) did.does.once;
       history = did.history;

@@ -1,5 +1,5 @@
 -- A place taken, and a unit written there.
-use Rattle.std.proofs.Common.{◌≡◌, ◌≤◌, ◌+◌, ℕ, List, length, Bool, true, ◌++◌, Some, Option, Result, Ok, Err, IfErr, IfOk, is_ok, inl, inr, refl, sym, ◌∙◌, subst, arith}
+use Rattle.std.proofs.Common.{◌≡◌, ◌≤◌, ◌+◌, ℕ, List, length, slice_index, Bool, true, ◌++◌, Option, Result, Ok, Err, IfErr, IfOk, is_ok, inl, inr, refl, sym, ◌∙◌, ap, subst, arith}
 use Rattle.chip_trait.specs.Story.{Story}
 use Rattle.chip_trait.specs.Told.{History, Told, Counts, adds_all}
 use Rattle.log_records.specs.View.{Versioned}
@@ -10,18 +10,20 @@ use Rattle.ipl_meaning.specs.Chart.{Chart, chart_of}
 use Rattle.ipl_meaning.specs.Layout.{Layout}
 use Rattle.ipl_meaning.specs.Mirrors.{Mirrors}
 use Rattle.ipl_meaning.specs.Rests.{now, EachStands, StoryRests}
-use Rattle.ipl_meaning.specs.Tables.{Places, IsFree, Tables, IsCountedClean}
-use Rattle.ipl_meaning.specs.TableSteps.{with_next}
+use Rattle.ipl_meaning.specs.Tables.{Places, IsFree, with_use, with_erased, Tables, IsCountedClean}
+use Rattle.ipl_meaning.specs.TableSteps.{taken, with_next}
 use Rattle.ipl_meaning.proofs.IdleFollowLemmas.{tables_follow_idle_places}
 use Rattle.ipl_meaning.proofs.MirrorLemmas.{free_places_are_idle}
-use Rattle.unit_directory.specs.Free.{first_free}
+use Rattle.unit_directory.specs.Free.{IsNextFree}
+use Rattle.unit_directory.proofs.FreeLemmas.{one_is_next}
+use Rattle.txn_status.specs.Switching.{HasCounts}
 use Rattle.unit_io.specs.Charts.{Charts, IsCleared}
 use Rattle.unit_io.specs.Leads.{IsSteady, IsNotTaken}
 use Rattle.unit_io.specs.Spots.{Clears, Programs, Rewrites}
 use Rattle.steps.specs.Steps.{Settled, TidyWork, Steps, RestsAgreeing}
 use Rattle.steps.proofs.StepLemmas.{outcome_weaker}
-use Rattle.place_taking.specs.Takes.{ClearsLowest, RestsTaken, TakesPlace}
-use Rattle.place_taking.proofs.JoinLemmas.{same_lowest, rewrites_taken, untaken}
+use Rattle.place_taking.specs.Takes.{ClearsNext, RestsTaken, TakesPlace}
+use Rattle.place_taking.proofs.JoinLemmas.{rewrites_taken, untaken}
 use Rattle.merge_rules.specs.Faults.{IsTheFault}
 use Rattle.merge_rules.specs.Merged.{IsToMerge, IsWritten}
 use Rattle.merge_rules.specs.Moved.{Source, IsAside, IsUnsealed}
@@ -44,6 +46,7 @@ next_drawn places c it t next mirrors more = record {
     units = was.units;
     logs = was.logs;
     all = was.all;
+    counts = was.counts;
     current = was.current;
     heads = was.heads;
     generation = was.generation;
@@ -164,26 +167,35 @@ told_not places t after next old new is more tells x told =
 
 -- ---- a place was taken
 
+-- what its header is to say
+pub has_counts : (t : Tables) (d : Places) (p units erases : ℕ)
+    → d ≡ with_erased (with_use t.places p true) p → units ≡ length t.places.current
+    → erases ≡ slice_index d.erases p → HasCounts (taken t p) p units erases
+has_counts t d p units erases is units_are erases_are = record {
+  units_are = sym units_are;
+  erases_are = sym (erases_are ∙ ap (λ (e : Places). slice_index e.erases p) is);
+}
+
 module _ (t : Tables) (p : ℕ) (m : Map) (it : Layout) (h : History) (old mid : Told)
-    (lowest : first_free t.places.in_use ≡ Some p) (steady : IsSteady h old)
+    (next : IsNextFree t.places p) (steady : IsSteady h old)
     (here : RestsAgreeing old.places m it t h) (takes : TakesPlace t.places old (Ok p) mid) where
   -- it was cleared
   pub taken_so_far : SoFar old.places m (Clears p true) (IsCleared p) h old mid
   taken_so_far =
-      outcome_weaker (EachStands old.places m) (EachStands old.places m) (ClearsLowest t.places true)
+      outcome_weaker (EachStands old.places m) (EachStands old.places m) (ClearsNext t.places true)
       (Clears p true) (Unit {0}) (Unit {0}) (RestsTaken old.places m it t (now h) p)
       (λ k. StoryRests old.places m k × IsCleared p (now h) (now k)) h old mid (λ k is. is)
       (λ a did. subst (λ (q : ℕ). Clears q true a)
-      (same_lowest t.places did.place p did.lowest lowest) did.clears)
+      (one_is_next t.places did.place p did.next next) did.clears)
       (λ is. is) (λ done k is. (is.stands.rests, is.cleared)) (takes m it t h steady refl here)
 
 -- it is a place that was written anew
 pub rewrites_below : (t : Tables) (p from : ℕ) (Spot : ℕ → Type 0) (done : Bool) (b a : Story)
-    → first_free t.places.in_use ≡ Some p → ((s : ℕ) → from ≤ s → Spot s → ⊥) → Clears p true a
+    → IsNextFree t.places p → ((s : ℕ) → from ≤ s → Spot s → ⊥) → Clears p true a
     → Programs p Spot done b → Rewrites p from done (b ++ a)
-rewrites_below t p from Spot done b a lowest below one =
-    rewrites_taken t.places p from Spot done done b a lowest below
-    (record { place = p; lowest = lowest; clears = one })
+rewrites_below t p from Spot done b a next below one =
+    rewrites_taken t.places p from Spot done done b a next below
+    (record { place = p; next = next; clears = one })
 
 -- ---- a unit, written there
 
@@ -237,23 +249,23 @@ module _ (places : ℕ) (it : Layout) (t : Tables) (u p g serial : ℕ) (from : 
   }
 
 -- what a power cut leaves
-module _ (units : ℕ) (it : Layout) (t : Tables) (u p g serial : ℕ) (from : Source)
-    (payloads : List Versioned) (all : length t.places.current ≡ units) (m : Map) (h : History)
-    (old mid new : Told) (lowest : first_free t.places.in_use ≡ Some p)
+module _ (units erases : ℕ) (it : Layout) (t : Tables) (u p g serial : ℕ) (from : Source)
+    (payloads : List Versioned) (all : HasCounts (taken t p) p units erases) (m : Map) (h : History)
+    (old mid new : Told) (next : IsNextFree t.places p)
     (steady : IsSteady h old) (here : RestsAgreeing old.places m it t h)
     (takes : TakesPlace t.places old (Ok p) mid) (counts : Counts old mid)
     (what : IsToMerge old.places (now h) it t u p g serial from payloads) where
   pub unit_joined : (result : Result (Unit {0}) ChipFault)
-      → WritesUnit mid.places units from p g serial payloads mid result new
+      → WritesUnit mid.places units erases from p g serial payloads mid result new
       → KeepsThroughout old.places m (Rewrites p (241 + length payloads))
       (λ done c y. IsWritten old.places c y it t u p g serial) (IsUnsealed p) h result old new
   unit_joined result writes =
       let Asked : Chart → Type 0 = λ c. IsToMerge old.places c it t u p g serial from payloads in
       let first = so_far_and old.places m h (Clears p true) (IsCleared p) Asked old mid what
-      (taken_so_far t p m it h old mid lowest steady here takes) in
+      (taken_so_far t p m it h old mid next steady here takes) in
       let k = adds_all first.added h in
       let there = (first.ends tt).1 in
-      let says = subst (λ (q : ℕ). WritesUnit q units from p g serial payloads mid result new)
+      let says = subst (λ (q : ℕ). WritesUnit q units erases from p g serial payloads mid result new)
       counts.places writes in
       keeps_then old.places m h (Clears p true) (Programs p (IsUnitSpot (length payloads)))
       (Rewrites p (241 + length payloads)) (λ c y. IsCleared p c y × Asked c)
@@ -263,7 +275,7 @@ module _ (units : ℕ) (it : Layout) (t : Tables) (u p g serial : ℕ) (from : S
       (says m it t u k (first.steady tt) (first.ends tt).0 (λ s. first.does.fresh refl h.story s)
       all (asked_then old.places it t u p g serial from payloads (now h) (now k) there.1 there.0))
       (λ a b one two. rewrites_below t p (241 + length payloads) (IsUnitSpot (length payloads))
-      (is_ok result) b a lowest (λ s above spot. omega (arith, above, spot)) one two)
+      (is_ok result) b a next (λ s above spot. omega (arith, above, spot)) one two)
       (each result) (λ c d e is aside. unsealed p c d e is.0 aside)
     where
       each : (r : Result (Unit {0}) ChipFault) → IfOk r (λ done. (c d e : Chart)
@@ -274,24 +286,24 @@ module _ (units : ℕ) (it : Layout) (t : Tables) (u p g serial : ℕ) (from : S
       each (Err e) = tt
 
 -- what is told of the contents
-module _ (places units p g serial : ℕ) (from : Source) (payloads : List Versioned) where
-  -- whatever layout and tables of so many units asked for it
+module _ (places units erases p g serial : ℕ) (from : Source) (payloads : List Versioned) where
+  -- whatever layout and tables with these counts asked for it
   abbrev pub WasWritten : Chart → Chart → Type 0
-  WasWritten c y = (it : Layout) (t : Tables) (u : ℕ) → length t.places.current ≡ units
+  WasWritten c y = (it : Layout) (t : Tables) (u : ℕ) → HasCounts (taken t p) p units erases
       → IsToMerge places c it t u p g serial from payloads → IsWritten places c y it t u p g serial
 
   pub unit_told : (old mid new : Told) (result : Result (Unit {0}) ChipFault)
       → Charts (IsCleared p) old mid
-      → ChartsThroughout (λ done. TellsWritten places units from p g serial payloads) (IsAside p)
+      → ChartsThroughout (λ done. TellsWritten places units erases from p g serial payloads) (IsAside p)
       result mid new
       → ChartsThroughout (λ done. WasWritten) (IsUnsealed p) result old new
   unit_told old mid new result first second =
-      told_then (IsCleared p) (λ (done : Unit {0}). TellsWritten places units from p g serial payloads)
+      told_then (IsCleared p) (λ (done : Unit {0}). TellsWritten places units erases from p g serial payloads)
       (λ done. WasWritten) (IsAside p) (IsUnsealed p) old mid new result first second (each result)
       (unsealed p)
     where
       each : (r : Result (Unit {0}) ChipFault) → IfOk r (λ done. (c d e : Chart) → IsCleared p c d
-          → TellsWritten places units from p g serial payloads d e → WasWritten c e)
+          → TellsWritten places units erases from p g serial payloads d e → WasWritten c e)
       each (Ok done) = λ c d e cleared tells it t u all what.
           written_since places it t u p g serial from payloads c d e what cleared
           (tells it t u cleared.bare all

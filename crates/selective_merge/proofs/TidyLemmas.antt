@@ -1,5 +1,5 @@
 -- What the calls program and erase by the tables alone, one after another, whatever the chip tells.
-use Rattle.std.proofs.Common.{◌≡◌, ◌<◌, ◌≤◌, ◌+◌, ℕ, Bool, true, false, length, Result, Ok, inl, inr, refl, arith}
+use Rattle.std.proofs.Common.{◌≡◌, ◌<◌, ◌≤◌, ◌+◌, ℕ, Bool, true, false, List, length, Result, Ok, inl, inr, refl, arith}
 use Rattle.chip_trait.specs.Told.{Told}
 use Rattle.ipl_base.specs.declared.fault.ChipFault.{ChipFault}
 use Rattle.ipl_meaning.specs.Tables.{IsFree, Tables}
@@ -16,9 +16,10 @@ use Rattle.merge_rules.specs.Known.{KnowsPlaces}
 use Rattle.merge_rules.specs.Packs.{IsLogSpotBelow}
 use Rattle.merge_rules.specs.Pages.{IsBaseSpotBelow}
 use Rattle.merge_rules.proofs.KnownCleanLemmas.{free_apart, merged_clean, opened_clean}
-use Rattle.place_taking.specs.Takes.{ClearsLowest}
-use Rattle.place_taking.proofs.JoinLemmas.{first_is_free, tidy_untaken}
+use Rattle.place_taking.specs.Takes.{ClearsNext}
+use Rattle.place_taking.proofs.JoinLemmas.{tidy_untaken}
 use Rattle.selective_merge.specs.Writing.{IsFilledSpot, IsUnitSpot}
+use Rattle.selective_merge.proofs.HeldLemmas.{recounted}
 use Rattle.selective_merge.proofs.FillLemmas.{programs_filled, programs_unit, programs_pages, programs_unsealed}
 use Rattle.selective_merge.proofs.ReadLemmas.{reads_program}
 
@@ -155,18 +156,18 @@ module _ (places : ℕ) (t : Tables) (known : KnowsPlaces places t) (p : ℕ)
       ])
 
   -- or it was given back
-  pub gives_back_tidily : (T : Type 0) (after : Tables) (from next : ℕ)
-      (result : Result T ChipFault) (old new : Told) → after ≡ with_next t next
+  pub gives_back_tidily : (T : Type 0) (after : Tables) (erases : List ℕ) (from next : ℕ)
+      (result : Result T ChipFault) (old new : Told) → after ≡ recounted t erases next
       → Spends (Rewrites p from false) old new → Tidies t result after old new
-  gives_back_tidily T after from next result old new is did =
-      rw is (tables_rewritten t (with_next t next) p from false result old new
+  gives_back_tidily T after erases from next result old new is did =
+      rw is (tables_rewritten t (recounted t erases next) p from false result old new
       (λ settled q n counted. inl (counted, free_apart places t known p q n free counted)) did)
 
 -- or none was taken
 pub untaken_tidily : (places : ℕ) (t : Tables) → KnowsPlaces places t → (T : Type 0) (after : Tables)
     (next : ℕ) (result : Result T ChipFault) (old new : Told) → after ≡ with_next t next
-    → Spends (ClearsLowest t.places false) old new → Tidies t result after old new
+    → Spends (ClearsNext t.places false) old new → Tidies t result after old new
 untaken_tidily places t known T after next result old new is did =
     let p = did.does.place in
-    gives_back_tidily places t known p (first_is_free t.places p did.does.lowest) T after 0 next result
-    old new is (tidy_untaken t.places p 0 old new did.does.lowest did)
+    gives_back_tidily places t known p did.does.next.free T after t.places.erases 0 next result
+    old new is (tidy_untaken t.places p 0 old new did.does.next did)

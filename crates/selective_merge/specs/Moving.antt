@@ -26,6 +26,7 @@ pub record Frees (before after : Places) (place : Option ℕ) : Type 0 where
   pub current : after.current ≡ before.current
   pub written : after.written ≡ before.written
   pub generations : after.generations ≡ before.generations
+  pub erases : after.erases ≡ before.erases
   pub all : length after.in_use ≡ length before.in_use
   pub free : (q : ℕ) → IsFree after q → IsFree before q ⊎ (place ≡ Some q)
   pub still : (q : ℕ) → IsFree before q → IsFree after q

@@ -1,9 +1,9 @@
 -- What the calls leave that make room for a log sector.
-use Rattle.std.specs.Prelude.{ℕ, ◌≡◌, ◌⊎◌, Result}
+use Rattle.std.specs.Prelude.{ℕ, ◌≡◌, ◌⊎◌, Some, Result, slice_index}
 use Rattle.chip_trait.specs.Told.{History, Told}
 use Rattle.ipl_base.specs.declared.fault.ChipFault.{ChipFault}
 use Rattle.ipl_base.specs.declared.spot.Spot.{Spot}
-use Rattle.ipl_format.specs.Header.{SpellsUnits}
+use Rattle.ipl_format.specs.Header.{SpellsOverflowHeader, erases_said}
 use Rattle.ipl_format.specs.Sector.{Sector}
 use Rattle.ipl_rules.specs.State.{Map}
 use Rattle.ipl_meaning.specs.Agrees.{IsTidy, Agrees}
@@ -13,7 +13,7 @@ use Rattle.ipl_meaning.specs.Layout.{Layout, Laid}
 use Rattle.ipl_meaning.specs.Mirrors.{Mirrors}
 use Rattle.ipl_meaning.specs.Rests.{now, EachStands, StoryRests}
 use Rattle.ipl_meaning.specs.Steps.{KeepsPages}
-use Rattle.ipl_meaning.specs.Tables.{Tables}
+use Rattle.ipl_meaning.specs.Tables.{IsFree, Tables}
 use Rattle.unit_io.specs.Charts.{Gains}
 use Rattle.unit_io.specs.Leads.{IsSteady, KeepsMap}
 use Rattle.unit_io.specs.Spots.{Programs, IsSpot}
@@ -25,38 +25,47 @@ use Rattle.selective_merge.specs.Spotting.{IsHomeSpot, MayOverflow, TakesOverflo
 
 -- ---- a new overflow place
 
--- the place has the header of an overflow place under this generation, for so many units
-pub record IsOpened (p units generation : ℕ) (c y : Chart) : Type 0 where
+-- the place has the header of an overflow place under this generation, for so many units, which says
+-- how often it was erased
+pub record IsOpened (p units erases generation : ℕ) (c y : Chart) : Type 0 where
   pub head : Sector
   pub kind : head.kind ≡ 3
   pub of_generation : head.generation ≡ generation
   pub serial : head.serial ≡ generation
-  pub counts : SpellsUnits head.version units head.payload
+  pub counts : SpellsOverflowHeader head.version units head.payload
+  pub says : erases_said (Some head) ≡ erases
   pub gains : Gains p 0 head c y
 
 -- a clean place, opened
-abbrev pub OpensPlace : ℕ → ℕ → ℕ → ℕ → Told → Result (Unit {0}) ChipFault → Told → Type 0
-OpensPlace places p units generation old result new = (m : Map) (it : Layout) (h : History)
+abbrev pub OpensPlace : ℕ → ℕ → ℕ → ℕ → ℕ → Told → Result (Unit {0}) ChipFault → Told → Type 0
+OpensPlace places p units erases generation old result new = (m : Map) (it : Layout) (h : History)
     → IsSteady h old → StoryRests places m h → Laid places (now h) it → IsCleanPlace p h
-    → KeepsMap places m (Programs p (IsSpot 0)) (λ done. IsOpened p units generation) h old result new
+    → KeepsMap places m (Programs p (IsSpot 0)) (λ done. IsOpened p units erases generation) h old result new
 
--- whatever layout the tables mirrored, they mirror it still, and each page is shown still
-abbrev pub Opens : ℕ → Tables → Tables → Chart → Chart → Type 0
-Opens places t after c y = (it : Layout) → Mirrors places c it t
-    → Mirrors places y it after × KeepsPages places c it y it
+-- the header of the place says how often the tables have it erased
+abbrev pub SaysErases : Tables → ℕ → Chart → Type 0
+SaysErases t p c = erases_said (c p 0) ≡ slice_index t.places.erases p
 
--- the story rests on the map, the tables agree, and each page is shown still
-pub record RestsOpened (places : ℕ) (m : Map) (c : Chart) (it : Layout) (after : Tables)
+-- the header of the place says its erases, and whatever layout the tables mirrored, they mirror it
+-- still, and each page is shown still
+abbrev pub Opens : ℕ → Tables → Tables → ℕ → Chart → Chart → Type 0
+Opens places t after p c y = (it : Layout) → Mirrors places c it t
+    → Mirrors places y it after × KeepsPages places c it y it × SaysErases after p y
+
+-- the story rests on the map, the tables agree, each page is shown still, and the header of the place
+-- says its erases
+pub record RestsOpened (places : ℕ) (m : Map) (c : Chart) (it : Layout) (after : Tables) (p : ℕ)
     (k : History) : Type 0 where
   pub rests : StoryRests places m k
   pub agrees : Agrees places k it after
   pub keeps : KeepsPages places c it (now k) it
+  pub says : SaysErases after p (now k)
 
 abbrev pub OpensInSteps : ℕ → Tables → Tables → Told → Result Spot ChipFault → Told → Type 0
 OpensInSteps places t after old result new = (m : Map) (it : Layout) (h : History)
     → IsSteady h old → StoryRests places m h → Agrees places h it t
     → Steps (EachStands places m) t after
-    (λ spot k. RestsOpened places m (now h) it after k)
+    (λ spot k. RestsOpened places m (now h) it after spot.place k)
     (λ k. RestsAgreeing places m it after k) h result old new
 
 -- ---- room for a log sector
@@ -70,20 +79,23 @@ pub record HasRoom (places : ℕ) (c y : Chart) (it : Layout) (t : Tables) (u : 
   pub keeps : KeepsPages places c it y layout
   pub how : (layout ≡ it) ⊎ IsMergedUnit places c y it t u after
 
--- there is room elsewhere: in an overflow place, where a sector is to be had; else the unit was merged
+-- there is room elsewhere: in an overflow place, where a sector is to be had; else the unit was merged.
+-- Where the place was free before, its header says its erases.
 pub record IsElsewhere (places : ℕ) (c y : Chart) (it : Layout) (t : Tables) (u : ℕ)
     (after : Tables) (p s : ℕ) : Type 0 where
   pub room : HasRoom places c y it t u after
   pub overflow : MayOverflow t u → TakesOverflow t after u p s
   pub merged : ¬ MayOverflow t u
       → IsMergedUnit places c y it t u after × IsHomeSpot after u p s
+  pub says : IsFree t.places p → SaysErases after p y
 
--- there is room, by the rules
+-- there is room, by the rules; and where the place was free before, its header says its erases
 pub record IsPlaced (places : ℕ) (c y : Chart) (it : Layout) (t : Tables) (u : ℕ)
     (after : Tables) (p s : ℕ) : Type 0 where
   pub room : HasRoom places c y it t u after
   pub rules : FollowsRules (IsMergedUnit places c y it t u after)
       (carried_count (among t.active) (it.units u).log) t after u p s
+  pub says : IsFree t.places p → SaysErases after p y
 
 -- a call that makes room as this says, over what the chip holds
 abbrev pub MakesRoom :

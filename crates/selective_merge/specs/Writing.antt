@@ -13,6 +13,8 @@ use Rattle.ipl_meaning.specs.Layout.{Layout}
 use Rattle.ipl_meaning.specs.Rests.{now, WornAreIdle, StoryRests}
 use Rattle.ipl_meaning.specs.Stands.{Stands}
 use Rattle.ipl_meaning.specs.Tables.{Tables}
+use Rattle.ipl_meaning.specs.TableSteps.{taken}
+use Rattle.txn_status.specs.Switching.{HasCounts}
 use Rattle.unit_io.specs.Charts.{Gains}
 use Rattle.unit_io.specs.Leads.{IsSteady, KeepsMap}
 use Rattle.unit_io.specs.Spots.{Programs, IsSpot, IsPieceSpot}
@@ -93,35 +95,36 @@ FillsPlace places from p generation serial payloads old result new = (m : Map) (
     → KeepsThroughout places m (Programs p (IsFilledSpot (length payloads)))
     (λ pieces. GainsUnit from p generation serial pieces payloads) (IsAside p) h result old new
 
--- the chart has the unit's header too
-abbrev pub IsSealed : ℕ → ℕ → ℕ → ℕ → List ℕ → ℕ → Chart → Chart → Type 0
-IsSealed p units u generation pieces carried c y =
-    (head : Sector) × IsUnitHead units u generation pieces carried head × Gains p 0 head c y
+-- the chart has the unit's header too, which says how often the place was erased
+abbrev pub IsSealed : ℕ → ℕ → ℕ → ℕ → ℕ → List ℕ → ℕ → Chart → Chart → Type 0
+IsSealed p units erases u generation pieces carried c y =
+    (head : Sector) × IsUnitHead units u generation pieces carried erases head × Gains p 0 head c y
 
 -- the header of a unit, where with it the map stands still, and nothing counts at worn places
-abbrev pub SealsUnit : ℕ → ℕ → ℕ → ℕ → ℕ → List ℕ → ℕ
+abbrev pub SealsUnit : ℕ → ℕ → ℕ → ℕ → ℕ → ℕ → List ℕ → ℕ
     → Told → Result (Unit {0}) ChipFault → Told → Type 0
-SealsUnit places p units u generation pieces carried old result new = (m : Map) (h : History)
+SealsUnit places p units erases u generation pieces carried old result new = (m : Map) (h : History)
     → IsSteady h old → StoryRests places m h → age h.story p 0 ≡ Clean
-    → ((head : Sector) → IsUnitHead units u generation pieces carried head
+    → ((head : Sector) → IsUnitHead units u generation pieces carried erases head
     → Stands places (with_sector (now h) p 0 head) m
     × WornAreIdle places h.story (with_sector (now h) p 0 head))
     → KeepsMap places m (Programs p (IsSpot 0))
-    (λ done. IsSealed p units u generation pieces carried) h old result new
+    (λ done. IsSealed p units erases u generation pieces carried) h old result new
 
--- a unit, written to a clean place that is free, by tables of so many units
-abbrev pub WritesUnit : ℕ → ℕ → Source → ℕ → ℕ → ℕ → List Versioned
+-- a unit, written to a clean place that is free, by tables that have so many units and, once it was
+-- taken, count so many erases of it
+abbrev pub WritesUnit : ℕ → ℕ → ℕ → Source → ℕ → ℕ → ℕ → List Versioned
     → Told → Result (Unit {0}) ChipFault → Told → Type 0
-WritesUnit places units from p generation serial payloads old result new =
+WritesUnit places units erases from p generation serial payloads old result new =
     (m : Map) (it : Layout) (t : Tables) (u : ℕ) (h : History)
     → IsSteady h old → StoryRests places m h → IsCleanPlace p h
-    → length t.places.current ≡ units → IsToMerge places (now h) it t u p generation serial from payloads
+    → HasCounts (taken t p) p units erases → IsToMerge places (now h) it t u p generation serial from payloads
     → KeepsThroughout places m (Programs p (IsUnitSpot (length payloads)))
     (λ done c y. IsWritten places c y it t u p generation serial) (IsAside p) h result old new
 
--- whatever layout and tables of so many units asked for it, where nothing checks at the place
-abbrev pub TellsWritten : ℕ → ℕ → Source → ℕ → ℕ → ℕ → List Versioned → Chart → Chart → Type 0
-TellsWritten places units from p generation serial payloads c y = (it : Layout) (t : Tables) (u : ℕ)
-    → ((s : ℕ) → c p s ≡ None) → length t.places.current ≡ units
+-- whatever layout and tables with these counts asked for it, where nothing checks at the place
+abbrev pub TellsWritten : ℕ → ℕ → ℕ → Source → ℕ → ℕ → ℕ → List Versioned → Chart → Chart → Type 0
+TellsWritten places units erases from p generation serial payloads c y = (it : Layout) (t : Tables) (u : ℕ)
+    → ((s : ℕ) → c p s ≡ None) → HasCounts (taken t p) p units erases
     → IsToMerge places c it t u p generation serial from payloads
     → IsWritten places c y it t u p generation serial

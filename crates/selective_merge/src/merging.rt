@@ -93,6 +93,7 @@ fn merge_packed<C: Chip>(
     let generation = parts.counter.draw();
     let payloads = parts.scratch.packs.payloads();
     let place = take_place(chip, &mut parts.directory)?;
+    let erases = parts.directory.erases(place);
     let used = payloads.len() as u32;
     let masks = masks_of(payloads);
     match write_unit(
@@ -103,6 +104,7 @@ fn merge_packed<C: Chip>(
         place,
         generation,
         units,
+        erases,
         payloads,
         &mut parts.counter,
     ) {
@@ -233,8 +235,9 @@ pub fn merge_learnt<C: Chip>(
 ///
 /// Whatever a power cut leaves at any moment stands for the map on which the story rested, and done,
 /// it rests on that map. Where it failed and no write did, it rests on it too, and the tables have
-/// all as before but for the numbers that were drawn, at most 13. It tries one erase, of a place that
-/// was free, and programs nothing elsewhere.
+/// all as before but for the numbers that were drawn, at most 13, and for one erase more of the place
+/// that was taken, where it was erased. It tries one erase, of the least worn place that was free, and
+/// programs nothing elsewhere.
 ///
 /// Done, it drew a generation and a serial for each log sector that it wrote.
 ///

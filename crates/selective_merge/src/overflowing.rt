@@ -24,24 +24,26 @@ use sector_format::Head;
 use unit_io::seal;
 use unit_layout::write_overflow_header;
 
-/// Puts the header of an overflow place on a clean place, for so many units.
+/// Puts the header of an overflow place on a clean place, for so many units; it says how often the
+/// place was erased.
 fn write_overflow<C: Chip>(
     chip: &mut C,
     place: u32,
     generation: u64,
     units: u32,
+    erases: u32,
 ) -> Result<(), ChipFault>
     requires { place < (C.told chip.old).places }
-    ensures opens { OpensPlace (C.told chip.old).places place units generation
+    ensures opens { OpensPlace (C.told chip.old).places place units erases generation
         (C.told chip.old) result (C.told chip.new) }
-    ensures tells { OnOk result (Charts (IsOpened place units generation)
+    ensures tells { OnOk result (Charts (IsOpened place units erases generation)
         (C.told chip.old) (C.told chip.new)) }
     ensures costs { Spends (ProgramsAt place 1 2 3) (C.told chip.old) (C.told chip.new) }
     ensures tidy { Spends (Programs place (IsSpot 0) (is_ok result)) (C.told chip.old) (C.told chip.new) }
     ensures accounts { Accounts IsStopped result (C.told chip.old) (C.told chip.new) }
 {
-    let mut payload = [0; 4];
-    write_overflow_header(units, &mut payload);
+    let mut payload = [0; 8];
+    write_overflow_header(units, erases, &mut payload);
     let head = Head::written(Head::OVERFLOW_HEADER, 0, generation, generation);
     seal(chip, place, &head, &payload)
 }
@@ -50,8 +52,8 @@ fn write_overflow<C: Chip>(
 /// use is a condition.
 ///
 /// Whatever a power cut leaves at any moment stands for the map on which the story rested. It fails
-/// only where a write failed or where the place is worn, and the place is given back then; where it is
-/// worn the story rests on that map still.
+/// only where a write failed or where the place is worn, and the place is given back then, with one
+/// erase more where it was erased; where it is worn the story rests on that map still.
 pub fn open_overflow<C: Chip>(chip: &mut C, parts: &mut Parts) -> Result<Spot, ChipFault>
     requires known { KnowsPlaces (C.told chip.old).places (tables_of parts.old) }
     requires two { length parts.old.overflow.in_use < 2 }
@@ -59,7 +61,8 @@ pub fn open_overflow<C: Chip>(chip: &mut C, parts: &mut Parts) -> Result<Spot, C
 
     // What the chip holds then, and what a power cut leaves.
     ensures tells { ChartsThroughout
-        (λ spot. Opens (C.told chip.old).places (tables_of parts.old) (tables_of parts.new))
+        (λ spot. Opens (C.told chip.old).places (tables_of parts.old) (tables_of parts.new)
+        spot.place)
         (StaysMirrored (C.told chip.old).places (tables_of parts.old) (tables_of parts.new))
         result (C.told chip.old) (C.told chip.new) }
     ensures steps { OpensInSteps (C.told chip.old).places
@@ -82,7 +85,8 @@ pub fn open_overflow<C: Chip>(chip: &mut C, parts: &mut Parts) -> Result<Spot, C
     let units = parts.directory.units();
     let generation = parts.counter.draw();
     let place = take_place(chip, &mut parts.directory)?;
-    match write_overflow(chip, place, generation, units) {
+    let erases = parts.directory.erases(place);
+    match write_overflow(chip, place, generation, units, erases) {
         Ok(()) => {
             parts.overflow.add_place(place);
             Ok(Spot { place, sector: 1 })

@@ -80,40 +80,34 @@ fn fill<C: Chip>(
     Ok(pieces)
 }
 
-/// Puts a unit's header on a place that holds its pages and so many carried log sectors, once these
-/// are made sure of, and makes sure of it.
+/// Puts a unit's header on a place that holds its pages and as many carried log sectors as it says,
+/// once these are made sure of, and makes sure of it.
 fn seal_unit<C: Chip>(
     chip: &mut C,
     place: u32,
     head: &Head,
-    units: u32,
-    pieces: [u8; 15],
-    carried: u8,
+    header: &DataHeader,
 ) -> Result<(), ChipFault>
     requires place { place < (C.told chip.old).places }
-    requires few { IsFew pieces }
-    requires twelve { carried ≤ CARRIED_SECTORS }
+    requires few { IsFew header.now.pieces }
+    requires twelve { header.now.carried ≤ CARRIED_SECTORS }
     requires kind { head.now.kind ≡ 1 }
     requires serial { head.now.serial ≡ head.now.generation }
     requires version { head.now.version ≡ VERSION }
-    ensures seals { SealsUnit (C.told chip.old).places place units head.now.unit
-        head.now.generation pieces carried (C.told chip.old) result (C.told chip.new) }
+    ensures seals { SealsUnit (C.told chip.old).places place header.now.units header.now.erases
+        head.now.unit head.now.generation header.now.pieces header.now.carried
+        (C.told chip.old) result (C.told chip.new) }
     ensures tells { OnOk result (Charts
-        (IsSealed place units head.now.unit head.now.generation pieces carried)
-        (C.told chip.old) (C.told chip.new)) }
+        (IsSealed place header.now.units header.now.erases head.now.unit head.now.generation
+        header.now.pieces header.now.carried) (C.told chip.old) (C.told chip.new)) }
     ensures spares { OnOk result (Spares place (C.told chip.old) (C.told chip.new)) }
     ensures costs { Spends (ProgramsAt place 1 2 1) (C.told chip.old) (C.told chip.new) }
     ensures tidy { Spends (Programs place (IsSpot 0) (is_ok result))
         (C.told chip.old) (C.told chip.new) }
     ensures accounts { Accounts IsStopped result (C.told chip.old) (C.told chip.new) }
 {
-    let mut payload = [0; 20];
-    let header = DataHeader {
-        units,
-        pieces,
-        carried,
-    };
-    write_data_header(&header, &mut payload);
+    let mut payload = [0; 24];
+    write_data_header(header, &mut payload);
     seal(chip, place, head, &payload)
 }
 
@@ -126,7 +120,8 @@ fn count_of(payloads: &[Payload]) -> u8
 }
 
 /// Writes a unit to a clean place that was free, under a generation that was drawn for it: the place
-/// is filled, and its header, which tells how many units the tables have, makes it the unit's.
+/// is filled, and its header, which tells how many units the tables have and how often the place was
+/// erased, makes it the unit's.
 pub fn write_unit<C: Chip>(
     chip: &mut C,
     home: &Home,
@@ -135,6 +130,7 @@ pub fn write_unit<C: Chip>(
     place: u32,
     generation: u64,
     units: u32,
+    erases: u32,
     payloads: &[Payload],
     counter: &mut Counter,
 ) -> Result<(), ChipFault>
@@ -144,11 +140,11 @@ pub fn write_unit<C: Chip>(
     requires another { home.now.place ≢ place }
     requires twelve { length payloads.now ≤ CARRIED_SECTORS }
     requires left { counter.old + CARRIED_SECTORS < 2 ^ 64 }
-    ensures writes { WritesUnit (C.told chip.old).places units
+    ensures writes { WritesUnit (C.told chip.old).places units erases
         (from_home home.now status.now.numbers log.now) place generation counter.old
         payloads.now (C.told chip.old) result (C.told chip.new) }
     ensures tells { ChartsThroughout
-        (λ done. TellsWritten (C.told chip.old).places units
+        (λ done. TellsWritten (C.told chip.old).places units erases
         (from_home home.now status.now.numbers log.now) place generation counter.old payloads.now)
         (IsAside place) result (C.told chip.old) (C.told chip.new) }
     ensures fault { OfContents (C.told chip.old) (λ x. TellsTheFault
@@ -166,5 +162,11 @@ pub fn write_unit<C: Chip>(
     let head = Head::written(Head::DATA_HEADER, home.head.unit, generation, generation);
     let pieces = fill(chip, home, log, status, place, &head, payloads, counter)?;
     let carried = count_of(payloads);
-    seal_unit(chip, place, &head, units, pieces, carried)
+    let header = DataHeader {
+        units,
+        pieces,
+        carried,
+        erases,
+    };
+    seal_unit(chip, place, &head, &header)
 }

@@ -1,11 +1,13 @@
 -- What calls cost that erase places for what they write.
-use Rattle.std.proofs.Common.{◌≡◌, ◌≤◌, ◌+◌, ◌*◌, ◌∙◌, ℕ, Bool, true, Option, Some, Result, Ok, Err, OnOk, [], ◌++◌, refl, sym, subst, arith}
+use Rattle.std.proofs.Common.{◌≤◌, ◌+◌, ◌*◌, ◌∙◌, ℕ, Bool, true, Result, Ok, Err, OnOk, [], ◌++◌, refl, subst, arith}
 use Rattle.std.specs.Prelude.{is_ok}
 use Rattle.chip_trait.specs.Story.{Story}
 use Rattle.chip_trait.specs.Told.{Told}
 use Rattle.ipl_base.specs.declared.fault.ChipFault.{ChipFault}
 use Rattle.ipl_meaning.specs.Tables.{Places}
 use Rattle.selective_merge.specs.Spending.{ErasesFor}
+use Rattle.unit_directory.specs.Free.{IsNextFree}
+use Rattle.unit_directory.proofs.FreeLemmas.{one_is_next}
 use Rattle.unit_io.specs.Costs.{Costs, ErasesOnce, Spends}
 use Rattle.unit_io.specs.ReadsAt.{ReadsAt}
 use Rattle.unit_io.proofs.CostLemmas.{costs_then, costs_at_most, costs_none, erased_joined, spends_none, spends_reads, spends_then, spends_weaker}
@@ -57,19 +59,16 @@ place_erases place done old new =
 -- ---- the place that the status has then
 
 -- whatever came before
-pub renewed_then : (P : Story → Type 0) (taken place : ℕ) (free : Option ℕ) (old mid new : Told)
-    (result : Result (Unit {0}) ChipFault) → Spends P old mid → free ≡ Some taken
-    → OnOk result (free ≡ Some place) → Spends (ErasesOnce taken 3 (is_ok result)) mid new
+pub renewed_then : (P : Story → Type 0) (taken place : ℕ) (d : Places) (old mid new : Told)
+    (result : Result (Unit {0}) ChipFault) → Spends P old mid → IsNextFree d taken
+    → OnOk result (IsNextFree d place) → Spends (ErasesOnce taken 3 (is_ok result)) mid new
     → OnOk result (Spends (HasErased place) old new)
-renewed_then P taken place free old mid new (Ok v) first lowest moved once =
-    subst (λ (p : ℕ). Spends (HasErased p) old new) (the_same (sym lowest ∙ moved))
+renewed_then P taken place d old mid new (Ok v) first next_free moved once =
+    subst (λ (p : ℕ). Spends (HasErased p) old new) (one_is_next d taken place next_free moved)
     (spends_then P (ErasesOnce taken 3 true) (HasErased taken) old mid new
     (λ later earlier before did. erased_joined later earlier taken ∙ rw (did.erased refl) refl)
     first once)
-  where
-    the_same : {a b : ℕ} → Some a ≡ Some b → a ≡ b
-    the_same e = cc
-renewed_then P taken place free old mid new (Err e) first lowest moved once = tt
+renewed_then P taken place d old mid new (Err e) first next_free moved once = tt
 
 pub reads_then_renewed : (At : ℕ → ℕ → Type 0) (place : ℕ) (old mid new : Told) → ReadsAt At old mid
     → Spends (HasErased place) mid new → Spends (HasErased place) old new

@@ -2,12 +2,13 @@
 use Rattle.std.proofs.Common.{◌≡◌, ◌<◌, ℕ, true, false, List, length, slice_set, inl, inr, sym, ◌∙◌, ap, subst, arith}
 use Rattle.std.specs.List.{AllPairs, Contains}
 use Rattle.std.proofs.lemmas.List.{length-set}
+use Rattle.ipl_base.specs.declared.fault.ChipFault.{ChipFault}
 use Rattle.ipl_base.specs.Places.{KeepsUnits}
 use Rattle.ipl_meaning.specs.Mirrors.{AreApart}
-use Rattle.ipl_meaning.specs.Tables.{IsFree, Places, Status, Tables, overflow_places}
+use Rattle.ipl_meaning.specs.Tables.{IsFree, with_erased, Places, Status, Tables, overflow_places}
 use Rattle.merge_rules.specs.Known.{IsNamed, KnowsPlaces}
 use Rattle.unit_directory.specs.Laws.{UsesTake, DisusesGiveBack}
-use Rattle.status_renewal.specs.Renewed.{HasTables, with_tables}
+use Rattle.status_renewal.specs.Renewed.{HasTables, with_tables, IsGivenBack}
 use Rattle.status_renewal.proofs.PlaceLemmas.{IsMovedTo, none_lost, then_free}
 
 module _ (takes : UsesTake) (gives_back : DisusesGiveBack) (places p : ℕ) (d : Places)
@@ -105,3 +106,32 @@ known_same places t after new drawn same still known =
       two = known.two;
       status_placed = known.status_placed;
     }))
+
+-- how often a place was erased is all the same
+known_erased : (places : ℕ) (t : Tables) (p : ℕ) → KnowsPlaces places t
+    → KnowsPlaces places (with_tables t (with_erased t.places p) t.status t.next)
+known_erased places t p known = record {
+  suits = record {
+    all = known.suits.all;
+    units = known.suits.units;
+    overflow = known.suits.overflow;
+  };
+  none_lost = known.none_lost;
+  used = known.used;
+  homes_apart = known.homes_apart;
+  overflows_apart = known.overflows_apart;
+  no_home = known.no_home;
+  status_apart = known.status_apart;
+  two = known.two;
+  status_placed = known.status_placed;
+}
+
+-- so they know each place where the new one was given back
+pub known_back : (places : ℕ) (t : Tables) (after : Places) (new : Status) (drawn : ℕ) (fault : ChipFault)
+    → IsGivenBack t.places fault after → new ≡ t.status → KnowsPlaces places t
+    → KnowsPlaces places (with_tables t after new drawn)
+known_back places t after new drawn fault (inl same) still known =
+    known_same places t after new drawn same still known
+known_back places t after new drawn fault (inr (stopped, (p, next_free, erased))) still known =
+    known_same places (with_tables t (with_erased t.places p) t.status t.next) after new drawn erased still
+    (known_erased places t p known)

@@ -1,10 +1,12 @@
 -- A new status place, in all tables.
-use Rattle.std.proofs.Common.{◌≡◌, ◌⊎◌, ◌<◌, ◌≤◌, ◌+◌, ℕ, Bool, true, false, List, length, slice_set, Some, None, inl, inr, refl, sym, ◌∙◌, ap, subst, arith}
+use Rattle.std.proofs.Common.{◌≡◌, ◌⊎◌, ◌<◌, ◌≤◌, ◌+◌, ℕ, Bool, true, false, List, length, slice_index, slice_set, Some, None, inl, inr, refl, sym, ◌∙◌, ap, subst, arith}
 use Rattle.std.specs.List.{Contains}
 use Rattle.std.proofs.lemmas.Bool.{cases_eq, cases_lt}
 use Rattle.std.proofs.lemmas.List.{length-set, set_past}
 use Rattle.chip_trait.specs.Lawful.{Clean, age}
 use Rattle.chip_trait.specs.Told.{History, Told}
+use Rattle.ipl_base.specs.declared.fault.ChipFault.{ChipFault}
+use Rattle.ipl_base.specs.declared.fault.ChipFault.TheVariants.{Stopped}
 use Rattle.ipl_format.specs.Sector.{Sector}
 use Rattle.ipl_rules.specs.State.{Map}
 use Rattle.ipl_meaning.specs.Chart.{Chart, chart_of}
@@ -12,29 +14,53 @@ use Rattle.ipl_meaning.specs.Layout.{Layout}
 use Rattle.ipl_meaning.specs.Mirrors.{Mirrors, NoneIsLost}
 use Rattle.ipl_meaning.specs.Rests.{now}
 use Rattle.ipl_meaning.specs.Steps.{KeepsPages}
-use Rattle.ipl_meaning.specs.Tables.{IsFree, with_use, Places, Status, Tables}
+use Rattle.ipl_meaning.specs.Tables.{IsFree, with_use, with_erased, Places, Status, Tables}
 use Rattle.ipl_meaning.specs.TableSteps.{taken}
 use Rattle.ipl_meaning.proofs.IdleLemmas.{idle_places_do_not_count}
 use Rattle.ipl_meaning.proofs.IdleFollowLemmas.{places_may_be_taken}
 use Rattle.ipl_meaning.proofs.MirrorLemmas.{free_places_are_idle}
 use Rattle.txn_status.specs.Adding.{HasStatus}
 use Rattle.txn_status.specs.Status.{parts_of, switched_to}
-use Rattle.txn_status.specs.Switching.{IsTaken, MayKeep, IsSwitched, IsReadyToSwitch, Switched, Switches}
+use Rattle.txn_status.specs.Switching.{IsTaken, MayKeep, HasCounts, IsSwitched, IsReadyToSwitch, Switched, Switches}
+use Rattle.unit_directory.specs.Free.{IsNextFree}
 use Rattle.unit_directory.specs.Laws.{UsesTake, DisusesGiveBack}
 use Rattle.unit_io.specs.Charts.{Charts, IsCleared}
 use Rattle.place_taking.specs.Takes.{RestsTaken}
+use Rattle.place_taking.proofs.TakeLemmas.{given_back}
 use Rattle.selective_merge.proofs.TakenLemmas.{cleared_mirrors}
-use Rattle.status_renewal.specs.Renewed.{HasTables, with_tables, MayRenew, Renews}
+use Rattle.status_renewal.specs.Renewed.{HasTables, with_tables, IsGivenBack, MayRenew, Renews}
 use Rattle.status_renewal.proofs.ReadyLemmas.{resting_layouts_say}
 
--- the directory with the place as the status place, and the old one free
+-- the directory with the place as the status place, erased once more, and the old one free
 abbrev pub moved : Places → ℕ → ℕ → Places
-moved d p old = with_use (with_use d p true) old false
+moved d p old = with_use (with_erased (with_use d p true) p) old false
+
+-- how often the place was erased then
+abbrev pub erases_then : Places → ℕ → ℕ
+erases_then d p = slice_index (with_erased d p).erases p
 
 -- to free what is no place of the chip changes nothing
 none_used : (d : Places) (p : ℕ) → length d.in_use ≤ p → with_use d p false ≡ d
 none_used d p past =
     ap (λ (l : List Bool). record d { in_use = l }) (set_past d.in_use p false past)
+
+-- a place that was free, taken, erased and given back counts one erase more
+erased_back : (d : Places) (p : ℕ) → IsFree d p
+    → with_use (with_erased (with_use d p true) p) p false ≡ with_erased d p
+erased_back d p free = ap (λ (e : Places). with_erased e p) (given_back d p free)
+
+-- by the calls of the directory, where a write failed
+pub back_again : (d taken_one after : Places) (p : ℕ) (fault : ChipFault) → IsNextFree d p
+    → taken_one ≡ with_erased (with_use d p true) p → after ≡ with_use taken_one p false
+    → fault ≡ Stopped → IsGivenBack d fault after
+back_again d taken_one after p fault next_free first then_is stopped = inr (
+  stopped,
+  (
+    p,
+    next_free,
+    then_is ∙ ap (λ (e : Places). with_use e p false) first ∙ erased_back d p next_free.free,
+  ),
+)
 
 -- what was done to the tables
 pub record IsMovedTo (p : ℕ) (d : Places) (status : Status) (next : ℕ) (kept : List ℕ)
@@ -45,7 +71,7 @@ pub record IsMovedTo (p : ℕ) (d : Places) (status : Status) (next : ℕ) (kept
 
 -- by the calls of the directory, one after the other
 pub moved_to : (p old : ℕ) (d taken_one after : Places) (status new : Status) (next drawn : ℕ)
-    (kept : List ℕ) → taken_one ≡ with_use d p true → old ≡ status.place
+    (kept : List ℕ) → taken_one ≡ with_erased (with_use d p true) p → old ≡ status.place
     → after ≡ with_use taken_one old false
     → new ≡ switched_to p next kept → drawn ≡ next + 1 + parts_of kept
     → IsMovedTo p d status next kept after new drawn
@@ -67,6 +93,12 @@ module _ (takes : UsesTake) (gives_back : DisusesGiveBack) (places p : ℕ) (d :
 
     pub has_status : HasStatus (taken t p) status next
     has_status = record { status_is = has.status_is; next_is = has.next_is }
+
+    pub has_counts : HasCounts (taken t p) p (length d.current) (erases_then d p)
+    has_counts = record {
+      units_are = ap (λ (e : Places). length e.current) has.places_is;
+      erases_are = ap (λ (e : Places). erases_then e p) has.places_is;
+    }
 
     -- nothing checks there then
     none_there : (c y : Chart) → IsCleared p c y → (s : ℕ) (sector : Sector) → y p s ≡ Some sector → ⊥
@@ -143,6 +175,7 @@ module _ (takes : UsesTake) (gives_back : DisusesGiveBack) (places p : ℕ) (d :
         written = ap (λ (e : Places). e.written) (places_then t has);
         generations = ap (λ (e : Places). e.generations) (places_then t has);
         masks = ap (λ (e : Places). e.masks) (places_then t has);
+        erases = ap (λ (e : Places). e.erases) (places_then t has);
         all = ap (λ (e : Places). length e.in_use) (places_then t has)
             ∙ length-set (slice_set t.places.in_use p true) status.place false;
         free = λ q free_then. elim (then_free q free_then) [
@@ -164,7 +197,7 @@ module _ (takes : UsesTake) (gives_back : DisusesGiveBack) (places p : ℕ) (d :
     at_place = sym (ap (λ (s : Status). s.place) is.status_is)
 
     pub renews_told : (old mid told : Told) → Charts (IsCleared p) old mid
-        → Charts (Switches places (length d.current) status next p kept) mid told
+        → Charts (Switches places (length d.current) (erases_then d p) status next p kept) mid told
         → Charts (Renews places d status next kept after new drawn) old told
     renews_told old mid told clears switches x told_x =
         let (y, told_y, cleared) = clears x told_x in
@@ -177,7 +210,7 @@ module _ (takes : UsesTake) (gives_back : DisusesGiveBack) (places p : ℕ) (d :
               (cleared_mirrors places (chart_of x) (chart_of y) it t p mirrors
               (free_there it t has may) cleared) within in
               let done = made it (taken t p) then there (has_status it t has may)
-              (ap (λ (e : Places). length e.current) has.places_is)
+              (has_counts it t has may)
               (is_taken it t has may (chart_of x) (chart_of y) mirrors cleared)
               (may_keep it t has may) (switched t has) in
               subst (λ (q : ℕ). Switched places (chart_of x) (chart_of z) it then q next kept)

@@ -1,5 +1,5 @@
 -- What a power cut leaves where the status place is taken and written.
-use Rattle.std.proofs.Common.{◌≡◌, ◌≢◌, ◌⊎◌, ◌<◌, ◌≤◌, ◌+◌, ℕ, true, List, length, Some, Result, Ok, Err, is_ok, inl, inr, refl, sym, ap, subst, arith}
+use Rattle.std.proofs.Common.{◌≡◌, ◌≢◌, ◌⊎◌, ◌<◌, ◌≤◌, ◌+◌, ℕ, true, List, length, Result, Ok, Err, is_ok, inl, inr, refl, sym, ap, subst, arith}
 use Rattle.chip_trait.specs.Lawful.{Clean, age}
 use Rattle.chip_trait.specs.Told.{History, Told, Counts, adds_all}
 use Rattle.ipl_base.specs.declared.fault.ChipFault.{ChipFault}
@@ -9,31 +9,34 @@ use Rattle.ipl_meaning.specs.Layout.{Layout}
 use Rattle.ipl_meaning.specs.Rests.{now, EachStands, StoryRests}
 use Rattle.ipl_meaning.specs.Tables.{Places, Status, Tables, IsCountedClean, IsFree}
 use Rattle.ipl_meaning.specs.TableSteps.{taken}
-use Rattle.unit_directory.specs.Free.{first_free}
+use Rattle.unit_directory.specs.Free.{IsNextFree}
 use Rattle.unit_directory.specs.Laws.{UsesTake, DisusesGiveBack}
 use Rattle.unit_io.specs.Leads.{IsSteady}
 use Rattle.steps.specs.Steps.{Settled, NoOtherEnd, EndsWith, Outcome, TidyWork}
-use Rattle.place_taking.specs.Takes.{ClearsLowest, RestsTaken, TakesPlace}
-use Rattle.place_taking.proofs.JoinLemmas.{same_lowest, taken_then}
+use Rattle.place_taking.specs.Takes.{ClearsNext, RestsTaken, TakesPlace}
+use Rattle.place_taking.proofs.JoinLemmas.{taken_then}
+use Rattle.unit_directory.proofs.FreeLemmas.{one_is_next}
 use Rattle.txn_status.specs.Status.{parts_of, switched_to}
 use Rattle.txn_status.specs.Switching.{IsStatusSpot, IsSwitched, IsReadyToSwitch, RestsSwitched, StepsSwitching, SwitchesInSteps}
 use Rattle.txn_status.proofs.SwitchedLemmas.{counted_apart}
 use Rattle.selective_merge.proofs.TakenLemmas.{steps_not}
 use Rattle.status_renewal.specs.Renewed.{HasTables, with_tables, MayRenew, RenewsInSteps}
-use Rattle.status_renewal.proofs.PlaceLemmas.{moved, IsMovedTo, has_status, ready, switched}
+use Rattle.status_renewal.proofs.PlaceLemmas.{moved, erases_then, IsMovedTo, has_status, has_counts, ready, switched}
 
 -- the place was taken
 module _ (takes : UsesTake) (gives_back : DisusesGiveBack) (p : ℕ) (d : Places) (status : Status)
     (next : ℕ) (kept : List ℕ) (old mid told : Told) (sized : length d.in_use ≡ old.places)
-    (lowest : first_free d.in_use ≡ Some p) (free : IsFree d p) (less : p < length d.in_use)
-    (counts : Counts old mid) (taking : TakesPlace d old (Ok p) mid) where
+    (next_free : IsNextFree d p) (counts : Counts old mid) (taking : TakesPlace d old (Ok p) mid) where
+  free : IsFree d p
+  free = next_free.free
+
   within : p < old.places
-  within = omega (arith, less, sized)
+  within = let less = next_free.within in omega (arith, less, sized)
 
   module _ (m : Map) (it : Layout) (t : Tables) (h : History) (steady : IsSteady h old)
       (has : HasTables t d status next) (rests : StoryRests old.places m h)
       (agrees : Agrees old.places h it t) (may : MayRenew it t kept) where
-    first : Outcome (EachStands old.places m) (ClearsLowest d true) (Unit {0})
+    first : Outcome (EachStands old.places m) (ClearsNext d true) (Unit {0})
         (RestsTaken old.places m it t (now h) p) h old mid
     first = taking m it t h steady has.places_is (record { rests = rests; agrees = agrees })
 
@@ -44,7 +47,7 @@ module _ (takes : UsesTake) (gives_back : DisusesGiveBack) (p : ℕ) (d : Places
         ready takes gives_back old.places p d status next kept sized free within it t has may h k m
         agrees.mirrors (first.ends tt)
         (λ s. subst (λ (q : ℕ). age k.story q s ≡ Clean)
-        (same_lowest d first.does.place p first.does.lowest lowest)
+        (one_is_next d first.does.place p first.does.next next_free)
         (first.does.clears.fresh refl h.story s))
 
     -- a switch there, whatever tables it makes
@@ -68,23 +71,25 @@ module _ (takes : UsesTake) (gives_back : DisusesGiveBack) (p : ℕ) (d : Places
           absurd (second.ends (omega (arith, counts.writes, unrisen)))
 
       joined : (result : Result (Unit {0}) ChipFault)
-          → SwitchesInSteps old.places (length d.current) status next p kept result mid told
+          → SwitchesInSteps old.places (length d.current) (erases_then d p) status next p kept result mid told
           → Outcome (EachStands old.places m)
           (TidyWork (IsCountedClean t) (IsCountedClean after) (Settled result old told))
           (Settled result old told) (Ends result) h old told
       joined result says =
           let second = says (adds_all first.added h) it (taken t p) after m (first.steady tt)
           (has_status takes gives_back old.places p d status next kept sized free within it t has
-          may) (ap (λ (e : Places). length e.current) has.places_is) there switched_so in
+          may)
+          (has_counts takes gives_back old.places p d status next kept sized free within it t has
+          may) there switched_so in
           taken_then (Unit {0}) ChipFault (EachStands old.places m)
           (RestsTaken old.places m it t (now h) p) (Ends result) d p (1 + parts_of kept)
-          (IsStatusSpot (parts_of kept)) t after h result old mid told lowest
+          (IsStatusSpot (parts_of kept)) t after h result old mid told next_free
           (λ s high spot. omega (arith, high, spot)) counts first second (moved_on result second)
 
   -- and written
   pub renews_in_steps : (after : Places) (new : Status) (drawn : ℕ)
       → IsMovedTo p d status next kept after new drawn
-      → SwitchesInSteps old.places (length d.current) status next p kept (Ok tt) mid told
+      → SwitchesInSteps old.places (length d.current) (erases_then d p) status next p kept (Ok tt) mid told
       → RenewsInSteps old.places d status next kept after new drawn (Ok tt) old told
   renews_in_steps after new drawn is says m it t h steady has rests agrees may =
       let then_is : Tables = with_tables t after new drawn in
@@ -102,7 +107,7 @@ module _ (takes : UsesTake) (gives_back : DisusesGiveBack) (p : ℕ) (d : Places
 
   -- or a write failed
   pub failed_in_steps : (after : Places) (new : Status) (drawn : ℕ) (e f : ChipFault)
-      → SwitchesInSteps old.places (length d.current) status next p kept (Err e) mid told
+      → SwitchesInSteps old.places (length d.current) (erases_then d p) status next p kept (Err e) mid told
       → RenewsInSteps old.places d status next kept after new drawn (Err f) old told
   failed_in_steps after new drawn e f says m it t h steady has rests agrees may =
       let made : Places = moved d p status.place in

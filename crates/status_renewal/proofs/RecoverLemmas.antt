@@ -88,6 +88,7 @@ opens_done places c t after new none laid (y, told, is) = (
     mirrors = is.mirrors;
     pages = is.pages;
     exact = is.exact;
+    says = is.says;
   },
 )
 

@@ -1,7 +1,8 @@
 -- All units passed, and a new status place with the numbers that are kept.
-use Rattle.std.proofs.Common.{◌≡◌, ◌≤◌, ◌∙◌, ℕ, Bool, IsTrue, List, Result, Ok, Err, OnOk, OnErr, MatchResult, refl, sym, ap, subst, arith}
+use Rattle.std.proofs.Common.{◌≡◌, ◌≤◌, ◌∙◌, ℕ, Bool, IsTrue, List, Result, Ok, Err, OnOk, IfErr, MatchResult, inl, inr, refl, sym, ap, subst, arith}
 use Rattle.chip_trait.specs.Told.{Told}
 use Rattle.ipl_base.specs.declared.fault.ChipFault.{ChipFault}
+use Rattle.ipl_format.specs.Header.{erases_said}
 use Rattle.ipl_meaning.specs.Chart.{Chart, chart_of}
 use Rattle.ipl_meaning.specs.Layout.{Layout}
 use Rattle.ipl_meaning.specs.Steps.{with_status}
@@ -12,7 +13,7 @@ use Rattle.unit_io.specs.Charts.{Charts}
 use Rattle.selective_merge.specs.Throughout.{ChartsThroughout}
 use Rattle.selective_merge.proofs.TakenLemmas.{told_not}
 use Rattle.status_renewal.specs.Passes.{HasPassed, HasRenewed, HasStopped, TellsChart, PassEnds}
-use Rattle.status_renewal.specs.Renewed.{with_tables, MayRenew, Renews}
+use Rattle.status_renewal.specs.Renewed.{with_tables, IsGivenBack, MayRenew, Renews}
 use Rattle.kept_numbers.specs.Keeps.{KeepsBelow}
 use Rattle.kept_numbers.proofs.KeepsLemmas.{kept_numbers_keep, kept_numbers_are_exact}
 use Rattle.status_renewal.proofs.ReadyLemmas.{kept_numbers_are_old}
@@ -60,6 +61,7 @@ module _ (places : ℕ) (c : Chart) (it : Layout) (t : Tables) (kept : List ℕ)
                   λ is. both.1
                       (subst (λ (f : ℕ → Bool). IsTrue (f tid)) (sym was.committed) is.0, is.1),
                 );
+            says = ap erases_said switched.mirrors.laid.chosen.here ∙ switched.is_head.says;
           },
         )
 
@@ -89,17 +91,20 @@ module _ (places : ℕ) (c : Chart) (it : Layout) (t : Tables) (kept : List ℕ)
     pub renew_ends : (result : Result (Unit {0}) ChipFault)
         → ChartsThroughout (λ done. Renews places between.places between.status between.next kept
         directory status drawn) (λ d y. y ≡ d) result mid new
-        → OnErr result ((directory ≡ between.places) × (status ≡ between.status))
+        → IfErr result (λ fault. IsGivenBack between.places fault directory × (status ≡ between.status))
         → between.next ≤ drawn
         → PassEnds places c it t result new (with_tables between directory status drawn)
         (TellsChart (HasRenewed places c it t (with_tables between directory status drawn)) new)
     renew_ends (Ok v) renews same more = renewed renews
-    renew_ends (Err e) renews same more = λ soft. unrenewed same.0 same.1 more (renews soft)
+    renew_ends (Err e) renews same more = λ soft. elim same.0 [
+      | inl untouched ↦ unrenewed untouched same.1 more (renews soft)
+      | inr stopped ↦ absurd (soft stopped.0)
+    ]
 
 -- what the status has, however its writing ended
 pub status_ends : (result : Result (Unit {0}) ChipFault) (before after : Places)
     (old between new : Status) → OnOk result (191 ≤ room_of new)
-    → OnErr result ((after ≡ before) × (new ≡ between)) → between ≡ old
+    → IfErr result (λ fault. IsGivenBack before fault after × (new ≡ between)) → between ≡ old
     → MatchResult result (λ _. 191 ≤ room_of new) (λ _. new ≡ old)
 status_ends (Ok v) before after old between new room same was = room
 status_ends (Err e) before after old between new room same was = same.1 ∙ was

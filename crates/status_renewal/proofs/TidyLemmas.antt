@@ -3,14 +3,15 @@ use Rattle.std.proofs.Common.{◌≡◌, ◌<◌, ◌+◌, ℕ, Bool, true, fals
 use Rattle.std.proofs.lemmas.Bool.{false≢true}
 use Rattle.chip_trait.specs.Told.{Told, Counts}
 use Rattle.ipl_base.specs.declared.fault.ChipFault.{ChipFault}
-use Rattle.ipl_meaning.specs.Tables.{IsFree, Places, Status, Tables, IsCountedClean}
+use Rattle.ipl_meaning.specs.Tables.{IsFree, with_erased, Places, Status, Tables, IsCountedClean}
 use Rattle.merge_rules.specs.Known.{KnowsPlaces}
 use Rattle.merge_rules.proofs.KnownCleanLemmas.{free_apart, renewed_clean}
+use Rattle.restart.specs.Filled.{with_counts}
 use Rattle.restart.specs.Opened.{NoneIsClean}
 use Rattle.steps.specs.Steps.{Settled, TidyWork, Tidies}
 use Rattle.steps.proofs.TablesLemmas.{tables_none, tables_read, tables_then, tables_rewritten}
 use Rattle.steps.proofs.TidyLemmas.{tidy_reads, tidy_then}
-use Rattle.place_taking.specs.Takes.{ClearsLowest}
+use Rattle.place_taking.specs.Takes.{ClearsNext}
 use Rattle.selective_merge.proofs.TidyLemmas.{untaken_tidily}
 use Rattle.txn_status.specs.Status.{parts_of}
 use Rattle.unit_directory.specs.Laws.{UsesTake, DisusesGiveBack}
@@ -19,7 +20,7 @@ use Rattle.unit_io.specs.ReadsAt.{ReadsAt}
 use Rattle.unit_io.specs.Spots.{Rewrites}
 use Rattle.unit_io.proofs.CostLemmas.{spends_then}
 use Rattle.status_renewal.specs.Recovers.{IsNowhere}
-use Rattle.status_renewal.specs.Renewed.{HasTables, with_tables}
+use Rattle.status_renewal.specs.Renewed.{HasTables, with_tables, IsGivenBack}
 use Rattle.status_renewal.proofs.PlaceLemmas.{IsMovedTo, switched}
 
 -- ---- one call after another
@@ -78,24 +79,35 @@ module _ (takes : UsesTake) (gives_back : DisusesGiveBack) (places p : ℕ) (d :
         | inr here ↦ inr (refl, here.0, here.1)
       ])
 
-  -- a write failed, and the tables have the old one still
-  pub tidy_unrenewed : (from : ℕ) (e : ChipFault) (old told : Told) → after ≡ t.places
+  -- whatever counts of erases the tables have then
+  tidy_still : (from : ℕ) (e : ChipFault) (old told : Told) (counted_so : List ℕ)
+      → after ≡ with_counts t.places counted_so
       → new ≡ t.status → Spends (Rewrites p from false) old told
       → Tidies {T = Unit {0}} {E = ChipFault} t (Err e) (with_tables t after new drawn) old told
   unfolding free_there
-  tidy_unrenewed from e old told same still did =
+  tidy_still from e old told counted_so same still did =
+      let made : Places = with_counts t.places counted_so in
       subst (λ (d : Places). Tidies {T = Unit {0}} {E = ChipFault} t (Err e)
       (with_tables t d new drawn) old told) (sym same)
       (subst (λ (s : Status). Tidies {T = Unit {0}} {E = ChipFault} t (Err e)
-      (with_tables t t.places s drawn) old told) (sym still)
-      (tables_rewritten {T = Unit {0}} {E = ChipFault} t (with_tables t t.places t.status drawn) p
+      (with_tables t made s drawn) old told) (sym still)
+      (tables_rewritten {T = Unit {0}} {E = ChipFault} t (with_tables t made t.status drawn) p
       from false (Err e) old told
       (λ _ q s counted. inl (counted, free_apart places t known p q s free_there counted)) did))
+
+  -- a write failed, and the tables have the old one still
+  pub tidy_unrenewed : (from : ℕ) (e fault : ChipFault) (old told : Told)
+      → IsGivenBack t.places fault after → new ≡ t.status → Spends (Rewrites p from false) old told
+      → Tidies {T = Unit {0}} {E = ChipFault} t (Err e) (with_tables t after new drawn) old told
+  tidy_unrenewed from e fault old told (inl same) still did =
+      tidy_still from e old told t.places.erases same still did
+  tidy_unrenewed from e fault old told (inr (stopped, (q, next_free, erased))) still did =
+      tidy_still from e old told (with_erased t.places q).erases erased still did
 
 -- none was taken
 pub tidy_not_taken : (places : ℕ) (t : Tables) → KnowsPlaces places t → (after : Places)
     (new : Status) (drawn : ℕ) (e : ChipFault) (old told : Told) → after ≡ t.places → new ≡ t.status
-    → Spends (ClearsLowest t.places false) old told
+    → Spends (ClearsNext t.places false) old told
     → Tidies {T = Unit {0}} {E = ChipFault} t (Err e) (with_tables t after new drawn) old told
 tidy_not_taken places t known after new drawn e old told same still =
     untaken_tidily places t known (Unit {0}) (with_tables t after new drawn) drawn (Err e) old told

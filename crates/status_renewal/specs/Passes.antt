@@ -18,6 +18,7 @@ use Rattle.merge_rules.specs.Faults.{merge_fault, IsMergeable, FailsByChipAlone}
 use Rattle.merge_rules.specs.Known.{KnowsPlaces}
 use Rattle.merge_rules.specs.Pages.{IsBaseSpotBelow}
 use Rattle.merge_rules.specs.Packs.{among, packs_of, entries_from}
+use Rattle.selective_merge.specs.Placing.{SaysErases}
 use Rattle.selective_merge.specs.Throughout.{ChartsThroughout}
 use Rattle.steps.specs.Laws.{Preserves}
 use Rattle.txn_status.specs.Status.{room_of}
@@ -114,8 +115,8 @@ GoesOnTelling result old new =
 
 -- ---- the renewal
 
--- All units were passed, and the status has a new place with the numbers that are kept. All pages
--- show what they showed. Of the numbers that were committed exactly those are so still that a live
+-- All units were passed, and the status has a new place with the numbers that are kept, whose header
+-- says how often the tables have it erased. All pages show what they showed. Of the numbers that were committed exactly those are so still that a live
 -- record has.
 pub record HasRenewed (places : ℕ) (c : Chart) (it : Layout) (t after : Tables)
     (y : Chart) : Type 0 where
@@ -126,6 +127,7 @@ pub record HasRenewed (places : ℕ) (c : Chart) (it : Layout) (t after : Tables
   pub committed : now.committed ≡ among (kept_below t.status.numbers it it.count)
   pub exact : (tid : ℕ) → IsTrue (now.committed tid)
       ↔ (IsTrue (it.committed tid) × IsLoggedBelow now.count now tid)
+  pub says : SaysErases after after.status.place y
 
 -- whatever layout the tables mirrored, the status was renewed
 abbrev pub RenewsAny : ℕ → Tables → Tables → Chart → Chart → Type 0

@@ -21,6 +21,7 @@ use Rattle.merge_rules.specs.Known.{KnowsPlaces}
 use Rattle.opening_rules.specs.Faults.{first_fault}
 use Rattle.opening_rules.specs.LaidOut.{layout_in}
 use Rattle.restart.specs.Looks.{OnlyReads}
+use Rattle.selective_merge.specs.Placing.{SaysErases}
 use Rattle.steps.specs.Steps.{Settled, EndsWith, Outcome, TidyWork}
 use Rattle.txn_status.specs.Status.{room_of}
 use Rattle.unit_io.specs.Costs.{Spends}
@@ -34,7 +35,8 @@ use Rattle.status_renewal.specs.Passes.{TellsChart}
 
 -- The chart had no fault, and was laid out so. There are as many units, all pages show what they
 -- showed, and of the numbers that were committed exactly those are so still that a live record has;
--- the tables mirror the new chart.
+-- the tables mirror the new chart, and the header of the status place says how often they have it
+-- erased.
 pub record HasOpened (places : ℕ) (c : Chart) (after : Tables) (y : Chart) : Type 0 where
   pub none : first_fault c places ≡ None
   pub laid : Laid places c (layout_in c places)
@@ -44,6 +46,7 @@ pub record HasOpened (places : ℕ) (c : Chart) (after : Tables) (y : Chart) : T
   pub pages : KeepsPages places c (layout_in c places) y now
   pub exact : (tid : ℕ) → IsTrue (now.committed tid)
       ↔ (IsTrue ((layout_in c places).committed tid) × IsLoggedBelow now.count now tid)
+  pub says : SaysErases after after.status.place y
 
 -- it is what is wrong with the first page of a unit that doesn't read well or, with its committed
 -- records, is more than a page holds

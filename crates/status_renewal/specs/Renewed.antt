@@ -1,7 +1,8 @@
 -- What a new status place makes of all tables.
-use Rattle.std.specs.Prelude.{ℕ, ◌≡◌, List, Some, true, false, Result}
+use Rattle.std.specs.Prelude.{ℕ, ◌≡◌, ◌⊎◌, List, true, false, Result}
 use Rattle.chip_trait.specs.Told.{History, Told}
 use Rattle.ipl_base.specs.declared.fault.ChipFault.{ChipFault}
+use Rattle.ipl_base.specs.declared.fault.ChipFault.TheVariants.{Stopped}
 use Rattle.ipl_rules.specs.State.{Map}
 use Rattle.ipl_meaning.specs.Agrees.{Agrees}
 use Rattle.ipl_meaning.specs.Chart.{Chart}
@@ -9,12 +10,12 @@ use Rattle.ipl_meaning.specs.Layout.{Layout}
 use Rattle.ipl_meaning.specs.Mirrors.{Mirrors}
 use Rattle.ipl_meaning.specs.Rests.{EachStands, StoryRests}
 use Rattle.ipl_meaning.specs.Steps.{KeepsNumbers}
-use Rattle.ipl_meaning.specs.Tables.{Places, Status, Tables, with_use}
+use Rattle.ipl_meaning.specs.Tables.{Places, Status, Tables, with_use, with_erased}
 use Rattle.number_set.specs.Numbers.{among}
 use Rattle.txn_status.specs.Status.{switched_to}
 use Rattle.steps.specs.Steps.{Steps, RestsAgreeing}
 use Rattle.txn_status.specs.Switching.{MayKeep, Switched, RestsSwitched}
-use Rattle.unit_directory.specs.Free.{first_free}
+use Rattle.unit_directory.specs.Free.{IsNextFree}
 use Rattle.unit_io.specs.Leads.{IsSteady}
 
 -- ---- tables
@@ -30,14 +31,20 @@ abbrev pub with_tables : Tables → Places → Status → ℕ → Tables
 with_tables t directory status next =
     record t { places = directory; status = status; next = next }
 
--- the lowest free place is the status place, under the number that was next and with exactly these
--- numbers, and the old one is free
+-- the least worn free place was erased once more and is the status place, under the number that was
+-- next and with exactly these numbers, and the old one is free
 pub record MovesStatus (before : Places) (old : Status) (next : ℕ) (kept : List ℕ)
     (after : Places) (new : Status) : Type 0 where
   pub place : ℕ
-  pub lowest : first_free before.in_use ≡ Some place
+  pub next_free : IsNextFree before place
   pub status_is : new ≡ switched_to place next kept
-  pub places_is : after ≡ with_use (with_use before place true) old.place false
+  pub places_is : after ≡ with_use (with_erased (with_use before place true) place) old.place false
+
+-- The directory is as it was; or a write failed once the least worn free place was erased, which is
+-- free again, and one erase more counts for it.
+abbrev pub IsGivenBack : Places → ChipFault → Places → Type 0
+IsGivenBack before fault after = (after ≡ before)
+    ⊎ ((fault ≡ Stopped) × ((place : ℕ) × IsNextFree before place × (after ≡ with_erased before place)))
 
 -- the numbers may be kept: of those in live log sectors they are the committed ones, they were
 -- drawn, and none is of an open session

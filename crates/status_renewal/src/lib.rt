@@ -7,11 +7,11 @@
 //!
 //! Proved, by `renew`: a renewal keeps the map at every moment. Done, exactly those numbers are
 //! committed that were so and that a live record has, and a unit was merged only where its numbers
-//! would have made more than 3,840. Not done, and no write failed, all pages show what they showed
-//! and the same numbers are committed. Over what the chip holds it fails with exactly what was
-//! wrong with a unit whose numbers don't fit, which is where it was, or where a call of the chip
-//! failed; with that alone where all units' pages show values and few log sectors of each would be
-//! carried.
+//! would have made more than 3,840; the header of the new place says how often it was erased. Not
+//! done, and no write failed, all pages show what they showed and the same numbers are committed.
+//! Over what the chip holds it fails with exactly what was wrong with a unit whose numbers don't
+//! fit, which is where it was, or where a call of the chip failed; with that alone where all units'
+//! pages show values and few log sectors of each would be carried.
 //!
 //! Proved, by `recover`: an opening that ends with a renewal: the first fault, exactly, and a chip
 //! that has one was only read; or where there is none that of the first page of a unit that had to

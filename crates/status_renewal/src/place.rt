@@ -1,5 +1,5 @@
 //! The status place, renewed in all tables.
-ghost use Rattle.std.specs.Prelude.{◌≡◌, ◌≤◌, ◌<◌, ◌+◌, ◌^◌, ℕ, length, Some, OnOk, OnErr, is_ok};
+ghost use Rattle.std.specs.Prelude.{◌≡◌, ◌≤◌, ◌<◌, ◌+◌, ◌^◌, ℕ, length, OnOk, IfErr, is_ok};
 ghost use Rattle.ipl_base.specs.declared.limits.TheConstants.{KEPT_NUMBERS};
 ghost use Rattle.ipl_meaning.specs.Tables.{IsFree, Tables};
 ghost use Rattle.merge_rules.specs.Known.{KnowsPlaces};
@@ -7,22 +7,24 @@ ghost use Rattle.number_set.specs.Numbers.{AreRising};
 ghost use Rattle.selective_merge.specs.Throughout.{ChartsThroughout};
 ghost use Rattle.steps.specs.Steps.{Tidies};
 ghost use Rattle.txn_status.specs.Status.{parts_of, room_of};
-ghost use Rattle.unit_directory.specs.Free.{first_free, free_count};
+ghost use Rattle.unit_directory.specs.Free.{IsNextFree, free_count};
 ghost use Rattle.unit_io.specs.Accounts.{Accounts};
 ghost use Rattle.unit_io.specs.Costs.{ErasesOnce, Spends};
 ghost use Rattle.unit_io.specs.Leads.{IsNotTaken};
 ghost use Rattle.unit_io.specs.Unread.{ReadsNothing};
-ghost use Rattle.status_renewal.specs.Renewed.{HasTables, with_tables, MovesStatus, Renews, RenewsInSteps};
+ghost use Rattle.status_renewal.specs.Renewed.{HasTables, with_tables, IsGivenBack, MovesStatus, Renews, RenewsInSteps};
 
 use chip_trait::Chip;
 use ipl_base::{ChipFault, Counter};
 use place_taking::take_place;
 use txn_status::Status;
 use unit_directory::{Directory, directory_laws};
+use unit_layout::StatusHeader;
 
-/// Makes the lowest free place the status place, with exactly these numbers, at most 3,840 in rising
-/// order: the place is taken, erased and written, and the old status place is free then. It fails
-/// only where a write failed or the place is worn, and the place is given back then.
+/// Makes the least worn free place the status place, the lowest on a tie, with exactly these numbers,
+/// at most 3,840 in rising order: the place is taken, erased and written, and the old status place is
+/// free then. Its header says how often the place was erased. It fails only where a write failed or the
+/// place is worn, and the place is given back then.
 ///
 /// Where of the numbers in live log sectors exactly the committed ones are kept, whatever a power
 /// cut leaves at any moment stands for the map on which the story rested; and where the place is
@@ -45,7 +47,8 @@ pub fn renew_place<C: Chip>(
     // What the tables have, whatever the chip tells.
     ensures moved { OnOk result (MovesStatus directory.old status.old counter.old kept.now
         directory.new status.new) }
-    ensures same { OnErr result ((directory.new ≡ directory.old) × (status.new ≡ status.old)) }
+    ensures same { IfErr result (λ fault. IsGivenBack directory.old fault directory.new
+        × (status.new ≡ status.old)) }
     ensures room { OnOk result (191 ≤ room_of status.new) }
     ensures free { free_count directory.new.in_use ≡ free_count directory.old.in_use }
     ensures known { (t : Tables) → HasTables t directory.old status.old counter.old
@@ -63,7 +66,7 @@ pub fn renew_place<C: Chip>(
     ensures steps { RenewsInSteps (C.told chip.old).places directory.old status.old counter.old
         kept.now directory.new status.new counter.new result (C.told chip.old) (C.told chip.new) }
     // One erase is tried, of the place that is taken, then programs of it alone, and three barriers.
-    ensures costs { (place : ℕ) × (first_free directory.old.in_use ≡ Some place)
+    ensures costs { (place : ℕ) × IsNextFree directory.old place
         × Spends (ErasesOnce place 3 (is_ok result)) (C.told chip.old) (C.told chip.new) }
     ensures tidy { (t : Tables) → HasTables t directory.old status.old counter.old
         → KnowsPlaces (C.told chip.old).places t
@@ -79,7 +82,11 @@ pub fn renew_place<C: Chip>(
     let old = status.place();
     let generation = counter.draw();
     let place = take_place(chip, directory)?;
-    match status.switch(chip, counter, units, place, generation, kept) {
+    let header = StatusHeader {
+        units,
+        erases: directory.erases(place),
+    };
+    match status.switch(chip, counter, &header, place, generation, kept) {
         Ok(()) => {
             directory.give_back(old);
             Ok(())

@@ -130,7 +130,8 @@ fn an_opening_that_is_cut_keeps_the_records(rt: HostRuntime) -> Result<(), Fail>
         (Call::Committed(5), found(b"hi")),
         (Call::Committed(6), NONE),
     ];
-    // Two units, the first of which was merged from place 0 to place 4: the new status place is 0.
+    // Two units, the first of which was merged from place 0 to place 2: of 0, 4 and 5, each erased once,
+    // the new status place is 0.
     let reopened = call_left(&rt, alloc, left_of(alloc, &chip)?, &records)?;
     call_left(&rt, alloc, before_header(alloc, &reopened)?, &records)?;
     cut_each(&rt, alloc, &reopened, (0, 0), &records)

@@ -104,8 +104,13 @@ pub(crate) fn sector(at: (u32, u32), kind: u8, generation: u64, serial: u64, use
     Write::Program(at.0, at.1, Decoded::Sector(head, used))
 }
 
-/// The program of a header of this kind. Its serial is its generation.
+/// The program of a header of this kind, a status header without retired places. Its serial is its
+/// generation.
 pub(crate) fn header(place: u32, kind: u8, generation: u64) -> Write {
-    let used = if kind == Head::DATA_HEADER { 20 } else { 4 };
+    let used = match kind {
+        Head::DATA_HEADER => 24,
+        Head::STATUS_HEADER => 9,
+        _ => 8,
+    };
     sector((place, 0), kind, generation, generation, used)
 }

@@ -166,19 +166,20 @@ fn what_an_open_session_wrote_is_lost_in_a_cut(rt: HostRuntime) -> Result<(), Fa
     ];
     let calls = commit_before(alloc, 0, 10, b"a", &records)?;
     let chip = call_left(&rt, alloc, left_of(alloc, &cut)?, &calls)?;
-    // The log sector of the open session had 6, the greatest number.
+    // The log sector of the open session had 6, the greatest number. Places 1 and 2 were erased twice,
+    // for the unit and the status, and the others once.
     let writes = [
         Write::Erase(0),
         Write::Barrier,
         Write::Barrier,
         header(0, Head::STATUS_HEADER, 7),
         Write::Barrier,
-        Write::Erase(2),
+        Write::Erase(3),
         Write::Barrier,
         Write::Barrier,
-        header(2, Head::DATA_HEADER, 9),
+        header(3, Head::DATA_HEADER, 9),
         Write::Barrier,
-        sector((2, 241), Head::LOG, 9, 10, 13),
+        sector((3, 241), Head::LOG, 9, 10, 13),
         Write::Barrier,
         sector((0, 1), Head::COMMIT, 7, 11, 8),
         Write::Barrier,
@@ -187,7 +188,8 @@ fn what_an_open_session_wrote_is_lost_in_a_cut(rt: HostRuntime) -> Result<(), Fa
 }
 
 /// Fifteen log sectors stand beside the pages. Where all are written, and nothing is to be carried,
-/// the unit is merged to the lowest free place, and its committed records are values of its pages.
+/// the unit is merged to the lowest of the least worn free places, and its committed records are values
+/// of its pages.
 #[test]
 fn the_sixteenth_commit_merges(rt: HostRuntime) -> Result<(), Fail> {
     let alloc = rt.alloc();
@@ -273,18 +275,19 @@ fn a_full_status_place_is_renewed_first(rt: HostRuntime) -> Result<(), Fail> {
     let last = commit_before(alloc, 2, 960, b"b", &[])?;
     // The format drew 1 to 3, the opening 4, session 0 and its log sectors 5 to 15, and the commits
     // of unit 0 16 to 37. Of unit 1 each draws three, and every fifteenth one more for a merge: all
-    // draw 38 to 798, and the session 799. Its place is 4, and 1 is the lowest free one.
+    // draw 38 to 798, and the session 799. Its seventeen merges share 4, 1 and 5, and the last goes to 4:
+    // 1 was erased seven times then, and 5 six times.
     let log = Head::written(Head::LOG, 1, 775, 802);
     let writes = [
-        Write::Erase(1),
+        Write::Erase(5),
         Write::Barrier,
-        sector((1, 1), Head::COMMIT, 800, 801, 120),
+        sector((5, 1), Head::COMMIT, 800, 801, 120),
         Write::Barrier,
-        header(1, Head::STATUS_HEADER, 800),
+        header(5, Head::STATUS_HEADER, 800),
         Write::Barrier,
         Write::Program(4, 249, Decoded::Sector(log, 13)),
         Write::Barrier,
-        sector((1, 2), Head::COMMIT, 800, 803, 8),
+        sector((5, 2), Head::COMMIT, 800, 803, 8),
         Write::Barrier,
     ];
     write_after(&rt, alloc, 6, &status_filled(alloc)?, &last, &writes)

@@ -1,13 +1,15 @@
 -- Kept numbers, programmed part by part, and the header behind them.
-use Rattle.std.proofs.Common.{◌≡◌, ℕ, ◌<◌, ◌≤◌, ◌+◌, ◌==◌, ◌&&◌, true, false, List, Some, None, Result, Ok, Err, OnOk, is_ok, inl, inr, refl, sym, ◌∙◌, ap, subst, arith}
+use Rattle.std.proofs.Common.{◌≡◌, ℕ, ◌<◌, ◌≤◌, ◌+◌, ◌==◌, ◌&&◌, true, false, List, [], Some, None, Result, Ok, Err, OnOk, is_ok, inl, inr, refl, sym, ◌∙◌, ap, subst, arith}
+use Rattle.std.proofs.lemmas.List.Elements.{All-nil}
 use Rattle.std.proofs.lemmas.Bool.{cases_eq, cases_Bool, and_parts, eqb-true, eq-eqb}
 use Rattle.chip_trait.specs.Lawful.{Clean, age}
 use Rattle.chip_trait.specs.Chart.{with_sector}
 use Rattle.chip_trait.specs.Told.{History, Told, adds_all}
 use Rattle.ipl_base.specs.declared.fault.ChipFault.{ChipFault}
 use Rattle.ipl_base.specs.declared.limits.TheConstants.{VERSION}
-use Rattle.ipl_format.specs.Header.{SpellsUnits}
+use Rattle.ipl_format.specs.Header.{IsWithin, AreRetired}
 use Rattle.ipl_format.specs.Sector.{Sector}
+use Rattle.ipl_format.proofs.HeaderOnceLemmas.{status_headers_say_erases}
 use Rattle.sector_format.specs.declared.sector.Head.{Head}
 use Rattle.sector_format.specs.Decode.{sector_of}
 use Rattle.sector_format.specs.Written.{written_head}
@@ -19,6 +21,8 @@ use Rattle.unit_io.specs.Leads.{IsSteady, KeepsMap, SwitchesMap}
 use Rattle.unit_io.specs.Spots.{Programs, IsSpot}
 use Rattle.unit_io.specs.Charts.{Charts, Gains}
 use Rattle.unit_io.proofs.LeadsLemmas.{leads_none, leads_then, leads_failed, leads_weaker}
+use Rattle.unit_layout.specs.declared.status.StatusHeader.{StatusHeader}
+use Rattle.unit_layout.specs.Header.{SpellsStatus}
 use Rattle.unit_io.proofs.SpotLemmas.{programs_none, programs_then, programs_wider}
 use Rattle.txn_status.specs.Commits.{commit_sector, part_of}
 use Rattle.txn_status.specs.Switching.{HasParts, IsPartSpot, IsStatusHead}
@@ -26,37 +30,55 @@ use Rattle.txn_status.specs.Writing.{LeadsPart, KeepsParts, IsHeaded}
 
 -- ---- the header
 
-pub written_is : (head : Head) (units generation : ℕ) (payload : List ℕ)
-    → head ≡ written_head 2 0 generation generation → SpellsUnits VERSION units payload
-    → IsStatusHead units generation (sector_of head payload)
-written_is head units generation payload is counts = record {
-  kind = ap (λ (h : Head). h.kind) is;
-  generation_is = ap (λ (h : Head). h.generation) is;
-  serial = ap (λ (h : Head). h.serial) is;
-  counts = subst (λ (v : ℕ). SpellsUnits v units payload) (sym (ap (λ (h : Head). h.version) is))
-      counts;
+-- a chip with room for its units may have retired no place
+pub none_retired : (version places units : ℕ) → units + 4 ≤ places → AreRetired version places units []
+none_retired version places units room = record {
+  rising = λ i j none before within. absurd (omega (arith, within));
+  within = All-nil (IsWithin places);
+  few = omega arith;
+  spare = omega (arith, room);
+  none = λ _. refl;
 }
 
+pub written_is : (head : Head) (places generation : ℕ) (header : StatusHeader) (retired payload : List ℕ)
+    → head ≡ written_head 2 0 generation generation
+    → SpellsStatus VERSION places header retired payload
+    → IsStatusHead places header.units header.erases generation (sector_of head payload)
+written_is head places generation header retired payload is spells =
+    let written = written_head 2 0 generation generation in
+    subst (λ (h : Head). IsStatusHead places header.units header.erases generation (sector_of h payload))
+    (sym is) (record {
+      kind = refl;
+      generation_is = refl;
+      serial = refl;
+      counts = spells.spelled;
+      says = status_headers_say_erases (sector_of written payload) places header.units refl spells.spelled
+          ∙ spells.erases_are;
+    })
+
 -- a header that switches a map to itself keeps it
-pub header_keeps : (places : ℕ) (m : Map) (h : History) (p units generation : ℕ) (head : Sector)
-    → IsStatusHead units generation head → (old : Told) (result : Result (Unit {0}) ChipFault) (new : Told)
+pub header_keeps : (places : ℕ) (m : Map) (h : History) (p units erases generation : ℕ) (head : Sector)
+    → IsStatusHead places units erases generation head
+    → (old : Told) (result : Result (Unit {0}) ChipFault) (new : Told)
     → SwitchesMap places m m (Programs p (IsSpot 0)) (λ done. Gains p 0 head) h old result new
-    → KeepsMap places m (Programs p (IsSpot 0)) (λ done. IsHeaded p units generation) h old result new
-header_keeps places m h p units generation head is old result new did =
+    → KeepsMap places m (Programs p (IsSpot 0)) (λ done. IsHeaded places p units erases generation)
+    h old result new
+header_keeps places m h p units erases generation head is old result new did =
     leads_weaker (EachStandsEither places m m) (EachStands places m)
     (Programs p (IsSpot 0)) (Programs p (IsSpot 0))
     (λ done k. StoryRests places m k × Gains p 0 head (now h) (now k))
-    (λ done k. StoryRests places m k × IsHeaded p units generation (now h) (now k)) h old result new
+    (λ done k. StoryRests places m k × IsHeaded places p units erases generation (now h) (now k))
+    h old result new
     (λ k each. either_is_kept places m k each) (λ done a same. same)
     (λ done k held. (held.0, (head, is, held.1))) did
 
-pub header_tells : (p units generation : ℕ) (head : Sector)
-    → IsStatusHead units generation head → (result : Result (Unit {0}) ChipFault) (old new : Told)
+pub header_tells : (places p units erases generation : ℕ) (head : Sector)
+    → IsStatusHead places units erases generation head → (result : Result (Unit {0}) ChipFault) (old new : Told)
     → OnOk result (Charts (Gains p 0 head) old new)
-    → OnOk result (Charts (IsHeaded p units generation) old new)
-header_tells p units generation head is (Ok v) old new tells =
+    → OnOk result (Charts (IsHeaded places p units erases generation) old new)
+header_tells places p units erases generation head is (Ok v) old new tells =
     λ x told. let (z, there, gains) = tells x told in (z, there, (head, is, gains))
-header_tells p units generation head is (Err e) old new tells = tt
+header_tells places p units erases generation head is (Err e) old new tells = tt
 
 -- ---- the parts, one after the other
 

@@ -17,6 +17,7 @@ mirrors_looks_at_the_set places c it t numbers same mirrors = record {
     units = was.units;
     logs = was.logs;
     all = was.all;
+    counts = was.counts;
     current = was.current;
     heads = was.heads;
     generation = was.generation;

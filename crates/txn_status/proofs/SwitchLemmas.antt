@@ -1,5 +1,5 @@
 -- What a new status place makes of a chart, of the tables, and of what a power cut leaves.
-use Rattle.std.proofs.Common.{◌≡◌, ◌↔◌, ℕ, zero, suc, ◌<◌, ◌≤◌, ◌+◌, ◌-◌, ◌*◌, ◌/◌, ◌%◌, false, min, List, length, drop, get_or, Some, None, IsTrue, inl, inr, refl, sym, ◌∙◌, ap, subst, arith}
+use Rattle.std.proofs.Common.{◌≡◌, ◌↔◌, ℕ, zero, suc, ◌<◌, ◌≤◌, ◌+◌, ◌-◌, ◌*◌, ◌/◌, ◌%◌, false, min, List, length, drop, get_or, slice_index, Some, None, IsTrue, inl, inr, refl, sym, ◌∙◌, ap, subst, arith}
 use Rattle.std.specs.List.{All, Contains}
 use Rattle.std.proofs.lemmas.Bool.{cases_lt, cases_Bool, false≢true}
 use Rattle.std.proofs.lemmas.List.{length-take, length-drop, get_or-take, get_or-drop}
@@ -91,7 +91,7 @@ pub record IsPrepared (places : ℕ) (c y : Chart) (it : Layout) (t : Tables) (p
   pub each : AreLong kept
   pub most : length kept ≤ 3840
   pub parts : HasParts p t.next (t.next + 1) kept (parts_of kept) c y
-  pub is_head : IsStatusHead (length t.places.current) t.next head
+  pub is_head : IsStatusHead places (length t.places.current) (slice_index t.places.erases p) t.next head
 
 module _ (places : ℕ) (c y : Chart) (it : Layout) (t : Tables) (p : ℕ) (kept : List ℕ)
     (head : Sector) (is : IsPrepared places c y it t p kept head) where
@@ -259,7 +259,10 @@ module _ (places : ℕ) (c y : Chart) (it : Layout) (t : Tables) (p : ℕ) (kept
     pub switched_then : Switched places c (with_sector y p 0 head) it after p t.next kept
     switched_then = record {
       head = head;
-      is_head = subst (λ (units : ℕ). IsStatusHead units t.next head) is.mirrors.directory.units is.is_head;
+      is_head = subst (λ (units : ℕ). IsStatusHead places units (slice_index after.places.erases p) t.next head)
+          is.mirrors.directory.units
+          (subst (λ (l : List ℕ). IsStatusHead places (length t.places.current) (slice_index l p) t.next head)
+          (sym switched.renewed.erases) is.is_head);
       mirrors = mirrors_then;
       pages = λ keeps u page now low in_unit shows.
           (status_headers_switch places y it p head (among kept) kept_still.0 may_switch).1 u page

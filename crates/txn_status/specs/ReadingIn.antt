@@ -41,6 +41,7 @@ under place generation = Some (record {
     serial = generation;
     foreign = false;
     well = true;
+    erases = 1;
   };
 })
 

@@ -1,6 +1,6 @@
 //! Numbers and a header, put on a new status place.
 ghost use Rattle.std.specs.Prelude.{◌≡◌, ◌≤◌, ◌<◌, ◌+◌, ◌*◌, ◌^◌, length, OnOk, is_ok};
-ghost use Rattle.ipl_base.specs.declared.limits.TheConstants.{KEPT_NUMBERS};
+ghost use Rattle.ipl_base.specs.declared.limits.TheConstants.{KEPT_NUMBERS, RESERVED_PLACES};
 ghost use Rattle.unit_io.specs.Accounts.{Accounts};
 ghost use Rattle.unit_io.specs.Leads.{IsStopped};
 ghost use Rattle.unit_io.specs.Costs.{ProgramsAt, Spends};
@@ -17,7 +17,7 @@ use chip_trait::Chip;
 use ipl_base::{COMMIT_NUMBERS, ChipFault, Counter, Spot};
 use sector_format::Head;
 use unit_io::seal;
-use unit_layout::write_status_header;
+use unit_layout::{StatusHeader, write_status_header};
 
 /// How many commit sectors numbers fill, at most 3,840 of them.
 pub fn part_count(numbers: &[u64]) -> u32
@@ -76,18 +76,20 @@ pub fn write_parts<C: Chip>(
     Ok(())
 }
 
-/// Puts a status header for so many units on a place, once all else is made sure of, and makes sure
-/// of it.
+/// Puts a status header on a place, once all else is made sure of, and makes sure of it. No place is
+/// named as retired.
 pub fn seal_status<C: Chip>(
     chip: &mut C,
     place: u32,
     generation: u64,
-    units: u32,
+    header: &StatusHeader,
 ) -> Result<(), ChipFault>
     requires place { place < (C.told chip.old).places }
-    ensures keeps { LeadsHeader (C.told chip.old).places place units generation
-        (C.told chip.old) result (C.told chip.new) }
-    ensures tells { OnOk result (Charts (IsHeaded place units generation)
+    requires room { header.now.units + RESERVED_PLACES ≤ (C.told chip.old).places }
+    ensures keeps { LeadsHeader (C.told chip.old).places place header.now.units header.now.erases
+        generation (C.told chip.old) result (C.told chip.new) }
+    ensures tells { OnOk result (Charts
+        (IsHeaded (C.told chip.old).places place header.now.units header.now.erases generation)
         (C.told chip.old) (C.told chip.new)) }
     ensures costs { Spends (ProgramsAt place 1 2 2) (C.told chip.old) (C.told chip.new) }
     ensures tidy { Spends (Programs place (IsSpot 0) (is_ok result))
@@ -95,8 +97,8 @@ pub fn seal_status<C: Chip>(
     ensures unread { Spends ReadsNothing (C.told chip.old) (C.told chip.new) }
     ensures accounts { Accounts IsStopped result (C.told chip.old) (C.told chip.new) }
 {
-    let mut payload = [0; 4];
-    write_status_header(units, &mut payload);
+    let mut payload = [0; 265];
+    let used = write_status_header(header, &[], &mut payload);
     let head = Head::written(Head::STATUS_HEADER, 0, generation, generation);
-    seal(chip, place, &head, &payload)
+    seal(chip, place, &head, &payload[..used])
 }

@@ -1,6 +1,6 @@
 //! The status of transactions.
 ghost use Rattle.std.specs.Prelude.{◌≡◌, ◌≤◌, ◌<◌, ◌+◌, ◌^◌, ◌↔◌, ℕ, length, Contains, IfOk, IfErr, IsTrue, OnOk, OnErr, is_ok};
-ghost use Rattle.ipl_base.specs.declared.limits.TheConstants.{KEPT_NUMBERS, STATUS_NUMBERS};
+ghost use Rattle.ipl_base.specs.declared.limits.TheConstants.{KEPT_NUMBERS, RESERVED_PLACES, STATUS_NUMBERS};
 ghost use Rattle.ipl_format.specs.Sector.{Sector};
 ghost use Rattle.ipl_meaning.specs.Chart.{chart_of};
 ghost use Rattle.unit_io.specs.Accounts.{Accounts};
@@ -27,6 +27,7 @@ use ipl_base::{ChipFault, Counter, Geometry, OutOfMemory, SECTORS, STATUS_NUMBER
 use number_set::NumberSet;
 use std::alloc::Global;
 use std::marker::Model;
+use unit_layout::StatusHeader;
 
 /// The committed numbers, the status place with its generation, and the first of its sectors that
 /// is known clean (1 to 255, or 256 where none is). A contract sees the numbers as a list in rising
@@ -224,9 +225,9 @@ impl Status {
 
     /// Writes a new status place with exactly these numbers, at most 3,840, in rising order: the
     /// numbers are programmed, 60 to a commit sector and with a serial drawn for each sector, and the
-    /// status header of this generation, for so many units, makes them count. That the generation is
-    /// the number that was drawn last, that 64 are left to draw, and that the place was taken and
-    /// erased for this, are conditions.
+    /// status header of this generation makes them count. It names no place as retired. That the chip
+    /// has room for its units, that the generation is the number that was drawn last, that 64 are left
+    /// to draw, and that the place was taken and erased for this, are conditions.
     ///
     /// Where of the numbers in live log sectors exactly the committed ones are kept, whatever a
     /// power cut leaves at any moment stands for the map on which the story rested. It fails only
@@ -235,12 +236,13 @@ impl Status {
         &mut self,
         chip: &mut C,
         counter: &mut Counter,
-        units: u32,
+        header: &StatusHeader,
         place: u32,
         generation: u64,
         kept: &[u64],
     ) -> Result<(), ChipFault>
         requires place { place < (C.told chip.old).places }
+        requires room { header.now.units + RESERVED_PLACES ≤ (C.told chip.old).places }
         requires rising { AreRising kept.now }
         requires few { length kept.now ≤ KEPT_NUMBERS }
         requires last { counter.old ≡ generation + 1 }
@@ -252,10 +254,11 @@ impl Status {
 
         // What the chip holds then, and what a power cut leaves.
         ensures switches { OnOk result (Charts
-            (Switches (C.told chip.old).places units self.old generation place kept.now)
+            (Switches (C.told chip.old).places header.now.units header.now.erases self.old generation
+            place kept.now)
             (C.told chip.old) (C.told chip.new)) }
-        ensures steps { SwitchesInSteps (C.told chip.old).places units self.old generation place
-            kept.now result (C.told chip.old) (C.told chip.new) }
+        ensures steps { SwitchesInSteps (C.told chip.old).places header.now.units header.now.erases
+            self.old generation place kept.now result (C.told chip.old) (C.told chip.new) }
         // Programs of the place alone, and two barriers.
         ensures costs { Spends (FillsAt place 2) (C.told chip.old) (C.told chip.new) }
         // Whatever the chip holds, each sector is programmed once, and none of those behind.
@@ -266,7 +269,7 @@ impl Status {
         ensures accounts { Accounts IsStopped result (C.told chip.old) (C.told chip.new) }
     {
         write_parts(chip, counter, place, generation, kept)?;
-        seal_status(chip, place, generation, units)?;
+        seal_status(chip, place, generation, header)?;
         // Only now: until the header is made sure of, the old place counts.
         self.place = place;
         self.generation = generation;

@@ -1,1 +1,1 @@
-mod FreeLemmas
+pub mod FreeLemmas

@@ -8,16 +8,21 @@ use Rattle.ipl_meaning.specs.Tables.{Places, with_use, masks_in}
 abbrev pub no_masks : List ℕ
 no_masks = replicate LOG_SECTORS 0
 
--- with so many places and units: no place is in use, each unit has place 0 and generation 0, and no log sector is known
--- clean, nor names a page
+-- with so many places and units: no place is in use, each was erased once, each unit has place 0 and generation 0, and no
+-- log sector is known clean, nor names a page
 abbrev pub empty_places : ℕ → ℕ → Places
 empty_places places units = record {
   current = replicate units 0;
   in_use = replicate places false;
+  erases = replicate places 1;
   written = replicate units LOG_SECTORS;
   generations = replicate units 0;
   masks = replicate units no_masks;
 }
+
+-- the place was erased so often
+abbrev pub with_erases_of : Places → ℕ → ℕ → Places
+with_erases_of it p erases = record it { erases = slice_set it.erases p erases }
 
 -- the place is in use and the unit's, of this generation, and no log sector of it is known clean, nor names a page; the
 -- unit's old place stays as it was
@@ -43,10 +48,11 @@ after_replace it u p generation = record (with_use it (slice_index it.current u)
 abbrev pub next_log : Places → ℕ → Option ℕ
 next_log it u = if nat_lt (slice_index it.written u) LOG_SECTORS then Some (FIRST_LOG_SECTOR + slice_index it.written u) else None
 
--- what always holds: the chip can be used and holds as many units as have a place, these are places of the chip, and a
--- place has 15 log sectors
+-- what always holds: the chip can be used and holds as many units as have a place, these are places of the chip, each
+-- place has a count, and 15 log sectors
 pub record IsSoundDirectory (it : Places) : Type 0 where
   pub places : IsGeometry (length it.in_use)
+  pub counts : length it.erases ≡ length it.in_use
   pub units : KeepsUnits (length it.in_use) (length it.current)
   pub logs : length it.written ≡ length it.current
   pub within : (u : ℕ) → u < length it.current → slice_index it.current u < length it.in_use

@@ -1,7 +1,7 @@
 -- Which places are free after each change, and how many.
 use Rattle.std.specs.Prelude.{ℕ, ◌≡◌, ◌≢◌, ◌⊎◌, ◌↔◌, ◌<◌, ◌+◌, true, false, length, slice_index}
 use Rattle.ipl_meaning.specs.Tables.{Places, IsFree, with_use}
-use Rattle.unit_directory.specs.Free.{free_count}
+use Rattle.unit_directory.specs.Free.{free_count, IsNextFree}
 use Rattle.unit_directory.specs.Directory.{empty_places, after_adopt, after_replace}
 
 -- the place isn't free any more, and each other is as it was; where it was free, one is free less
@@ -17,6 +17,10 @@ pub record GivesBack (it after : Places) (p : ℕ) : Type 0 where
 -- a place that is free is counted, so that one may be taken
 abbrev pub FreePlacesCount : Type 0
 FreePlacesCount = (it : Places) (p : ℕ) → IsFree it p → 0 < free_count it.in_use
+
+-- one place alone is the next to be taken
+abbrev pub OneIsNext : Type 0
+OneIsNext = (it : Places) (p q : ℕ) → IsNextFree it p → IsNextFree it q → p ≡ q
 
 -- at first each place of the chip is free
 abbrev pub AllAreFreeAtFirst : Type 0

@@ -1,22 +1,24 @@
 //! The directory of units.
-ghost use Rattle.std.specs.Prelude.{◌≡◌, ◌≢◌, ◌+◌, ◌-◌, ◌<◌, ◌≤◌, ℕ, Some, length, slice_index, IfOk, IfSome, IfNone, true, false};
-ghost use Rattle.ipl_meaning.specs.Tables.{IsFree, with_use, with_written, with_mask, with_masks, masks_in};
-ghost use Rattle.unit_directory.specs.Free.{first_free, free_count};
-ghost use Rattle.unit_directory.specs.Directory.{empty_places, after_adopt, after_replace, next_log, IsSoundDirectory};
+ghost use Rattle.std.specs.Prelude.{◌≡◌, ◌≢◌, ◌+◌, ◌-◌, ◌<◌, ◌≤◌, ℕ, nat_lt, length, slice_index, IfOk, IfSome, IfNone, true, false};
+ghost use Rattle.ipl_meaning.specs.Tables.{IsFree, with_use, with_erased, with_written, with_mask, with_masks, masks_in};
+ghost use Rattle.unit_directory.specs.Free.{IsNextFree, free_count};
+ghost use Rattle.unit_directory.specs.Directory.{empty_places, with_erases_of, after_adopt, after_replace, next_log, IsSoundDirectory};
 
 use ipl_base::{FIRST_LOG_SECTOR, Geometry, LOG_SECTORS, OutOfMemory};
 use std::alloc::Global;
 use std::marker::Model;
 
-/// Which place is current for each unit, which places are in use, and how many of the 15 log sectors
-/// of each unit's place, from the first on, count as written: the others are known clean. The
-/// generation that the header there has; and for each of these 15, which pages its records name, as a
-/// mask. A contract sees them as lists, by unit, by place, and by unit and sector; there are 5 to 1028
+/// Which place is current for each unit, which places are in use and how often each was erased, and
+/// how many of the 15 log sectors of each unit's place, from the first on, count as written: the others
+/// are known clean. The generation that the header there has; and for each of these 15, which pages its
+/// records name, as a mask. A contract sees them as lists, by unit, by place, and by unit and sector; there are 5 to 1028
 /// places, and as many units as are kept on them, always the same. Memory is taken by `new` alone.
 #[derive(Drop)]
 pub struct Directory {
     current: Vec<u32>,
     in_use: Vec<bool>,
+    /// By place, as far as 32 bits count.
+    erases: Vec<u32>,
     written: Vec<u32>,
     generations: Vec<u64>,
     masks: Vec<[u16; 15]>,
@@ -34,6 +36,7 @@ impl Model for Directory {
     ghost view = { λ d. record {
       current = d.current.items;
       in_use = d.in_use.items;
+      erases = d.erases.items;
       written = d.written.items;
       generations = d.generations.items;
       masks = d.masks.items;
@@ -42,6 +45,7 @@ impl Model for Directory {
     ghost invariant = { λ d. IsSoundDirectory (record {
       current = d.current.items;
       in_use = d.in_use.items;
+      erases = d.erases.items;
       written = d.written.items;
       generations = d.generations.items;
       masks = d.masks.items;
@@ -49,7 +53,7 @@ impl Model for Directory {
 }
 
 impl Directory {
-    /// No place is in use. Until a unit adopts a place it has place 0, with no log sector known clean.
+    /// No place is in use, and each counts as erased once. Until a unit adopts a place it has place 0, with no log sector known clean.
     pub fn new(alloc: Global, geometry: Geometry) -> Result<Directory, OutOfMemory>
         ensures { IfOk result (λ directory. directory ≡ empty_places geometry.places geometry.units) }
     {
@@ -57,6 +61,7 @@ impl Directory {
         let places = geometry.places() as usize;
         let current = vec![in alloc; 0; units]?;
         let in_use = vec![in alloc; false; places]?;
+        let erases = vec![in alloc; 1; places]?;
         let written = vec![in alloc; LOG_SECTORS; units]?;
         let generations = vec![in alloc; 0; units]?;
         let mut masks = Vec::with_capacity(alloc, units)?;
@@ -66,6 +71,7 @@ impl Directory {
         Ok(Directory {
             current,
             in_use,
+            erases,
             written,
             generations,
             masks,
@@ -78,6 +84,7 @@ impl Directory {
     {
         self.current.fill(0);
         self.in_use.fill(false);
+        self.erases.fill(1);
         self.written.fill(LOG_SECTORS);
         self.generations.fill(0);
         for masks in self.masks.iter_mut() {
@@ -117,20 +124,19 @@ impl Directory {
         self.in_use.iter().filter(|used| !**used).count() as u32
     }
 
-    /// Takes the lowest free place, which is in use then. That one is free is a condition, which
-    /// `free_count` tests.
-    #[tactic(auto, using(crate::proofs::FreeLemmas::lowest_free))]
+    /// Takes the free place that was erased least often, the lowest of these, which is in use then. That
+    /// one is free is a condition, which `free_count` tests.
+    #[tactic(auto, using(crate::proofs::FreeLemmas::next_place))]
     pub fn take_free(&mut self) -> u32
         requires { 0 < free_count self.old.in_use }
-        ensures lowest { first_free self.old.in_use ≡ Some result }
+        ensures next { IsNextFree self.old result }
         ensures taken { self.new ≡ with_use self.old result true }
 
         // What is known of the place then.
         ensures free { IsFree self.old result }
         ensures in_range { result < length self.old.in_use }
-        ensures lower { (p : ℕ) → p < result → ¬ IsFree self.old p }
     {
-        match first_free(&self.in_use) {
+        match self.next_free() {
             Some(place) => {
                 self.in_use[place] = true;
                 place as u32
@@ -153,6 +159,31 @@ impl Directory {
         ensures { self.new ≡ with_use self.old place false }
     {
         self.in_use[place as usize] = false;
+    }
+
+    /// How often a place was erased, as far as is known: up to 2^32 - 1.
+    pub fn erases(&self, place: u32) -> u32
+        requires { place < length self.now.in_use }
+        ensures { result ≡ slice_index self.now.erases place }
+    {
+        self.erases[place as usize]
+    }
+
+    /// Counts one erase more of a place, up to 2^32 - 1.
+    pub fn count_erase(&mut self, place: u32)
+        requires { place < length self.old.in_use }
+        ensures { self.new ≡ with_erased self.old place }
+    {
+        let erases = self.erases[place as usize];
+        self.erases[place as usize] = erases.saturating_add(1);
+    }
+
+    /// Sets how often a place was erased, as its header was found to say.
+    pub fn set_erases(&mut self, place: u32, erases: u32)
+        requires { place < length self.old.in_use }
+        ensures { self.new ≡ with_erases_of self.old place erases }
+    {
+        self.erases[place as usize] = erases;
     }
 
     /// The generation that the header of a unit has.
@@ -252,9 +283,32 @@ impl Directory {
     }
 }
 
-/// The lowest place that isn't in use, if there is one.
-fn first_free(in_use: &[bool]) -> Option<usize>
-    ensures { result ≡ first_free in_use.now }
-{
-    in_use.iter().position(|used| !*used)
+impl Directory {
+    /// The free place that was erased least often, the lowest of these, if a place is free.
+    fn next_free(&self) -> Option<usize>
+        ensures some { IfSome result (λ place. IsNextFree self.now place) }
+        ensures none { IfNone result ((p : ℕ) → ¬ IsFree self.now p) }
+    {
+        let mut next = None;
+        for place in 0..self.in_use.len() {
+            if !self.in_use[place] && self.is_less_worn(place, next) {
+                next = Some(place);
+            }
+        }
+        next
+    }
+
+    /// Whether a place was erased less often than another one, or there is no other.
+    fn is_less_worn(&self, place: usize, other: Option<usize>) -> bool
+        requires place { place < length self.now.in_use }
+        requires other { IfSome other (λ p. p < length self.now.in_use) }
+        ensures less { IfSome other (λ p.
+            result ≡ nat_lt (slice_index self.now.erases place) (slice_index self.now.erases p)) }
+        ensures none { IfNone other (result ≡ true) }
+    {
+        match other {
+            Some(other) => self.erases[place] < self.erases[other],
+            None => true,
+        }
+    }
 }

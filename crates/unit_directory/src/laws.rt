@@ -1,10 +1,12 @@
 //! Laws of the directory, proved: a body that does nothing, and a contract that is the law.
-ghost use Rattle.unit_directory.specs.Laws.{FreePlacesCount, AllAreFreeAtFirst, UsesTake, DisusesGiveBack, AdoptsTake, ReplacesGiveBack};
+ghost use Rattle.unit_directory.specs.Laws.{FreePlacesCount, OneIsNext, AllAreFreeAtFirst, UsesTake, DisusesGiveBack, AdoptsTake, ReplacesGiveBack};
 
 /// Which places are free after each call, and how many: a place that is taken or adopted isn't free
-/// any more, one that is given back or that a unit leaves is, and each other is as it was.
+/// any more, one that is given back or that a unit leaves is, and each other is as it was. One place
+/// alone is the next to be taken.
 pub fn directory_laws()
     ensures counted { FreePlacesCount }
+    ensures next { OneIsNext }
     ensures first { AllAreFreeAtFirst }
     ensures takes { UsesTake }
     ensures gives_back { DisusesGiveBack }

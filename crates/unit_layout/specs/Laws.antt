@@ -1,14 +1,21 @@
 -- Laws of the layout.
-use Rattle.std.specs.Prelude.{◌≡◌, ◌<◌, List, ℕ}
-use Rattle.ipl_base.specs.declared.limits.TheConstants.{PAGE_SECTORS}
+use Rattle.std.specs.Prelude.{◌≡◌, ◌<◌, ◌≤◌, List, ℕ}
+use Rattle.ipl_base.specs.declared.limits.TheConstants.{MOST_PLACES, PAGE_SECTORS}
 use Rattle.ipl_format.specs.Place.{base_sector_of}
 use Rattle.unit_layout.specs.declared.header.DataHeader.{DataHeader}
-use Rattle.unit_layout.specs.Header.{SpellsHeader}
+use Rattle.unit_layout.specs.declared.status.StatusHeader.{StatusHeader}
+use Rattle.unit_layout.specs.Header.{SpellsHeader, SpellsStatus}
 
 -- a payload says one header: what is read is what was written
 abbrev pub HeadersReadBack : Type 0
 HeadersReadBack = (version : ℕ) (h k : DataHeader) (payload : List ℕ)
     → SpellsHeader version h payload → SpellsHeader version k payload → h ≡ k
+
+-- so does a status header's, with the places that it lists
+abbrev pub StatusHeadersReadBack : Type 0
+StatusHeadersReadBack = (version places : ℕ) (h k : StatusHeader) (retired others payload : List ℕ) → places ≤ MOST_PLACES
+    → SpellsStatus version places h retired payload → SpellsStatus version places k others payload
+    → (h ≡ k) × (retired ≡ others)
 
 -- no two pieces stand in one sector
 abbrev pub PiecesStandApart : Type 0

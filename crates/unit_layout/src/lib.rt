@@ -2,18 +2,20 @@
 //! stands on the formats of `ipl_format`. A contract sees each number and payload as the definition
 //! there has it; a payload is read exactly where it is in its version's grammar.
 //!
-//! Proved, by `base_sector`, `log_sector`, the header calls: places of sectors; the three headers
-//! written and read.
+//! Proved, by `base_sector`, `log_sector`, the header calls, `erases_in`: places of sectors; the
+//! three headers written and read; how often a place was erased, by its header.
 #![tactic(auto)]
 
 mod header;
 mod laws;
+mod overflow;
 mod place;
-mod units;
+mod status;
+mod words;
 
 pub use header::{DataHeader, read_data_header, write_data_header};
 pub use laws::layout_laws;
+pub use overflow::{OverflowHeader, read_overflow_header, write_overflow_header};
 pub use place::{base_sector, log_sector};
-pub use units::{
-    read_overflow_header, read_status_header, write_overflow_header, write_status_header,
-};
+pub use status::{StatusHeader, read_status_header, write_status_header};
+pub use words::erases_in;

@@ -2,7 +2,7 @@
 use Rattle.std.proofs.Common.{◌≡◌, ◌+◌, ◌-◌, ◌&&◌, nat_le, ℕ, Bool, true, false, cond, List, take, drop, Option, Some, None, refl, sym, ◌∙◌, ap, subst, arith}
 use Rattle.ipl_format.specs.Header.{SpellsDataHeader}
 use Rattle.ipl_format.specs.Sector.{Sector}
-use Rattle.ipl_format.proofs.PayloadLemmas.{data_headers_spell_once}
+use Rattle.ipl_format.proofs.HeaderOnceLemmas.{data_headers_spell_once}
 use Rattle.ipl_meaning.specs.Chart.{Chart}
 use Rattle.sector_format.specs.declared.sector.Head.{Head}
 use Rattle.sector_format.specs.Decode.{sector_of}
@@ -44,7 +44,7 @@ module _ (it : Sector) (units : ℕ) (pieces : List ℕ) (found : Option (Head �
   head_says header says = (
     ap (λ (z : Sector). z.generation) sector_is,
     (data_headers_spell_once head.version (take (32 + used - 32) (drop 32 bytes)) header.units units
-        header.pieces pieces says.0 payload_spelled).same_pieces,
+        header.pieces pieces says.spelled payload_spelled).same_pieces,
     version_is,
   )
 
@@ -65,7 +65,7 @@ header_found bytes u found head used r header is kind unit says generation piece
     units = header.units;
     spelled = let few : 32 + used - 32 ≡ used = omega arith in
         subst (λ (l : List ℕ). SpellsDataHeader head.version header.units l (take used (drop 32 bytes))) (sym pieces)
-        (subst (λ (n : ℕ). SpellsDataHeader head.version header.units header.pieces (take n (drop 32 bytes))) few says.0);
+        (subst (λ (n : ℕ). SpellsDataHeader head.version header.units header.pieces (take n (drop 32 bytes))) few says.spelled);
   },
 )
 

@@ -1,15 +1,18 @@
-//! Payloads of headers, in a version: `data BYTES`, `status BYTES`, `overflow BYTES`, what they say, and
-//! whether it is written again as the same bytes; and numbers of sectors, `base PAGE PIECE` and
-//! `log NUMBER`.
+//! Payloads of headers, in a version: `data BYTES`, `status PLACES BYTES` on a chip of so many places,
+//! `overflow BYTES`, what they say, and how that is written, as all is written now: as the same bytes, or
+//! with more behind them; `erases KIND BYTES`, how often the place of such a header was erased; and
+//! numbers of sectors, `base PAGE PIECE` and `log NUMBER`.
 ghost use Rattle.std.specs.Prelude.{◌↔◌, IsTrue, All};
 ghost use Rattle.ipl_format.specs.Header.{IsCount};
 
 use crate::words::{bytes_of, join, number, parted, text_of, versioned};
 use anyhow::{Result, ensure};
+use ipl_format::word_at;
 use std::alloc::Global;
 use unit_layout::{
-    DataHeader, base_sector, log_sector, read_data_header, read_overflow_header,
-    read_status_header, write_data_header, write_overflow_header, write_status_header,
+    DataHeader, OverflowHeader, StatusHeader, base_sector, erases_in, log_sector, read_data_header,
+    read_overflow_header, read_status_header, write_data_header, write_overflow_header,
+    write_status_header,
 };
 
 pub fn data_row(alloc: Global, rest: &str) -> Result<String> {
@@ -22,20 +25,23 @@ pub fn data_row(alloc: Global, rest: &str) -> Result<String> {
         units,
         pieces,
         carried,
+        erases,
     } = header;
-    let mut text = format!(in alloc; "units {units} pieces {pieces:?} carried {carried}")?;
-    join(&mut text, again(is_written(&header, &bytes)))?;
+    let mut text = format!(in alloc;
+        "units {units} pieces {pieces:?} carried {carried} erases {erases}"
+    )?;
+    join(&mut text, data_again(&header, &bytes))?;
     Ok(text)
 }
 
-/// Whether the payload of a header is these bytes.
-fn is_written(header: &DataHeader, bytes: &[u8]) -> bool {
+/// How a data header that was read from these bytes is written.
+fn data_again(header: &DataHeader, bytes: &[u8]) -> &'static str {
     if header.carried > 12 || !are_counts(&header.pieces) {
-        return false;
+        return "other";
     }
-    let mut out = [0xaa; 20];
+    let mut out = [0xaa; 24];
     write_data_header(header, &mut out);
-    out.as_slice() == bytes
+    again(&out, bytes)
 }
 
 fn are_counts(pieces: &[u8; 15]) -> bool
@@ -44,33 +50,64 @@ fn are_counts(pieces: &[u8; 15]) -> bool
     pieces.iter().all(|count| *count <= 16)
 }
 
-/// What is printed of what was written again.
-fn again(is_same: bool) -> &'static str {
-    if is_same { "same" } else { "other" }
+/// What is printed where this is written of what was read from these bytes.
+fn again(written: &[u8], bytes: &[u8]) -> &'static str {
+    if written == bytes {
+        "same"
+    } else if written.starts_with(bytes) {
+        "more"
+    } else {
+        "other"
+    }
 }
 
 pub fn status_row(alloc: Global, rest: &str) -> Result<String> {
     let (version, rest) = versioned(rest)?;
+    let (places, rest) = parted(rest);
     let bytes = bytes_of(alloc, rest)?;
-    let Some(units) = read_status_header(&bytes, version) else {
+    let Some(header) = read_status_header(&bytes, version, number(places)?) else {
         return text_of(alloc, "refused");
     };
-    let mut out = [0xaa; 4];
-    write_status_header(units, &mut out);
-    let same = again(out.as_slice() == bytes.as_slice());
-    Ok(format!(in alloc; "units {units}/{same}")?)
+    let retired = retired_in(alloc, &bytes)?;
+    ensure!(retired.len() <= 64, "no list");
+    let mut out = [0xaa; 265];
+    let used = write_status_header(&header, &retired, &mut out);
+    let same = again(&out[..used], &bytes);
+    let StatusHeader { units, erases } = header;
+    let retired = retired.as_slice();
+    Ok(format!(in alloc; "units {units} erases {erases} retired {retired:?}/{same}")?)
+}
+
+/// The places that stand behind the first nine bytes.
+fn retired_in(alloc: Global, bytes: &[u8]) -> Result<Vec<u32>> {
+    let mut retired = Vec::new(alloc);
+    for i in 0..64 {
+        let at = 9 + 4 * i;
+        if at + 4 <= bytes.len() {
+            retired.push(word_at(bytes, at))?;
+        }
+    }
+    Ok(retired)
 }
 
 pub fn overflow_row(alloc: Global, rest: &str) -> Result<String> {
     let (version, rest) = versioned(rest)?;
     let bytes = bytes_of(alloc, rest)?;
-    let Some(units) = read_overflow_header(&bytes, version) else {
+    let Some(header) = read_overflow_header(&bytes, version) else {
         return text_of(alloc, "refused");
     };
-    let mut out = [0xaa; 4];
-    write_overflow_header(units, &mut out);
-    let same = again(out.as_slice() == bytes.as_slice());
-    Ok(format!(in alloc; "units {units}/{same}")?)
+    let OverflowHeader { units, erases } = header;
+    let mut out = [0xaa; 8];
+    write_overflow_header(units, erases, &mut out);
+    let same = again(&out, &bytes);
+    Ok(format!(in alloc; "units {units} erases {erases}/{same}")?)
+}
+
+pub fn erases_row(alloc: Global, rest: &str) -> Result<String> {
+    let (version, rest) = versioned(rest)?;
+    let (kind, rest) = parted(rest);
+    let erases = erases_in(kind.parse::<u8>()?, version, &bytes_of(alloc, rest)?);
+    Ok(format!(in alloc; "{erases}")?)
 }
 
 pub fn base_row(alloc: Global, rest: &str) -> Result<String> {

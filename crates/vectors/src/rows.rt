@@ -1,6 +1,6 @@
 //! A row, and what comes of it.
 use crate::ends::ends_row;
-use crate::headers::{base_row, data_row, log_row, overflow_row, status_row};
+use crate::headers::{base_row, data_row, erases_row, log_row, overflow_row, status_row};
 use crate::log_rows::records_row;
 use crate::pages::{page_row, slots_row};
 use crate::rooms::room_row;
@@ -61,6 +61,7 @@ fn format_answer(alloc: Global, verb: &str, rest: &str) -> Result<String> {
         "data" => data_row(alloc, rest),
         "status" => status_row(alloc, rest),
         "overflow" => overflow_row(alloc, rest),
+        "erases" => erases_row(alloc, rest),
         "base" => base_row(alloc, rest),
         "log" => log_row(alloc, rest),
         _ => bail!("no verb {verb}"),

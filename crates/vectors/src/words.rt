@@ -20,8 +20,8 @@ pub fn parted(rest: &str) -> (&str, &str) {
     rest.split_once(' ').unwrap_or((rest, ""))
 }
 
-/// The version of a row of bytes, and what stands behind it: `v2` comes first in a row of version 2,
-/// and a row that names none is of version 1.
+/// The version of a row of bytes, and what stands behind it: `v2` or `v3` comes first in a row of
+/// version 2 or 3, and a row that names none is of version 1.
 pub fn versioned(rest: &str) -> Result<(u8, &str)>
     ensures { IfOk result (λ row. IsVersion row.0) }
 {

@@ -11,8 +11,7 @@ returns-in-Ok-Done-clause-takes g c =
     let new = g.C.Chip.told c.begin_unit.new.chip in
     let p = c.take_free-place.result in
     let within : p < old.places = omega (arith, c.take_free-place.ensures.in_range, c.requires.places) in
-    place_taken c.args.directory.now p old new c.take_free-place.ensures.lowest
-    c.take_free-place.ensures.free within
+    place_taken c.args.directory.now p old new c.take_free-place.ensures.next within
     (subst (λ (w : Wear). BeginKeeps p old (Ok w) new) c.in-Ok-Done.field-0-is c.in-Ok-Done.ensures.keeps)
 
 pub returns-in-Ok-Worn-clause-same : goal.returns-in-Ok-Worn-clause-same
@@ -26,8 +25,7 @@ returns-in-Ok-Worn-clause-takes g c =
     let old = g.C.Chip.told c.args.chip.now in
     let new = g.C.Chip.told c.begin_unit.new.chip in
     let p = c.take_free-place.result in
-    place_worn c.args.directory.now p old new c.take_free-place.ensures.lowest
-    c.take_free-place.ensures.free (WornOut 1)
+    place_worn c.args.directory.now p old new c.take_free-place.ensures.next (WornOut 1)
     (subst (λ (w : Wear). BeginKeeps p old (Ok w) new) c.in-Ok-Worn.field-0-is c.in-Ok-Worn.ensures.keeps)
 
 pub returns-in-Err-clause-same : goal.returns-in-Err-clause-same
@@ -39,5 +37,5 @@ returns-in-Err-clause-same g c =
 pub returns-in-Err-clause-takes : goal.returns-in-Err-clause-takes
 returns-in-Err-clause-takes g c =
     place_stopped c.args.directory.now c.take_free-place.result (g.C.Chip.told c.args.chip.now)
-    (g.C.Chip.told c.begin_unit.new.chip) c.take_free-place.ensures.lowest
-    c.take_free-place.ensures.free c.in-Err.fault c.in-Err.fault c.in-Err.ensures.accounts.cause c.in-Err.ensures.keeps
+    (g.C.Chip.told c.begin_unit.new.chip) c.take_free-place.ensures.next
+    c.in-Err.fault c.in-Err.fault c.in-Err.ensures.accounts.cause c.in-Err.ensures.keeps

@@ -7,6 +7,7 @@ use Rattle.restart.specs.Shown.{is_held}
 use Rattle.restart.proofs.LookLemmas.{reads_then, looks_done, looks_then}
 use Rattle.restart.proofs.CommitLemmas.{opened_status}
 use Rattle.restart.proofs.OpenLemmas.{all_tells, used_of, opened, has_free, read_bytes, laid}
+use Rattle.restart.proofs.CountLemmas.{counted_of, header_kinds}
 use Rattle.restart.proofs.SpentLemmas.{header_unspent, tells_unspent, headers_tell_first, failed_bytes}
 use Rattle.restart.proofs.OverflowLemmas.{opened_overflow}
 use Rattle.restart.proofs.KnownLemmas.{knows_places}
@@ -55,17 +56,18 @@ all_opened g c = λ x told.
     let current = c.read_headers.new.current in
     let winner = c.in_ok-winner.winner in
     let noted = c.in_ok-gathered.ensures.noted x told_then in record {
-      directory = opened (chart_of x) c.args.geometry.places heads current winner shows c.read_rest.new.noted c.read_rest.new.overflow noted c.take_others.new.directory (length current)
+      directory = opened (chart_of x) c.args.geometry.places heads current winner shows c.read_rest.new.noted c.read_rest.new.overflow noted c.fill_places.new.directory (length current)
           (length current + 1 + count_below (is_held heads c.read_rest.new.noted) (length heads)) c.at.result c.in_ok-gathered.gathered.greatest (omega arith)
-          (used_of (omega arith) (c.take_others.ensures.used (at c.read_headers.new.current) (length c.read_headers.new.current)
-          (used_still c.read_rest.ensures.places (used_of (omega arith) c.adopt_all.ensures.used)))) (adopted_still (at c.read_headers.new.current) (length c.read_headers.new.current) (length c.read_headers.new.current) c.adopt_all.new.directory c.take_others.new.directory
-          (c.take_others.ensures.same.current ∙ c.read_rest.ensures.places.current) (c.take_others.ensures.same.written ∙ c.read_rest.ensures.places.written) (c.take_others.ensures.same.generations ∙ c.read_rest.ensures.places.generations) c.adopt_all.ensures.adopted) (c.in_ok-gathered.ensures.number x told_then) c.at.ensures;
+          (used_of (omega arith) (c.fill_places.ensures.used (at c.read_headers.new.current) (length c.read_headers.new.current)
+          (used_still c.read_rest.ensures.places (used_of (omega arith) c.adopt_all.ensures.used)))) (adopted_still (at c.read_headers.new.current) (length c.read_headers.new.current) (length c.read_headers.new.current) c.adopt_all.new.directory c.fill_places.new.directory
+          (c.fill_places.ensures.same.current ∙ c.read_rest.ensures.places.current) (c.fill_places.ensures.same.written ∙ c.read_rest.ensures.places.written) (c.fill_places.ensures.same.generations ∙ c.read_rest.ensures.places.generations) c.adopt_all.ensures.adopted) (counted_of (omega arith) c.fill_places.ensures.counted) (header_kinds x)
+          (c.in_ok-gathered.ensures.number x told_then) c.at.ensures;
       overflow = opened_overflow (chart_of x) c.args.geometry.places heads current winner shows c.read_rest.new.noted c.read_rest.new.overflow noted c.list_places.new.overflow (length current)
           (omega arith) c.read_rest.ensures.sized.listed_units (omega arith) c.list_places.ensures.spots c.list_places.ensures.in_use;
       masks = opened_masks (chart_of x) c.args.geometry.places heads current winner shows c.in_ok-winner.ensures.chosen c.in_ok-winner.ensures.there (omega arith) (omega arith)
-          c.read_rest.new.directory c.take_others.new.directory c.read_rest.new.overflow c.list_places.new.overflow c.facts.ensures c.facts-2.ensures
-          (ap length (c.take_others.ensures.same.current ∙ c.read_rest.ensures.places.current) ∙ c.adopt_all.ensures.adopted.units_are)
-          (ap length c.list_places.ensures.spots ∙ c.read_rest.ensures.sized.listed_units) c.take_others.ensures.same.masks c.list_places.ensures.masks c.list_places.ensures.spots
+          c.read_rest.new.directory c.fill_places.new.directory c.read_rest.new.overflow c.list_places.new.overflow c.facts.ensures c.facts-2.ensures
+          (ap length (c.fill_places.ensures.same.current ∙ c.read_rest.ensures.places.current) ∙ c.adopt_all.ensures.adopted.units_are)
+          (ap length c.list_places.ensures.spots ∙ c.read_rest.ensures.sized.listed_units) c.fill_places.ensures.same.masks c.list_places.ensures.masks c.list_places.ensures.spots
           (opened_overflow (chart_of x) c.args.geometry.places heads current winner shows c.read_rest.new.noted c.read_rest.new.overflow noted c.list_places.new.overflow (length current)
           (omega arith) c.read_rest.ensures.sized.listed_units (omega arith) c.list_places.ensures.spots c.list_places.ensures.in_use).spots_are
           (c.in_ok-gathered.ensures.masked x told_then);
@@ -82,25 +84,25 @@ returns-clause-mirrors g c = λ x told. opened_tables_mirror c.args.geometry.pla
 pub returns-clause-known : goal.returns-clause-known
 returns-clause-known g c =
     knows_places c.read_headers.new.heads c.read_headers.new.current c.in_ok-winner.winner c.in_ok-winner.ensures.chosen c.in_ok-winner.ensures.there c.args.geometry.places (omega arith)
-    c.read_rest.new.noted c.take_others.new.directory c.list_places.new.overflow c.read_rest.new.status _ _ (omega arith) (used_of (omega arith) (c.take_others.ensures.used (at c.read_headers.new.current) (length c.read_headers.new.current)
-    (used_still c.read_rest.ensures.places (used_of (omega arith) c.adopt_all.ensures.used)))) (adopted_still (at c.read_headers.new.current) (length c.read_headers.new.current) (length c.read_headers.new.current) c.adopt_all.new.directory c.take_others.new.directory
-    (c.take_others.ensures.same.current ∙ c.read_rest.ensures.places.current) (c.take_others.ensures.same.written ∙ c.read_rest.ensures.places.written) (c.take_others.ensures.same.generations ∙ c.read_rest.ensures.places.generations) c.adopt_all.ensures.adopted)
+    c.read_rest.new.noted c.fill_places.new.directory c.list_places.new.overflow c.read_rest.new.status _ _ (omega arith) (used_of (omega arith) (c.fill_places.ensures.used (at c.read_headers.new.current) (length c.read_headers.new.current)
+    (used_still c.read_rest.ensures.places (used_of (omega arith) c.adopt_all.ensures.used)))) (adopted_still (at c.read_headers.new.current) (length c.read_headers.new.current) (length c.read_headers.new.current) c.adopt_all.new.directory c.fill_places.new.directory
+    (c.fill_places.ensures.same.current ∙ c.read_rest.ensures.places.current) (c.fill_places.ensures.same.written ∙ c.read_rest.ensures.places.written) (c.fill_places.ensures.same.generations ∙ c.read_rest.ensures.places.generations) c.adopt_all.ensures.adopted)
     (ap length c.list_places.ensures.spots ∙ c.read_rest.ensures.sized.listed_units) c.list_places.ensures.in_use c.in_ok-gathered.ensures.two c.in_ok-gathered.ensures.placed
 
 pub returns-clause-unclean : goal.returns-clause-unclean
 returns-clause-unclean g c =
     let heads = c.read_headers.new.heads in
-    none_is_clean (at c.read_headers.new.current) (length c.read_headers.new.current) c.take_others.new.directory c.list_places.new.overflow c.read_rest.new.status c.at.result
-    (is_held heads c.read_rest.new.noted) (length heads) (adopted_still (at c.read_headers.new.current) (length c.read_headers.new.current) (length c.read_headers.new.current) c.adopt_all.new.directory c.take_others.new.directory
-    (c.take_others.ensures.same.current ∙ c.read_rest.ensures.places.current) (c.take_others.ensures.same.written ∙ c.read_rest.ensures.places.written) (c.take_others.ensures.same.generations ∙ c.read_rest.ensures.places.generations) c.adopt_all.ensures.adopted) c.list_places.ensures.in_use c.in_ok-gathered.ensures.unclean
+    none_is_clean (at c.read_headers.new.current) (length c.read_headers.new.current) c.fill_places.new.directory c.list_places.new.overflow c.read_rest.new.status c.at.result
+    (is_held heads c.read_rest.new.noted) (length heads) (adopted_still (at c.read_headers.new.current) (length c.read_headers.new.current) (length c.read_headers.new.current) c.adopt_all.new.directory c.fill_places.new.directory
+    (c.fill_places.ensures.same.current ∙ c.read_rest.ensures.places.current) (c.fill_places.ensures.same.written ∙ c.read_rest.ensures.places.written) (c.fill_places.ensures.same.generations ∙ c.read_rest.ensures.places.generations) c.adopt_all.ensures.adopted) c.list_places.ensures.in_use c.in_ok-gathered.ensures.unclean
 
 pub returns-clause-free : goal.returns-clause-free
 returns-clause-free g c =
-    has_free c.read_headers.new.heads c.read_headers.new.current c.in_ok-winner.winner c.read_rest.new.noted c.take_others.new.directory (length c.read_headers.new.current) c.args.geometry.places
+    has_free c.read_headers.new.heads c.read_headers.new.current c.in_ok-winner.winner c.read_rest.new.noted c.fill_places.new.directory (length c.read_headers.new.current) c.args.geometry.places
     (count_below (is_held c.read_headers.new.heads c.read_rest.new.noted) (length c.read_headers.new.heads)) (omega arith) (omega arith) c.in_ok-gathered.ensures.two c.in_ok-winner.ensures.within
-    (c.in_ok-winner.ensures.there 0 (omega arith)) (used_of (omega arith) (c.take_others.ensures.used (at c.read_headers.new.current) (length c.read_headers.new.current)
-    (used_still c.read_rest.ensures.places (used_of (omega arith) c.adopt_all.ensures.used)))) (adopted_still (at c.read_headers.new.current) (length c.read_headers.new.current) (length c.read_headers.new.current) c.adopt_all.new.directory c.take_others.new.directory
-    (c.take_others.ensures.same.current ∙ c.read_rest.ensures.places.current) (c.take_others.ensures.same.written ∙ c.read_rest.ensures.places.written) (c.take_others.ensures.same.generations ∙ c.read_rest.ensures.places.generations) c.adopt_all.ensures.adopted)
+    (c.in_ok-winner.ensures.there 0 (omega arith)) (used_of (omega arith) (c.fill_places.ensures.used (at c.read_headers.new.current) (length c.read_headers.new.current)
+    (used_still c.read_rest.ensures.places (used_of (omega arith) c.adopt_all.ensures.used)))) (adopted_still (at c.read_headers.new.current) (length c.read_headers.new.current) (length c.read_headers.new.current) c.adopt_all.new.directory c.fill_places.new.directory
+    (c.fill_places.ensures.same.current ∙ c.read_rest.ensures.places.current) (c.fill_places.ensures.same.written ∙ c.read_rest.ensures.places.written) (c.fill_places.ensures.same.generations ∙ c.read_rest.ensures.places.generations) c.adopt_all.ensures.adopted)
 
 pub returns-in_err-winner-clause-bytes : goal.returns-in_err-winner-clause-bytes
 returns-in_err-winner-clause-bytes g c =

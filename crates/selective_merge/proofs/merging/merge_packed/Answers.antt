@@ -7,7 +7,7 @@ use Rattle.ipl_base.specs.declared.fault.ChipFault.{ChipFault}
 use Rattle.ipl_meaning.specs.Chart.{chart_of}
 use Rattle.ipl_meaning.specs.Mirrors.{NoneIsLost}
 use Rattle.ipl_meaning.specs.Rests.{now}
-use Rattle.ipl_meaning.specs.Tables.{Places, IsFree, Tables, with_use}
+use Rattle.ipl_meaning.specs.Tables.{Places, IsFree, Tables, with_use, with_erased}
 use Rattle.ipl_meaning.specs.TableSteps.{IsMoved, taken, with_next}
 use Rattle.unit_directory.specs.Free.{free_count}
 use Rattle.unit_io.specs.Charts.{Charts, IsCleared}
@@ -25,24 +25,24 @@ use Rattle.selective_merge.specs.Writing.{IsUnitSpot, TellsWritten}
 use Rattle.selective_merge.proofs.FewLemmas.{packs_few}
 use Rattle.selective_merge.proofs.SpendLemmas.{for_unit, for_nobody, for_untaken}
 use Rattle.selective_merge.proofs.MovingLemmas.{moved_from}
-use Rattle.selective_merge.proofs.HeldLemmas.{given_back, taken_but, held_back, held_moved, home_used, more_free}
+use Rattle.selective_merge.proofs.HeldLemmas.{given_back, erases_then, as_many, taken_but, held_back, held_moved, home_used, more_free}
 use Rattle.selective_merge.proofs.MergedLemmas.{to_merge, many_packs, tells_packs, merged_there, merged_steps, merge_failed, stays_mirrored}
 use Rattle.selective_merge.proofs.CompleteLemmas.{used_spared}
-use Rattle.selective_merge.proofs.TakenLemmas.{WasWritten, untaken_tables, moves_not, same_tables, steps_not, told_not, unit_joined, unit_told}
+use Rattle.selective_merge.proofs.TakenLemmas.{WasWritten, has_counts, untaken_tables, moves_not, same_tables, steps_not, told_not, unit_joined, unit_told}
 use Rattle.selective_merge.proofs.TidyLemmas.{moves_tidily, gives_back_tidily, untaken_tidily}
 use Rattle.selective_merge.proofs.merging.merge_packed.Goals as goal
 
 -- what the chip tells once the place was taken and the unit written there
-written_told : (old mid new : Told) (units p generation serial : ℕ) (from : Source)
+written_told : (old mid new : Told) (units erases p generation serial : ℕ) (from : Source)
     (payloads : List Versioned) (result : Result (Unit {0}) ChipFault) → Counts old mid
     → Charts (IsCleared p) old mid
-    → ChartsThroughout (λ done. TellsWritten mid.places units from p generation serial payloads) (IsAside p)
+    → ChartsThroughout (λ done. TellsWritten mid.places units erases from p generation serial payloads) (IsAside p)
     result mid new
-    → ChartsThroughout (λ done. WasWritten old.places units p generation serial from payloads) (IsUnsealed p)
+    → ChartsThroughout (λ done. WasWritten old.places units erases p generation serial from payloads) (IsUnsealed p)
     result old new
-written_told old mid new units p generation serial from payloads result counts first second =
-    unit_told old.places units p generation serial from payloads old mid new result first
-    (subst (λ (q : ℕ). ChartsThroughout (λ done. TellsWritten q units from p generation serial payloads)
+written_told old mid new units erases p generation serial from payloads result counts first second =
+    unit_told old.places units erases p generation serial from payloads old mid new result first
+    (subst (λ (q : ℕ). ChartsThroughout (λ done. TellsWritten q units erases from p generation serial payloads)
     (IsAside p) result mid new) counts.places second)
 
 pub take_place-requires-clause-places : goal.take_place-requires-clause-places
@@ -67,14 +67,14 @@ home_apart places t u place p known low at free same =
 pub write_unit-requires-clause-another : goal.write_unit-requires-clause-another
 write_unit-requires-clause-another g c =
     home_apart _ (tables_of c.args.parts.now) c.args.unit c.args.home.now.place c.in_ok-place.place
-    c.requires.known c.requires.unit c.requires.place c.in_ok-place.ensures.taken.free
+    c.requires.known c.requires.unit c.requires.place c.in_ok-place.ensures.taken.next.free
 
 pub move_unit-requires-clause-another : goal.move_unit-requires-clause-another
 move_unit-requires-clause-another g c = λ same.
     home_used _ (tables_of c.args.parts.now) c.args.unit c.requires.known c.requires.unit
     (subst (IsFree c.args.parts.now.directory)
     (same ∙ ap (λ (d : Places). slice_index d.current c.args.unit)
-    c.in_ok-place.ensures.taken.places_is) c.in_ok-place.ensures.taken.free)
+    c.in_ok-place.ensures.taken.places_is) c.in_ok-place.ensures.taken.next.free)
 
 pub move_unit-requires-clause-overflow : goal.move_unit-requires-clause-overflow
 move_unit-requires-clause-overflow g c =
@@ -100,8 +100,8 @@ returns-in-Ok-clause-steps g c = λ m it h steady rests agrees source.
     c.args.parts.now.scratch.log in
     let what = to_merge places (now h) it t u p drawn serial from payloads
     c.args.parts.now.scratch.packs.closed.items c.args.parts.now.active
-    c.args.parts.now.scratch.log agrees.mirrors c.requires.unit c.in_ok-place.ensures.taken.free
-    (omega (arith, c.in_ok-place.ensures.taken.within, c.requires.known.suits.all)) source
+    c.args.parts.now.scratch.log agrees.mirrors c.requires.unit c.in_ok-place.ensures.taken.next.free
+    (omega (arith, c.in_ok-place.ensures.taken.next.within, c.requires.known.suits.all)) source
     (omega (arith, c.draw-generation.ensures.drawn))
     (omega (arith, c.draw-generation.ensures.drawn, c.draw-generation.ensures.next))
     c.payloads-payloads.ensures.all c.requires.packed refl refl c.payloads-payloads.ensures.few in
@@ -116,7 +116,7 @@ returns-in-Ok-clause-steps g c = λ m it h steady rests agrees source.
     (c.move_unit.ensures.moved agrees.mirrors.overflow.apart) in
     merged_steps places m it t u p drawn serial (length payloads) h old
     (g.C.Chip.told c.write_unit.new.chip) agrees.mirrors agrees.tidy
-    c.in_ok-place.ensures.taken.free after what.low
+    c.in_ok-place.ensures.taken.next.free after what.low
     (many_packs places (now h) it t u p drawn serial from payloads what)
     (moved_from (taken t p) after u p (length payloads) drawn next
     (omega (
@@ -128,9 +128,10 @@ returns-in-Ok-clause-steps g c = λ m it h steady rests agrees source.
     (tells_packs places (now h) it t _ after u p drawn serial from payloads c.masks_of-masks.result what
     c.masks_of-masks.ensures c.move_unit.ensures.told c.in_ok-place.ensures.taken.places_is refl)
     (omega (arith, c.in-Ok.ensures.drawn, c.move_unit.ensures.counter))
-    (unit_joined c.units-units.result it t u p drawn serial from payloads
-    (sym c.units-units.ensures) m h old (g.C.Chip.told c.take_place.new.chip)
-    (g.C.Chip.told c.write_unit.new.chip) c.in_ok-place.ensures.taken.lowest steady
+    (unit_joined c.units-units.result c.erases-erases.result it t u p drawn serial from payloads
+    (has_counts t c.take_place.new.directory p c.units-units.result c.erases-erases.result
+    c.in_ok-place.ensures.taken.places_is c.units-units.ensures c.erases-erases.ensures) m h old (g.C.Chip.told c.take_place.new.chip)
+    (g.C.Chip.told c.write_unit.new.chip) c.in_ok-place.ensures.taken.next steady
     (record { rests = rests; agrees = agrees }) c.in_ok-place.ensures.takes
     c.in_ok-place.ensures.accounts.counts what (Ok tt) c.in-Ok.ensures.writes)
 
@@ -138,7 +139,7 @@ pub returns-in-Ok-clause-tells : goal.returns-in-Ok-clause-tells
 returns-in-Ok-clause-tells g c = λ x told.
     let (y, told_y, written) =
     written_told (g.C.Chip.told c.args.chip.now) (g.C.Chip.told c.take_place.new.chip)
-    (g.C.Chip.told c.write_unit.new.chip) c.units-units.result c.in_ok-place.place
+    (g.C.Chip.told c.write_unit.new.chip) c.units-units.result c.erases-erases.result c.in_ok-place.place
     c.draw-generation.result c.draw-generation.new.self (from_home c.args.home.now c.args.parts.now.status.numbers
     c.args.parts.now.scratch.log) c.payloads-payloads.result.now (Ok tt)
     c.in_ok-place.ensures.accounts.counts c.in_ok-place.ensures.tells c.in-Ok.ensures.tells x told in (
@@ -158,8 +159,8 @@ returns-in-Ok-clause-tells g c = λ x told.
           c.args.parts.now.scratch.log in
           let what = to_merge places (chart_of x) it t u p drawn serial from payloads
           c.args.parts.now.scratch.packs.closed.items c.args.parts.now.active
-          c.args.parts.now.scratch.log mirrors c.requires.unit c.in_ok-place.ensures.taken.free
-          (omega (arith, c.in_ok-place.ensures.taken.within, c.requires.known.suits.all)) source
+          c.args.parts.now.scratch.log mirrors c.requires.unit c.in_ok-place.ensures.taken.next.free
+          (omega (arith, c.in_ok-place.ensures.taken.next.within, c.requires.known.suits.all)) source
           (omega (arith, c.draw-generation.ensures.drawn))
           (omega (arith, c.draw-generation.ensures.drawn, c.draw-generation.ensures.next))
           c.payloads-payloads.ensures.all c.requires.packed refl refl c.payloads-payloads.ensures.few in
@@ -184,7 +185,9 @@ returns-in-Ok-clause-tells g c = λ x told.
           (tells_packs places (chart_of x) it t _ after u p drawn serial from payloads c.masks_of-masks.result what
           c.masks_of-masks.ensures c.move_unit.ensures.told c.in_ok-place.ensures.taken.places_is refl)
           (omega (arith, c.in-Ok.ensures.drawn, c.move_unit.ensures.counter))
-          (written it t u (sym c.units-units.ensures) what),
+          (written it t u
+          (has_counts t c.take_place.new.directory p c.units-units.result c.erases-erases.result
+          c.in_ok-place.ensures.taken.places_is c.units-units.ensures c.erases-erases.ensures) what),
     )
 
 pub returns-in-Ok-clause-holds : goal.returns-in-Ok-clause-holds
@@ -205,8 +208,8 @@ returns-in-Ok-clause-holds g c =
     } in
     held_moved c.known_laws.ensures.moves places t after u p used next c.requires.known
     c.requires.unit
-    (omega (arith, c.in_ok-place.ensures.taken.within, c.requires.known.suits.all))
-    c.in_ok-place.ensures.taken.free
+    (omega (arith, c.in_ok-place.ensures.taken.next.within, c.requires.known.suits.all))
+    c.in_ok-place.ensures.taken.next.free
     (subst (λ (d : Places). IsMoved (taken_in d) after u p used) c.in_ok-place.ensures.taken.places_is
     (c.move_unit.ensures.moved c.requires.known.overflows_apart))
     (subst (λ (n : ℕ). NoneIsLostBut p n (taken_in c.take_place.new.directory)
@@ -222,7 +225,7 @@ returns-in-Ok-clause-free g c =
     let u = c.args.unit in
     let p = c.in_ok-place.place in
     more_free _ t (tables_of c.move_unit.new.parts).places u p c.requires.known c.requires.unit
-    c.in_ok-place.ensures.taken.free c.directory_laws.ensures.takes
+    c.in_ok-place.ensures.taken.next.free c.directory_laws.ensures.takes
     (subst (λ (d : Places). ¬ IsFree d (slice_index d.current u)
     → free_count d.in_use + 1 ≤ free_count c.move_unit.new.parts.directory.in_use)
     c.in_ok-place.ensures.taken.places_is c.move_unit.ensures.free)
@@ -242,17 +245,17 @@ returns-in-Err-clause-steps g c = λ m it h steady rests agrees source.
     c.args.parts.now.scratch.log in
     let what = to_merge places (now h) it t u p drawn serial from payloads
     c.args.parts.now.scratch.packs.closed.items c.args.parts.now.active
-    c.args.parts.now.scratch.log agrees.mirrors c.requires.unit c.in_ok-place.ensures.taken.free
-    (omega (arith, c.in_ok-place.ensures.taken.within, c.requires.known.suits.all)) source
+    c.args.parts.now.scratch.log agrees.mirrors c.requires.unit c.in_ok-place.ensures.taken.next.free
+    (omega (arith, c.in_ok-place.ensures.taken.next.within, c.requires.known.suits.all)) source
     (omega (arith, c.draw-generation.ensures.drawn))
     (omega (arith, c.draw-generation.ensures.drawn, c.draw-generation.ensures.next))
     c.payloads-payloads.ensures.all c.requires.packed refl refl c.payloads-payloads.ensures.few in
-    let back : c.give_back.new.self ≡ t.places =
+    let back : c.give_back.new.self ≡ with_erased t.places p =
     c.give_back.ensures ∙ (ap (λ (d : Places). with_use d p false) c.in_ok-place.ensures.taken.places_is
-    ∙ given_back t.places p c.in_ok-place.ensures.taken.within c.in_ok-place.ensures.taken.free) in
+    ∙ given_back t.places p c.in_ok-place.ensures.taken.next.within c.in_ok-place.ensures.taken.next.free) in
     merge_failed places m it t u p drawn serial (length payloads) h old
     (g.C.Chip.told c.write_unit.new.chip) agrees.mirrors agrees.tidy
-    c.in_ok-place.ensures.taken.free _ next c.in-Err.fault c.in-Err.fault
+    c.in_ok-place.ensures.taken.next.free _ (erases_then t p) next c.in-Err.fault c.in-Err.fault
     (ap (λ (d : Places). record {
       places = d;
       overflow = t.overflow;
@@ -260,15 +263,17 @@ returns-in-Err-clause-steps g c = λ m it h steady rests agrees source.
       next = next;
       active = t.active;
     }) back)
+    (as_many t p)
     (omega (
       arith,
       c.draw-generation.ensures.drawn,
       c.draw-generation.ensures.next,
       c.in-Err.ensures.draws.0,
     ))
-    (unit_joined c.units-units.result it t u p drawn serial from payloads
-    (sym c.units-units.ensures) m h old (g.C.Chip.told c.take_place.new.chip)
-    (g.C.Chip.told c.write_unit.new.chip) c.in_ok-place.ensures.taken.lowest steady
+    (unit_joined c.units-units.result c.erases-erases.result it t u p drawn serial from payloads
+    (has_counts t c.take_place.new.directory p c.units-units.result c.erases-erases.result
+    c.in_ok-place.ensures.taken.places_is c.units-units.ensures c.erases-erases.ensures) m h old (g.C.Chip.told c.take_place.new.chip)
+    (g.C.Chip.told c.write_unit.new.chip) c.in_ok-place.ensures.taken.next steady
     (record { rests = rests; agrees = agrees }) c.in_ok-place.ensures.takes
     c.in_ok-place.ensures.accounts.counts what (Err c.in-Err.fault) c.in-Err.ensures.writes)
 
@@ -276,7 +281,7 @@ pub returns-in-Err-clause-tells : goal.returns-in-Err-clause-tells
 returns-in-Err-clause-tells g c = λ soft x told.
     let (y, told_y, left) =
     written_told (g.C.Chip.told c.args.chip.now) (g.C.Chip.told c.take_place.new.chip)
-    (g.C.Chip.told c.write_unit.new.chip) c.units-units.result c.in_ok-place.place
+    (g.C.Chip.told c.write_unit.new.chip) c.units-units.result c.erases-erases.result c.in_ok-place.place
     c.draw-generation.result c.draw-generation.new.self (from_home c.args.home.now c.args.parts.now.status.numbers
     c.args.parts.now.scratch.log) c.payloads-payloads.result.now (Err c.in-Err.fault)
     c.in_ok-place.ensures.accounts.counts c.in_ok-place.ensures.tells c.in-Err.ensures.tells soft x
@@ -284,13 +289,13 @@ returns-in-Err-clause-tells g c = λ soft x told.
     let t = tables_of c.args.parts.now in
     let p = c.in_ok-place.place in
     let next = c.write_unit.new.counter in
-    let back : c.give_back.new.self ≡ t.places =
+    let back : c.give_back.new.self ≡ with_erased t.places p =
     c.give_back.ensures ∙ (ap (λ (d : Places). with_use d p false) c.in_ok-place.ensures.taken.places_is
-    ∙ given_back t.places p c.in_ok-place.ensures.taken.within c.in_ok-place.ensures.taken.free) in (
+    ∙ given_back t.places p c.in_ok-place.ensures.taken.next.within c.in_ok-place.ensures.taken.next.free) in (
       y,
       told_y,
-      λ it mirrors. stays_mirrored _ (chart_of x) (chart_of y) it t _ p next
-          c.in_ok-place.ensures.taken.free
+      λ it mirrors. stays_mirrored _ (chart_of x) (chart_of y) it t _ (erases_then t p) p next
+          c.in_ok-place.ensures.taken.next.free
           (ap (λ (d : Places). record {
             places = d;
             overflow = t.overflow;
@@ -298,6 +303,7 @@ returns-in-Err-clause-tells g c = λ soft x told.
             next = next;
             active = t.active;
           }) back)
+          (as_many t p)
           (omega (
             arith,
             c.draw-generation.ensures.drawn,
@@ -311,10 +317,10 @@ returns-in-Err-clause-holds g c =
     let t = tables_of c.args.parts.now in
     let p = c.in_ok-place.place in
     let next = c.write_unit.new.counter in
-    let back : c.give_back.new.self ≡ t.places =
+    let back : c.give_back.new.self ≡ with_erased t.places p =
     c.give_back.ensures ∙ (ap (λ (d : Places). with_use d p false) c.in_ok-place.ensures.taken.places_is
-    ∙ given_back t.places p c.in_ok-place.ensures.taken.within c.in_ok-place.ensures.taken.free) in
-    held_back _ t _ next (ap (λ (d : Places). record {
+    ∙ given_back t.places p c.in_ok-place.ensures.taken.next.within c.in_ok-place.ensures.taken.next.free) in
+    held_back _ t _ (erases_then t p) next (ap (λ (d : Places). record {
       places = d;
       overflow = t.overflow;
       status = t.status;
@@ -326,29 +332,29 @@ pub returns-in-Err-clause-free : goal.returns-in-Err-clause-free
 returns-in-Err-clause-free g c =
     let t = tables_of c.args.parts.now in
     let p = c.in_ok-place.place in
-    let back : c.give_back.new.self ≡ t.places =
+    let back : c.give_back.new.self ≡ with_erased t.places p =
     c.give_back.ensures ∙ (ap (λ (d : Places). with_use d p false) c.in_ok-place.ensures.taken.places_is
-    ∙ given_back t.places p c.in_ok-place.ensures.taken.within c.in_ok-place.ensures.taken.free) in
+    ∙ given_back t.places p c.in_ok-place.ensures.taken.next.within c.in_ok-place.ensures.taken.next.free) in
     omega (arith, ap (λ (d : Places). free_count d.in_use) back)
 
 pub returns-in-Ok-clause-costs : goal.returns-in-Ok-clause-costs
 returns-in-Ok-clause-costs g c =
     for_unit (tables_of c.args.parts.now).places c.in_ok-place.place _
     (g.C.Chip.told c.args.chip.now) (g.C.Chip.told c.write_unit.new.chip)
-    c.in_ok-place.ensures.taken.lowest c.move_unit.ensures.stands
+    c.in_ok-place.ensures.taken.next c.move_unit.ensures.stands
     (costs_of_filled (tables_of c.args.parts.now).places c.in_ok-place.place 2 true
     (g.C.Chip.told c.args.chip.now) (g.C.Chip.told c.take_place.new.chip)
-    (g.C.Chip.told c.write_unit.new.chip) c.in_ok-place.ensures.taken.lowest
+    (g.C.Chip.told c.write_unit.new.chip) c.in_ok-place.ensures.taken.next
     c.in_ok-place.ensures.costs c.in-Ok.ensures.costs)
 
 pub returns-in-Err-clause-costs : goal.returns-in-Err-clause-costs
 returns-in-Err-clause-costs g c =
     for_nobody (tables_of c.args.parts.now).places c.in_ok-place.place _
     (g.C.Chip.told c.args.chip.now) (g.C.Chip.told c.write_unit.new.chip)
-    c.in_ok-place.ensures.taken.lowest
+    c.in_ok-place.ensures.taken.next
     (costs_of_filled (tables_of c.args.parts.now).places c.in_ok-place.place 2 false
     (g.C.Chip.told c.args.chip.now) (g.C.Chip.told c.take_place.new.chip)
-    (g.C.Chip.told c.write_unit.new.chip) c.in_ok-place.ensures.taken.lowest
+    (g.C.Chip.told c.write_unit.new.chip) c.in_ok-place.ensures.taken.next
     c.in_ok-place.ensures.costs c.in-Err.ensures.costs)
 
 pub returns-in-Ok-clause-few : goal.returns-in-Ok-clause-few
@@ -370,7 +376,7 @@ returns-in-Ok-clause-fault g c = λ x told.
     let (y, told_y, same) = c.in_ok-place.ensures.spares x told in
     let apart = home_apart _ (tables_of c.args.parts.now) c.args.unit c.args.home.now.place
     c.in_ok-place.place c.requires.known c.requires.unit c.requires.place
-    c.in_ok-place.ensures.taken.free in
+    c.in_ok-place.ensures.taken.next.free in
     sym (pages_from_alike x y from c.in_ok-place.place apart same)
     ∙ c.in-Ok.ensures.fault y told_y
 
@@ -381,7 +387,7 @@ returns-in-Err-clause-fault g c = λ x told.
     let (y, told_y, same) = c.in_ok-place.ensures.spares x told in
     let apart = home_apart _ (tables_of c.args.parts.now) c.args.unit c.args.home.now.place
     c.in_ok-place.place c.requires.known c.requires.unit c.requires.place
-    c.in_ok-place.ensures.taken.free in
+    c.in_ok-place.ensures.taken.next.free in
     subst (λ (o : Option ChipFault). IsTheFault o c.in-Err.fault)
     (pages_from_alike x y from c.in_ok-place.place apart same)
     (c.in-Err.ensures.fault y told_y)
@@ -390,7 +396,7 @@ pub returns-in-Ok-clause-spares : goal.returns-in-Ok-clause-spares
 returns-in-Ok-clause-spares g c =
     used_spared (tables_of c.args.parts.now).places c.in_ok-place.place
     (g.C.Chip.told c.args.chip.now) (g.C.Chip.told c.write_unit.new.chip)
-    c.in_ok-place.ensures.taken.free
+    c.in_ok-place.ensures.taken.next.free
     (spares_then c.in_ok-place.place (g.C.Chip.told c.args.chip.now)
     (g.C.Chip.told c.take_place.new.chip) (g.C.Chip.told c.write_unit.new.chip)
     c.in_ok-place.ensures.spares c.in-Ok.ensures.spares)
@@ -414,7 +420,7 @@ returns-in-Ok-clause-tidy g c =
     let next = c.write_unit.new.counter in
     let used = length c.payloads-payloads.result.now in
     moves_tidily (g.C.Chip.told c.args.chip.now).places t c.requires.known p
-    c.in_ok-place.ensures.taken.free (Unit {0}) after u used next (Ok tt)
+    c.in_ok-place.ensures.taken.next.free (Unit {0}) after u used next (Ok tt)
     (g.C.Chip.told c.args.chip.now) (g.C.Chip.told c.write_unit.new.chip) c.requires.unit c.facts.ensures.logs
     (subst (λ (d : Places). IsMoved (record {
       places = d;
@@ -426,7 +432,7 @@ returns-in-Ok-clause-tidy g c =
     (c.move_unit.ensures.moved c.requires.known.overflows_apart))
     (tidy_taken t.places p (241 + used) (IsUnitSpot used) true true (g.C.Chip.told c.args.chip.now)
     (g.C.Chip.told c.take_place.new.chip) (g.C.Chip.told c.write_unit.new.chip)
-    c.in_ok-place.ensures.taken.lowest (λ s above spot. omega (arith, above, spot))
+    c.in_ok-place.ensures.taken.next (λ s above spot. omega (arith, above, spot))
     c.in_ok-place.ensures.tidy c.in-Ok.ensures.tidy)
 
 pub returns-in-Err-clause-tidy : goal.returns-in-Err-clause-tidy
@@ -435,11 +441,11 @@ returns-in-Err-clause-tidy g c =
     let p = c.in_ok-place.place in
     let next = c.write_unit.new.counter in
     let used = length c.payloads-payloads.result.now in
-    let back : c.give_back.new.self ≡ t.places =
+    let back : c.give_back.new.self ≡ with_erased t.places p =
     c.give_back.ensures ∙ (ap (λ (d : Places). with_use d p false) c.in_ok-place.ensures.taken.places_is
-    ∙ given_back t.places p c.in_ok-place.ensures.taken.within c.in_ok-place.ensures.taken.free) in
+    ∙ given_back t.places p c.in_ok-place.ensures.taken.next.within c.in_ok-place.ensures.taken.next.free) in
     gives_back_tidily (g.C.Chip.told c.args.chip.now).places t c.requires.known p
-    c.in_ok-place.ensures.taken.free (Unit {0}) _ _ next (Err c.in-Err.fault)
+    c.in_ok-place.ensures.taken.next.free (Unit {0}) _ (erases_then t p) _ next (Err c.in-Err.fault)
     (g.C.Chip.told c.args.chip.now) (g.C.Chip.told c.write_unit.new.chip)
     (ap (λ (d : Places). record {
       places = d;
@@ -450,7 +456,7 @@ returns-in-Err-clause-tidy g c =
     }) back)
     (tidy_taken t.places p (241 + used) (IsUnitSpot used) false false (g.C.Chip.told c.args.chip.now)
     (g.C.Chip.told c.take_place.new.chip) (g.C.Chip.told c.write_unit.new.chip)
-    c.in_ok-place.ensures.taken.lowest (λ s above spot. omega (arith, above, spot))
+    c.in_ok-place.ensures.taken.next (λ s above spot. omega (arith, above, spot))
     c.in_ok-place.ensures.tidy c.in-Err.ensures.tidy)
 
 -- ---- no place was taken
@@ -496,7 +502,7 @@ pub returns-in_err-place-clause-holds : goal.returns-in_err-place-clause-holds
 returns-in_err-place-clause-holds g c =
     let t = tables_of c.args.parts.now in
     let next = c.draw-generation.new.self in
-    held_back _ t _ next
+    held_back _ t _ t.places.erases next
     (same_tables t c.take_place.new.directory next c.in_err-place.ensures.same) c.requires.known
 
 pub returns-in_err-place-clause-free : goal.returns-in_err-place-clause-free

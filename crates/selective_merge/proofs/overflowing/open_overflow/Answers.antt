@@ -3,17 +3,17 @@ use Rattle.std.proofs.lemmas.Result.{err_from_is_err_and}
 use Rattle.ipl_base.specs.declared.spot.Spot.{Spot}
 use Rattle.ipl_meaning.specs.Chart.{chart_of}
 use Rattle.ipl_meaning.specs.Rests.{now}
-use Rattle.ipl_meaning.specs.Tables.{Places, with_use}
+use Rattle.ipl_meaning.specs.Tables.{Places, with_use, with_erased}
 use Rattle.ipl_meaning.specs.TableSteps.{taken, with_overflow}
 use Rattle.unit_io.specs.Spots.{IsSpot}
 use Rattle.merge_rules.specs.Known.{KnowsPlaces}
 use Rattle.place_taking.proofs.JoinLemmas.{costs_of_filled, fills_programs, tidy_taken}
 use Rattle.selective_merge.specs.Moving.{tables_of}
 use Rattle.selective_merge.specs.Placing.{RestsOpened}
-use Rattle.selective_merge.proofs.HeldLemmas.{given_back, held_back}
+use Rattle.selective_merge.proofs.HeldLemmas.{given_back, erases_then, held_back}
 use Rattle.selective_merge.proofs.SpendLemmas.{frees_once, frees_untaken}
-use Rattle.selective_merge.proofs.OverflowLemmas.{opened_mirrors, opened_steps, open_failed, taken_told, tables_same}
-use Rattle.selective_merge.proofs.TakenLemmas.{untaken_tables, same_tables, steps_not, told_not}
+use Rattle.selective_merge.proofs.OverflowLemmas.{opened_mirrors, opened_says, opened_steps, open_failed, taken_told, tables_same}
+use Rattle.selective_merge.proofs.TakenLemmas.{has_counts, untaken_tables, same_tables, steps_not, told_not}
 use Rattle.selective_merge.proofs.TidyLemmas.{opens_tidily, gives_back_tidily, untaken_tidily}
 use Rattle.selective_merge.proofs.overflowing.open_overflow.Goals as goal
 
@@ -27,7 +27,7 @@ take_place-requires-clause-free g c =
 pub returns-in-Ok-clause-opened : goal.returns-in-Ok-clause-opened
 returns-in-Ok-clause-opened g c = (
   refl,
-  c.in_ok-place.ensures.taken.free,
+  c.in_ok-place.ensures.taken.next.free,
   tables_same (tables_of c.args.parts.now) _ _ _ _ _ _ c.in_ok-place.ensures.taken.places_is
       c.add_place.ensures c.draw-generation.ensures.next,
 )
@@ -37,7 +37,7 @@ returns-in-Ok-clause-tells g c = λ x told.
     let t = tables_of c.args.parts.now in
     let p = c.in_ok-place.place in
     let drawn = c.draw-generation.result in
-    let (y, told_y, opened) = taken_told p _ drawn (g.C.Chip.told c.args.chip.now)
+    let (y, told_y, opened) = taken_told p _ _ drawn (g.C.Chip.told c.args.chip.now)
     (g.C.Chip.told c.take_place.new.chip) (g.C.Chip.told c.write_overflow.new.chip)
     c.in_ok-place.ensures.tells c.in-Ok.ensures.tells x told in
     let after : _ ≡ with_overflow (taken t p) p (drawn + 1) =
@@ -47,11 +47,17 @@ returns-in-Ok-clause-tells g c = λ x told.
       y,
       told_y,
       λ it mirrors.
-          let there = opened_mirrors _ p _ drawn (chart_of x) (chart_of y) it t mirrors
-          c.in_ok-place.ensures.taken.free
-          (omega (arith, c.in_ok-place.ensures.taken.within, c.requires.known.suits.all))
-          (omega (arith, c.draw-generation.ensures.drawn)) c.requires.two opened in
-          (rw after there.0, there.1),
+          let there = opened_mirrors _ p _ _ drawn (chart_of x) (chart_of y) it t mirrors
+          c.in_ok-place.ensures.taken.next.free
+          (omega (arith, c.in_ok-place.ensures.taken.next.within, c.requires.known.suits.all))
+          (omega (arith, c.draw-generation.ensures.drawn)) c.requires.two opened in (
+            rw after there.0,
+            there.1,
+            opened_says p _ _ drawn (chart_of x) (chart_of y) t _ (drawn + 1)
+                (has_counts t c.take_place.new.directory p c.units-units.result c.erases-erases.result
+                c.in_ok-place.ensures.taken.places_is c.units-units.ensures c.erases-erases.ensures)
+                after opened,
+          ),
     )
 
 pub returns-in-Ok-clause-steps : goal.returns-in-Ok-clause-steps
@@ -59,16 +65,18 @@ returns-in-Ok-clause-steps g c = λ m it h steady rests agrees.
     let t = tables_of c.args.parts.now in
     let p = c.in_ok-place.place in
     let drawn = c.draw-generation.result in
-    opened_steps p _ drawn m it t _ h (g.C.Chip.told c.args.chip.now)
+    opened_steps p _ _ drawn m it t _ h (g.C.Chip.told c.args.chip.now)
     (g.C.Chip.told c.take_place.new.chip) (g.C.Chip.told c.write_overflow.new.chip)
-    c.in_ok-place.ensures.taken.lowest steady (record { rests = rests; agrees = agrees })
+    c.in_ok-place.ensures.taken.next steady (record { rests = rests; agrees = agrees })
     c.in_ok-place.ensures.takes c.in_ok-place.ensures.accounts.counts c.in-Ok.ensures.opens Spot
     (record { place = p; sector = 1 })
-    (omega (arith, c.in_ok-place.ensures.taken.within, c.requires.known.suits.all))
+    (omega (arith, c.in_ok-place.ensures.taken.next.within, c.requires.known.suits.all))
     (omega (arith, c.draw-generation.ensures.drawn)) c.requires.two
     (tables_same t _ _ _ _ _ _ c.in_ok-place.ensures.taken.places_is c.add_place.ensures
     (c.draw-generation.ensures.next
     ∙ ap (λ (n : ℕ). n + 1) (sym c.draw-generation.ensures.drawn)))
+    (has_counts t c.take_place.new.directory p c.units-units.result c.erases-erases.result
+    c.in_ok-place.ensures.taken.places_is c.units-units.ensures c.erases-erases.ensures)
 
 pub returns-in-Ok-clause-holds : goal.returns-in-Ok-clause-holds
 returns-in-Ok-clause-holds g c =
@@ -80,17 +88,17 @@ returns-in-Ok-clause-holds g c =
       known = subst (KnowsPlaces places)
           (sym (tables_same t _ _ _ _ _ _ c.in_ok-place.ensures.taken.places_is c.add_place.ensures refl))
           (c.known_laws.ensures.overflows places t p c.draw-generation.new.self c.requires.known
-          (omega (arith, c.in_ok-place.ensures.taken.within, c.requires.known.suits.all))
-          c.in_ok-place.ensures.taken.free c.requires.two);
+          (omega (arith, c.in_ok-place.ensures.taken.next.within, c.requires.known.suits.all))
+          c.in_ok-place.ensures.taken.next.free c.requires.two);
     }
 
 pub returns-in-Err-clause-steps : goal.returns-in-Err-clause-steps
 returns-in-Err-clause-steps g c = λ m it h steady rests agrees.
     let t = tables_of c.args.parts.now in
     let p = c.in_ok-place.place in
-    open_failed p _ c.draw-generation.result m it t _ h (g.C.Chip.told c.args.chip.now)
+    open_failed p _ _ c.draw-generation.result m it t _ h (g.C.Chip.told c.args.chip.now)
     (g.C.Chip.told c.take_place.new.chip) (g.C.Chip.told c.write_overflow.new.chip)
-    c.in_ok-place.ensures.taken.lowest steady (record { rests = rests; agrees = agrees })
+    c.in_ok-place.ensures.taken.next steady (record { rests = rests; agrees = agrees })
     c.in_ok-place.ensures.takes c.in_ok-place.ensures.accounts.counts Spot c.in-Err.fault
     c.in-Err.fault c.in-Err.ensures.accounts.cause c.in-Err.ensures.opens
 
@@ -102,10 +110,10 @@ returns-in-Err-clause-holds g c =
     let t = tables_of c.args.parts.now in
     let p = c.in_ok-place.place in
     let next = c.draw-generation.new.self in
-    let back : c.give_back.new.self ≡ t.places =
+    let back : c.give_back.new.self ≡ with_erased t.places p =
     c.give_back.ensures ∙ (ap (λ (d : Places). with_use d p false) c.in_ok-place.ensures.taken.places_is
-    ∙ given_back t.places p c.in_ok-place.ensures.taken.within c.in_ok-place.ensures.taken.free) in
-    held_back _ t _ next (ap (λ (d : Places). record {
+    ∙ given_back t.places p c.in_ok-place.ensures.taken.next.within c.in_ok-place.ensures.taken.next.free) in
+    held_back _ t _ (erases_then t p) next (ap (λ (d : Places). record {
       places = d;
       overflow = t.overflow;
       status = t.status;
@@ -120,8 +128,8 @@ returns-in-Ok-clause-costs g c =
     let new = g.C.Chip.told c.write_overflow.new.chip in
     let d = (tables_of c.args.parts.now).places in
     let p = c.in_ok-place.place in
-    frees_once d p true old new c.in_ok-place.ensures.taken.lowest
-    (costs_of_filled d p 2 true old mid new c.in_ok-place.ensures.taken.lowest
+    frees_once d p true old new c.in_ok-place.ensures.taken.next
+    (costs_of_filled d p 2 true old mid new c.in_ok-place.ensures.taken.next
     c.in_ok-place.ensures.costs (fills_programs p 1 2 3 mid new c.in-Ok.ensures.costs))
 
 pub returns-in-Err-clause-costs : goal.returns-in-Err-clause-costs
@@ -131,8 +139,8 @@ returns-in-Err-clause-costs g c =
     let new = g.C.Chip.told c.write_overflow.new.chip in
     let d = (tables_of c.args.parts.now).places in
     let p = c.in_ok-place.place in
-    frees_once d p false old new c.in_ok-place.ensures.taken.lowest
-    (costs_of_filled d p 2 false old mid new c.in_ok-place.ensures.taken.lowest
+    frees_once d p false old new c.in_ok-place.ensures.taken.next
+    (costs_of_filled d p 2 false old mid new c.in_ok-place.ensures.taken.next
     c.in_ok-place.ensures.costs (fills_programs p 1 2 3 mid new c.in-Err.ensures.costs))
 
 pub returns-in-Ok-clause-tidy : goal.returns-in-Ok-clause-tidy
@@ -141,11 +149,11 @@ returns-in-Ok-clause-tidy g c =
     let new = g.C.Chip.told c.write_overflow.new.chip in
     let t = tables_of c.args.parts.now in
     let p = c.in_ok-place.place in
-    opens_tidily old.places t c.requires.known p c.in_ok-place.ensures.taken.free Spot _
+    opens_tidily old.places t c.requires.known p c.in_ok-place.ensures.taken.next.free Spot _
     c.draw-generation.new.self (Ok (record { place = p; sector = 1 })) old new
     (tables_same t _ _ _ _ _ _ c.in_ok-place.ensures.taken.places_is c.add_place.ensures refl)
     (tidy_taken t.places p 1 (IsSpot 0) true true old (g.C.Chip.told c.take_place.new.chip) new
-    c.in_ok-place.ensures.taken.lowest (λ s above spot. omega (arith, above, spot))
+    c.in_ok-place.ensures.taken.next (λ s above spot. omega (arith, above, spot))
     c.in_ok-place.ensures.tidy c.in-Ok.ensures.tidy)
 
 pub returns-in-Err-clause-tidy : goal.returns-in-Err-clause-tidy
@@ -155,10 +163,10 @@ returns-in-Err-clause-tidy g c =
     let t = tables_of c.args.parts.now in
     let p = c.in_ok-place.place in
     let next = c.draw-generation.new.self in
-    let back : c.give_back.new.self ≡ t.places =
+    let back : c.give_back.new.self ≡ with_erased t.places p =
     c.give_back.ensures ∙ (ap (λ (d : Places). with_use d p false) c.in_ok-place.ensures.taken.places_is
-    ∙ given_back t.places p c.in_ok-place.ensures.taken.within c.in_ok-place.ensures.taken.free) in
-    gives_back_tidily old.places t c.requires.known p c.in_ok-place.ensures.taken.free Spot _ 1 next
+    ∙ given_back t.places p c.in_ok-place.ensures.taken.next.within c.in_ok-place.ensures.taken.next.free) in
+    gives_back_tidily old.places t c.requires.known p c.in_ok-place.ensures.taken.next.free Spot _ (erases_then t p) 1 next
     (Err c.in-Err.fault) old new (ap (λ (d : Places). record {
       places = d;
       overflow = t.overflow;
@@ -167,7 +175,7 @@ returns-in-Err-clause-tidy g c =
       active = t.active;
     }) back)
     (tidy_taken t.places p 1 (IsSpot 0) false false old (g.C.Chip.told c.take_place.new.chip) new
-    c.in_ok-place.ensures.taken.lowest (λ s above spot. omega (arith, above, spot))
+    c.in_ok-place.ensures.taken.next (λ s above spot. omega (arith, above, spot))
     c.in_ok-place.ensures.tidy c.in-Err.ensures.tidy)
 
 -- ---- no place was taken
@@ -179,7 +187,7 @@ returns-in_err-place-clause-steps g c = λ m it h steady rests agrees.
     let old = g.C.Chip.told c.args.chip.now in
     let e = err_from_is_err_and c.from_residual.result c.from_residual.ensures.1 in
     let after = untaken_tables t c.take_place.new.directory next in
-    rw e.1 (steps_not (λ (spot : Spot) k. RestsOpened old.places m (now h) it after k) m it t after next h
+    rw e.1 (steps_not (λ (spot : Spot) k. RestsOpened old.places m (now h) it after spot.place k) m it t after next h
     c.in_err-place.field-0.0 e.0 old (g.C.Chip.told c.take_place.new.chip)
     (same_tables t c.take_place.new.directory next c.in_err-place.ensures.same)
     (omega (arith, c.draw-generation.ensures.drawn, c.draw-generation.ensures.next)) steady rests
@@ -200,7 +208,7 @@ pub returns-in_err-place-clause-holds : goal.returns-in_err-place-clause-holds
 returns-in_err-place-clause-holds g c =
     let t = tables_of c.args.parts.now in
     let next = c.draw-generation.new.self in
-    held_back _ t _ next
+    held_back _ t _ t.places.erases next
     (same_tables t c.take_place.new.directory next c.in_err-place.ensures.same) c.requires.known
 
 pub returns-in_err-place-clause-costs : goal.returns-in_err-place-clause-costs

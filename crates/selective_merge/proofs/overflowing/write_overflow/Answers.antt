@@ -5,7 +5,7 @@ use Rattle.sector_format.specs.Decode.{sector_of}
 use Rattle.sector_format.specs.declared.sector.Head.{Head}
 use Rattle.unit_io.specs.Charts.{Charts, Gains}
 use Rattle.unit_io.specs.Costs.{ProgramsAt, Spends}
-use Rattle.selective_merge.proofs.OverflowLemmas.{HeaderSays, IsOverflowHead, place_opened, opened_told}
+use Rattle.selective_merge.proofs.OverflowLemmas.{HeaderSays, IsOverflowHead, overflow_head, place_opened, opened_told}
 use Rattle.selective_merge.proofs.overflowing.write_overflow.Goals as goal
 
 pub returns-clause-opens : goal.returns-clause-opens
@@ -20,13 +20,10 @@ returns-clause-opens g c =
       serial = c.args.generation;
       payload = c.write_overflow_header.new.out;
     } in
-    let is : IsOverflowHead c.args.units c.args.generation head = record {
-      kind = refl;
-      of_generation = refl;
-      serial = refl;
-      counts = c.write_overflow_header.ensures;
-    } in
-    place_opened old.places c.args.place c.args.units c.args.generation head old new c.seal.result is
+    let is : IsOverflowHead c.args.units c.args.erases c.args.generation head =
+    overflow_head c.args.units c.args.erases c.args.generation head refl refl refl refl
+    c.write_overflow_header.ensures in
+    place_opened old.places c.args.place c.args.units c.args.erases c.args.generation head old new c.seal.result is
     (subst (λ (w : Head). HeaderSays old.places c.args.place
     (sector_of w c.write_overflow_header.new.out) old c.seal.result new) c.written-head.ensures
     c.seal.ensures.leads)
@@ -43,13 +40,10 @@ returns-clause-tells g c =
       serial = c.args.generation;
       payload = c.write_overflow_header.new.out;
     } in
-    let is : IsOverflowHead c.args.units c.args.generation head = record {
-      kind = refl;
-      of_generation = refl;
-      serial = refl;
-      counts = c.write_overflow_header.ensures;
-    } in
-    opened_told c.args.place c.args.units c.args.generation head old new is c.seal.result
+    let is : IsOverflowHead c.args.units c.args.erases c.args.generation head =
+    overflow_head c.args.units c.args.erases c.args.generation head refl refl refl refl
+    c.write_overflow_header.ensures in
+    opened_told c.args.place c.args.units c.args.erases c.args.generation head old new is c.seal.result
     (subst (λ (w : Head). OnOk c.seal.result (Charts (Gains c.args.place 0
     (sector_of w c.write_overflow_header.new.out)) old new)) c.written-head.ensures
     c.seal.ensures.tells)

@@ -33,14 +33,14 @@ returns-clause-writes g c = λ m it t u h steady rests clean all what.
     let fills = subst (λ (w : Head). FillsPlace old.places from c.args.place w.generation
     c.args.counter.now c.args.payloads.now old (Ok pieces) mid) c.written-head.ensures
     filled.fills in
-    let seals = subst (λ (w : Head). SealsUnit mid.places c.args.place c.args.units w.unit
+    let seals = subst (λ (w : Head). SealsUnit mid.places c.args.place c.args.units c.args.erases w.unit
     w.generation pieces c.count_of-carried.result mid c.seal_unit.result new)
     c.written-head.ensures c.seal_unit.ensures.seals in
-    unit_written old.places c.args.units c.args.place c.args.generation c.args.counter.now
+    unit_written old.places c.args.units c.args.erases c.args.place c.args.generation c.args.counter.now
     c.count_of-carried.result from c.args.payloads.now pieces filled.few
     c.count_of-carried.ensures m it t u h old mid new c.seal_unit.result all what rests clean
     filled.accounts.counts (fills m h steady rests clean)
-    (subst (λ (q : ℕ). SealsUnit q c.args.place c.args.units from.unit c.args.generation pieces
+    (subst (λ (q : ℕ). SealsUnit q c.args.place c.args.units c.args.erases from.unit c.args.generation pieces
     c.count_of-carried.result mid c.seal_unit.result new) filled.accounts.counts.places seals)
     c.seal_unit.ensures.accounts.cause
 
@@ -52,12 +52,12 @@ returns-clause-tells g c =
     let from = from_home c.args.home.now c.args.status.now.numbers c.args.log.now in
     let pieces = c.in_ok-pieces.pieces in
     let filled = c.in_ok-pieces.ensures in
-    written_told old.places c.args.units c.args.place c.args.generation c.args.counter.now
+    written_told old.places c.args.units c.args.erases c.args.place c.args.generation c.args.counter.now
     c.count_of-carried.result from c.args.payloads.now pieces filled.few
     c.count_of-carried.ensures old mid new c.seal_unit.result
     (subst (λ (w : Head). Charts (GainsUnit from c.args.place w.generation c.args.counter.now pieces
     c.args.payloads.now) old mid) c.written-head.ensures filled.tells)
-    (subst (λ (w : Head). OnOk c.seal_unit.result (Charts (IsSealed c.args.place c.args.units w.unit
+    (subst (λ (w : Head). OnOk c.seal_unit.result (Charts (IsSealed c.args.place c.args.units c.args.erases w.unit
     w.generation pieces c.count_of-carried.result) mid new)) c.written-head.ensures
     c.seal_unit.ensures.tells)
     c.seal_unit.ensures.accounts.cause

@@ -33,8 +33,8 @@ returns-in-NewPlace-clause-steps g c =
     makes_by_opening IsElsewhere old.places c.args.unit t after old
     (g.C.Chip.told c.open_overflow.new.chip) c.open_overflow.result c.open_overflow.ensures.steps
     (if_ok _ _ c.open_overflow.result
-    (λ spot opened x y it mirrors keeps. elsewhere_opened old.places x y it t after c.args.unit
-    spot.place spot.sector _ c.in-NewPlace.ensures opened mirrors keeps)
+    (λ spot opened x y it mirrors keeps says. elsewhere_opened old.places x y it t after c.args.unit
+    spot.place spot.sector _ c.in-NewPlace.ensures opened mirrors keeps says)
     c.open_overflow.ensures.opened)
 
 pub returns-in-NewPlace-clause-tells : goal.returns-in-NewPlace-clause-tells
@@ -45,8 +45,8 @@ returns-in-NewPlace-clause-tells g c =
     told_by_opening IsElsewhere old.places c.args.unit t after old
     (g.C.Chip.told c.open_overflow.new.chip) c.open_overflow.result c.open_overflow.ensures.tells
     (if_ok _ _ c.open_overflow.result
-    (λ spot opened x y it mirrors keeps. elsewhere_opened old.places x y it t after c.args.unit
-    spot.place spot.sector _ c.in-NewPlace.ensures opened mirrors keeps)
+    (λ spot opened x y it mirrors keeps says. elsewhere_opened old.places x y it t after c.args.unit
+    spot.place spot.sector _ c.in-NewPlace.ensures opened mirrors keeps says)
     c.open_overflow.ensures.opened)
 
 pub returns-in-NewPlace-clause-spot : goal.returns-in-NewPlace-clause-spot

@@ -25,7 +25,7 @@ returns-in-Some-clause-steps g c =
     let spot = c.in-Some.spot in
     makes_none IsPlaced told.places c.args.unit t spot told
     (λ x it mirrors. placed_home told.places x it t c.args.unit spot.place spot.sector
-    c.in-Some.ensures.some mirrors)
+    c.requires.unit c.in-Some.ensures.some mirrors)
 
 pub returns-in-Some-clause-tells : goal.returns-in-Some-clause-tells
 returns-in-Some-clause-tells g c =
@@ -34,7 +34,7 @@ returns-in-Some-clause-tells g c =
     let spot = c.in-Some.spot in
     told_none IsPlaced told.places c.args.unit t spot told
     (λ x it mirrors. placed_home told.places x it t c.args.unit spot.place spot.sector
-    c.in-Some.ensures.some mirrors)
+    c.requires.unit c.in-Some.ensures.some mirrors)
 
 pub returns-in_err-home-clause-steps : goal.returns-in_err-home-clause-steps
 returns-in_err-home-clause-steps g c =

@@ -1,9 +1,9 @@
-use Rattle.std.proofs.Common.{◌≡◌, ◌+◌, ◌∙◌, ℕ, List, length, Some, Err, refl, sym, ap, subst, arith}
+use Rattle.std.proofs.Common.{◌≡◌, ◌+◌, ◌∙◌, ℕ, List, length, Err, refl, sym, ap, subst, arith}
 use Rattle.std.proofs.lemmas.Result.{err_from_is_err_and, on_ok_weaker}
 use Rattle.ipl_meaning.specs.Chart.{chart_of}
 use Rattle.ipl_meaning.specs.Rests.{now}
 use Rattle.ipl_meaning.specs.Tables.{Status}
-use Rattle.unit_directory.specs.Free.{first_free}
+use Rattle.unit_directory.specs.Free.{IsNextFree}
 use Rattle.merge_rules.specs.Known.{KnowsPlaces}
 use Rattle.selective_merge.specs.Moving.{tables_of}
 use Rattle.selective_merge.specs.Throughout.{ChartsThroughout}
@@ -144,10 +144,11 @@ returns-clause-renewed g c =
     let one = c.renew_place.ensures.costs in
     renewed_then (ErasesAtMost (length c.args.parts.now.directory.current)) one.0
     c.renew_place.new.status.place
-    (first_free c.find_numbers.new.parts.directory.in_use) old (g.C.Chip.told c.find_numbers.new.chip)
+    c.find_numbers.new.parts.directory old (g.C.Chip.told c.find_numbers.new.chip)
     (g.C.Chip.told c.renew_place.new.chip) c.renew_place.result c.find_numbers.ensures.costs one.1
     (on_ok_weaker c.renew_place.result
-    (λ moved. moved.lowest ∙ ap Some (sym (ap (λ (s : Status). s.place) moved.status_is)))
+    (λ moved. subst (IsNextFree c.find_numbers.new.parts.directory)
+    (sym (ap (λ (s : Status). s.place) moved.status_is)) moved.next_free)
     c.renew_place.ensures.moved) one.2
 
 pub returns-in_err-find_numbers-clause-complete : goal.returns-in_err-find_numbers-clause-complete

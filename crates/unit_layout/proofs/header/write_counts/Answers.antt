@@ -1,5 +1,9 @@
-use Rattle.unit_layout.proofs.HeaderLemmas.{put_counts}
+use Rattle.std.proofs.Common.{arith, ap, ◌∙◌, ◌++◌, List, ℕ, take}
+use Rattle.std.proofs.lemmas.Slice.{take-put_mid}
 use Rattle.unit_layout.proofs.header.write_counts.Goals as goal
 
-pub returns-clause-bytes : goal.returns-clause-bytes
-returns-clause-bytes c = put_counts c.args.out.now c.copy_from_slice.new.self c.args.pieces.now c.copy_from_slice.ensures.after
+pub returns-clause-front : goal.returns-clause-front
+returns-clause-front c =
+    take-put_mid 4 15 c.args.out.now c.copy_from_slice.new.self 19
+    (omega arith) (omega (arith, c.told-out))
+    ∙ ap (λ (l : List ℕ). take 4 c.args.out.now ++ l) c.copy_from_slice.ensures.after

@@ -10,18 +10,18 @@ use Rattle.unit_io.proofs.UnreadLemmas.{unread_then}
 use Rattle.place_taking.proofs.JoinLemmas.{fills_at_most, fills_programs, fills_then}
 use Rattle.txn_status.specs.Status.{parts_of}
 use Rattle.txn_status.specs.Switching.{HasParts}
-use Rattle.txn_status.specs.Writing.{LeadsParts, LeadsHeader}
+use Rattle.txn_status.specs.Writing.{LeadsParts, LeadsHeader, IsHeaded}
 use Rattle.txn_status.proofs.SwitchLemmas.{AreLong}
 use Rattle.txn_status.proofs.SwitchedLemmas.{parts_failed, switched_in_steps, switches_told}
 use Rattle.txn_status.proofs.TidyLemmas.{tidy_parts_only, tidy_switched}
 use Rattle.txn_status.proofs.status.Status.switch.Goals as goal
 
 -- the clause of the header's call, at the places of the first chip
-header_leads : (places q p units next : ℕ) (mid new : Told) (result : Result (Unit {0}) ChipFault)
-    → q ≡ places → LeadsHeader q p units next mid result new
-    → LeadsHeader places p units next mid result new
-header_leads places q p units next mid new result at says =
-    subst (λ (z : ℕ). LeadsHeader z p units next mid result new) at says
+header_leads : (places q p units erases next : ℕ) (mid new : Told) (result : Result (Unit {0}) ChipFault)
+    → q ≡ places → LeadsHeader q p units erases next mid result new
+    → LeadsHeader places p units erases next mid result new
+header_leads places q p units erases next mid new result at says =
+    subst (λ (z : ℕ). LeadsHeader z p units erases next mid result new) at says
 
 pub returns-in_err-write_parts-clause-steps : goal.returns-in_err-write_parts-clause-steps
 returns-in_err-write_parts-clause-steps g c = λ h it t after m steady has many ready switched.
@@ -38,7 +38,7 @@ returns-in_err-write_parts-clause-steps g c = λ h it t after m steady has many 
     let e = err_from_is_err_and c.from_residual.result c.from_residual.ensures.1 in
     let stopped : IsStopped e.0 old mid =
     (e.2 ∙ parts.accounts.cause.0, parts.accounts.cause.1) in
-    rw e.1 (parts_failed old.places c.args.units c.args.self.now next c.args.place kept
+    rw e.1 (parts_failed old.places c.args.header.now.units c.args.header.now.erases c.args.self.now next c.args.place kept
     c.requires.place each c.requires.few old mid mid h it t after m steady has many ready switched fault e.0 says stopped)
 
 pub returns-in_err-seal_status-clause-steps : goal.returns-in_err-seal_status-clause-steps
@@ -55,7 +55,7 @@ returns-in_err-seal_status-clause-steps g c = λ h it t after m steady has many 
     let seals = c.in_err-seal_status.ensures in
     let says = subst (λ (z : ℕ). LeadsParts old.places c.args.place next z kept old (Ok tt) mid)
     c.requires.last parts.keeps in
-    let header = header_leads old.places _ c.args.place c.args.units next mid new (Err fault)
+    let header = header_leads old.places _ c.args.place c.args.header.now.units c.args.header.now.erases next mid new (Err fault)
     parts.accounts.counts.places seals.keeps in
     let stopped : IsStopped fault old new = (
       seals.accounts.cause.0,
@@ -63,7 +63,7 @@ returns-in_err-seal_status-clause-steps g c = λ h it t after m steady has many 
     ) in
     let e = err_from_is_err_and c.from_residual-in_err-seal_status.result
     c.from_residual-in_err-seal_status.ensures.1 in
-    rw (e.1 ∙ ap Err e.2) (switched_in_steps old.places c.args.units c.args.self.now next
+    rw (e.1 ∙ ap Err e.2) (switched_in_steps old.places c.args.header.now.units c.args.header.now.erases c.args.self.now next
     c.args.place kept c.requires.place each c.requires.few old mid new h it t after m steady has many ready switched says
     (Err fault) header stopped)
 
@@ -79,9 +79,9 @@ returns-clause-steps g c = λ h it t after m steady has many ready switched.
     let parts = c.in_ok-write_parts.ensures in
     let says = subst (λ (z : ℕ). LeadsParts old.places c.args.place next z kept old (Ok tt) mid)
     c.requires.last parts.keeps in
-    let header = header_leads old.places _ c.args.place c.args.units next mid new (Ok tt)
+    let header = header_leads old.places _ c.args.place c.args.header.now.units c.args.header.now.erases next mid new (Ok tt)
     parts.accounts.counts.places c.in_ok-seal_status.ensures.keeps in
-    switched_in_steps old.places c.args.units c.args.self.now next c.args.place kept
+    switched_in_steps old.places c.args.header.now.units c.args.header.now.erases c.args.self.now next c.args.place kept
     c.requires.place each c.requires.few old mid new h it t after m steady has many ready switched says (Ok tt) header tt
 
 pub returns-clause-switches : goal.returns-clause-switches
@@ -96,8 +96,10 @@ returns-clause-switches g c =
     All-from_get_or IsLong kept 0 (λ i within. omega (arith, c.type_inv.kept i)) in
     let parts = subst (λ (z : ℕ). Charts (HasParts place next z kept (parts_of kept)) old mid)
     c.requires.last c.in_ok-write_parts.ensures.tells in
-    let seal = c.in_ok-seal_status.ensures.tells in
-    switches_told old.places c.args.units c.args.self.now next place kept c.requires.place each
+    let header = c.args.header.now in
+    let seal = subst (λ (n : ℕ). Charts (IsHeaded n place header.units header.erases next) mid new)
+    c.in_ok-write_parts.ensures.accounts.counts.places c.in_ok-seal_status.ensures.tells in
+    switches_told old.places c.args.header.now.units c.args.header.now.erases c.args.self.now next place kept c.requires.place each
     c.requires.few old mid new parts seal
 
 pub returns-in_err-write_parts-clause-costs : goal.returns-in_err-write_parts-clause-costs
