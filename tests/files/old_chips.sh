@@ -1,5 +1,5 @@
-# Chips that the program made before version 2 of the formats list what they listed then. Once each of their units is
-# written and merged they list that with what was written, in that run and in the next.
+# Chips that the program made when it wrote version 1 of the formats, and version 2, list what they listed then. Once each
+# of their units is written and merged they list that with what was written, in that run and in the next.
 # Files in memory, where there is such a folder: hundreds of syncs of a disk would take long.
 [ ! -w /dev/shm ] || export TMPDIR=/dev/shm
 . "$(dirname "$0")/common.sh"
@@ -47,8 +47,8 @@ lists_as() {
 
 chips=0
 units=0
-for packed in "$old"/*.list.gz; do
-    name=$(basename "$packed" .list.gz)
+for packed in "$old"/version_[12]/*.list.gz; do
+    name=$(basename "$(dirname "$packed")")/$(basename "$packed" .list.gz)
     gzip -dc "$packed" >listing || fail "no listing of $name"
     gzip -dc "$old/$name.gz" >file || fail "no chip $name"
     places=$(($(wc -c <file) / 131072))
@@ -64,5 +64,5 @@ for packed in "$old"/*.list.gz; do
     chips=$((chips + 1))
     units=$((units + places - 4))
 done
-wants "there are ten chips" [ $chips -eq 10 ]
+wants "there are ten chips of each version" [ $chips -eq 20 ]
 echo "$chips chips of before with $units units, listed, each unit written and merged, and listed again"

@@ -9,9 +9,12 @@ TOOLS = os.path.join(os.path.dirname(os.path.realpath(__file__)), "..", "..", "t
 sys.path.insert(0, TOOLS)
 
 from chip_reader.layout import Layout, Spot
-from chip_reader.sectors import (Bad, Kind, PLACE_BYTES, SECTOR_BYTES, Sector, log_records,
-                                 read_chart, transaction_numbers)
-from chip_reader.values import unit_log
+from chip_reader.sectors import (Bad, Kind, LogRecord, MOST_TEXT_BYTES as PAGE_BYTES, PAGES,
+                                 PLACE_BYTES, SECTOR_BYTES, Sector, log_records, read_chart,
+                                 text_size, transaction_numbers)
+from chip_reader.values import page_values, unit_log
+
+SHORT = 108
 
 
 def layout_of(path: str) -> Layout:
@@ -47,12 +50,32 @@ class Seen:
         return [{sector.unit for spot, sector in live if spot.place == place}
                 for place in self.layout.overflow_places]
 
-    def has_open_in_overflow(self) -> bool:
-        """Whether a record that isn't committed stands in an overflow place."""
+    def in_overflow(self) -> List[LogRecord]:
+        """The live records that stand in an overflow place."""
         sectors = (sector for spot, sector in self.layout.live.items()
                    if spot.place in self.layout.overflow_places)
-        return any(record.transaction not in self.layout.committed
-                   for sector in sectors for record in log_records(sector))
+        return [record for sector in sectors for record in log_records(sector)]
+
+    def has_open_in_overflow(self) -> bool:
+        """Whether one of these isn't committed."""
+        return any(record.transaction not in self.layout.committed for record in self.in_overflow())
+
+    def has_long_in_overflow(self) -> bool:
+        """Whether one of these has a value that version 1 didn't have."""
+        return any(len(record.value or b"") > SHORT for record in self.in_overflow())
+
+    def fills(self, unit: int) -> List[int]:
+        """How many bytes the values of each page of a unit take, its log applied."""
+        return [text_size(page_values(self.layout, unit, page)) for page in range(PAGES)]
+
+    def header_versions(self) -> List[int]:
+        """The version of the current header of each unit."""
+        return [self.layout.home_header(unit).version for unit in range(self.layout.units)]
+
+    def versions(self) -> Set[int]:
+        """The versions of all sectors that check."""
+        return {sector.version for sectors in self.layout.chart for sector in sectors
+                if isinstance(sector, Sector)}
 
     def numbers(self) -> List[int]:
         """For each commit sector of the status place, how many numbers it has."""
