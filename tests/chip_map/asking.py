@@ -99,6 +99,12 @@ def wants_fault(what, image, note):
         raise AssertionError(f"{what}: the picture's first fault is {first!r} and not {note!r}")
 
 
+def wants_labels(what, image, labels):
+    """Wants these labels of some places."""
+    found = Picture(image).labels
+    wants(what, {place: found[place] for place in labels}, labels)
+
+
 def wants_letters(what, image, *marks):
     """Wants these letters of a picture, each as a place, its first sector and the letters there."""
     picture = Picture(image)

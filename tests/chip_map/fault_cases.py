@@ -1,15 +1,15 @@
 """Cases of what is wrong with a chip, and of which fault is told first."""
 from asking import Picture, case, wants, wants_fault, wants_letters, wants_records
-from images import (COMMIT, DATA, FIRST_PUT_RECORD, LOG, OVERFLOW, PUT_RECORD, STATUS, base, commit,
-                    data_header, first_record, formatted, log, overflow_header, raw_sector, record,
-                    sector, status_header, text_of)
+from images import (COMMIT, DATA, FIRST_PUT_RECORD, Image, LOG, OVERFLOW, PUT_RECORD, STATUS, base,
+                    commit, data_header, first_record, formatted, log, overflow_header, raw_sector,
+                    record, sector, status_header, status_payload, text_of)
 
 
 @case
 def a_damaged_base_sector_is_named_with_its_sums():
     image = first_record()
     image.bytes[262692] = ord("j")
-    note = "damaged place 2 sector 1 stored 94126694 computed 1d57e1c6"
+    note = "damaged place 2 sector 1 stored 12fc435f computed 9bb9c40d"
     wants_fault("a changed byte", image, note)
     wants_letters("a changed byte", image, (2, 0, "H!."))
 
@@ -85,7 +85,8 @@ def log_payloads_out_of_the_grammar_are_malformed():
     firsts = [b"\x00\x03" + put[2:], b"\x00\x02\x05\x01" + bytes(8) + b"a", put[:11],
               b"\x0f" + put[1:], b"\x00\x00" + put[2:], b"\x00\x01\x40" + put[3:], put[:-1],
               put + b"\x00", record(0, 0, 4, b"x" * 109, version=1)]
-    for payload, version in [(p, 2) for p in payloads] + [(p, 1) for p in firsts]:
+    later = [(p, version) for p in payloads for version in (2, 3)]
+    for payload, version in later + [(p, 1) for p in firsts]:
         live, dead = (sector(LOG, 0, own, 9, payload, version) for own in (1, 3))
         image = formatted().put(0, 250, live)
         wants_fault(payload.hex(), image, "malformed place 0 sector 250")
@@ -104,17 +105,56 @@ def commit_payloads_out_of_the_grammar_are_malformed():
 
 @case
 def header_payloads_out_of_the_grammar_are_malformed():
-    said = data_header(1)[32:52]
-    payloads = [said[:19], said + b"\x00", said[:2], said[:4] + b"\x11" + said[5:],
-                said[:19] + b"\x0d"]
-    for payload in payloads:
-        image = formatted().put(0, 0, sector(DATA, 0, 1, 1, payload))
-        wants_fault(payload.hex(), image, "malformed place 0 sector 0")
-    for payload in (b"", said[:3], said[:4] + b"\x00"):
-        image = formatted().put(1, 0, sector(STATUS, 0, 2, 2, payload))
-        wants_fault(payload.hex(), image, "malformed place 1 sector 0")
+    said, before = data_header(1)[32:56], data_header(1, version=2)[32:52]
+    payloads = [said[:23], said + b"\x00", said[:20], said[:2], b"", said[:4] + b"\x11" + said[5:],
+                said[:19] + b"\x0d" + said[20:]]
+    befores = [before[:19], before + b"\x00", before[:2], said, before[:4] + b"\x11" + before[5:],
+               before[:19] + b"\x0d"]
+    versions = [(p, 3) for p in payloads] + [(p, version) for p in befores for version in (1, 2)]
+    for payload, version in versions:
+        image = formatted().put(0, 0, sector(DATA, 0, 1, 1, payload, version))
+        wants_fault(f"{payload.hex()} of {version}", image, "malformed place 0 sector 0")
+    for version in (1, 2, 3):
+        most = data_header(1, version=version, carried=12, erases=0)
+        wants_records("twelve were carried", formatted().put(0, 0, most), [])
     other = formatted().put(3, 0, sector(OVERFLOW, 0, 4, 4, b"anything"))
-    wants_records("an overflow header's payload isn't looked at", other, [])
+    wants_records("an overflow header's payload isn't tested", other, [])
+
+
+@case
+def status_payloads_out_of_the_grammar_are_malformed():
+    said = status_payload()
+    payloads = [b"", said[:3], said[:4], said[:5], said[:8], said + b"\x00", said[:8] + b"\x01",
+                said[:8] + b"\x01\x00\x00\x00", said[:8] + b"\x01" + bytes(8)]
+    befores = [b"", said[:3], said[:4] + b"\x00", said[:8], said]
+    for payload, version in [(p, 3) for p in payloads] + [(p, v) for p in befores for v in (1, 2)]:
+        image = formatted().put(1, 0, sector(STATUS, 0, 2, 2, payload, version))
+        wants_fault(f"{payload.hex()} of {version}", image, "malformed place 1 sector 0")
+    for erases in (0, 1, 2 ** 32 - 1):
+        wants_records("a count", formatted().put(1, 0, status_header(2, erases=erases)), [])
+
+
+@case
+def lists_of_retired_places_out_of_the_grammar_retire_none():
+    # On chips of one unit, whose first fault is their size: these list one place, or two, and so on.
+    def lines_of(places, *retired):
+        image = Image(places).put(0, 0, data_header(1)).put(1, 0, status_header(2, retired=retired))
+        return [line for line in Picture(image).head if line.startswith("retired")]
+    wants("one", lines_of(6, 5), ["retired places: 5"])
+    wants("two", lines_of(7, 0, 6), ["retired places: 0, 6"])
+    wants("64", lines_of(70, *range(3, 67)), ["retired places: 3 to 66"])
+    for what, places, retired in [("out of order", 7, (4, 3)), ("twice", 7, (3, 3)),
+                                  ("not the chip's", 7, (3, 7)), ("2^32 - 1", 7, (2 ** 32 - 1,)),
+                                  ("one, where there is no room", 5, (2,)),
+                                  ("two, with room for one", 6, (2, 3)),
+                                  ("65", 80, range(3, 68))]:
+        wants(what, lines_of(places, *retired), [])
+
+
+@case
+def a_chip_of_now_retires_no_place():
+    image = formatted(7).put(3, 0, status_header(4, 3, retired=(5,)))
+    wants_fault("a place more than there is room for", image, "malformed place 3 sector 0")
 
 
 @case
@@ -186,7 +226,7 @@ def strange_sectors_are_told_from_torn_ones():
     whole = log(1, 9, record(0, 0, 4, b"\x01"))
     head, payload = whole[:28], whole[32:]
     strange = [(b"IPL2" + head[4:], payload), (head[:4] + b"\x07" + head[5:], payload),
-               (head[:4] + b"\x00" + head[5:], payload), (head[:5] + b"\x03" + head[6:], payload),
+               (head[:4] + b"\x00" + head[5:], payload), (head[:5] + b"\x04" + head[6:], payload),
                (head[:5] + b"\x00" + head[6:], payload),
                (head[:6] + b"\x01\xe1" + head[8:], payload), (head, payload[:479] + b"\x01")]
     for parts in strange:

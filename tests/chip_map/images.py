@@ -8,17 +8,27 @@ PUT, DELETE = 1, 2
 
 # The examples at the end of docs/FORMAT.md: bytes 0..28 of a sector, its sum, its payload.
 FORMATTED_HEADER = (
-    "49 50 4c 31 01 02 00 14 00 00 00 00 00 00 00 00 00 00 00 01 00 00 00 00 00 00 00 01",
-    "56 a7 da 44", "00 00 00 01" + 16 * " 00")
+    "49 50 4c 31 01 03 00 18 00 00 00 00 00 00 00 00 00 00 00 01 00 00 00 00 00 00 00 01",
+    "cf 9b 2a 99", "00 00 00 01" + 16 * " 00" + " 00 00 00 01")
 STATUS_HEADER = (
-    "49 50 4c 31 02 02 00 04 00 00 00 00 00 00 00 00 00 00 00 02 00 00 00 00 00 00 00 02",
-    "b9 0e 54 c3", "00 00 00 01")
+    "49 50 4c 31 02 03 00 09 00 00 00 00 00 00 00 00 00 00 00 02 00 00 00 00 00 00 00 02",
+    "06 fd 49 8d", "00 00 00 01 00 00 00 01 00")
+OVERFLOW_HEADER = (
+    "49 50 4c 31 03 03 00 08 00 00 00 00 00 00 00 00 00 00 00 22 00 00 00 00 00 00 00 22",
+    "59 e8 ed 74", "00 00 00 01 00 00 00 02")
 BASE_SECTOR = (
-    "49 50 4c 31 04 02 00 05 00 00 00 00 00 00 00 00 00 00 00 04 00 00 00 00 00 00 00 00",
-    "94 12 66 94", "05 00 02 68 69")
+    "49 50 4c 31 04 03 00 05 00 00 00 00 00 00 00 00 00 00 00 04 00 00 00 00 00 00 00 00",
+    "12 fc 43 5f", "05 00 02 68 69")
 PUT_RECORD = bytes.fromhex("00 45 00 02 00 00 00 00 00 00 00 07 68 69")
 DELETE_RECORD = bytes.fromhex("0e bf 00 00 00 00 00 00 00 00 00 04")
 PAGE_TEXT = bytes.fromhex("00 00 02 68 69 03 00 00")
+# The headers of version 2, in which all else is as in version 3.
+SECOND_HEADER = (
+    "49 50 4c 31 01 02 00 14 00 00 00 00 00 00 00 00 00 00 00 01 00 00 00 00 00 00 00 01",
+    "56 a7 da 44", "00 00 00 01" + 16 * " 00")
+SECOND_STATUS_HEADER = (
+    "49 50 4c 31 02 02 00 04 00 00 00 00 00 00 00 00 00 00 00 02 00 00 00 00 00 00 00 02",
+    "b9 0e 54 c3", "00 00 00 01")
 # The same of version 1.
 FIRST_HEADER = (
     "49 50 4c 31 01 01 00 14 00 00 00 00 00 00 00 00 00 00 00 01 00 00 00 00 00 00 00 01",
@@ -61,26 +71,39 @@ def raw_sector(head, payload):
     return head + struct.pack(">I", crc32(head + payload)) + payload
 
 
-def sector(kind, unit, generation, serial, payload=b"", version=2):
+def sector(kind, unit, generation, serial, payload=b"", version=3):
     head = struct.pack(">4sBBHIQQ", b"IPL1", kind, version, len(payload), unit, generation, serial)
     return raw_sector(head, payload + bytes(480 - len(payload)))
 
 
-def data_header(generation, units=1, counts=None, carried=0, unit=0, serial=None, version=2):
+def erases_said(erases, version):
+    """The bytes in which a header says how often its place was erased."""
+    return struct.pack(">I", erases) if version > 2 else b""
+
+
+def data_header(generation, units=1, counts=None, carried=0, unit=0, serial=None, version=3,
+                erases=1):
     """A data header; counts has the number of base sectors of some pages, by page."""
     numbers = bytes((counts or {}).get(page, 0) for page in range(15))
-    payload = struct.pack(">I", units) + numbers + bytes([carried])
+    payload = struct.pack(">I", units) + numbers + bytes([carried]) + erases_said(erases, version)
     serial = generation if serial is None else serial
     return sector(DATA, unit, generation, serial, payload, version)
 
 
-def status_header(generation, units=1, serial=None, version=2):
+def status_payload(units=1, erases=1, retired=()):
+    """The payload of a status header of version 3."""
+    return struct.pack(f">IIB{len(retired)}I", units, erases, len(retired), *retired)
+
+
+def status_header(generation, units=1, serial=None, version=3, erases=1, retired=()):
     serial = generation if serial is None else serial
-    return sector(STATUS, 0, generation, serial, struct.pack(">I", units), version)
+    payload = status_payload(units, erases, retired) if version > 2 else struct.pack(">I", units)
+    return sector(STATUS, 0, generation, serial, payload, version)
 
 
-def overflow_header(generation, units=1, version=2):
-    return sector(OVERFLOW, 0, generation, generation, struct.pack(">I", units), version)
+def overflow_header(generation, units=1, version=3, erases=1):
+    payload = struct.pack(">I", units) + erases_said(erases, version)
+    return sector(OVERFLOW, 0, generation, generation, payload, version)
 
 
 def length_of(value, version):
@@ -88,17 +111,17 @@ def length_of(value, version):
     return len(value).to_bytes(1 if version == 1 else 2, "big")
 
 
-def text_of(slots, version=2):
+def text_of(slots, version=3):
     """The text of a page from its values by slot."""
     return b"".join(bytes([slot]) + length_of(slots[slot], version) + slots[slot]
                     for slot in sorted(slots))
 
 
-def base(generation, page, text, piece=0, unit=0, version=2):
+def base(generation, page, text, piece=0, unit=0, version=3):
     return sector(BASE, unit, generation, 16 * page + piece, text, version)
 
 
-def record(page, slot, transaction, value=None, version=2):
+def record(page, slot, transaction, value=None, version=3):
     """A log record; without a value it is a delete."""
     kind = DELETE if value is None else PUT
     said = value or b""
@@ -107,11 +130,11 @@ def record(page, slot, transaction, value=None, version=2):
     return head + struct.pack(">Q", transaction) + said
 
 
-def log(generation, serial, *records, unit=0, version=2):
+def log(generation, serial, *records, unit=0, version=3):
     return sector(LOG, unit, generation, serial, b"".join(records), version)
 
 
-def commit(generation, serial, *numbers, version=2):
+def commit(generation, serial, *numbers, version=3):
     payload = struct.pack(f">{len(numbers)}Q", *numbers)
     return sector(COMMIT, 0, generation, serial, payload, version)
 
@@ -155,7 +178,7 @@ def first_record():
 
 def opened():
     """A chip formatted and opened: status header 3 at place 2, before the first commit."""
-    return formatted().put(2, 0, status_header(3))
+    return formatted().put(2, 0, status_header(3, erases=2))
 
 
 def meter():
@@ -166,7 +189,7 @@ def meter():
     14 and 15 begin transactions that write nothing that lasts."""
     january = bytes.fromhex("20260131001398cc")
     february = bytes.fromhex("2026022800173856")
-    image = opened().put(1, 0, data_header(5))
+    image = opened().put(1, 0, data_header(5, erases=2))
     image.put(1, 241, log(5, 6, record(0, 0, 4, b"M4711-03"), record(0, 1, 4, b"\x02")))
     image.put(1, 242, log(5, 9, record(1, 0, 8, january)))
     image.put(1, 243, log(5, 12, record(1, 1, 11, february)))
@@ -178,7 +201,7 @@ def sixteen_commits():
 
     Fifteen commits of one byte at name 5: the n-th has number, log serial and commit serial in
     a row, but for the first one, whose place has generation 5."""
-    image = opened().put(1, 0, data_header(5))
+    image = opened().put(1, 0, data_header(5, erases=2))
     image.put(1, 241, log(5, 6, record(0, 5, 4, b"\x01"))).put(2, 1, commit(3, 7, 4))
     for turn in range(2, 16):
         number = 8 + 3 * (turn - 2)
@@ -190,14 +213,14 @@ def sixteen_commits():
 def sixteenth_commit():
     """The second case of power cuts of docs/CASES.md at its end."""
     image = sixteen_commits().erase(0).put(0, 1, base(51, 0, text_of({5: b"\x0f"})))
-    image.put(0, 0, data_header(51, counts={0: 1}))
+    image.put(0, 0, data_header(51, counts={0: 1}, erases=2))
     image.put(0, 241, log(51, 52, record(0, 5, 50, b"\x10")))
     return image.put(2, 16, commit(3, 53, 50))
 
 
 def full_log():
     """The third case of power cuts of docs/CASES.md before its overflow place is taken."""
-    image = opened().put(1, 0, data_header(5))
+    image = opened().put(1, 0, data_header(5, erases=2))
     for index in range(9):
         names = range(4 * index, 4 * index + 4)
         image.put(1, 241 + index, log(5, 6 + index, *(record(0, n, 4, b"x" * 108) for n in names)))
@@ -210,9 +233,10 @@ def full_log():
 
 def merged_log():
     """The third case of power cuts of docs/CASES.md at its end."""
-    image = full_log().put(0, 0, overflow_header(34))
+    image = full_log().put(0, 0, overflow_header(34, erases=2))
     image.put(0, 1, log(5, 35, record(1, 0, 33, b"\x07"))).put(2, 7, commit(3, 36, 33))
-    image.put(3, 17, base(38, 1, text_of({0: b"\x07"}))).put(3, 0, data_header(38, counts={1: 1}))
+    image.put(3, 17, base(38, 1, text_of({0: b"\x07"})))
+    image.put(3, 0, data_header(38, counts={1: 1}, erases=2))
     image.put(3, 241, log(38, 39, record(1, 0, 37, b"\x08")))
     return image.put(2, 8, commit(3, 40, 37))
 
@@ -228,9 +252,11 @@ def long_session():
 
     The opening puts status header 4 on place 3, and session 1 draws the number 5. Its fifth put merges
     unit 1 to place 2 with generation 6, and its records have eight log sectors of serials 7 to 14. Four
-    records stay in memory until the list at the end needs their page's frame, and have serial 154."""
-    image = formatted(6).put(3, 0, status_header(4, 2)).erase(2)
-    image.put(2, 0, data_header(6, 2, unit=1))
+    records stay in memory until the list at the end needs their page's frame, and have serial 154.
+    Each of the six places is erased once by the format, and all but place 5 once more before the last
+    merge of unit 0, which therefore takes it."""
+    image = formatted(6).put(3, 0, status_header(4, 2, erases=2)).erase(2)
+    image.put(2, 0, data_header(6, 2, unit=1, erases=2))
     for index in range(8):
         image.put(2, 241 + index, log(6, 7 + index, *prices(4 * index), unit=1))
     put_counts(image)
@@ -243,7 +269,7 @@ def put_counts(image):
 
     A merge would carry eight log sectors, so the eighth takes place 1 as an overflow place, with a
     generation, 37, that is drawn between the number of the transaction and its serial."""
-    image.erase(1).put(1, 0, overflow_header(37, 2))
+    image.erase(1).put(1, 0, overflow_header(37, 2, erases=2))
     for count in range(1, 10):
         number = 12 + 3 * count + (count > 8)
         serial = number + 1 + (count == 8)
@@ -257,21 +283,21 @@ def reading_of(number):
 
 
 def put_readings(image):
-    """The readings of examples/long_session: a fifteenth merges unit 0, to the places 4, 0 and 4.
+    """The readings of examples/long_session: a fifteenth merges unit 0, to the places 4, 0 and 5.
 
-    These draw the generations 44, 90 and 136. Place 0 is left over with the pages of the first 15
-    readings and a log of 15 more; place 4 has the pages of 30, and a log of six."""
-    put_pages(image, 0, 90, 15)
-    put_pages(image, 4, 136, 30)
+    These draw the generations 44, 90 and 136. Place 4 is left over with a log of the first 15
+    readings, place 0 with the pages of these and a log of 15 more; place 5 has the pages of 30, and a
+    log of six."""
+    for place, generation, readings in zip((4, 0, 5), (44, 90, 136), (0, 15, 30)):
+        put_pages(image, place, generation, readings)
     for reading in range(36):
         # So many merges came before its begin, and each drew a number.
         number = 43 + 3 * reading + -(-reading // 15)
         serial = number + 1 + (reading % 15 == 0)
         logged = record(reading % 6, reading, number, reading_of(reading))
         image.put(3, 10 + reading, commit(4, serial + 1, number))
-        if reading >= 15:
-            place, generation = (0, 90) if reading < 30 else (4, 136)
-            image.put(place, 241 + reading % 15, log(generation, serial, logged))
+        place, generation = ((4, 44), (0, 90), (5, 136))[reading // 15]
+        image.put(place, 241 + reading % 15, log(generation, serial, logged))
 
 
 def put_pages(image, place, generation, readings):
@@ -279,7 +305,7 @@ def put_pages(image, place, generation, readings):
     texts = [text_of({reading: reading_of(reading) for reading in range(page, readings, 6)})
              for page in range(6)]
     counts = {page: -(-len(text) // 480) for page, text in enumerate(texts)}
-    image.erase(place).put(place, 0, data_header(generation, 2, counts))
+    image.erase(place).put(place, 0, data_header(generation, 2, counts, erases=2))
     for page, text in enumerate(texts):
         for piece in range(counts[page]):
             part = text[480 * piece:480 * (piece + 1)]

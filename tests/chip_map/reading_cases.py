@@ -1,10 +1,11 @@
 """Cases of what counts on a chip and which records it stands for."""
-from asking import Picture, case, wants, wants_fault, wants_letters, wants_records
-from images import (BASE_SECTOR, DELETE_RECORD, FIRST_BASE_SECTOR, FIRST_DELETE_RECORD, FIRST_HEADER,
-                    FIRST_PAGE_TEXT, FIRST_PUT_RECORD, FORMATTED_HEADER, Image, LOG, PAGE_TEXT,
-                    PUT_RECORD, STATUS_HEADER, base, commit, crc32, data_header, first_record, formatted,
-                    full_log, log, merged_log, overflow_header, record, sector, sixteen_commits,
-                    spelled, status_header, text_of)
+from asking import Picture, case, wants, wants_fault, wants_labels, wants_letters, wants_records
+from images import (BASE_SECTOR, DATA, DELETE_RECORD, FIRST_BASE_SECTOR, FIRST_DELETE_RECORD,
+                    FIRST_HEADER, FIRST_PAGE_TEXT, FIRST_PUT_RECORD, FORMATTED_HEADER, Image, LOG,
+                    OVERFLOW, OVERFLOW_HEADER, PAGE_TEXT, PUT_RECORD, SECOND_HEADER,
+                    SECOND_STATUS_HEADER, STATUS, STATUS_HEADER, base, commit, crc32, data_header,
+                    first_record, formatted, full_log, log, merged_log, overflow_header, record, sector,
+                    sixteen_commits, spelled, status_header, status_payload, text_of)
 
 
 @case
@@ -14,10 +15,19 @@ def sums_are_those_of_the_format():
     wants("sum of 512 bytes FF", crc32(b"\xff" * 512), 0xBD7BC39F)
     wants("the worked header", data_header(1), spelled(*FORMATTED_HEADER))
     wants("the worked status header", status_header(2), spelled(*STATUS_HEADER))
+    wants("the worked overflow header", overflow_header(34, erases=2), spelled(*OVERFLOW_HEADER))
     wants("the worked base sector", base(4, 0, b"\x05\x00\x02hi"), spelled(*BASE_SECTOR))
     wants("the worked put", record(0, 5, 7, b"hi"), PUT_RECORD)
     wants("the worked delete", record(14, 63, 4), DELETE_RECORD)
     wants("the worked text", text_of({3: b"", 0: b"hi"}), PAGE_TEXT)
+
+
+@case
+def version_2_is_spelled_as_it_was():
+    wants("the header", data_header(1, version=2), spelled(*SECOND_HEADER))
+    wants("the status header", status_header(2, version=2), spelled(*SECOND_STATUS_HEADER))
+    wants("the put", record(0, 5, 7, b"hi", version=2), PUT_RECORD)
+    wants("the text", text_of({3: b"", 0: b"hi"}, version=2), PAGE_TEXT)
 
 
 @case
@@ -35,15 +45,88 @@ def each_payload_is_read_by_the_version_of_its_sector():
     image.put(0, 0, data_header(4, counts={0: 1}, version=1))
     image.put(0, 1, spelled(*FIRST_BASE_SECTOR))
     image.put(0, 241, log(4, 6, record(0, 6, 3, b"a", version=1), version=1))
-    image.put(0, 242, log(4, 7, record(0, 7, 3, b"b")))
+    image.put(0, 242, log(4, 7, record(0, 7, 3, b"b", version=2), version=2))
+    image.put(0, 243, log(4, 8, record(0, 8, 3, b"c")))
     image.put(1, 2, commit(2, 10, 8, version=1))
-    wants_records("log sectors of both versions", image, ["5 6869", "6 61", "7 62"])
+    wants_records("log sectors of all versions", image, ["5 6869", "6 61", "7 62", "8 63"])
+
+
+@case
+def chips_of_before_are_read():
+    for version in (1, 2):
+        image = Image(7)
+        for unit in range(3):
+            image.put(unit, 0, data_header(1 + unit, 3, unit=unit, version=version))
+        image.put(3, 0, status_header(4, 3, version=version))
+        image.put(3, 1, commit(4, 20, 9, version=version))
+        image.put(4, 0, overflow_header(8, 3, version=version))
+        said = record(0, 1, 9, b"old", version=version)
+        image.put(4, 1, log(2, 11, said, unit=1, version=version))
+        wants_records(f"version {version}", image, ["961 6f6c64"])
+        wants_labels(f"version {version}", image,
+                     {0: "data of unit 0, generation 1, 1 erase, current",
+                      3: "status, generation 4, 1 erase, current",
+                      4: "overflow, generation 8, 1 erase, current"})
+
+
+@case
+def headers_say_how_often_their_place_was_erased():
+    image = formatted(7).put(0, 0, data_header(9, 3, erases=2))
+    image.put(3, 0, status_header(10, 3, erases=3)).put(5, 0, data_header(2, 3, unit=9, erases=70))
+    image.put(4, 0, overflow_header(8, 3, erases=2 ** 32 - 1))
+    wants_labels("counts", image, {0: "data of unit 0, generation 9, 2 erases, current",
+                                   1: "data of unit 1, generation 2, 1 erase, current",
+                                   3: "status, generation 10, 3 erases, current",
+                                   4: "overflow, generation 8, 4294967295 erases, left over",
+                                   5: "data of unit 9, generation 2, 70 erases, left over",
+                                   6: "erased, 1 erase, free"})
+    wants("the line over all", Picture(image).head[3],
+          "1 to 4294967295 erases a place, 4294967373 in all")
+    wants("of a chip just formatted", Picture(formatted()).head[3], "1 erase a place, 5 in all")
+
+
+@case
+def a_place_counts_as_erased_once_where_its_first_sector_does_not_say_it():
+    said = data_header(1, erases=7)[32:56]
+    silent = [b"\xff" * 512, data_header(9, erases=7)[:511] + b"\x01", log(1, 1, version=3),
+              sector(DATA, 5, 9, 9, said[:23]), sector(DATA, 5, 9, 9, said, 2),
+              sector(STATUS, 0, 1, 1, status_payload(1, 7)[:7]),
+              sector(STATUS, 0, 1, 1, status_payload(1, 7), 1),
+              sector(OVERFLOW, 0, 9, 9, status_payload(1, 7)[:7]), sector(OVERFLOW, 0, 9, 9),
+              sector(OVERFLOW, 0, 9, 9, status_payload(1, 7)[:8], 2)]
+    for contents in silent:
+        picture = Picture(formatted().put(3, 0, contents))
+        wants(contents[:56].hex(), ", 1 erase, " in picture.labels[3], True)
+    saying = [sector(DATA, 5, 9, 9, said + b"\x00"),
+              sector(STATUS, 0, 1, 1, status_payload(1, 7)[:8]),
+              sector(OVERFLOW, 0, 9, 9, status_payload(1, 7) + b"more")]
+    for contents in saying:
+        picture = Picture(formatted().put(3, 0, contents))
+        wants(contents[:56].hex(), ", 7 erases, " in picture.labels[3], True)
+
+
+@case
+def places_that_a_status_header_retires_are_shown():
+    # The headers are of a chip of one unit, so its size is its first fault.
+    image = Image(8).put(0, 0, data_header(1)).put(1, 0, status_header(2, retired=(0, 3, 5)))
+    image.put(5, 0, data_header(9, unit=9, erases=6))
+    wants_labels("retired", image, {0: "data of unit 0, generation 1, 1 erase, current",
+                                    3: "erased, 1 erase, retired", 4: "erased, 1 erase, free",
+                                    5: "data of unit 9, generation 9, 6 erases, retired"})
+    wants("the line of these", Picture(image).head[4], "retired places: 0, 3, 5")
+    wants_fault("its size", image, "geometry")
+    image.put(3, 9, commit(9, 9, 9))
+    wants_labels("with something there", image, {3: "no header, 1 erase, retired"})
+    image.put(2, 0, status_header(10))
+    wants_labels("an older list", image, {3: "no header, 1 erase, left over"})
+    image.put(2, 0, status_header(10, retired=(5, 3)))
+    wants_labels("no list", image, {3: "no header, 1 erase, left over"})
 
 
 @case
 def a_blank_chip_shows_its_places():
     picture = Picture(Image())
-    wants("labels", picture.labels, dict.fromkeys(range(5), "erased, free"))
+    wants("labels", picture.labels, dict.fromkeys(range(5), "erased, 1 erase, free"))
     wants("rows", picture.rows, {})
     wants("faults", picture.faults, ["not formatted", "missing unit 0"])
     wants_fault("a blank chip", Image(), "not formatted")
@@ -53,9 +136,9 @@ def a_blank_chip_shows_its_places():
 def a_formatted_chip_has_no_records():
     image = Image().put(0, 0, spelled(*FORMATTED_HEADER)).put(1, 0, spelled(*STATUS_HEADER))
     picture = wants_letters("a formatted chip", image, (0, 0, "H."), (1, 0, "H."))
-    wants("place 0", picture.labels[0], "data of unit 0, generation 1, current")
-    wants("place 1", picture.labels[1], "status, generation 2, current")
-    wants("place 2", picture.labels[2], "erased, free")
+    wants("place 0", picture.labels[0], "data of unit 0, generation 1, 1 erase, current")
+    wants("place 1", picture.labels[1], "status, generation 2, 1 erase, current")
+    wants("place 2", picture.labels[2], "erased, 1 erase, free")
     wants("faults", picture.faults, [])
     wants("greatest number found", picture.number("greatest number found: "), 2)
     wants_records("a formatted chip", image, [])
@@ -65,8 +148,8 @@ def a_formatted_chip_has_no_records():
 def the_worked_record_is_read():
     image = first_record()
     picture = wants_letters("one record", image, (0, 0, "h."), (2, 0, "HB."))
-    wants("place 0", picture.labels[0], "data of unit 0, generation 1, left over")
-    wants("place 2", picture.labels[2], "data of unit 0, generation 4, current")
+    wants("place 0", picture.labels[0], "data of unit 0, generation 1, 1 erase, left over")
+    wants("place 2", picture.labels[2], "data of unit 0, generation 4, 1 erase, current")
     wants_records("one record", image, ["5 6869"])
 
 
@@ -75,8 +158,8 @@ def a_torn_header_leaves_the_one_from_before():
     for byte in (0, 30, 511):
         image = first_record().flip(2, 0, byte)
         picture = wants_letters("a torn header", image, (0, 0, "H."), (2, 0, "xb."))
-        wants("place 2", picture.labels[2], "unreadable header, left over")
-        wants("place 0", picture.labels[0], "data of unit 0, generation 1, current")
+        wants("place 2", picture.labels[2], "unreadable header, 1 erase, left over")
+        wants("place 0", picture.labels[0], "data of unit 0, generation 1, 1 erase, current")
         wants_records("a torn header", image, [])
 
 
@@ -84,7 +167,7 @@ def a_torn_header_leaves_the_one_from_before():
 def a_header_that_is_not_written_yet_counts_for_nothing():
     image = first_record().put(2, 0, b"\xff" * 512)
     picture = wants_letters("no header", image, (0, 0, "H."), (2, 0, ".b."))
-    wants("place 2", picture.labels[2], "no header, left over")
+    wants("place 2", picture.labels[2], "no header, 1 erase, left over")
     wants_records("no header", image, [])
 
 
@@ -153,11 +236,11 @@ def an_overflow_place_with_live_log_sectors_is_current():
     image.put(3, 1, log(1, 5, record(1, 0, 3, b"\x01")))
     image.put(3, 255, log(7, 6, record(0, 0, 3, b"")))
     picture = wants_letters("overflow", image, (3, 0, "HL."), (3, 254, ".l"))
-    wants("place 3", picture.labels[3], "overflow, generation 4, current")
+    wants("place 3", picture.labels[3], "overflow, generation 4, 1 erase, current")
     wants_records("overflow", image, ["64 01"])
     image.put(3, 1, log(8, 5, record(1, 0, 3, b"\x01")))
     picture = wants_letters("no live sector", image, (3, 0, "hl."))
-    wants("place 3", picture.labels[3], "overflow, generation 4, left over")
+    wants("place 3", picture.labels[3], "overflow, generation 4, 1 erase, left over")
 
 
 @case
@@ -175,7 +258,7 @@ def the_logs_of_units_are_apart():
 def power_cuts_of_the_first_case():
     # The rows of docs/CASES.md: what is programmed next, the greatest number found, the records.
     image = formatted()
-    rows = [(2, 0, status_header(3), 3, []), (1, 0, data_header(5), 5, []),
+    rows = [(2, 0, status_header(3, erases=2), 3, []), (1, 0, data_header(5, erases=2), 5, []),
             (1, 241, log(5, 6, record(0, 5, 4, b"hi")), 6, []),
             (2, 1, commit(3, 7, 4), 7, ["5 6869"])]
     greatest, lines = 2, []
@@ -200,7 +283,7 @@ def a_merge_takes_the_log_over():
     wants("greatest", picture.number("found: "), 49)
     wants_records("a full log", image, ["5 0f"])
     image.erase(0).put(0, 1, base(51, 0, text_of({5: b"\x0f"})))
-    image.put(0, 0, data_header(51, counts={0: 1}))
+    image.put(0, 0, data_header(51, counts={0: 1}, erases=2))
     image.put(0, 241, log(51, 52, record(0, 5, 50, b"\x10")))
     picture = wants_letters("a merge", image, (0, 0, "HB."), (0, 240, ".L."), (1, 0, "h."),
                             (1, 240, "." + 15 * "l"))
@@ -214,7 +297,8 @@ def an_overflow_place_takes_what_the_log_cannot():
     image = full_log()
     wants("greatest", Picture(image).number("found: "), 32)
     wants_records("before", image, ["64 06"])
-    image.put(0, 0, overflow_header(34)).put(0, 1, log(5, 35, record(1, 0, 33, b"\x07")))
+    image.put(0, 0, overflow_header(34, erases=2))
+    image.put(0, 1, log(5, 35, record(1, 0, 33, b"\x07")))
     picture = wants_letters("elsewhere", image, (0, 0, "HL."), (1, 240, "." + 15 * "L"))
     wants("greatest", picture.number("found: "), 35)
     wants_records("elsewhere", image, ["64 06"])
@@ -247,8 +331,8 @@ def places_are_told_by_their_first_sector():
     image = formatted(8).put(5, 0, data_header(9, 4, unit=9))
     image.put(6, 0, log(1, 1)).put(7, 9, log(1, 1))
     labels = Picture(image).labels
-    wants("place 5", labels[5], "data of unit 9, generation 9, left over")
-    wants("place 6", labels[6], "no header but a log sector, left over")
-    wants("place 7", labels[7], "no header, left over")
+    wants("place 5", labels[5], "data of unit 9, generation 9, 1 erase, left over")
+    wants("place 6", labels[6], "no header but a log sector, 1 erase, left over")
+    wants("place 7", labels[7], "no header, 1 erase, left over")
     image = formatted().put(2, 0, data_header(9, serial=8))
-    wants("place 2", Picture(image).labels[2], "data of unit 0, generation 9, serial 8, current")
+    wants_labels("place 2", image, {2: "data of unit 0, generation 9, serial 8, 1 erase, current"})

@@ -33,7 +33,7 @@ def header_faults(layout: Layout) -> Iterator[Fault]:
     for unit in sorted(layout.homes):
         if layout.data_header(unit) is None:
             yield malformed(Spot(layout.homes[unit], 0))
-    if layout.status is not None and len(layout.headers[layout.status].payload) != 4:
+    if layout.status is not None and layout.status_header is None:
         yield malformed(Spot(layout.status, 0))
 
 

@@ -5,7 +5,8 @@ from functools import cached_property
 from typing import Dict, Iterator, List, NamedTuple, Optional, Set, Tuple
 
 from .sectors import (Chart, DataHeader, FIRST_LOG_SECTOR, Kind, MOST_PIECES, SECTORS, SPARE_PLACES,
-                      Sector, SectorClass, data_header, transaction_numbers)
+                      Sector, SectorClass, StatusHeader, data_header, erases_of, status_header,
+                      transaction_numbers)
 
 
 class Spot(NamedTuple):
@@ -70,7 +71,24 @@ class Layout:
 
     def data_header(self, unit: int) -> Optional[DataHeader]:
         """What the current header of a unit says, where its payload is in the grammar."""
-        return data_header(self.home_header(unit).payload)
+        return data_header(self.home_header(unit))
+
+    @cached_property
+    def status_header(self) -> Optional[StatusHeader]:
+        """What the header of the status place says, where its payload is in the grammar."""
+        if self.status is None:
+            return None
+        return status_header(self.headers[self.status], len(self.chart))
+
+    @cached_property
+    def retired(self) -> Tuple[int, ...]:
+        """The places that the status header names as retired, by rising number."""
+        return self.status_header.retired if self.status_header else ()
+
+    @cached_property
+    def erases(self) -> List[int]:
+        """How often each place was erased, as an opening takes it."""
+        return [erases_of(sectors[0]) for sectors in self.chart]
 
     @cached_property
     def commits(self) -> Dict[Spot, Sector]:

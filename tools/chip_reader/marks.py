@@ -46,8 +46,9 @@ FILLS_BY_KIND = {
 
 
 class Use(Enum):
-    """Whether anything counts at a place."""
+    """Whether anything counts at a place, and whether it may be taken."""
     CURRENT = "current"
+    RETIRED = "retired"
     LEFT_OVER = "left over"
     FREE = "free"
 
@@ -58,6 +59,7 @@ class PlaceMark:
     place: int
     kind: str
     numbers: str
+    erases: str
     use: Use
     fills: List[Fill]
 
@@ -140,7 +142,10 @@ def place_mark(layout: Layout, place: int, fills: List[Fill]) -> PlaceMark:
     use = Use.FREE if kind == "erased" else Use.LEFT_OVER
     if is_in_use(layout, place):
         use = Use.CURRENT
-    return PlaceMark(place, kind, number_words(layout.headers.get(place)), use, fills)
+    elif place in layout.retired:
+        use = Use.RETIRED
+    erases = counted(layout.erases[place], "erase")
+    return PlaceMark(place, kind, number_words(layout.headers.get(place)), erases, use, fills)
 
 
 def counted(number: int, one: str) -> str:
@@ -174,15 +179,25 @@ def log_line(layout: Layout) -> str:
     return f"{sectors} with {counted(len(found), 'record')}, {committed} of them committed"
 
 
+def erase_line(layout: Layout) -> str:
+    """How often the places were erased, as far as their headers say it."""
+    least, most = min(layout.erases), max(layout.erases)
+    each = counted(least, "erase") if least == most else f"{least} to {most} erases"
+    return f"{each} a place, {sum(layout.erases)} in all"
+
+
 def summary(layout: Layout, found_faults: List[Fault]) -> List[str]:
-    """The lines over all: the size, what the chip stands for, its log, its numbers."""
+    """The lines over all: the size, what the chip stands for, its log, its numbers, its wear."""
     size = f"{len(layout.chart)} places and {counted(layout.units, 'unit')}"
     holds = "no records are listed, for its faults"
     if not found_faults:
         holds = counted(len(records(layout)), "record")
     numbers = counted(len(layout.committed), "committed number")
     lines = [f"chip of {size}: {holds}", f"{numbers}; {log_line(layout)}",
-             f"greatest number found: {greatest_found(layout)}"]
+             f"greatest number found: {greatest_found(layout)}", erase_line(layout)]
+    if layout.retired:
+        retired = ", ".join(at_most(MOST_RANGES, ranges(list(layout.retired))))
+        lines.append(f"retired places: {retired}")
     missing = missing_units(layout)
     if missing:
         listed = ", ".join(at_most(MOST_RANGES, ranges(missing)))

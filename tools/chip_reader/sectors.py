@@ -21,14 +21,16 @@ PIECE_BYTES = 480
 MOST_TEXT_BYTES = MOST_PIECES * PIECE_BYTES
 MOST_CARRIED = 12
 MOST_COMMITTED = 60
+MOST_RETIRED = 64
 # The sectors of a data place from this one on are its unit's log sectors.
 FIRST_LOG_SECTOR = 241
 
 HEAD = struct.Struct(">4sBBHIQQI")
 RECORD_HEAD = struct.Struct(">BBBBQ")
 MARKER = b"IPL1"
-# In the first version a length has one byte, and from then on two.
-FIRST_VERSION, LAST_VERSION = 1, 2
+# In the first version a length has one byte, and from then on two. From the third on a header says
+# how often its place was erased, and that of the status which places are retired.
+FIRST_VERSION, COUNTING_VERSION, LAST_VERSION = 1, 3, 3
 FIRST_MOST_VALUE_BYTES, MOST_VALUE_BYTES = 108, 464
 SUM_AT = 28
 PUT, DELETE = 1, 2
@@ -142,9 +144,15 @@ def read_chart(file: BinaryIO) -> Chart:
 
 @dataclass(frozen=True)
 class DataHeader:
-    """The payload of a data header but its number of units."""
+    """The payload of a data header but its number of units and its count of erases."""
     base_counts: Tuple[int, ...]
     carried: int
+
+
+@dataclass(frozen=True)
+class StatusHeader:
+    """The payload of a status header but its number of units and its count of erases."""
+    retired: Tuple[int, ...]
 
 
 def units_of(payload: bytes) -> Optional[int]:
@@ -152,14 +160,50 @@ def units_of(payload: bytes) -> Optional[int]:
     return int.from_bytes(payload[:4], "big") if len(payload) >= 4 else None
 
 
-def data_header(payload: bytes) -> Optional[DataHeader]:
+def erases_at(kind: Kind) -> int:
+    """Where the count of erases stands in the payload of a header."""
+    return 4 + PAGES + 1 if kind == Kind.DATA else 4
+
+
+def erases_of(first: SectorClass) -> int:
+    """How often a place was erased, by its sector 0; once where that doesn't say it."""
+    if not isinstance(first, Sector) or not first.kind.is_header:
+        return 1
+    at = erases_at(first.kind)
+    if first.version < COUNTING_VERSION or len(first.payload) < at + 4:
+        return 1
+    return int.from_bytes(first.payload[at:at + 4], "big")
+
+
+def data_header(sector: Sector) -> Optional[DataHeader]:
     """What a data header's payload says, or none where it isn't in the grammar."""
-    if len(payload) != 4 + PAGES + 1:
+    payload, without_erases = sector.payload, erases_at(Kind.DATA)
+    if len(payload) != without_erases + (4 if sector.version >= COUNTING_VERSION else 0):
         return None
     header = DataHeader(tuple(payload[4:4 + PAGES]), payload[4 + PAGES])
     if max(header.base_counts) > MOST_PIECES or header.carried > MOST_CARRIED:
         return None
     return header
+
+
+def may_be_retired(retired: Sequence[int], units: int, places: int) -> bool:
+    """Whether the places rise, are the chip's, and are no more than it has beside its units."""
+    rise = all(place < other for place, other in zip(retired, retired[1:]))
+    most = min(MOST_RETIRED, places - SPARE_PLACES - units)
+    return rise and len(retired) <= most and all(place < places for place in retired)
+
+
+def status_header(sector: Sector, places: int) -> Optional[StatusHeader]:
+    """What a status header's payload says on a chip of so many places, or none where it isn't in the
+    grammar."""
+    payload = sector.payload
+    if sector.version < COUNTING_VERSION:
+        return StatusHeader(()) if len(payload) == 4 else None
+    if len(payload) < 9 or len(payload) != 9 + 4 * payload[8]:
+        return None
+    retired = struct.unpack(f">{payload[8]}I", payload[9:])
+    units = int.from_bytes(payload[:4], "big")
+    return StatusHeader(retired) if may_be_retired(retired, units, places) else None
 
 
 def most_value_bytes(version: int) -> int:

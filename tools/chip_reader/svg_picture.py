@@ -73,7 +73,7 @@ class Sheet:
 
 
 LARGE_CELLS = Sheet(cell=12, columns=1, label_width=210, row_height=112, has_numbers=True)
-SMALL_CELLS = Sheet(cell=6, columns=4, label_width=150, row_height=60, has_numbers=False)
+SMALL_CELLS = Sheet(cell=6, columns=4, label_width=150, row_height=72, has_numbers=False)
 
 Runs = List[Tuple[int, int, int]]
 
@@ -134,6 +134,7 @@ def label(sheet: Sheet, mark: PlaceMark) -> Iterator[str]:
     yield text_at(-sheet.label_width, 11, f"place {mark.place}: {mark.use.value}", "place")
     yield text_at(-sheet.label_width, 11 + LINE, mark.kind)
     yield text_at(-sheet.label_width, 11 + 2 * LINE, mark.numbers)
+    yield text_at(-sheet.label_width, 11 + 3 * LINE, mark.erases)
     for row in range(ROWS if sheet.has_numbers else 0):
         yield text_at(-5, (row + 0.8) * sheet.cell, str(row * CELLS_IN_ROW), "small")
 

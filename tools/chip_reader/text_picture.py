@@ -17,7 +17,7 @@ def row_of(fills: List[Fill], first: int) -> str:
 
 def place_rows(mark: PlaceMark) -> Iterator[str]:
     """The label of a place, and its rows of sectors but for those that are all erased."""
-    words = [mark.kind, mark.numbers, mark.use.value]
+    words = [mark.kind, mark.numbers, mark.erases, mark.use.value]
     yield f"place {mark.place}: " + ", ".join(word for word in words if word)
     for first in range(0, SECTORS, SECTORS_IN_ROW):
         if any(fill != Fill.ERASED for fill in mark.fills[first:first + SECTORS_IN_ROW]):
