@@ -1,7 +1,8 @@
 """Longer scripts whose operations are worked out by hand, on a chip of five places.
 
-The format puts unit 0 at place 0 and the status at place 1, and the opening moves the status to
-place 2. A place is taken where it is the lowest free one."""
+The format erases each place once, and puts unit 0 at place 0 and the status at place 1; the opening
+moves the status to place 2. Of the free places that one is taken that was erased least often, the
+lowest of these."""
 from __future__ import annotations
 
 from typing import List, NamedTuple
@@ -29,19 +30,27 @@ def transaction(name: int, put_reads: int, commit_reads: int, writes: str) -> Li
             Known("commit 0", commit_reads, writes)]
 
 
+def place_of_merge(number: int) -> int:
+    """Where the merges of a unit put it, in their order from 0, while the status stays at place 2.
+
+    The first two find the places below 2 erased once, as 3 and 4 are, which come next. Then these
+    four were erased twice, and from there on they take turns."""
+    return (1, 0, 3, 4)[number] if number < 4 else (0, 1, 3, 4)[number % 4]
+
+
 def full_status_place() -> List[Known]:
     """257 transactions of one put: the 256th finds the status place full.
 
-    Each takes a log sector of the unit, and 15 fill a place. So the first merges the unit, to place
-    1, and then each fifteenth: to places 0 and 1 in turn, with the one base sector from the second
-    merge on, which is read from the third on. The 256th is the first after 17 full logs, with the
-    unit at place 1. Before its log sector the status moves to place 0, with the 15 numbers that the
-    log has in one sector, for which the header and 15 log sectors are read; then place 2 is free,
-    and the unit is merged to it."""
+    Each takes a log sector of the unit, and 15 fill a place. So the first merges the unit, and then
+    each fifteenth, with the one base sector from the second merge on, which is read from the third
+    on. The 256th is the first after 17 full logs. Place 0 was erased six times then, and has the
+    unit; the places 1, 3 and 4 were five times, and place 2 twice. Before its log sector the status
+    moves to place 1, with the 15 numbers that the log has in one sector, for which the header and 15
+    log sectors are read; then place 2 is free, and the unit is merged to it."""
     known = [FORMAT, OPEN]
     for turn in range(1, 256):
         logs_before, used = divmod(turn - 1, 15)
-        place = (logs_before + 1) % 2
+        place = place_of_merge(logs_before)
         commit = f"b 2.{turn} b"
         if turn == 1:
             merge = "e1 b b 1.0 b 1.241"
@@ -52,9 +61,9 @@ def full_status_place() -> List[Known]:
             merge = f"e{place} b {place}.1 b {place}.0 b {place}.241"
             base_reads = 0 if turn == 16 else 1
             known += transaction(5, 0, FIRST_LOG_READS + base_reads, f"{merge} {commit}")
-    switch, merge = "e0 b 0.1 b 0.0 b", "e2 b 2.1 b 2.0 b 2.241"
-    known += transaction(5, 0, 16 + FIRST_LOG_READS + 1, f"{switch} {merge} b 0.2 b")
-    known += transaction(5, 0, 0, "2.242 b 0.3 b")
+    switch, merge = "e1 b 1.1 b 1.0 b", "e2 b 2.1 b 2.0 b 2.241"
+    known += transaction(5, 0, 16 + FIRST_LOG_READS + 1, f"{switch} {merge} b 1.2 b")
+    known += transaction(5, 0, 0, "2.242 b 1.3 b")
     return known
 
 
@@ -65,7 +74,8 @@ def full_overflow() -> List[Known]:
     these sectors, at the fifth put, merges the unit to place 1. Seven transactions of session 0
     fill its log, and the next 16 the sectors 1 to 16 of an overflow place, place 0. Then the unit
     has 16, and is merged all the same, to place 3: a base sector for name 64, which is on page 1,
-    and the eight sectors carried in 241 to 248. Once the session has aborted nothing is carried."""
+    and the eight sectors carried in 241 to 248. Once the session has aborted nothing is carried, and
+    the unit is merged to place 4, the only one that was erased no more than once."""
     known = [FORMAT, OPEN, Known("begin 1", 0, "")]
     for name in range(36):
         line = f"put 1 {name} " + "61" * 108
@@ -89,5 +99,5 @@ def full_overflow() -> List[Known]:
     known.append(Known("abort 1", 0, ""))
     for turn in range(25, 31):
         known += transaction(64, 0, 0, f"3.{225 + turn} b 2.{turn} b")
-    known += transaction(64, 0, FIRST_LOG_READS + 1, "e0 b 0.17 b 0.0 b 0.241 b 2.31 b")
+    known += transaction(64, 0, FIRST_LOG_READS + 1, "e4 b 4.17 b 4.0 b 4.241 b 2.31 b")
     return known

@@ -107,6 +107,8 @@ class Rules:
         self.units = [Unit(place) for place in range(places - 4)]
         self.status, self.next_commit = places - 4, SECTORS
         self.free = set(range(places - 3, places))
+        # How often each place was erased: once, by the format.
+        self.erases = [1] * places
         # The next clean sector of each overflow place in use.
         self.overflow: Dict[int, int] = {}
         # The places with an overflow header, in use or left over.
@@ -131,10 +133,11 @@ class Rules:
         self.asked.writes.append("b")
 
     def take_place(self) -> int:
-        """The lowest free place, erased."""
-        place = min(self.free)
+        """The free place that was erased least often, the lowest of these; it is erased then."""
+        place = min(self.free, key=lambda place: (self.erases[place], place))
         self.free.remove(place)
         self.overflow_headers.discard(place)
+        self.erases[place] += 1
         self.asked.writes.append(f"e{place}")
         self.barrier()
         return place
@@ -252,7 +255,8 @@ class Rules:
         self.status, self.next_commit, self.committed = place, 1 + parts, kept
 
     def open(self) -> None:
-        """An opening, or a restart: nothing of before is known to be clean."""
+        """An opening, or a restart: nothing of before is known to be clean. How often each place was
+        erased is found again, since each that was taken got a header."""
         self.sessions, self.pages = {}, {}
         for unit in self.units:
             unit.used = LOG_SECTORS

@@ -53,6 +53,19 @@ def four_random_puts(places: int, count: int) -> Iterator[Transaction]:
         yield [Put(name, value_of(4 * turn + i, SHORT_VALUE)) for i, name in enumerate(names)]
 
 
+def one_random_put(places: int, count: int) -> Iterator[Transaction]:
+    """A put of 40 bytes at any name."""
+    drawn = numbers(3)
+    for turn in range(count):
+        yield [Put(next(drawn) % names_of(places), value_of(turn, SHORT_VALUE))]
+
+
+def one_unit(places: int, count: int) -> Iterator[Transaction]:
+    """A put of 40 bytes, over the names of the first unit in turn."""
+    for turn in range(count):
+        yield [Put(turn % UNIT_NAMES, value_of(turn, SHORT_VALUE))]
+
+
 def mostly_to_a_tenth(places: int, count: int) -> Iterator[Transaction]:
     """A put of 40 bytes: nine times in ten in the first tenth of the names, else in the rest."""
     drawn = numbers(2)
@@ -97,6 +110,15 @@ WORKLOADS: Dict[str, Workload] = {
     "one put, nine in ten to a tenth of the names": mostly_to_a_tenth,
     "a full chip of 108 bytes a name, one put in turn": full_chip,
     "one put of 200 or of 464 bytes, over sixteen names of each page": long_puts,
+}
+
+# Those by which a chip is worn: evenly, and with units that aren't written for long or at all.
+WEARING: Dict[str, Workload] = {
+    "one put at random": one_random_put,
+    "four puts at random": four_random_puts,
+    "one put, over the names in turn": one_put,
+    "one put, nine in ten to a tenth of the names": mostly_to_a_tenth,
+    "one put, over the names of one unit; no other is written": one_unit,
 }
 
 
