@@ -27,15 +27,17 @@ pub trait Part {
     fn blocks(&self) -> u32
         ensures { result ≡ (told self.now).blocks };
 
-    /// Reads a page, 0 to 63, with its errors corrected. Unless it passed, the buffer holds
-    /// anything.
+    /// Reads a page, 0 to 63, with its errors corrected. A quarter that can't be corrected, as a power
+    /// cut leaves one, is handed over as it reads, and the page passed: a sector's sum tells it. Unless
+    /// it passed, the buffer holds anything.
     fn read_page(&mut self, block: u32, page: u32, into: &mut [[u8; 512]; 4]) -> Status
         requires block { block < (told self.old).blocks }
         requires page { page < 64 }
         ensures only { told self.new ≡ record (told self.old) { status = result } }
         ensures bytes { result ≡ Passed → IsPageOf (told self.old).contents block page into.new };
 
-    /// Programs a quarter of a page, 0 to 3. Unless it passed, the part holds anything.
+    /// Programs a quarter of a page, 0 to 3. Unless it passed, the part holds anything: but a driver
+    /// owes that this is so of that quarter alone, also where a power cut meets it.
     fn program_part(&mut self, block: u32, page: u32, quarter: u32, from: &[u8; 512]) -> Status
         requires block { block < (told self.old).blocks }
         requires page { page < 64 }
