@@ -1,0 +1,21 @@
+use Rattle.ipl_rules.specs.Operations.{after_abort}
+use Rattle.ipl_rules.specs.Refusals.{refuses_end}
+use Rattle.record_locks.specs.Standing.{state_of}
+use Rattle.store_steps.specs.Keeps.{limits_of}
+use Rattle.ipl_store.specs.Calls.{early_fault, down_fault}
+use Rattle.ipl_store.proofs.CallLemmas.{let_in_down}
+use Rattle.ipl_keys.specs.KeyState.{after_key_abort}
+use Rattle.ipl_keys.proofs.StateLemmas.{aborts_keep_keys}
+use Rattle.ipl_keys.proofs.SessionLemmas.{hands_on_serves}
+use Rattle.ipl_keys.proofs.keys.Keys.abort.Goals as goal
+
+pub returns-clause-serves : goal.returns-clause-serves
+returns-clause-serves g c =
+    let store = c.args.self.now.store in
+    let s = c.args.s in
+    let refusal = refuses_end (limits_of store.units) (state_of store.transactions.sessions) s in
+    hands_on_serves (λ state. after_abort state s) (λ k. after_key_abort k s) store c.abort.new.self
+    (g.C.Chip.told c.args.chip.now) (g.C.Chip.told c.abort.new._chip) (early_fault (down_fault store) refusal)
+    0 c.handed.result c.requires.sound (λ none. (let_in_down store refusal none).0)
+    (λ h state k up keeps has. aborts_keep_keys store.units state k s has)
+    (c.abort.result, c.handed.ensures, c.abort.ensures.calls)

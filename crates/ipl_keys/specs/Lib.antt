@@ -1,0 +1,7 @@
+pub mod KeyState
+pub mod Records
+pub mod Sessions
+pub mod Laws
+pub mod Keeps
+pub mod Calls
+pub mod Opening

@@ -1,0 +1,35 @@
+-- What an opening of a chip leaves of a store of keys.
+use Rattle.std.specs.Prelude.{ℕ, ◌≡◌, Result, Ok, Err, IfOk}
+use Rattle.std.specs.Option.{option_map}
+use Rattle.chip_trait.specs.Moment.{AtEachMoment}
+use Rattle.chip_trait.specs.Story.{Story}
+use Rattle.chip_trait.specs.Told.{History, Told, adds_all}
+use Rattle.ipl_base.specs.Places.{KeepsUnits}
+use Rattle.ipl_base.specs.declared.fault.OpenFault.{OpenFault}
+use Rattle.ipl_rules.specs.State.{Map}
+use Rattle.ipl_meaning.specs.Rests.{StoryRests}
+use Rattle.unit_io.specs.Leads.{IsSteady}
+use Rattle.ipl_store.specs.declared.store.Store.{Store}
+use Rattle.ipl_keys.specs.declared.keys.Keys.{Keys}
+use Rattle.ipl_keys.specs.KeyState.{KeyMap, keys_at_rest}
+use Rattle.ipl_keys.specs.Records.{HasKeys}
+use Rattle.ipl_keys.specs.Keeps.{LeavesKeys, KeepsKeys}
+
+-- its store of records
+abbrev pub store_of : Result Keys OpenFault → Result Store OpenFault
+store_of (Ok keys) = Ok keys.store
+store_of (Err fault) = Err fault
+
+-- At each moment a power cut leaves these keys. Done, the store keeps them, with no session open.
+pub record OpensFor (units : ℕ) (m : KeyMap) (h : History) (old : Told) (result : Result Keys OpenFault)
+    (new : Told) : Type 0 where
+  pub added : Story
+  pub history : new.history ≡ option_map (adds_all added) old.history
+  pub each_moment : AtEachMoment (λ e. LeavesKeys units m m (adds_all e h)) added
+  pub keeps : IfOk result (λ keys. KeepsKeys keys.store new (adds_all added h) (keys_at_rest m))
+
+-- over each story that rests on records that have keys
+abbrev pub OpensKeys : Told → Result Keys OpenFault → Told → Type 0
+OpensKeys old result new = (units : ℕ) (records : Map) (m : KeyMap) (h : History)
+    → KeepsUnits old.places units → IsSteady h old → StoryRests old.places records h
+    → HasKeys units records m → OpensFor units m h old result new

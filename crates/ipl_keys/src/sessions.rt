@@ -1,0 +1,56 @@
+//! Sessions begin, and end.
+ghost use Rattle.std.specs.Prelude.{◌^◌};
+ghost use Rattle.ipl_rules.specs.Operations.{after_begin, after_commit, after_abort};
+ghost use Rattle.ipl_rules.specs.Refusals.{refuses_begin, refuses_end};
+ghost use Rattle.record_locks.specs.Standing.{state_of};
+ghost use Rattle.store_steps.specs.Keeps.{limits_of};
+ghost use Rattle.ipl_store.specs.Calls.{Calls, IsSound, down_fault, early_fault, entry_fault};
+ghost use Rattle.ipl_keys.specs.KeyState.{after_key_begin, after_key_commit, after_key_abort};
+ghost use Rattle.ipl_keys.specs.Calls.{HandsOn, IsDone, ServesKeys};
+
+use crate::changing::handed;
+use crate::{KeyFault, Keys};
+use chip_trait::Chip;
+
+impl Keys {
+    /// Opens a session, 0 to 31: it begins a transaction. The chip isn't asked.
+    pub fn begin<C: Chip>(&mut self, chip: &mut C, s: u32) -> Result<(), KeyFault>
+        requires sound { IsSound (C.told chip.old).places self.old.store }
+        ensures calls { HandsOn (λ answer. Calls (early_fault (entry_fault self.old.store)
+            (refuses_begin (limits_of self.old.store.units)
+            (state_of self.old.store.transactions.sessions) s)) (λ state. after_begin state s) 1
+            self.old.store (C.told chip.old) answer self.new.store (C.told chip.new)) result }
+        ensures serves { ServesKeys (λ k. after_key_begin k s) IsDone
+            self.old.store (C.told chip.old) result self.new.store (C.told chip.new) }
+    {
+        handed(self.store.begin(chip, s))
+    }
+
+    /// Commits a session: once it answers, its writes last, all of them, and it is closed. A power
+    /// cut before leaves all of them or none.
+    pub fn commit<C: Chip>(&mut self, chip: &mut C, s: u32) -> Result<(), KeyFault>
+        requires sound { IsSound (C.told chip.old).places self.old.store }
+        ensures calls { HandsOn (λ answer. Calls (early_fault (entry_fault self.old.store)
+            (refuses_end (limits_of self.old.store.units)
+            (state_of self.old.store.transactions.sessions) s)) (λ state. after_commit state s)
+            (2 ^ 15)
+            self.old.store (C.told chip.old) answer self.new.store (C.told chip.new)) result }
+        ensures serves { ServesKeys (λ k. after_key_commit k s) IsDone
+            self.old.store (C.told chip.old) result self.new.store (C.told chip.new) }
+    {
+        handed(self.store.commit(chip, s))
+    }
+
+    /// Aborts a session: its writes are dropped, and it is closed. The chip isn't asked.
+    pub fn abort<C: Chip>(&mut self, chip: &mut C, s: u32) -> Result<(), KeyFault>
+        requires sound { IsSound (C.told chip.old).places self.old.store }
+        ensures calls { HandsOn (λ answer. Calls (early_fault (down_fault self.old.store)
+            (refuses_end (limits_of self.old.store.units)
+            (state_of self.old.store.transactions.sessions) s)) (λ state. after_abort state s) 0
+            self.old.store (C.told chip.old) answer self.new.store (C.told chip.new)) result }
+        ensures serves { ServesKeys (λ k. after_key_abort k s) IsDone
+            self.old.store (C.told chip.old) result self.new.store (C.told chip.new) }
+    {
+        handed(self.store.abort(chip, s))
+    }
+}
